@@ -1,0 +1,5 @@
+pub mod Powers
+pub mod CharacterLemmas
+pub mod FindLemmas
+pub mod TableLemmas
+pub mod NameLemmas

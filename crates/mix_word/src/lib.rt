@@ -1,0 +1,21 @@
+//! The words of MIX, and the table of its operations (The Art of Computer Programming, 1.3.1).
+#![tactic(auto)]
+
+mod arithmetic;
+mod characters;
+mod decoding;
+mod naming;
+mod operation;
+mod operations;
+mod place;
+mod register;
+mod word;
+
+pub use arithmetic::add;
+pub use characters::{char_of, code_of};
+pub use decoding::{Decoded, decode};
+pub use naming::named;
+pub use operation::{JumpKind, Operation, ShiftKind, Test};
+pub use place::{CELLS, Place};
+pub use register::{DataReg, Reg};
+pub use word::{Cmp, Parts, Sign, Word};
