@@ -53,4 +53,5 @@ unfolding character_code
 code_by_place b u e = ap (λ (n : ℕ). position (λ c. c == n) characters) e
 
 pub ruleset characters_by_code = (character_below, character_past)
+
 pub ruleset characters_read_back = (read_back, unread)

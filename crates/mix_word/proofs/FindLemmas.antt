@@ -10,6 +10,6 @@ pub find-passes : {X : Type 0} (p : X → Bool) (xs : List X) (y : X) → find p
 find-passes p [] y e = absurd (cc)
 find-passes p (x ∷ xs) y e =
     elim (p x) as (λ b. p x ≡ b → cond b (Some x) (find p xs) ≡ Some y → p y ≡ true) [
-      true ↦ λ t q. let same : x ≡ y = cc in subst (λ (z : _). p z ≡ true) same t
-    | false ↦ λ t q. find-passes p xs y q
+      | true ↦ λ t q. let same : x ≡ y = cc in subst (λ (z : _). p z ≡ true) same t
+      | false ↦ λ t q. find-passes p xs y q
     ] refl e

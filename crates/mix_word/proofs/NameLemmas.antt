@@ -1,5 +1,6 @@
 -- each operation is found by its own name, and what is found has the name
-use Rattle.std.proofs.Common.{◌≡◌, ◌↔◌, ℕ, List, Option, Some, refl, subst, ◌∙◌, sym}
+use Rattle.std.proofs.Common.{◌≡◌, ◌↔◌, ℕ, List, Option, Some, refl, subst, ap, ◌∙◌, sym}
+use Rattle.std.specs.List.{find}
 use Rattle.std.specs.Str.{bytes_eq}
 use Rattle.std.proofs.lemmas.Slice.Eq.{bytes_eq-Decides}
 use Rattle.mix_word.proofs.FindLemmas.{find-passes}
@@ -78,8 +79,26 @@ named_register_jump I6 Negative = refl
 named_register_jump X Negative = refl
 named_register_jump _ _ = refl
 
-own_name : (op : Operation) → operation_named (name_of op) ≡ Some op
+named_single : (operation_named (name_of Nop) ≡ Some Nop)
+    × (operation_named (name_of Add) ≡ Some Add)
+    × (operation_named (name_of Sub) ≡ Some Sub)
+    × (operation_named (name_of Mul) ≡ Some Mul)
+    × (operation_named (name_of Div) ≡ Some Div)
+    × (operation_named (name_of Num) ≡ Some Num)
+    × (operation_named (name_of Char) ≡ Some Char)
+    × (operation_named (name_of Hlt) ≡ Some Hlt)
+    × (operation_named (name_of Move) ≡ Some Move)
+    × (operation_named (name_of StoreJ) ≡ Some StoreJ)
+    × (operation_named (name_of StoreZero) ≡ Some StoreZero)
+    × (operation_named (name_of Jbus) ≡ Some Jbus)
+    × (operation_named (name_of Ioc) ≡ Some Ioc)
+    × (operation_named (name_of In) ≡ Some In)
+    × (operation_named (name_of Out) ≡ Some Out)
+    × (operation_named (name_of Jred) ≡ Some Jred)
 unfolding operation_named operations
+named_single = (refl, refl, refl, refl, refl, refl, refl, refl, refl, refl, refl, refl, refl, refl, refl, refl)
+
+own_name : (op : Operation) → operation_named (name_of op) ≡ Some op
 own_name (Load r) = named_load r
 own_name (LoadNegated r) = named_load_negated r
 own_name (Store r) = named_store r
@@ -91,7 +110,22 @@ own_name (Compare r) = named_compare r
 own_name (Shift k) = named_shift k
 own_name (Jump k) = named_jump k
 own_name (RegisterJump r t) = named_register_jump r t
-own_name _ = refl
+own_name Nop = named_single.0
+own_name Add = named_single.1
+own_name Sub = named_single.2
+own_name Mul = named_single.3
+own_name Div = named_single.4
+own_name Num = named_single.5
+own_name Char = named_single.6
+own_name Hlt = named_single.7
+own_name Move = named_single.8
+own_name StoreJ = named_single.9
+own_name StoreZero = named_single.10
+own_name Jbus = named_single.11
+own_name Ioc = named_single.12
+own_name In = named_single.13
+own_name Out = named_single.14
+own_name Jred = named_single.15
 
 found_name : (name : List ℕ) (op : Operation) → operation_named name ≡ Some op → name_of op ≡ name
 unfolding operation_named
@@ -101,3 +135,7 @@ found_name name op e =
 pub named_law : (name : List ℕ) (r : Option Operation) → r ≡ operation_named name → (op : Operation) → (r ≡ Some op) ↔ (name_of op ≡ name)
 named_law name r e op =
     (λ q. found_name name op (sym e ∙ q), λ h. e ∙ subst (λ (n : List ℕ). operation_named n ≡ Some op) h (own_name op))
+
+pub found_among : (name : List ℕ) (xs : List Operation) (r : Option Operation) → xs ≡ operations → r ≡ find (λ op. bytes_eq (name_of op) name) xs → r ≡ operation_named name
+unfolding operation_named
+found_among name xs r same e = e ∙ ap (λ (ys : List Operation). find (λ op. bytes_eq (name_of op) name) ys) same

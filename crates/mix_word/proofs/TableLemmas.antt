@@ -175,7 +175,6 @@ unsaid c f (inr (inr h)) =
 
 -- ---- what is found has the code
 
-
 named_found : (o : Option Operation) (op : Operation) → named_or_unknown o ≡ Named op → o ≡ Some op
 named_found None op e = absurd (cc)
 named_found (Some x) op e = cc
@@ -187,10 +186,10 @@ law_found : (op : Operation) (c f : ℕ) → decoded c f ≡ Named op → IsName
 unfolding decoded operation_coded
 law_found op c f e =
     elim (is_floating c f) as (λ b. is_floating c f ≡ b → cond b Floating (named_or_unknown (operation_coded c f)) ≡ Named op → IsNamedBy op c f) [
-      true ↦ λ t q. absurd (cc)
-    | false ↦ λ t q.
-        let says_it = has_code-says c f op (find-passes (has_code c f) operations op (named_found _ op q)) in
-        (says_it.0, says_it.1, t)
+      | true ↦ λ t q. absurd (cc)
+      | false ↦ λ t q.
+          let says_it = has_code-says c f op (find-passes (has_code c f) operations op (named_found _ op q)) in
+          (says_it.0, says_it.1, t)
     ] refl e
 
 pub decoded_law : (c f : ℕ) (r : Decoded) → r ≡ decoded c f → (op : Operation) → (r ≡ Named op) ↔ IsNamedBy op c f

@@ -7,7 +7,7 @@ use Rattle.std.specs.Char.{to_ascii_uppercase}
 abbrev pub characters : List ℕ
 characters =
     codes " ABCDEFGHI" ++ codes "~JKLMNOPQR" ++ codes "[#STUVWXYZ" ++ codes "0123456789"
-        ++ codes ".,()+-*/=$<>@;:'"
+    ++ codes ".,()+-*/=$<>@;:'"
 
 -- the byte that prints a code; those that have none print as a question mark
 unfoldable pub character_of : ℕ → ℕ

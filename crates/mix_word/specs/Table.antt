@@ -36,15 +36,15 @@ address_transfers_of r = Increase r ∷ Decrease r ∷ Enter r ∷ EnterNegated 
 unfoldable pub operations : List Operation
 operations =
     (Nop ∷ Add ∷ Sub ∷ Mul ∷ Div ∷ Num ∷ Char ∷ Hlt ∷ [])
-        ++ map Shift shift_kinds
-        ++ Move ∷ map Load data_registers
-        ++ map LoadNegated data_registers
-        ++ map Store data_registers
-        ++ (StoreJ ∷ StoreZero ∷ Jbus ∷ Ioc ∷ In ∷ Out ∷ Jred ∷ [])
-        ++ map Jump jump_kinds
-        ++ flat_map tests_of data_registers
-        ++ flat_map address_transfers_of data_registers
-        ++ map Compare data_registers
+    ++ map Shift shift_kinds
+    ++ Move ∷ map Load data_registers
+    ++ map LoadNegated data_registers
+    ++ map Store data_registers
+    ++ (StoreJ ∷ StoreZero ∷ Jbus ∷ Ioc ∷ In ∷ Out ∷ Jred ∷ [])
+    ++ map Jump jump_kinds
+    ++ flat_map tests_of data_registers
+    ++ flat_map address_transfers_of data_registers
+    ++ map Compare data_registers
 
 -- the pairs of the floating-point attachment: FADD, FSUB, FMUL, FDIV, FLOT and FCMP by F = 6, FIX by F = 7
 abbrev pub is_floating : ℕ → ℕ → Bool

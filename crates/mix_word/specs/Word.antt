@@ -48,7 +48,7 @@ parts_of w =
       address = w.magnitude / 64 ^ 3;
       index = byte_of w 3;
       f = byte_of w 4;
-      code = byte_of w 5
+      code = byte_of w 5;
     }
 
 -- the word of these parts

@@ -21,7 +21,11 @@ pub fn char_of(code: u8) -> u8
 fn printed_byte(code: u8) -> u8
     ensures { result ≡ character_of code }
 {
-    if code < 56 { CHARACTERS[usize::from(code)] } else { b'?' }
+    if code < 56 {
+        CHARACTERS[usize::from(code)]
+    } else {
+        b'?'
+    }
 }
 
 /// The code of a printed byte, a small letter read as its capital, or none.

@@ -34,7 +34,11 @@ fn row(code: u8, f: u8) -> Decoded
         6 => shift(f),
         7 => said(Operation::Move, code, f),
         8..=15 => said(Operation::Load(DataReg::numbered(code - 8)), code, f),
-        16..=23 => said(Operation::LoadNegated(DataReg::numbered(code - 16)), code, f),
+        16..=23 => said(
+            Operation::LoadNegated(DataReg::numbered(code - 16)),
+            code,
+            f,
+        ),
         24..=31 => said(Operation::Store(DataReg::numbered(code - 24)), code, f),
         32 => said(Operation::StoreJ, code, f),
         33 => said(Operation::StoreZero, code, f),
@@ -168,7 +172,11 @@ fn register_jump(code: u8, f: u8) -> Decoded
         5 => Test::NotPositive,
         _ => return unknown(code, f),
     };
-    said(Operation::RegisterJump(DataReg::numbered(code - 40), test), code, f)
+    said(
+        Operation::RegisterJump(DataReg::numbered(code - 40), test),
+        code,
+        f,
+    )
 }
 
 fn address_transfer(code: u8, f: u8) -> Decoded

@@ -168,7 +168,8 @@ impl Operation {
             Operation::Hlt | Operation::StoreJ | Operation::Enter(_) => 2,
             Operation::EnterNegated(_) => 3,
             Operation::Nop | Operation::Num | Operation::Increase(_) => 0,
-            Operation::Jbus | Operation::Ioc | Operation::In | Operation::Out | Operation::Jred => 0,
+            Operation::Jbus | Operation::Ioc | Operation::In | Operation::Out | Operation::Jred =>
+                0,
             Operation::Add | Operation::Sub | Operation::Mul | Operation::Div => 5,
             Operation::Load(_) | Operation::LoadNegated(_) | Operation::Store(_) => 5,
             Operation::StoreZero | Operation::Compare(_) => 5,

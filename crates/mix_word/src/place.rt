@@ -30,7 +30,11 @@ impl Place {
         ensures valid { IsSome result ↔ (n < 4000) }
         ensures value { IfSome result (λ p. p ≡ n) }
     {
-        if n < CELLS { Some(Place { number: n }) } else { None }
+        if n < CELLS {
+            Some(Place { number: n })
+        } else {
+            None
+        }
     }
 
     /// The number, 0 to 3999.

@@ -87,7 +87,11 @@ impl Word {
     pub fn sign(self) -> Sign
         ensures { result ≡ self.sign }
     {
-        if self.bits < SIGN_BIT { Sign::Plus } else { Sign::Minus }
+        if self.bits < SIGN_BIT {
+            Sign::Plus
+        } else {
+            Sign::Minus
+        }
     }
 
     /// The magnitude, below 64^5.
