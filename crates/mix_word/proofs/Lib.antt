@@ -3,3 +3,4 @@ pub mod CharacterLemmas
 pub mod FindLemmas
 pub mod TableLemmas
 pub mod NameLemmas
+pub mod TextLemmas

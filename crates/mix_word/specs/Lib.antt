@@ -6,3 +6,4 @@ pub mod Characters
 pub mod Operation
 pub mod Names
 pub mod Table
+pub mod Text

@@ -4,6 +4,7 @@
 mod arithmetic;
 mod characters;
 mod decoding;
+mod display;
 mod naming;
 mod operation;
 mod operations;
@@ -14,6 +15,7 @@ mod word;
 pub use arithmetic::add;
 pub use characters::{char_of, code_of};
 pub use decoding::{Decoded, decode};
+pub use display::Short;
 pub use naming::named;
 pub use operation::{JumpKind, Operation, ShiftKind, Test};
 pub use place::{CELLS, Place};
