@@ -4,3 +4,4 @@ pub mod FindLemmas
 pub mod TableLemmas
 pub mod NameLemmas
 pub mod TextLemmas
+pub mod FieldLemmas

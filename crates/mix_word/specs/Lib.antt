@@ -7,3 +7,4 @@ pub mod Operation
 pub mod Names
 pub mod Table
 pub mod Text
+pub mod Field
