@@ -5,3 +5,4 @@ pub mod TableLemmas
 pub mod NameLemmas
 pub mod TextLemmas
 pub mod FieldLemmas
+pub mod ShiftLemmas

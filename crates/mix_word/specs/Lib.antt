@@ -8,3 +8,6 @@ pub mod Names
 pub mod Table
 pub mod Text
 pub mod Field
+pub mod Shift
+pub mod Conversion
+pub mod Comparison

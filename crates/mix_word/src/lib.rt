@@ -3,6 +3,8 @@
 
 mod arithmetic;
 mod characters;
+mod comparison;
+mod conversion;
 mod decoding;
 mod display;
 mod field;
@@ -11,10 +13,13 @@ mod operation;
 mod operations;
 mod place;
 mod register;
+mod shifting;
 mod word;
 
-pub use arithmetic::add;
+pub use arithmetic::{add, div, mul, sub};
 pub use characters::{char_of, code_of};
+pub use comparison::compare;
+pub use conversion::{num, to_char};
 pub use decoding::{Decoded, decode};
 pub use display::Short;
 pub use field::Field;
@@ -22,4 +27,5 @@ pub use naming::named;
 pub use operation::{JumpKind, Operation, ShiftKind, Test};
 pub use place::{CELLS, Place};
 pub use register::{DataReg, Reg};
+pub use shifting::shift;
 pub use word::{Cmp, Parts, Sign, Word};
