@@ -9,11 +9,14 @@ mod decoding;
 mod display;
 mod field;
 mod naming;
+mod needs;
 mod operation;
 mod operations;
 mod place;
 mod register;
 mod shifting;
+#[cfg(test)]
+mod tests;
 mod word;
 
 pub use arithmetic::{add, div, mul, sub};
