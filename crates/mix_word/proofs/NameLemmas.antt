@@ -139,3 +139,6 @@ named_law name r e op =
 pub found_among : (name : List ℕ) (xs : List Operation) (r : Option Operation) → xs ≡ operations → r ≡ find (λ op. bytes_eq (name_of op) name) xs → r ≡ operation_named name
 unfolding operation_named
 found_among name xs r same e = e ∙ ap (λ (ys : List Operation). find (λ op. bytes_eq (name_of op) name) ys) same
+
+pub own_text : (op : Operation) (name : List ℕ) → name ≡ name_of op → operation_named name ≡ Some op
+own_text op name e = subst (λ (n : List ℕ). operation_named n ≡ Some op) (sym e) (own_name op)

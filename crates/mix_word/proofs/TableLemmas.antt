@@ -195,3 +195,15 @@ law_found op c f e =
 pub decoded_law : (c f : ℕ) (r : Decoded) → r ≡ decoded c f → (op : Operation) → (r ≡ Named op) ↔ IsNamedBy op c f
 decoded_law c f r e op =
     (λ q. law_found op c f (sym e ∙ q), λ h. e ∙ says op c f h.0 h.1 h.2)
+
+-- ---- no operation's own pair is a floating one, so it leads back to the operation
+
+plain : (op : Operation) → is_floating (code_of op) (normal_f_of op) ≡ false
+plain (Shift Sla) = refl
+plain (Jump Jmp) = refl
+plain (RegisterJump r Negative) = refl
+plain _ = refl
+
+pub own_pair : (op : Operation) (f : ℕ) → f ≡ normal_f_of op → decoded (code_of op) f ≡ Named op
+own_pair op f e =
+    subst (λ (n : ℕ). decoded (code_of op) n ≡ Named op) (sym e) (says op (code_of op) (normal_f_of op) refl (λ _. refl) (plain op))

@@ -35,11 +35,18 @@ impl Operation {
     fn is_named(self, name: &[u8]) -> bool
         ensures { result ≡ bytes_eq (name_of self) name.now }
     {
-        self.name().as_bytes() == name
+        self.letters().as_bytes() == name
     }
 
     /// The name, in capitals.
     pub fn name(self) -> &'static str
+        ensures is { result.now ≡ name_of self }
+        ensures named { operation_named result.now ≡ Some self }
+    {
+        self.letters()
+    }
+
+    fn letters(self) -> &'static str
         ensures { result.now ≡ name_of self }
     {
         match self {

@@ -1,7 +1,9 @@
 //! The table of operations (1.3.1): their codes, the F that goes with each, names and times.
 ghost use Rattle.std.specs.Prelude.{◌≡◌, ◌<◌, ◌≤◌};
 ghost use Rattle.mix_word.specs.Operation.{code_of, normal_f_of, time_of, number_of_shift, number_of_jump, number_of_test};
+ghost use Rattle.mix_word.specs.Table.{decoded};
 
+use crate::decoding::Decoded;
 use crate::register::DataReg;
 
 /// A shift: of rA alone, of rA and rX, or of both in a circle, to the left or to the right.
@@ -157,6 +159,14 @@ impl Operation {
 
     /// The F that an assembler puts where none is written, 0 to 9; an operation by F has no other.
     pub fn normal_f(self) -> u8
+        ensures is { result ≡ normal_f_of self }
+        ensures bound { result < 10 }
+        ensures decoded { decoded (code_of self) result ≡ Decoded.Named self }
+    {
+        self.usual_f()
+    }
+
+    fn usual_f(self) -> u8
         ensures is { result ≡ normal_f_of self }
         ensures bound { result < 10 }
     {
