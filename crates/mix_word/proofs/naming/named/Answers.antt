@@ -1,0 +1,8 @@
+use Rattle.mix_word.proofs.NameLemmas.{named_law, found_among}
+use Rattle.mix_word.proofs.naming.named.Goals as goal
+
+pub returns-clause-is : goal.returns-clause-is
+returns-clause-is c = found_among _ _ _ c.all_operations.ensures c.first_named.ensures
+
+pub returns-clause-law : goal.returns-clause-law
+returns-clause-law c = named_law _ _ (found_among _ _ _ c.all_operations.ensures c.first_named.ensures)

@@ -1,0 +1,5 @@
+use Rattle.mix_word.proofs.NameLemmas.{own_text}
+use Rattle.mix_word.proofs.operation.Operation.name.Goals as goal
+
+pub returns-clause-named : goal.returns-clause-named
+returns-clause-named c = own_text c.args.self _ c.letters.ensures

@@ -1,0 +1,14 @@
+pub mod Word
+pub mod Packed
+pub mod Register
+pub mod Arithmetic
+pub mod Characters
+pub mod Operation
+pub mod Names
+pub mod Table
+pub mod Text
+pub mod Field
+pub mod Shift
+pub mod Conversion
+pub mod Comparison
+pub mod Needs

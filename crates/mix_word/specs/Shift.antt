@@ -1,0 +1,22 @@
+-- Shifts by a number of bytes (1.3.1): of one word, or of the ten bytes of two. Signs stay.
+use Rattle.std.specs.Prelude.{ℕ, ◌+◌, ◌-◌, ◌*◌, ◌/◌, ◌%◌, ◌^◌}
+use Rattle.mix_word.specs.declared.operation.ShiftKind.{ShiftKind}
+use Rattle.mix_word.specs.declared.operation.ShiftKind.TheVariants.{Sla, Sra, Slax, Srax, Slc, Src}
+use Rattle.mix_word.specs.Word.{WordValue, word}
+use Rattle.mix_word.specs.Arithmetic.{ten_bytes_of}
+
+-- ten bytes as two words with the signs that these have
+abbrev pub split_into : WordValue → WordValue → ℕ → WordValue × WordValue
+split_into a x n = (word a.sign (n / 64 ^ 5), word x.sign (n % 64 ^ 5))
+
+-- ten bytes turned in a circle, to the left by k of them
+abbrev pub turned : ℕ → ℕ → ℕ
+turned n k = n * 64 ^ k % 64 ^ 10 + n / 64 ^ (10 - k)
+
+abbrev pub shifted : ShiftKind → WordValue → WordValue → ℕ → WordValue × WordValue
+shifted Sla a x m = (word a.sign (a.magnitude * 64 ^ m % 64 ^ 5), x)
+shifted Sra a x m = (word a.sign (a.magnitude / 64 ^ m), x)
+shifted Slax a x m = split_into a x (ten_bytes_of a x * 64 ^ m % 64 ^ 10)
+shifted Srax a x m = split_into a x (ten_bytes_of a x / 64 ^ m)
+shifted Slc a x m = split_into a x (turned (ten_bytes_of a x) (m % 10))
+shifted Src a x m = split_into a x (turned (ten_bytes_of a x) ((10 - m % 10) % 10))

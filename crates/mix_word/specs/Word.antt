@@ -1,0 +1,56 @@
+-- A word is a sign and a magnitude, whose five digits to the base 64 are its bytes (1.3.1).
+use Rattle.std.specs.Prelude.{ℕ, ◌+◌, ◌-◌, ◌*◌, ◌/◌, ◌%◌, ◌^◌, ◌<◌, ℤ, pos, neg_ℤ}
+use Rattle.mix_word.specs.declared.word.Sign.{Sign}
+use Rattle.mix_word.specs.declared.word.Sign.TheVariants.{Plus, Minus}
+use Rattle.mix_word.specs.declared.word.Parts.{Parts}
+
+pub record WordValue : Type 0 where
+  pub sign : Sign
+  pub magnitude : ℕ
+
+abbrev pub word : Sign → ℕ → WordValue
+word s m = record { sign = s; magnitude = m }
+
+abbrev pub plus : ℕ → WordValue
+plus m = word Plus m
+
+abbrev pub minus : ℕ → WordValue
+minus m = word Minus m
+
+-- +0
+abbrev pub zero_word : WordValue
+zero_word = plus 0
+
+abbrev pub opposite : Sign → Sign
+opposite Plus = Minus
+opposite Minus = Plus
+
+abbrev pub signed : Sign → ℕ → ℤ
+signed Plus m = pos m
+signed Minus m = neg_ℤ (pos m)
+
+-- the number of a word, which is the same for +0 and -0
+abbrev pub number_of : WordValue → ℤ
+number_of w = signed w.sign w.magnitude
+
+-- byte i, 1 to 5, of which byte 1 is the most significant
+abbrev pub byte_of : WordValue → ℕ → ℕ
+byte_of w i = w.magnitude / 64 ^ (5 - i) % 64
+
+abbrev pub negation_of : WordValue → WordValue
+negation_of w = word (opposite w.sign) w.magnitude
+
+-- what an instruction word says: bytes 1 and 2 as one number, and bytes 3, 4 and 5
+abbrev pub parts_of : WordValue → Parts
+parts_of w =
+    record {
+      sign = w.sign;
+      address = w.magnitude / 64 ^ 3;
+      index = byte_of w 3;
+      f = byte_of w 4;
+      code = byte_of w 5;
+    }
+
+-- the word of these parts
+abbrev pub joined : Parts → WordValue
+joined p = word p.sign (((p.address * 64 + p.index) * 64 + p.f) * 64 + p.code)

@@ -1,0 +1,77 @@
+//! How words are written: the sign, and each byte as two digits behind a blank.
+ghost use Rattle.std.specs.Prelude.{Some, ◌≡◌, ◌<◌, ◌≤◌};
+ghost use Rattle.mix_word.specs.Word.{byte_of};
+ghost use Rattle.mix_word.specs.Text.{sign_text, byte_text, word_text, short_text};
+
+use crate::word::{Sign, Word};
+use std::fmt;
+
+/// A word of which only the sign and bytes 4 and 5 are written, as of an index register: `+ 02 36`.
+#[derive(Clone, Copy, Debug, PartialEq, Eq)]
+pub struct Short(pub Word);
+
+impl fmt::Display for Sign {
+    ghost output = { λ s. Some (sign_text s) };
+
+    fn fmt<W: fmt::Write>(&self, f: &mut fmt::Formatter<W>) -> fmt::Result {
+        match self {
+            Sign::Plus => f.write_str("+"),
+            Sign::Minus => f.write_str("-"),
+        }
+    }
+}
+
+// A byte as a blank and two digits.
+#[derive(Clone, Copy)]
+struct Byte {
+    value: u8,
+    ghost two_digits: { value < 100 },
+}
+
+#[tactic(auto, using(std::proofs::lemmas::Fmt::decimal_digit))]
+impl fmt::Display for Byte {
+    ghost output = { λ b. Some (byte_text b.value) };
+
+    fn fmt<W: fmt::Write>(&self, f: &mut fmt::Formatter<W>) -> fmt::Result {
+        let (tens, units) = (self.value / 10, self.value % 10);
+        write!(f, " {tens}{units}")
+    }
+}
+
+fn digits_of(w: Word, i: u8) -> Byte
+    requires low { 1 ≤ i }
+    requires high { i ≤ 5 }
+    ensures { result.value ≡ byte_of w i }
+{
+    Byte { value: w.byte(i) }
+}
+
+/// The sign and five bytes: `- 01 16 03 05 04`.
+impl fmt::Display for Word {
+    ghost output = { λ w. Some (word_text w) };
+
+    #[tactic(auto, using(crate::proofs::TextLemmas::pieces), unfolding(crate::specs::Text::word_text))]
+    fn fmt<W: fmt::Write>(&self, f: &mut fmt::Formatter<W>) -> fmt::Result {
+        let w = *self;
+        let (a, b, c, d, e) = (
+            digits_of(w, 1),
+            digits_of(w, 2),
+            digits_of(w, 3),
+            digits_of(w, 4),
+            digits_of(w, 5),
+        );
+        write!(f, "{}{a}{b}{c}{d}{e}", w.sign())
+    }
+}
+
+/// The sign and bytes 4 and 5.
+impl fmt::Display for Short {
+    ghost output = { λ w. Some (short_text w.0) };
+
+    #[tactic(auto, using(crate::proofs::TextLemmas::pieces), unfolding(crate::specs::Text::short_text))]
+    fn fmt<W: fmt::Write>(&self, f: &mut fmt::Formatter<W>) -> fmt::Result {
+        let w = self.0;
+        let (d, e) = (digits_of(w, 4), digits_of(w, 5));
+        write!(f, "{}{d}{e}", w.sign())
+    }
+}

@@ -1,0 +1,34 @@
+//! The words of MIX, and the table of its operations (The Art of Computer Programming, 1.3.1).
+#![tactic(auto)]
+
+mod arithmetic;
+mod characters;
+mod comparison;
+mod conversion;
+mod decoding;
+mod display;
+mod field;
+mod naming;
+mod needs;
+mod operation;
+mod operations;
+mod place;
+mod register;
+mod shifting;
+#[cfg(test)]
+mod tests;
+mod word;
+
+pub use arithmetic::{add, div, mul, sub};
+pub use characters::{char_of, code_of};
+pub use comparison::compare;
+pub use conversion::{num, to_char};
+pub use decoding::{Decoded, decode};
+pub use display::Short;
+pub use field::Field;
+pub use naming::named;
+pub use operation::{JumpKind, Operation, ShiftKind, Test};
+pub use place::{CELLS, Place};
+pub use register::{DataReg, Reg};
+pub use shifting::shift;
+pub use word::{Cmp, Parts, Sign, Word};

@@ -1,0 +1,125 @@
+use super::{Bytes, Minus, Plus, number, word};
+use crate::display::Short;
+use crate::field::Field;
+use crate::place::Place;
+use crate::word::{Parts, Sign, Word};
+use std::test::Fail;
+
+// The cell 2000 of the book's examples of LDA, and its field of each code.
+const CELL: Bytes = (Minus, [1, 16, 3, 5, 4]);
+
+const LOADED: [(u8, Bytes); 6] = [
+    (5, (Minus, [1, 16, 3, 5, 4])),
+    (13, (Plus, [1, 16, 3, 5, 4])),
+    (29, (Plus, [0, 0, 3, 5, 4])),
+    (3, (Minus, [0, 0, 1, 16, 3])),
+    (36, (Plus, [0, 0, 0, 0, 5])),
+    (0, (Minus, [0, 0, 0, 0, 0])),
+];
+
+#[test]
+fn field_values(rt: HostRuntime) -> Result<(), Fail> {
+    for (code, want) in LOADED {
+        let field = Field::of(code).ok_or("a field")?;
+        assert_eq!(rt; word(CELL).field_value(field), word(want), "field {code}");
+    }
+    Ok(())
+}
+
+// The book's examples of STA: the cell - 1 2 3 4 5, and rA + 6 7 8 9 0.
+const STORED: [(u8, Bytes); 6] = [
+    (5, (Plus, [6, 7, 8, 9, 0])),
+    (13, (Minus, [6, 7, 8, 9, 0])),
+    (45, (Minus, [1, 2, 3, 4, 0])),
+    (18, (Minus, [1, 0, 3, 4, 5])),
+    (19, (Minus, [1, 9, 0, 4, 5])),
+    (1, (Plus, [0, 2, 3, 4, 5])),
+];
+
+#[test]
+fn fields_put(rt: HostRuntime) -> Result<(), Fail> {
+    let cell = word((Minus, [1, 2, 3, 4, 5]));
+    let value = word((Plus, [6, 7, 8, 9, 0]));
+    for (code, want) in STORED {
+        let field = Field::of(code).ok_or("a field")?;
+        assert_eq!(rt; cell.put_field(field, value), word(want), "field {code}");
+    }
+    Ok(())
+}
+
+const FIELDS: [(u8, Option<(u8, u8)>); 7] = [
+    (5, Some((0, 5))),
+    (13, Some((1, 5))),
+    (45, Some((5, 5))),
+    (6, None),
+    (40, None),
+    (46, None),
+    (63, None),
+];
+
+#[test]
+fn fields_of_codes(rt: HostRuntime) {
+    for (code, want) in FIELDS {
+        let ends = Field::of(code).map(|f| (f.left(), f.right()));
+        assert_eq!(rt; ends, want, "code {code}");
+    }
+    assert_eq!(rt; Some(Field::whole()), Field::of(5));
+}
+
+#[test]
+fn parts_of_words(rt: HostRuntime) -> Result<(), Fail> {
+    let parts = Parts {
+        sign: Plus,
+        address: 2000,
+        index: 2,
+        f: 3,
+        code: 8,
+    };
+    let joined = Word::join(parts);
+    assert_eq!(rt; joined, word((Plus, [31, 16, 2, 3, 8])));
+    assert_eq!(rt; joined.magnitude(), 524_296_392);
+    assert_eq!(rt; joined.parts(), parts);
+    assert_eq!(rt; (joined.byte(1), joined.byte(5)), (31, 8));
+
+    let negative_zero = Word::of(Minus, 0);
+    assert_ne!(rt; negative_zero, Word::of(Plus, 0));
+    assert_eq!(rt; negative_zero.negated(), Word::of(Plus, 0));
+    let zeros = Parts {
+        sign: Minus,
+        address: 0,
+        index: 0,
+        f: 0,
+        code: 0,
+    };
+    assert_eq!(rt; negative_zero.parts(), zeros);
+    assert_eq!(rt;
+        (negative_zero.sign(), Sign::Plus.opposite()),
+        (Minus, Minus)
+    );
+    Ok(())
+}
+
+const WRITTEN: [(Bytes, &str, &str); 3] = [
+    (CELL, "- 01 16 03 05 04", "- 05 04"),
+    ((Plus, [0, 0, 0, 2, 36]), "+ 00 00 00 02 36", "+ 02 36"),
+    ((Plus, [63, 10, 9, 60, 0]), "+ 63 10 09 60 00", "+ 60 00"),
+];
+
+#[test]
+fn words_written(rt: HostRuntime) -> Result<(), Fail> {
+    for (bytes, whole, short) in WRITTEN {
+        let value = word(bytes);
+        let text = format!(in rt.alloc(); "{}|{}", value, Short(value))?;
+        let want = format!(in rt.alloc(); "{whole}|{short}")?;
+        assert_eq!(rt; text.as_str(), want.as_str(), "{whole}");
+    }
+    Ok(())
+}
+
+#[test]
+fn places(rt: HostRuntime) -> Result<(), Fail> {
+    assert_eq!(rt; Place::of(3999).ok_or("a place")?.number(), 3999);
+    assert_eq!(rt; Place::of(4000), None);
+    assert_eq!(rt; number(-5), Word::of(Minus, 5));
+    Ok(())
+}

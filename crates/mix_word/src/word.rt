@@ -1,0 +1,161 @@
+//! A word: a sign and five bytes of 0 to 63 (1.3.1).
+ghost use Rattle.std.specs.Prelude.{◌≡◌, ◌<◌, ◌≤◌, ◌/◌, ◌%◌, ◌^◌};
+ghost use Rattle.mix_word.specs.Word.{word, byte_of, negation_of, parts_of, joined, opposite};
+
+use std::marker::Model;
+
+/// The sign of a word.
+#[derive(Clone, Copy, Debug, PartialEq, Eq)]
+pub enum Sign {
+    Plus,
+    Minus,
+}
+
+/// What a comparison of two numbers gives.
+#[derive(Clone, Copy, Debug, PartialEq, Eq)]
+pub enum Cmp {
+    Less,
+    Equal,
+    Greater,
+}
+
+impl Sign {
+    /// The other sign.
+    pub fn opposite(self) -> Sign
+        ensures { result ≡ opposite self }
+    {
+        match self {
+            Sign::Plus => Sign::Minus,
+            Sign::Minus => Sign::Plus,
+        }
+    }
+}
+
+/// A sign and a magnitude of five bytes. +0 and -0 are different words.
+// Bits 0 to 29 are the magnitude, and bit 30 is set where the sign is -.
+#[derive(Clone, Copy, Debug, PartialEq, Eq)]
+pub struct Word {
+    bits: u32,
+}
+
+const SIGN_BIT: u32 = 0x4000_0000;
+
+impl Model for Word {
+    ghost use Rattle.std.specs.Prelude.{◌<◌, ◌^◌};
+    ghost use Rattle.mix_word.specs.Word.{WordValue};
+
+    ghost Value = { WordValue };
+
+    ghost use Rattle.mix_word.specs.Packed.{unpacked, packed};
+    ghost use Rattle.std.proofs.Common.{arith};
+    ghost use Rattle.std.proofs.lemmas.Bool.Decides.{nat_tests};
+
+    ghost view = { λ w. unpacked w.bits };
+
+    ghost invariant = { λ w. w.bits < 2 ^ 31 };
+
+    ghost inverse = { λ v. record { bits = packed v } };
+
+    ghost inverse_ok = { λ a h. Prim.grind (arith, nat_tests) };
+}
+
+/// An instruction word in its parts: bytes 1 and 2, byte 3, byte 4, byte 5.
+#[derive(Clone, Copy, Debug, PartialEq, Eq)]
+pub struct Parts {
+    pub sign: Sign,
+    pub address: u16,
+    pub index: u8,
+    pub f: u8,
+    pub code: u8,
+}
+
+impl Word {
+    /// The word of this sign and magnitude, which is below 64^5.
+    pub fn of(sign: Sign, magnitude: u32) -> Word
+        requires { magnitude < 64 ^ 5 }
+        ensures { result ≡ word sign magnitude }
+    {
+        match sign {
+            Sign::Plus => Word { bits: magnitude },
+            Sign::Minus => Word {
+                bits: magnitude + SIGN_BIT,
+            },
+        }
+    }
+
+    /// The sign.
+    pub fn sign(self) -> Sign
+        ensures { result ≡ self.sign }
+    {
+        if self.bits < SIGN_BIT {
+            Sign::Plus
+        } else {
+            Sign::Minus
+        }
+    }
+
+    /// The magnitude, below 64^5.
+    pub fn magnitude(self) -> u32
+        ensures is { result ≡ self.magnitude }
+        ensures bound { result < 64 ^ 5 }
+    {
+        self.bits & (SIGN_BIT - 1)
+    }
+
+    /// Byte `i`, 1 to 5, from the most significant one on.
+    #[tactic(auto, using(crate::proofs::Powers::byte_by_shift))]
+    pub fn byte(self, i: u8) -> u8
+        requires low { 1 ≤ i }
+        requires high { i ≤ 5 }
+        ensures is { result ≡ byte_of self i }
+        ensures bound { result < 64 }
+    {
+        byte_above(self.magnitude(), 6 * u32::from(5 - i))
+    }
+
+    /// The word with the other sign.
+    pub fn negated(self) -> Word
+        ensures { result ≡ negation_of self }
+    {
+        Word::of(self.sign().opposite(), self.magnitude())
+    }
+
+    /// The parts of an instruction word: the sign, bytes 1 and 2 as one number, and bytes 3, 4 and 5.
+    pub fn parts(self) -> Parts
+        ensures is { result ≡ parts_of self }
+        ensures joins { joined result ≡ self }
+    {
+        let m = self.magnitude();
+        Parts {
+            sign: self.sign(),
+            address: (m >> 18) as u16,
+            index: byte_above(m, 12),
+            f: byte_above(m, 6),
+            code: byte_above(m, 0),
+        }
+    }
+
+    /// The instruction word of these parts, whose address is below 4096 and whose bytes are below 64.
+    pub fn join(p: Parts) -> Word
+        requires address { p.address < 4096 }
+        requires index { p.index < 64 }
+        requires f { p.f < 64 }
+        requires code { p.code < 64 }
+        ensures is { result ≡ joined p }
+        ensures parts { parts_of result ≡ p }
+    {
+        let address = u32::from(p.address);
+        let upper = address << 6 | u32::from(p.index);
+        let magnitude = (upper << 6 | u32::from(p.f)) << 6 | u32::from(p.code);
+        Word::of(p.sign, magnitude)
+    }
+}
+
+// The six bits of `m` above the lowest `shift`.
+fn byte_above(m: u32, shift: u32) -> u8
+    requires { shift < 32 }
+    ensures is { result ≡ m / 2 ^ shift % 64 }
+    ensures bound { result < 64 }
+{
+    ((m >> shift) & 63) as u8
+}

@@ -1,0 +1,3 @@
+pub mod LeadsLemmas
+pub mod ReplayLemmas
+pub mod Sound

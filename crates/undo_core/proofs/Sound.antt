@@ -1,0 +1,218 @@
+-- A journal stays sound as a change is done, taken back and done again, and its first state stays.
+use Rattle.std.proofs.Common.{◌≡◌, ℕ, ◌+◌, ◌-◌, ◌<◌, ◌≤◌, List, [], ◌∷◌, ◌++◌, length, take, drop, reverse, get_or}
+use Rattle.std.proofs.Common.{Option, Some, Result, Ok, Err, refl, sym, ◌∙◌, ap, add-one, arith, unwrap_or, length-append}
+use Rattle.std.proofs.Math.ListN.{set, length-set}
+use Rattle.std.proofs.Math.Seq.{drop-cons, drop-append_seam, take-append_seam}
+use Rattle.std.proofs.lemmas.List.{reverse-append, reverse-reverse, length-take-le, take_all, drop_all, take_more}
+use Rattle.std.proofs.lemmas.List.{take_more_set, take-append-drop, drop-append-le}
+use Rattle.std.specs.Result.{result_ok, IsErrAnd}
+use Rattle.undo_core.specs.declared.refused.Refused.{Refused}
+use Rattle.undo_core.specs.declared.refused.Refused.TheVariants.{Fault, Memory}
+use Rattle.undo_core.specs.Refused.{IfFault}
+use Rattle.undo_core.specs.Replay.{replay, count_kept, put_back, unwound}
+use Rattle.undo_core.specs.Leads.{Leads, IsNewest, IsSound}
+use Rattle.undo_core.proofs.LeadsLemmas.{leads-replay, leads-count_kept, leads-put_back}
+use Rattle.undo_core.proofs.ReplayLemmas.{replay-append_some, put_back-append}
+
+-- what putting all values back gives, where it gives something
+pub unwound_some : {S O : Type 0} (put : S → O → Option S) (kept : List O) (s first : S) →
+    put_back put kept s ≡ Some first → unwound put kept s ≡ first
+unwound_some {S} put kept s first h = ap (λ (o : Option S). unwrap_or o s) h
+
+-- the last of a list stands first in it reversed
+pub reverse-append_last : {A : Type 0} (xs : List A) (x : A) → reverse (xs ++ x ∷ []) ≡ x ∷ reverse xs
+reverse-append_last xs x = reverse-append xs (x ∷ [])
+
+-- an item of a list that has one
+pub item_of : {A : Type 0} (xs : List A) → 0 < length xs → A
+item_of [] some = absurd (omega arith)
+item_of (x ∷ _) some = x
+
+-- what stands ahead after the last change is taken back
+pub back_ahead : {A : Type 0} (xs : List A) (n cursor : ℕ) → n + 1 ≡ cursor → cursor ≤ length xs →
+    drop n xs ≡ drop (length (take cursor xs) - 1) (take cursor xs) ++ drop cursor xs
+back_ahead xs n cursor last within =
+    let many = length-take-le cursor xs within in
+    let place : length (take cursor xs) - 1 ≡ n = omega arith in
+    let le : n ≤ length (take cursor xs) = omega arith in
+    rw place (ap (drop n) (sym (take-append-drop cursor xs)) ∙ drop-append-le n (take cursor xs) (drop cursor xs) le)
+
+-- the fault of a refusal that a `?` passed on
+pub fault_of : {S C F : Type 0} (gives : S → C → Result S F) (state : S) (c : C) (first : S) (cs : List C)
+    (e : Refused F) (r : Result (Unit {0}) (Refused F)) →
+    IsErrAnd r (λ x. x ≡ e) → IfFault {T = Unit {0}} (Err e) (λ f. gives state c ≡ Err f) → replay gives first cs ≡ Some state →
+    IfFault r (λ f. (s : S) → replay gives first cs ≡ Some s → gives s c ≡ Err f)
+fault_of gives state c first cs e (Ok _) passed fault before = absurd passed
+fault_of gives state c first cs e (Err Memory) passed fault before = tt
+fault_of gives state c first cs (Fault f) (Err (Fault g)) passed fault before = λ s now. cc
+fault_of gives state c first cs Memory (Err (Fault g)) passed fault before = absurd (cc)
+
+-- a change that was done: the state after it, and its values behind the others, from a place on
+pub record IsDone {S C O F : Type 0} (gives : S → C → Result S F) (keeps : S → C → List O) (put : S → O → Option S)
+    (s t : S) (c : C) (kept kept_then : List O) (from : ℕ) : Type 0 where
+  pub given : gives s c ≡ Ok t
+  pub undone : put_back put (keeps s c) t ≡ Some s
+  pub kept_is : kept_then ≡ kept ++ keeps s c
+  pub from_is : from ≡ length kept
+
+-- the last change, and what takes it back
+pub record IsLast {S C O F : Type 0} (gives : S → C → Result S F) (keeps : S → C → List O) (put : S → O → Option S)
+    (state : S) (kept : List O) (changes : List C) (starts : List ℕ) (n start : ℕ) (before : S) (c : C) : Type 0 where
+  pub newest : IsNewest gives keeps put c start kept before state
+  pub older : Leads gives keeps put (unwound put kept state) (reverse (take n changes)) (reverse (take n starts)) (take start kept) before
+  pub next : drop n changes ≡ c ∷ drop (n + 1) changes
+  -- its values can be put back
+  pub fits : put_back put (drop start kept) state ≡ Some before
+
+module _ {S C O F : Type 0} {gives : S → C → Result S F} {keeps : S → C → List O} {put : S → O → Option S}
+    {state : S} {kept : List O} {changes : List C} {starts : List ℕ} {cursor : ℕ}
+    (sound : IsSound gives keeps put state kept changes starts cursor) where
+  -- the changes replay to the state
+  pub sound_replay : replay gives (unwound put kept state) (take cursor changes) ≡ Some state
+  sound_replay =
+      rw reverse-reverse at (leads-replay gives keeps put (unwound put kept state) (reverse (take cursor changes))
+      (reverse (take cursor starts)) kept state sound.done)
+
+  -- as many values are kept as the changes count
+  pub sound_count : length kept ≡ count_kept gives keeps (unwound put kept state) (take cursor changes)
+  sound_count =
+      rw reverse-reverse at (leads-count_kept gives keeps put (unwound put kept state) (reverse (take cursor changes))
+      (reverse (take cursor starts)) kept state sound.done)
+
+  -- all values can be put back
+  pub sound_put_back : put_back put kept state ≡ Some (unwound put kept state)
+  sound_put_back =
+      leads-put_back gives keeps put (unwound put kept state) (reverse (take cursor changes)) (reverse (take cursor starts)) kept state
+      sound.done
+
+  -- one change more leaves the first state
+  pub done_first : {t : S} {c : C} {kept_then : List O} {from : ℕ} → IsDone gives keeps put state t c kept kept_then from →
+      unwound put kept_then t ≡ unwound put kept state
+  done_first {t} {c} {kept_then} done =
+      unwound_some put kept_then t (unwound put kept state)
+      (rw done.kept_is (put_back-append put kept (keeps state c) t state done.undone ∙ sound_put_back))
+
+  -- and leads to the state after it
+  pub done_leads : {t : S} {c : C} {kept_then : List O} {from : ℕ} → IsDone gives keeps put state t c kept kept_then from →
+      (all : List C) (all_starts : List ℕ) → all ≡ take cursor changes ++ c ∷ [] → all_starts ≡ take cursor starts ++ from ∷ [] →
+      Leads gives keeps put (unwound put kept_then t) (reverse all) (reverse all_starts) kept_then t
+  done_leads {t} {c} {kept_then} {from} done all all_starts e f =
+      rw (
+        done_first done,
+        e,
+        f,
+        reverse-append_last (take cursor changes) c,
+        reverse-append_last (take cursor starts) from,
+        done.kept_is,
+        done.from_is,
+      ) (
+        state,
+        record {
+          given = done.given;
+          values = drop-append_seam kept (keeps state c);
+          undone = done.undone;
+          within = omega (arith, length-append kept (keeps state c));
+        },
+        rw (take-append_seam kept (keeps state c)) sound.done,
+      )
+
+  -- after a new change, which cuts what stands ahead
+  pub go_sound : {t : S} {c : C} {kept_then : List O} {from : ℕ} → IsDone gives keeps put state t c kept kept_then from →
+      (all : List C) (all_starts : List ℕ) → all ≡ take cursor changes ++ c ∷ [] → all_starts ≡ take cursor starts ++ from ∷ [] →
+      (n : ℕ) → n ≡ length all → IsSound gives keeps put t kept_then all all_starts n
+  go_sound {t} {c} {kept_then} {from} done all all_starts e f n whole =
+      let many : length all ≡ length (take cursor changes) + 1 = ap length e ∙ length-append (take cursor changes) (c ∷ []) in
+      let many_starts : length all_starts ≡ length (take cursor starts) + 1 =
+      ap length f ∙ length-append (take cursor starts) (from ∷ []) in
+      let same_many : length (take cursor starts) ≡ length (take cursor changes) =
+      length-take-le cursor starts (omega (arith, sound.within, sound.paired)) ∙ sym (length-take-le cursor changes sound.within) in
+      record {
+        within = omega arith;
+        paired = omega arith;
+        done = rw (take_all n all (omega arith), take_all n all_starts (omega arith)) (done_leads done all all_starts e f);
+        ahead = rw (drop_all n all (omega arith)) refl;
+      }
+
+  -- the new list replays to the new state
+  pub go_replays : {t : S} {c : C} {kept_then : List O} {from : ℕ} → IsDone gives keeps put state t c kept kept_then from →
+      (all : List C) → all ≡ take cursor changes ++ c ∷ [] → (n : ℕ) → n ≡ length all →
+      replay gives (unwound put kept_then t) (take n all) ≡ Some t
+  go_replays {t} {c} {kept_then} {from} done all e n whole =
+      rw (done_first done, take_all n all (omega arith), e)
+      (replay-append_some gives (unwound put kept state) state t (take cursor changes) c sound_replay done.given)
+
+  -- the state before a new change gives the one after it, to which the new list replays
+  pub go_given : {t : S} {c : C} {kept_then : List O} {from : ℕ} → IsDone gives keeps put state t c kept kept_then from →
+      (all : List C) → all ≡ take cursor changes ++ c ∷ [] → (n : ℕ) → n ≡ length all →
+      (before : S) → replay gives (unwound put kept state) (take cursor changes) ≡ Some before →
+      (after : S) × (gives before c ≡ Ok after) × (replay gives (unwound put kept_then t) (take n all) ≡ Some after)
+  go_given {t} done all e n whole before was =
+      let given = done.given in
+      (t, cc sound_replay, go_replays done all e n whole)
+
+  -- after the next change ahead
+  pub forth_sound : {t : S} {c : C} {kept_then : List O} {from : ℕ} → IsDone gives keeps put state t c kept kept_then from →
+      cursor < length changes → c ≡ get_or changes cursor c →
+      IsSound gives keeps put t kept_then changes (set starts cursor from) (cursor + 1)
+  forth_sound {t} {c} {kept_then} {from} done below next =
+      let more : take (cursor + 1) changes ≡ take cursor changes ++ c ∷ [] = rw (← next) at (take_more changes cursor c below) in
+      let more_starts : take (cursor + 1) (set starts cursor from) ≡ take cursor starts ++ from ∷ [] =
+      take_more_set starts cursor from (omega (arith, sound.paired)) in
+      let rest : drop cursor changes ≡ c ∷ drop (cursor + 1) changes =
+      let h = rw (← next) at (drop-cons changes cursor c below) in rw add-one h in
+      record {
+        within = omega arith;
+        paired = length-set starts cursor from ∙ sound.paired;
+        done = done_leads done (take (cursor + 1) changes) (take (cursor + 1) (set starts cursor from)) more more_starts;
+        ahead = rw (rest, done.given) at sound.ahead;
+      }
+
+  last_or : (d : C) (n start : ℕ) → n + 1 ≡ cursor → start ≡ get_or starts n start →
+      (before : S) × IsLast gives keeps put state kept changes starts n start before (get_or changes n d)
+  last_or d n start last here =
+      let below : n < length changes = omega (arith, sound.within) in
+      let more : take cursor changes ≡ take n changes ++ get_or changes n d ∷ [] = rw last at (take_more changes n d below) in
+      let more_starts : take cursor starts ≡ take n starts ++ start ∷ [] =
+      let h = rw last at (take_more starts n start (omega (arith, sound.paired))) in rw (← here) at h in
+      let done = rw (
+        more,
+        more_starts,
+        reverse-append_last (take n changes) (get_or changes n d),
+        reverse-append_last (take n starts) start,
+      ) at sound.done in (
+        done.0,
+        record {
+          newest = done.1;
+          older = done.2;
+          next = rw add-one (drop-cons changes n d below);
+          fits = rw done.1.values done.1.undone;
+        },
+      )
+
+  -- where a change is left there is a last one
+  pub last_of : (n start : ℕ) → n + 1 ≡ cursor → start ≡ get_or starts n start →
+      (before : S) × (c : C) × IsLast gives keeps put state kept changes starts n start before c
+  last_of n start last here =
+      let d : C = item_of changes (omega (arith, sound.within)) in
+      let l = last_or d n start last here in
+      (l.0, get_or changes n d, l.1)
+
+  -- after the last change is taken back, which leaves the first state
+  pub back_sound : (n start : ℕ) → n + 1 ≡ cursor → start ≡ get_or starts n start →
+      (s : S) (kept_then : List O) → put_back put (drop start kept) state ≡ Some s → kept_then ≡ take start kept →
+      IsSound gives keeps put s kept_then changes starts n × (unwound put kept_then s ≡ unwound put kept state)
+  back_sound n start last here s kept_then back cut =
+      let l = last_of n start last here in
+      let same : s ≡ l.0 = cc l.2.fits in
+      let first : unwound put (take start kept) l.0 ≡ unwound put kept state =
+      unwound_some put (take start kept) l.0 (unwound put kept state)
+      (leads-put_back gives keeps put (unwound put kept state) (reverse (take n changes)) (reverse (take n starts)) (take start kept)
+      l.0 l.2.older) in (
+        rw (same, cut) (record {
+          within = omega (arith, sound.within);
+          paired = sound.paired;
+          done = rw first l.2.older;
+          ahead = rw (l.2.next, l.2.newest.given) (rw (← last) at sound.ahead);
+        }),
+        rw (same, cut) first,
+      )

@@ -1,0 +1,39 @@
+-- A new change leaves a sound journal with the same first state, and the state before it gives what `apply` gave.
+use Rattle.std.proofs.Common.{◌∙◌}
+use Rattle.undo_core.proofs.Sound.{go_sound, go_given, done_first, sound_replay, fault_of}
+use Rattle.undo_core.proofs.journal.Journal.go.Goals as goal
+
+pub returns-in_err-apply-clause-fault : goal.returns-in_err-apply-clause-fault
+returns-in_err-apply-clause-fault g c =
+    rw (← c.self.view_is) (fault_of g.S.Undo.gives c.self.inside.state c.args.change _ _ c.in_err-apply.field-0.0
+    c.from_residual-in_err-apply.result c.from_residual-in_err-apply.ensures.1 c.in_err-apply.ensures.fault (sound_replay c.self.invariant))
+
+pub invariant_of-self-2 : goal.invariant_of-self-2
+invariant_of-self-2 g c =
+    go_sound c.self.invariant (record {
+      given = c.in_ok-apply.ensures.given;
+      undone = g.met.S.Undo.undoes _ _ _ c.in_ok-apply.ensures.real c.in_ok-apply.ensures.given;
+      kept_is = c.in_ok-apply.ensures.kept;
+      from_is = c.len-from.ensures ∙ c.self.inside.kept.ok.0;
+    })
+    _ _ (rw c.reserve.ensures.items at c.put_last.ensures) (rw c.reserve-2.ensures.items at c.put_last-2.ensures)
+    _ (c.len-self-inside.ensures ∙ c.put_last.new.items.ok.0)
+
+pub returns-clause-first : goal.returns-clause-first
+returns-clause-first g c =
+    rw (← c.self.view_is) (done_first c.self.invariant (record {
+      given = c.in_ok-apply.ensures.given;
+      undone = g.met.S.Undo.undoes _ _ _ c.in_ok-apply.ensures.real c.in_ok-apply.ensures.given;
+      kept_is = c.in_ok-apply.ensures.kept;
+      from_is = c.len-from.ensures ∙ c.self.inside.kept.ok.0;
+    }))
+
+pub returns-clause-given : goal.returns-clause-given
+returns-clause-given g c =
+    rw (← c.self.view_is) (go_given c.self.invariant (record {
+      given = c.in_ok-apply.ensures.given;
+      undone = g.met.S.Undo.undoes _ _ _ c.in_ok-apply.ensures.real c.in_ok-apply.ensures.given;
+      kept_is = c.in_ok-apply.ensures.kept;
+      from_is = c.len-from.ensures ∙ c.self.inside.kept.ok.0;
+    })
+    _ (rw c.reserve.ensures.items at c.put_last.ensures) _ (c.len-self-inside.ensures ∙ c.put_last.new.items.ok.0))

@@ -1,0 +1,4 @@
+pub mod History
+pub mod Leads
+pub mod Refused
+pub mod Replay

@@ -1,0 +1,155 @@
+// The changes done on a state, each of which can be taken back and done again.
+ghost use Rattle.std.specs.Prelude.{◌≡◌, ◌+◌, ◌-◌, ◌<◌, ◌↔◌, ◌++◌, [], ◌∷◌, length, take, drop, vec_len, vec_capacity, Some, Ok, Err, IsTrue, OnOk, OnErr, IfOk};
+ghost use Rattle.std.specs.Bool.{OnFalse};
+ghost use Rattle.undo_core.specs.Refused.{IfFault};
+ghost use Rattle.undo_core.specs.Replay.{replay, count_kept};
+
+use crate::refused::{Memory, Refused};
+use crate::undo::Undo;
+use std::alloc::Global;
+use std::marker::Model;
+
+/// The changes done on a state since its first one, and those that were taken back and stand ahead.
+#[derive(Drop)]
+pub struct Journal<S: Undo> {
+    state: S,
+    // The old values of the changes done, one change after the other.
+    kept: Vec<S::Old>,
+    // The changes done and, from the cursor on, those ahead.
+    changes: Vec<S::Change>,
+    // Where in `kept` the values of each change done start.
+    starts: Vec<usize>,
+    // How many changes are done.
+    cursor: usize,
+}
+
+impl<S: Undo> Model for Journal<S> {
+    ghost use Rattle.std.specs.Prelude.{take, drop};
+    ghost use Rattle.undo_core.specs.History.{History};
+    ghost use Rattle.undo_core.specs.Replay.{unwound};
+    ghost use Rattle.undo_core.specs.Leads.{IsSound};
+
+    ghost Value = { History S S.Change };
+
+    ghost view = { λ j. record { first = unwound S.put j.kept.items j.state; changes = take j.cursor j.changes.items; ahead = drop j.cursor j.changes.items } };
+
+    ghost invariant = { λ j. IsSound S.gives S.keeps S.put j.state j.kept.items j.changes.items j.starts.items j.cursor };
+}
+
+// Puts an item in the place of all from this one on. There is room for it.
+fn put_last<T: Copy>(items: &mut Vec<T>, at: usize, item: T)
+    requires { vec_len items.old < vec_capacity items.old }
+    ensures { items.new.items ≡ take at items.old.items ++ item ∷ [] }
+{
+    items.truncate(at);
+    items.push(item).unwrap();
+}
+
+impl<S: Undo> Journal<S> {
+    ghost use Rattle.undo_core.specs.History.{HoldsOfState};
+
+    /// A journal at its first state, with no change. It takes no memory.
+    pub fn new(alloc: Global, s: S) -> Journal<S>
+        ensures { result ≡ record { first = s; changes = []; ahead = [] } }
+    {
+        Journal {
+            state: s,
+            kept: Vec::new(alloc),
+            changes: Vec::new(alloc),
+            starts: Vec::new(alloc),
+            cursor: 0,
+        }
+    }
+
+    /// Does one change more and forgets those ahead. A fault of the state, or want of memory, alters nothing.
+    pub fn go(&mut self, change: S::Change) -> Result<(), Refused<S::Fault>>
+        ensures first { self.new.first ≡ self.old.first }
+        ensures changes { OnOk result (self.new.changes ≡ self.old.changes ++ change ∷ []) }
+        ensures ahead { OnOk result (self.new.ahead ≡ []) }
+
+        // The state before the change gives the one after it, or the fault.
+        ensures given { OnOk result (HoldsOfState S.gives self.old (λ s.
+            (t : S) × (S.gives s change ≡ Ok t) × (replay S.gives self.new.first self.new.changes ≡ Some t))) }
+        ensures fault { IfFault result (λ f. HoldsOfState S.gives self.old (λ s. S.gives s change ≡ Err f)) }
+        ensures err { OnErr result (self.new ≡ self.old) }
+    {
+        self.changes.reserve(1)?;
+        self.starts.reserve(1)?;
+        let from = self.kept.len();
+        self.state.apply(&change, &mut self.kept)?;
+        put_last(&mut self.changes, self.cursor, change);
+        put_last(&mut self.starts, self.cursor, from);
+        self.cursor = self.changes.len();
+        Ok(())
+    }
+
+    /// Takes the last change back, which then stands ahead. It takes no memory, and is false where no change is left.
+    pub fn back(&mut self) -> bool
+        ensures left { IsTrue result ↔ (0 < length self.old.changes) }
+        ensures first { self.new.first ≡ self.old.first }
+        ensures changes { self.new.changes ≡ take (length self.old.changes - 1) self.old.changes }
+        ensures ahead { self.new.ahead ≡ drop (length self.old.changes - 1) self.old.changes ++ self.old.ahead }
+        ensures all { self.new.changes ++ self.new.ahead ≡ self.old.changes ++ self.old.ahead }
+        ensures none { OnFalse result (self.new ≡ self.old) }
+    {
+        if self.cursor == 0 {
+            return false;
+        }
+        self.cursor -= 1;
+        self.state.revert(&mut self.kept, self.starts[self.cursor]);
+        true
+    }
+
+    /// Does the next change ahead again. It is false where none is ahead; want of memory alters nothing.
+    pub fn forth(&mut self) -> Result<bool, Memory>
+        ensures more { IfOk result (λ b. IsTrue b ↔ (0 < length self.old.ahead)) }
+        ensures first { self.new.first ≡ self.old.first }
+        ensures changes { OnOk result (self.new.changes ≡ self.old.changes ++ take 1 self.old.ahead) }
+        ensures ahead { OnOk result (self.new.ahead ≡ drop 1 self.old.ahead) }
+        ensures all { self.new.changes ++ self.new.ahead ≡ self.old.changes ++ self.old.ahead }
+        ensures none { IfOk result (λ b. OnFalse b (self.new ≡ self.old)) }
+        ensures err { OnErr result (self.new ≡ self.old) }
+    {
+        if self.cursor == self.changes.len() {
+            return Ok(false);
+        }
+        let from = self.kept.len();
+        let change = self.changes[self.cursor];
+        match self.state.apply(&change, &mut self.kept) {
+            Ok(()) => {}
+            Err(Refused::Memory) => return Err(Memory),
+            Err(Refused::Fault(_)) => unreachable!(),
+        }
+        self.starts[self.cursor] = from;
+        self.cursor += 1;
+        Ok(true)
+    }
+
+    /// The state that the changes give. It takes no memory.
+    pub fn state(&self) -> &S
+        ensures { replay S.gives self.now.first self.now.changes ≡ Some result.now }
+    {
+        &self.state
+    }
+
+    /// The changes done, the oldest one first. It takes no memory.
+    pub fn changes(&self) -> &[S::Change]
+        ensures { result.now ≡ self.now.changes }
+    {
+        &self.changes[..self.cursor]
+    }
+
+    /// How many changes stand ahead. It takes no memory.
+    pub fn ahead(&self) -> usize
+        ensures { result ≡ length self.now.ahead }
+    {
+        self.changes.len() - self.cursor
+    }
+
+    /// How many old values the changes done keep. It takes no memory.
+    pub fn kept_len(&self) -> usize
+        ensures { result ≡ count_kept S.gives S.keeps self.now.first self.now.changes }
+    {
+        self.kept.len()
+    }
+}

@@ -1,0 +1,13 @@
+//! States whose changes can be taken back by the values that they overwrote, and a journal over any of them.
+#![tactic(auto)]
+
+mod journal;
+mod refused;
+mod undo;
+
+pub use journal::Journal;
+pub use refused::{Memory, Refused};
+pub use undo::Undo;
+
+#[cfg(test)]
+mod tests;

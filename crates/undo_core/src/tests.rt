@@ -1,0 +1,163 @@
+// A counter that refuses to pass nine, and what a journal of it answers.
+ghost use Rattle.std.specs.Prelude.{◌≡◌, ◌+◌, [], ◌∷◌, Some, Ok, Err, nat_le, refl, if◌then◌else◌};
+ghost use Rattle.undo_core.specs.declared.tests.CounterFault.TheVariants.{PastNine};
+
+use crate::{Journal, Memory, Refused, Undo};
+use std::alloc::AllocError;
+use std::test::Fail;
+
+#[derive(Clone, Copy, Debug, PartialEq, Eq)]
+struct Counter {
+    number: u8,
+}
+
+#[derive(Clone, Copy, Debug, PartialEq, Eq)]
+enum CounterFault {
+    PastNine,
+}
+
+impl Undo for Counter {
+    type Change = u8;
+
+    type Old = u8;
+
+    type Fault = CounterFault;
+
+    ghost is_real = { λ _ _. Unit {0} };
+
+    ghost gives = { λ s c. if nat_le (s.number + c) 9 then Ok (record { number = s.number + c }) else Err PastNine };
+
+    ghost keeps = { λ s _. s.number ∷ [] };
+
+    ghost put = { λ _ o. Some (record { number = o }) };
+
+    ghost undoes = { λ s t c real given. refl };
+
+    fn apply(&mut self, change: &u8, kept: &mut Vec<u8>) -> Result<(), Refused<CounterFault>> {
+        let number = u16::from(self.number) + u16::from(*change);
+        if number > 9 {
+            return Err(Refused::Fault(CounterFault::PastNine));
+        }
+        kept.push(self.number)?;
+        self.number = number as u8;
+        Ok(())
+    }
+
+    fn revert(&mut self, kept: &mut Vec<u8>, from: usize) {
+        if from < kept.len() {
+            self.number = kept[from];
+            kept.truncate(from);
+        }
+    }
+}
+
+#[derive(Clone, Copy, Debug)]
+enum Act {
+    Go(u8),
+    Back,
+    Forth,
+}
+
+#[derive(Clone, Copy, Debug, PartialEq, Eq)]
+enum Told {
+    Yes,
+    No,
+    PastNine,
+    Memory,
+}
+
+fn answer_of(done: bool) -> Told {
+    if done { Told::Yes } else { Told::No }
+}
+
+fn perform(journal: &mut Journal<Counter>, act: Act) -> Told {
+    match act {
+        Act::Go(by) => match journal.go(by) {
+            Ok(()) => Told::Yes,
+            Err(Refused::Fault(CounterFault::PastNine)) => Told::PastNine,
+            Err(Refused::Memory) => Told::Memory,
+        },
+        Act::Back => answer_of(journal.back()),
+        Act::Forth => match journal.forth() {
+            Ok(done) => answer_of(done),
+            Err(Memory) => Told::Memory,
+        },
+    }
+}
+
+// An act on the journal that the row above left, its answer, and then the number, the changes and how many stand ahead.
+const ROWS: [(Act, Told, u8, &[u8], usize); 18] = [
+    (Act::Back, Told::No, 0, &[], 0),
+    (Act::Forth, Told::No, 0, &[], 0),
+    (Act::Go(10), Told::PastNine, 0, &[], 0),
+    (Act::Go(4), Told::Yes, 4, &[4], 0),
+    (Act::Go(5), Told::Yes, 9, &[4, 5], 0),
+    (Act::Go(1), Told::PastNine, 9, &[4, 5], 0),
+    (Act::Back, Told::Yes, 4, &[4], 1),
+    (Act::Go(6), Told::PastNine, 4, &[4], 1),
+    (Act::Forth, Told::Yes, 9, &[4, 5], 0),
+    (Act::Forth, Told::No, 9, &[4, 5], 0),
+    (Act::Back, Told::Yes, 4, &[4], 1),
+    (Act::Back, Told::Yes, 0, &[], 2),
+    (Act::Back, Told::No, 0, &[], 2),
+    (Act::Forth, Told::Yes, 4, &[4], 1),
+    (Act::Go(3), Told::Yes, 7, &[4, 3], 0),
+    (Act::Back, Told::Yes, 4, &[4], 1),
+    (Act::Back, Told::Yes, 0, &[], 2),
+    // The same change as the one ahead cuts what stands ahead too.
+    (Act::Go(4), Told::Yes, 4, &[4], 0),
+];
+
+#[test]
+fn a_journal_of_a_counter(rt: HostRuntime) -> Result<(), Fail> {
+    let mut journal = Journal::new(rt.alloc(), Counter { number: 0 });
+    for (does, answer, number, changes, ahead) in ROWS {
+        assert_eq!(rt;
+            perform(&mut journal, does),
+            answer,
+            "{does:?}, changes {changes:?}"
+        );
+        assert_eq!(rt;
+            journal.state().number,
+            number,
+            "{does:?}, changes {changes:?}"
+        );
+        assert_eq!(rt; journal.changes(), changes, "{does:?}, changes {changes:?}");
+        assert_eq!(rt; journal.ahead(), ahead, "{does:?}, changes {changes:?}");
+        assert_eq!(rt;
+            journal.kept_len(),
+            changes.len(),
+            "{does:?}, changes {changes:?}"
+        );
+    }
+    Ok(())
+}
+
+#[test]
+fn many_changes(rt: HostRuntime) {
+    let mut journal = Journal::new(rt.alloc(), Counter { number: 9 });
+    for change in 0..100_000 {
+        assert_eq!(rt;
+            perform(&mut journal, Act::Go(0)),
+            Told::Yes,
+            "change {change}"
+        );
+    }
+    assert_eq!(rt; journal.kept_len(), 100_000);
+    for change in 0..100_000 {
+        assert_eq!(rt;
+            perform(&mut journal, Act::Back),
+            Told::Yes,
+            "change {change}"
+        );
+    }
+    assert_eq!(rt; journal.kept_len(), 0);
+    assert_eq!(rt; journal.ahead(), 100_000);
+}
+
+#[test]
+fn want_of_memory(rt: HostRuntime) {
+    assert_eq!(rt; Memory::from(AllocError), Memory);
+    assert_eq!(rt; Refused::<u8>::from(AllocError), Refused::Memory);
+    assert_eq!(rt; Refused::<u8>::from(Memory), Refused::Memory);
+}

@@ -1,0 +1,53 @@
+// A state whose changes can be taken back by the values that they overwrote.
+ghost use Rattle.std.specs.Prelude.{◌≡◌, ◌≤◌, ◌++◌, List, Option, Result, Some, Ok, Err, IsSome, OnOk, OnErr, vec_len, take, drop};
+ghost use Rattle.undo_core.specs.Refused.{IfFault};
+ghost use Rattle.undo_core.specs.Replay.{put_back};
+
+use crate::refused::Refused;
+
+/// A state, its changes, and the old values that take a change back.
+pub trait Undo: Drop {
+    /// What is asked of a state.
+    type Change: Copy;
+
+    /// One place of a state with the value that stood there.
+    type Old: Copy;
+
+    /// Why a state refuses a change.
+    type Fault: Drop;
+
+    /// The state and the change are values of the program, with their bounds.
+    ghost is_real: { Self → Self.Change → Type 0 };
+
+    /// The new state that a change gives, or its fault.
+    ghost gives: { Self → Self.Change → Result Self Self.Fault };
+
+    /// The values that an accepted change overwrites, in the order in which it overwrites them.
+    ghost keeps: { Self → Self.Change → List Self.Old };
+
+    /// The state with one value put back, or none where the value doesn't fit.
+    ghost put: { Self → Self.Old → Option Self };
+
+    /// Does the change and appends the values that it overwrites to `kept`. A fault, or want of memory, alters nothing.
+    fn apply(
+        &mut self,
+        change: &Self::Change,
+        kept: &mut Vec<Self::Old>,
+    ) -> Result<(), Refused<Self::Fault>>
+        ensures real { is_real self.old change.now }
+        ensures given { OnOk result (gives self.old change.now ≡ Ok self.new) }
+        ensures kept { OnOk result (kept.new.items ≡ kept.old.items ++ keeps self.old change.now) }
+        ensures fault { IfFault result (λ f. gives self.old change.now ≡ Err f) }
+        ensures same { OnErr result (self.new ≡ self.old) }
+        ensures same_kept { OnErr result (kept.new.items ≡ kept.old.items) };
+
+    /// Puts back the values of `kept` from `from` on, the last one first, and cuts them off. It takes no memory.
+    fn revert(&mut self, kept: &mut Vec<Self::Old>, from: usize)
+        requires within { from ≤ vec_len kept.old }
+        requires fits { IsSome (put_back put (drop from kept.old.items) self.old) }
+        ensures back { put_back put (drop from kept.old.items) self.old ≡ Some self.new }
+        ensures cut { kept.new.items ≡ take from kept.old.items };
+
+    /// Putting back the values that an accepted change overwrote gives the state before it.
+    ghost undoes: { (s t : Self) (c : Self.Change) → is_real s c → gives s c ≡ Ok t → put_back put (keeps s c) t ≡ Some s };
+}
