@@ -3,43 +3,63 @@ use crate::arithmetic::{add, div, mul, sub};
 use crate::comparison::compare;
 use crate::field::Field;
 use crate::word::{Cmp, Word};
-
-const MAX: i32 = 1_073_741_823;
+use std::process::Abort;
 
 const NEGATIVE_ZERO: Bytes = (Minus, [0, 0, 0, 0, 0]);
 
-// Sums: the two words, the sum, and whether it overflows.
-const SUMS: [(i32, i32, Bytes, bool); 7] = [
-    (-5, 5, NEGATIVE_ZERO, false),
-    (5, -5, (Plus, [0, 0, 0, 0, 0]), false),
-    (7, -12, (Minus, [0, 0, 0, 0, 5]), false),
-    (MAX, MAX, (Plus, [63, 63, 63, 63, 62]), true),
-    (MAX, 1, (Plus, [0, 0, 0, 0, 0]), true),
-    (-MAX, -1, NEGATIVE_ZERO, true),
-    (MAX, -MAX, (Plus, [0, 0, 0, 0, 0]), false),
+const ZERO: Bytes = (Plus, [0, 0, 0, 0, 0]);
+
+const LARGEST: Bytes = (Plus, [63, 63, 63, 63, 63]);
+
+// Sums: the two words, the sum, and whether it overflows. The last one is the book's example of ADD.
+const SUMS: [(Bytes, Bytes, Bytes, bool); 10] = [
+    (
+        (Minus, [0, 0, 0, 0, 5]),
+        (Plus, [0, 0, 0, 0, 5]),
+        NEGATIVE_ZERO,
+        false,
+    ),
+    (
+        (Plus, [0, 0, 0, 0, 5]),
+        (Minus, [0, 0, 0, 0, 5]),
+        ZERO,
+        false,
+    ),
+    (ZERO, NEGATIVE_ZERO, ZERO, false),
+    (NEGATIVE_ZERO, ZERO, NEGATIVE_ZERO, false),
+    (
+        (Plus, [0, 0, 0, 0, 7]),
+        (Minus, [0, 0, 0, 0, 12]),
+        (Minus, [0, 0, 0, 0, 5]),
+        false,
+    ),
+    (LARGEST, LARGEST, (Plus, [63, 63, 63, 63, 62]), true),
+    (LARGEST, (Plus, [0, 0, 0, 0, 1]), ZERO, true),
+    (
+        (Minus, [63, 63, 63, 63, 63]),
+        (Minus, [0, 0, 0, 0, 1]),
+        NEGATIVE_ZERO,
+        true,
+    ),
+    (LARGEST, (Minus, [63, 63, 63, 63, 63]), ZERO, false),
+    (
+        (Plus, [19, 18, 1, 2, 22]),
+        (Plus, [1, 36, 5, 0, 50]),
+        (Plus, [20, 54, 6, 3, 8]),
+        false,
+    ),
 ];
 
 #[test]
 fn sums(rt: HostRuntime) {
     for (a, v, want, overflow) in SUMS {
-        assert_eq!(rt;
-            add(number(a), number(v)),
-            (word(want), overflow),
-            "{a} + {v}"
-        );
-        let difference = sub(number(a), number(v).negated());
-        assert_eq!(rt; difference, (word(want), overflow), "{a} - -{v}");
+        check_sum(&rt, a, v, (word(want), overflow));
     }
-    let (plus, minus) = (number(0), word(NEGATIVE_ZERO));
-    assert_eq!(rt; add(plus, minus), (plus, false), "+0 + -0");
-    assert_eq!(rt; add(minus, plus), (minus, false), "-0 + +0");
-    assert_eq!(rt; sub(number(5), number(5)), (plus, false), "5 - 5");
-    // the book's example of ADD: 1234, 1, 150 and 100, 5, 50
-    let sum = add(
-        word((Plus, [19, 18, 1, 2, 22])),
-        word((Plus, [1, 36, 5, 0, 50])),
-    );
-    assert_eq!(rt; sum, (word((Plus, [20, 54, 6, 3, 8])), false));
+}
+
+fn check_sum(rt: &impl Abort, a: Bytes, v: Bytes, want: (Word, bool)) {
+    assert_eq!(rt; add(word(a), word(v)), want, "{a:?} + {v:?}");
+    assert_eq!(rt; sub(word(a), word(v).negated()), want, "{a:?} - (-{v:?})");
 }
 
 // Products: the two words, and the upper and the lower word of ten bytes.

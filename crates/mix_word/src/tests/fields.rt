@@ -66,37 +66,62 @@ fn fields_of_codes(rt: HostRuntime) {
     assert_eq!(rt; Some(Field::whole()), Field::of(5));
 }
 
-#[test]
-fn parts_of_words(rt: HostRuntime) -> Result<(), Fail> {
-    let parts = Parts {
-        sign: Plus,
-        address: 2000,
-        index: 2,
-        f: 3,
-        code: 8,
-    };
-    let joined = Word::join(parts);
-    assert_eq!(rt; joined, word((Plus, [31, 16, 2, 3, 8])));
-    assert_eq!(rt; joined.magnitude(), 524_296_392);
-    assert_eq!(rt; joined.parts(), parts);
-    assert_eq!(rt; (joined.byte(1), joined.byte(5)), (31, 8));
+const PARTS: [(Parts, Bytes, u32); 2] = [
+    (
+        Parts {
+            sign: Plus,
+            address: 2000,
+            index: 2,
+            f: 3,
+            code: 8,
+        },
+        (Plus, [31, 16, 2, 3, 8]),
+        524_296_392,
+    ),
+    (
+        Parts {
+            sign: Minus,
+            address: 0,
+            index: 0,
+            f: 0,
+            code: 0,
+        },
+        (Minus, [0, 0, 0, 0, 0]),
+        0,
+    ),
+];
 
-    let negative_zero = Word::of(Minus, 0);
-    assert_ne!(rt; negative_zero, Word::of(Plus, 0));
-    assert_eq!(rt; negative_zero.negated(), Word::of(Plus, 0));
-    let zeros = Parts {
-        sign: Minus,
-        address: 0,
-        index: 0,
-        f: 0,
-        code: 0,
-    };
-    assert_eq!(rt; negative_zero.parts(), zeros);
-    assert_eq!(rt;
-        (negative_zero.sign(), Sign::Plus.opposite()),
-        (Minus, Minus)
-    );
-    Ok(())
+#[test]
+fn parts_of_words(rt: HostRuntime) {
+    for (parts, bytes, magnitude) in PARTS {
+        assert_eq!(rt; word(bytes).parts(), parts, "{bytes:?}");
+        assert_eq!(rt; word(bytes).magnitude(), magnitude, "{bytes:?}");
+    }
+}
+
+#[test]
+fn words_of_parts(rt: HostRuntime) {
+    for (parts, bytes, _) in PARTS {
+        if parts.address < 4096 && parts.index < 64 && parts.f < 64 && parts.code < 64 {
+            assert_eq!(rt; Word::join(parts), word(bytes), "{parts:?}");
+        } else {
+            assert!(rt; false, "{parts:?}");
+        }
+    }
+}
+
+#[test]
+fn two_zeros(rt: HostRuntime) {
+    let negative = Word::of(Minus, 0);
+    assert_ne!(rt; negative, Word::of(Plus, 0));
+    assert_eq!(rt; negative.negated(), Word::of(Plus, 0));
+    assert_eq!(rt; (negative.sign(), Sign::Plus.opposite()), (Minus, Minus));
+}
+
+#[test]
+fn bytes_from_the_left(rt: HostRuntime) {
+    let cell = word(CELL);
+    assert_eq!(rt; (cell.byte(1), cell.byte(2), cell.byte(5)), (1, 16, 4));
 }
 
 const WRITTEN: [(Bytes, &str, &str); 3] = [

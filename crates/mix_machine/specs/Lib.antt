@@ -1,0 +1,10 @@
+pub mod Accepted
+pub mod Decode
+pub mod Do
+pub mod Fault
+pub mod Fits
+pub mod KeptCount
+pub mod Loaded
+pub mod View
+pub mod World
+pub mod Write

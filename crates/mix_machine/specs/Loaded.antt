@@ -1,0 +1,34 @@
+-- The machine with a program in it, before its first step (The Art of Computer Programming, 1.3.1 and 1.3.2).
+use Rattle.std.specs.Prelude.{ℕ, List, [], ◌∷◌, false, replicate, slice_set}
+use Rattle.mix_word.specs.Word.{WordValue, zero_word}
+use Rattle.mix_word.specs.declared.word.Cmp.TheVariants.{Equal}
+use Rattle.mix_machine.specs.World.{WorldState}
+
+-- the cells with words put at their places in order, so that a later one wins
+abbrev pub placed : List WordValue → List (ℕ × WordValue) → List WordValue
+placed cells [] = cells
+placed cells (w ∷ ws) = placed (slice_set cells w.0 w.1) ws
+
+-- registers +0, toggle off, indicator EQUAL, clock 0, these cells, and this location
+abbrev pub blank : List WordValue → ℕ → WorldState
+blank cells start =
+    record {
+      a = zero_word;
+      x = zero_word;
+      i1 = zero_word;
+      i2 = zero_word;
+      i3 = zero_word;
+      i4 = zero_word;
+      i5 = zero_word;
+      i6 = zero_word;
+      j = zero_word;
+      over = false;
+      cmp = Equal;
+      cells = cells;
+      loc = start;
+      clock = 0;
+    }
+
+-- the blank machine with the words of a program in cells that were +0, at the program's start
+unfoldable pub loaded : List (ℕ × WordValue) → ℕ → WorldState
+loaded words start = blank (placed (replicate 4000 zero_word) words) start

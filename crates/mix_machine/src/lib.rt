@@ -1,0 +1,21 @@
+//! The MIX computer: its state, its steps, and how each step is taken back (The Art of Computer Programming, 1.3.1).
+#![tactic(auto)]
+
+mod decode;
+mod fault;
+mod laws;
+mod load;
+mod old;
+mod step;
+mod undo;
+mod world;
+mod write;
+
+pub use fault::MixFault;
+pub use laws::kept_count_law;
+pub use mix_word::{Cmp, Place, Reg, Sign, Word};
+pub use old::{Change, Old};
+pub use world::World;
+
+#[cfg(test)]
+mod tests;

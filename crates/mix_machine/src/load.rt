@@ -1,0 +1,60 @@
+//! A program put into the machine (1.3.2).
+ghost use Rattle.std.specs.Prelude.{◌≡◌, length, replicate, IfOk};
+ghost use Rattle.mix_machine.specs.Loaded.{placed, blank, loaded};
+ghost use Rattle.mix_word.specs.Word.{zero_word};
+
+use crate::world::World;
+use mix_word::{Cmp, Place, Sign, Word};
+use std::alloc::Global;
+use undo_core::Memory;
+
+const CELLS: usize = 4000;
+
+impl World {
+    /// The machine with words put at their places in order, so that a later one wins, and the location at
+    /// `start`: all else is +0, off, EQUAL and 0. `Memory` where there is no room for the cells.
+    #[tactic(auto, unfolding(crate::specs::Loaded::loaded))]
+    pub fn load(alloc: Global, words: &[(Place, Word)], start: Place) -> Result<World, Memory>
+        ensures { IfOk result (λ w. w ≡ loaded words.now start) }
+    {
+        let cells = cells_with(alloc, CELLS, words)?;
+        Ok(World::blank(cells, start))
+    }
+
+    // The machine with these cells and all else +0, off, EQUAL and 0.
+    fn blank(cells: Vec<Word>, start: Place) -> World
+        requires { length cells.items ≡ 4000 }
+        ensures { result ≡ blank cells.items start }
+    {
+        let zero = Word::of(Sign::Plus, 0);
+        World {
+            a: zero,
+            x: zero,
+            i1: zero,
+            i2: zero,
+            i3: zero,
+            i4: zero,
+            i5: zero,
+            i6: zero,
+            j: zero,
+            over: false,
+            cmp: Cmp::Equal,
+            cells,
+            loc: start.number(),
+            clock: 0,
+        }
+    }
+}
+
+// So many cells of +0, all those of the machine, with words put at their places in order.
+fn cells_with(alloc: Global, count: usize, words: &[(Place, Word)]) -> Result<Vec<Word>, Memory>
+    requires { count ≡ 4000 }
+    ensures cells { IfOk result (λ v. v.items ≡ placed (replicate count zero_word) words.now) }
+    ensures len { IfOk result (λ v. length v.items ≡ count) }
+{
+    let mut cells = vec![in alloc; Word::of(Sign::Plus, 0); count]?;
+    for &(place, word) in words {
+        cells[usize::from(place.number())] = word;
+    }
+    Ok(cells)
+}

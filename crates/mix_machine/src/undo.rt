@@ -1,0 +1,72 @@
+//! The machine as a state whose changes can be taken back by the values that they replaced.
+ghost use Rattle.std.specs.Prelude.{◌≡◌, ◌≤◌, ◌++◌, Ok, Err, OnOk, OnErr};
+ghost use Rattle.undo_core.specs.Refused.{IfFault};
+ghost use Rattle.mix_machine.specs.World.{IsWorld};
+ghost use Rattle.mix_machine.specs.Write.{put_value};
+ghost use Rattle.mix_machine.specs.Do.{does, kept_values};
+ghost use Rattle.mix_machine.specs.Accepted.{undone-does};
+
+use crate::fault::MixFault;
+use crate::old::{Change, Old};
+use crate::world::World;
+use undo_core::{Refused, Undo};
+
+// The most that one change keeps.
+const MOST_KEPT: usize = 103;
+
+impl Undo for World {
+    type Change = Change;
+
+    type Old = Old;
+
+    type Fault = MixFault;
+
+    ghost is_real = { λ w _. IsWorld w };
+
+    ghost gives = { does };
+
+    ghost keeps = { kept_values };
+
+    ghost put = { put_value };
+
+    /// Does a change (1.3.1), or tells its fault. A fault, or want of memory for what it keeps, alters nothing.
+    fn apply(&mut self, change: &Change, kept: &mut Vec<Old>) -> Result<(), Refused<MixFault>> {
+        match *change {
+            Change::Step => self.step(kept),
+        }
+    }
+
+    /// Puts back the old values from `from` on, the last one first. It takes no memory.
+    fn revert(&mut self, kept: &mut Vec<Old>, from: usize) {
+        while kept.len() > from {
+            match kept.pop() {
+                None => return,
+                Some(value) => self.set_value(value),
+            }
+        }
+    }
+
+    ghost undoes = { undone-does };
+}
+
+impl World {
+    // One step. The room for what it keeps is made before anything is altered.
+    fn step(&mut self, kept: &mut Vec<Old>) -> Result<(), Refused<MixFault>>
+        ensures real { IsWorld self.old }
+        ensures given { OnOk result (does self.old Change.Step ≡ Ok self.new) }
+        ensures kept { OnOk result (kept.new.items ≡ kept.old.items ++ kept_values self.old Change.Step) }
+        ensures fault { IfFault result (λ f. does self.old Change.Step ≡ Err f) }
+        ensures same { OnErr result (self.new ≡ self.old) }
+        ensures same_kept { OnErr result (kept.new.items ≡ kept.old.items) }
+    {
+        let _ = &self.loc;
+        match self.decoded() {
+            Err(fault) => Err(Refused::Fault(fault)),
+            Ok(action) => {
+                kept.reserve(MOST_KEPT)?;
+                self.perform(action, kept);
+                Ok(())
+            }
+        }
+    }
+}

@@ -1,0 +1,107 @@
+//! The state of the machine, and what can be read of it (1.3.1).
+ghost use Rattle.std.specs.Prelude.{◌≡◌, ◌<◌, ◌≤◌};
+ghost use Rattle.mix_machine.specs.World.{register_of, cell_of, last_clock};
+ghost use Rattle.mix_machine.specs.Do.{is_halt_next};
+
+use mix_word::{Cmp, Place, Reg, Word};
+use std::marker::Model;
+
+/// The machine: registers, overflow toggle, comparison indicator, 4,000 cells, location and clock.
+#[derive(Drop)]
+pub struct World {
+    pub(crate) a: Word,
+    pub(crate) x: Word,
+    pub(crate) i1: Word,
+    pub(crate) i2: Word,
+    pub(crate) i3: Word,
+    pub(crate) i4: Word,
+    pub(crate) i5: Word,
+    pub(crate) i6: Word,
+    pub(crate) j: Word,
+    pub(crate) over: bool,
+    pub(crate) cmp: Cmp,
+    pub(crate) cells: Vec<Word>,
+    pub(crate) loc: u16,
+    pub(crate) clock: u64,
+}
+
+impl Model for World {
+    ghost use Rattle.mix_machine.specs.World.{WorldState, IsWorld};
+
+    ghost Value = { WorldState };
+
+    ghost use Rattle.mix_machine.specs.View.{view_of};
+
+    ghost view = { view_of };
+
+    ghost invariant = { λ w. IsWorld (view_of w) };
+}
+
+impl World {
+    /// What a register holds.
+    pub fn register(&self, r: Reg) -> Word
+        ensures { result ≡ register_of self.now r }
+    {
+        match r {
+            Reg::A => self.a,
+            Reg::X => self.x,
+            Reg::I1 => self.i1,
+            Reg::I2 => self.i2,
+            Reg::I3 => self.i3,
+            Reg::I4 => self.i4,
+            Reg::I5 => self.i5,
+            Reg::I6 => self.i6,
+            Reg::J => self.j,
+        }
+    }
+
+    /// What the cell at a place holds.
+    pub fn cell(&self, p: Place) -> Word
+        ensures { result ≡ cell_of self.now p }
+    {
+        self.cells[usize::from(p.number())]
+    }
+
+    /// The location of the next instruction, 0 to 4000; 4000 is past the last cell.
+    pub fn loc(&self) -> u16
+        ensures is { result ≡ self.now.loc }
+        ensures bound { result ≤ 4000 }
+    {
+        self.loc
+    }
+
+    /// Whether the overflow toggle is on.
+    pub fn over(&self) -> bool
+        ensures { result ≡ self.now.over }
+    {
+        self.over
+    }
+
+    /// The comparison indicator.
+    pub fn cmp(&self) -> Cmp
+        ensures { result ≡ self.now.cmp }
+    {
+        self.cmp
+    }
+
+    /// The clock in u, at most 10^18.
+    pub fn clock(&self) -> u64
+        ensures is { result ≡ self.now.clock }
+        ensures bound { result ≤ last_clock }
+    {
+        self.clock
+    }
+
+    /// Whether the next instruction is HLT: the location is a cell, whose C is 5 and whose F is 2.
+    pub fn next_is_halt(&self) -> bool
+        ensures { result ≡ is_halt_next self.now }
+    {
+        match Place::of(self.loc) {
+            None => false,
+            Some(place) => {
+                let parts = self.cell(place).parts();
+                parts.code == 5 && parts.f == 2
+            }
+        }
+    }
+}

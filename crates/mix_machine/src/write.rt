@@ -1,0 +1,68 @@
+//! One value of the state set, and the one that it replaces kept.
+ghost use Rattle.std.specs.Prelude.{◌≡◌, ◌<◌, ◌++◌, ◌∷◌, [], ◌+◌, IsTrue, vec_len, vec_capacity};
+ghost use Rattle.mix_machine.specs.World.{with_register};
+ghost use Rattle.mix_machine.specs.Write.{set_value, value_at, fits, fits_register};
+
+use crate::old::Old;
+use crate::world::World;
+use mix_word::{Reg, Word};
+
+impl World {
+    /// Sets a value, and keeps the one that it replaces.
+    pub(crate) fn write(&mut self, value: Old, kept: &mut Vec<Old>)
+        requires fits { IsTrue (fits value) }
+        requires room { vec_len kept.old < vec_capacity kept.old }
+        ensures state { self.new ≡ set_value self.old value }
+        ensures kept { kept.new.items ≡ kept.old.items ++ value_at self.old value ∷ [] }
+        ensures len { vec_len kept.new ≡ vec_len kept.old + 1 }
+        ensures capacity { vec_capacity kept.new ≡ vec_capacity kept.old }
+    {
+        let next = value;
+        kept.push_reserved(self.value_at(value));
+        self.set_value(next);
+    }
+
+    /// Sets a value that is in the range of its place.
+    pub(crate) fn set_value(&mut self, value: Old)
+        requires { IsTrue (fits value) }
+        ensures { self.new ≡ set_value self.old value }
+    {
+        match value {
+            Old::Loc(loc) => self.loc = loc,
+            Old::Clock(clock) => self.clock = clock,
+            Old::Reg(r, word) => self.set_register(r, word),
+            Old::Cell(place, word) => self.cells[usize::from(place.number())] = word,
+            Old::Over(over) => self.over = over,
+        }
+    }
+
+    // The value that stands at the place that another one names.
+    fn value_at(&self, value: Old) -> Old
+        ensures { result ≡ value_at self.now value }
+    {
+        match value {
+            Old::Loc(_) => Old::Loc(self.loc),
+            Old::Clock(_) => Old::Clock(self.clock),
+            Old::Reg(r, _) => Old::Reg(r, self.register(r)),
+            Old::Cell(place, _) => Old::Cell(place, self.cell(place)),
+            Old::Over(_) => Old::Over(self.over),
+        }
+    }
+
+    fn set_register(&mut self, r: Reg, word: Word)
+        requires { IsTrue (fits_register r word) }
+        ensures { self.new ≡ with_register self.old r word }
+    {
+        match r {
+            Reg::A => self.a = word,
+            Reg::X => self.x = word,
+            Reg::I1 => self.i1 = word,
+            Reg::I2 => self.i2 = word,
+            Reg::I3 => self.i3 = word,
+            Reg::I4 => self.i4 = word,
+            Reg::I5 => self.i5 = word,
+            Reg::I6 => self.i6 = word,
+            Reg::J => self.j = word,
+        }
+    }
+}

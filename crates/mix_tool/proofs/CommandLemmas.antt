@@ -1,0 +1,86 @@
+-- Facts of the definitions of commands, over plain variables.
+use Rattle.std.proofs.Common.{◌≡◌, ℕ, zero, suc, ◌+◌, ◌-◌, ◌<◌, ◌≤◌, List, [], ◌∷◌, ◌++◌, length, take, replicate, Bool, true, false, Option, None, Some, Result, Ok, Err, refl, ap, sym, ◌∙◌, arith, cond, append_assoc, eqb, ltb, below_more, is_some}
+use Rattle.std.proofs.lemmas.Grind.{common_steps, replicate_next}
+use Rattle.std.proofs.lemmas.List.{take-take, length-take-le}
+use Rattle.std.proofs.lemmas.Bool.Decides.{nat_tests}
+use Rattle.undo_core.specs.Replay.{replay}
+use Rattle.mix_machine.specs.World.{WorldState}
+use Rattle.mix_machine.specs.Do.{does, is_halt_next}
+use Rattle.mix_machine.specs.declared.old.Change.{Change}
+use Rattle.mix_machine.specs.declared.old.Change.TheVariants.{Step}
+use Rattle.mix_machine.specs.declared.fault.MixFault.{MixFault}
+use Rattle.mix_tool.specs.Reply.{ran_text}
+use Rattle.mix_tool.specs.Command.{stepped, steps_done, is_accepted, world_after, least_below, with_steps, is_halted, end_at, fault_end}
+use Rattle.mix_tool.specs.declared.reply.End.{End}
+use Rattle.mix_tool.specs.declared.reply.End.TheVariants.{Halt, Limit, Fault}
+
+-- the least number below n that passes is the one that passes with none below it; n, where none does
+pub least_below-is : (n k : ℕ) (p : ℕ → Bool) → k ≤ n → (k < n → p k ≡ true) → ((j : ℕ) → j < k → p j ≡ false) → least_below n p ≡ k
+least_below-is zero k p within here below = omega arith
+least_below-is (suc n) zero p within here below = rw (here (omega arith)) refl
+least_below-is (suc n) (suc k) p within here below =
+    rw (below 0 (omega arith)) (ap suc (least_below-is n k (λ j. p (suc j)) (omega arith) (λ h. here (omega arith)) (λ j h. below (suc j) (omega arith))))
+
+-- one more is taken away
+pub take_one_less : {X : Type 0} (all left : List X) (gone : ℕ) → left ≡ take (length all - gone) all → gone < length all →
+    take (length left - 1) left ≡ take (length all - (gone + 1)) all
+take_one_less all left gone e h =
+    let long : length left ≡ length all - gone = rw e (length-take-le (length all - gone) all (omega arith)) in
+    let fewer : length left - 1 ≡ length all - (gone + 1) = omega arith in
+    rw (fewer, e) (take-take (length all - (gone + 1)) (length all - gone) all (omega arith))
+
+-- the world after the changes is what their replay gives
+pub world_after-is : (base world : WorldState) (changes : List Change) → replay does base changes ≡ Some world → world_after base changes ≡ world
+unfolding world_after
+world_after-is base world changes e = rw e refl
+
+-- one step more
+pub with_steps-next : (changes : List Change) (k : ℕ) → with_steps changes k ++ Step ∷ [] ≡ with_steps changes (k + 1)
+with_steps-next changes k = append_assoc changes (replicate k Step) (Step ∷ []) ∙ ap (λ steps. changes ++ steps) (sym (replicate_next k Step))
+
+-- the step after k others is a halt where the machine stands before one
+pub is_halted-next : (base world : WorldState) (changes : List Change) (k : ℕ) → replay does base (with_steps changes k) ≡ Some world →
+    is_halted base changes (k + 1) ≡ is_halt_next world
+is_halted-next base world changes k e =
+    let one : (k + 1) - 1 ≡ k = omega arith in
+    let here = world_after-is base world (with_steps changes k) e in
+    let some : ltb 0 (k + 1) ≡ true = grind (arith, nat_tests) in
+    rw (some, one, here) refl
+
+pub end_at-halt : (base : WorldState) (changes : List Change) (n k : ℕ) → is_halted base changes k ≡ true → end_at base changes n k ≡ Some Halt
+unfolding end_at
+end_at-halt base changes n k halted = rw halted refl
+
+pub end_at-limit : (base : WorldState) (changes : List Change) (n : ℕ) → is_halted base changes n ≡ false → end_at base changes n n ≡ Some Limit
+unfolding end_at
+end_at-limit base changes n halted = let same : eqb n n ≡ true = grind (arith, nat_tests) in rw (halted, same) refl
+
+pub end_at-step : (base world : WorldState) (changes : List Change) (n k : ℕ) → is_halted base changes k ≡ false → k < n →
+    replay does base (with_steps changes k) ≡ Some world → end_at base changes n k ≡ fault_end (does world Step)
+unfolding end_at
+end_at-step base world changes n k halted below e =
+    let other : eqb k n ≡ false = grind (arith, nat_tests) in
+    rw (halted, other, world_after-is base world (with_steps changes k) e) refl
+
+-- the world that a journal stands in, after k steps from where it began
+pub stands_after : (base first world : WorldState) (changes now : List Change) (k : ℕ) → first ≡ base → now ≡ with_steps changes k →
+    replay does first now ≡ Some world → replay does base (with_steps changes k) ≡ Some world
+stands_after base first world changes now k e f g = rw (← e, ← f) g
+
+-- one more step was done, so no end held before it
+pub none_before-next : (base world next : WorldState) (changes : List Change) (n k : ℕ) → is_halted base changes k ≡ false → k < n →
+    replay does base (with_steps changes k) ≡ Some world → does world Step ≡ Ok next →
+    ((j : ℕ) → j < k → end_at base changes n j ≡ None) → (j : ℕ) → j < k + 1 → end_at base changes n j ≡ None
+none_before-next base world next changes n k halted below e given before =
+    below_more (λ j. end_at base changes n j ≡ None) k before (end_at-step base world changes n k halted below e ∙ ap fault_end given)
+
+-- so many steps are done and this end holds, with none before it: that is what `step` does
+pub stepped-is : (base first world : WorldState) (changes now : List Change) (n k : ℕ) (end : End) → first ≡ base → now ≡ with_steps changes k →
+    replay does first now ≡ Some world → k ≤ n → end_at base changes n k ≡ Some end → ((j : ℕ) → j < k → end_at base changes n j ≡ None) →
+    stepped base changes n ≡ record { changes = now; reply = ran_text k world.loc world.clock end; accepted = is_accepted end }
+unfolding stepped steps_done
+stepped-is base first world changes now n k end same steps e within holds before =
+    let count : least_below n (λ j. is_some (end_at base changes n j)) ≡ k =
+      least_below-is n k (λ j. is_some (end_at base changes n j)) within (λ _. ap is_some holds) (λ j below. ap is_some (before j below)) in
+    let here = world_after-is base world (with_steps changes k) (stands_after base first world changes now k same steps e) in
+    rw (count, holds, here, steps) refl

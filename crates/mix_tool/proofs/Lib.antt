@@ -1,0 +1,11 @@
+mod AssemblyLemmas
+mod CommandLemmas
+mod CutLemmas
+mod EmptyLines
+mod LinesLemmas
+mod NumberLemmas
+mod RunLemmas
+mod ShortNames
+mod StreamLemmas
+mod Truncation
+mod Written

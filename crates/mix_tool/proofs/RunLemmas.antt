@@ -1,0 +1,183 @@
+-- A script goes on by one line: what was written so far and the replies to the lines that are left stay the replies to all.
+use Rattle.std.proofs.Common.{◌≡◌, ℕ, List, [], ◌∷◌, ◌++◌, ◌&&◌, Bool, true, false, Option, None, Some, Result, Ok, Err, ◌-◌, ◌<◌, ◌≤◌, refl, sym, ap, ◌∙◌, append_assoc, length, eqb, take, arith}
+use Rattle.std.proofs.lemmas.Bool.{eqb-true, lt-ltb, le-ltb}
+use Rattle.std.proofs.Math.Bool.{and-false, and-true}
+use Rattle.std.proofs.lemmas.List.{append-nil}
+use Rattle.std.specs.Io.KnownBytes.{Appends, Keeps}
+use Rattle.mix_machine.specs.Loaded.{loaded}
+use Rattle.mix_machine.specs.World.{WorldState}
+use Rattle.mix_machine.specs.declared.old.Change.{Change}
+use Rattle.mix_tool.specs.Command.{command, told_of}
+use Rattle.mix_tool.specs.Lines.{lines, lines-nil}
+use Rattle.mix_tool.specs.Output.{Outcome, Meets, outcome_of, replies, executed, bundle_output, output, status_of, TooLong, Ended}
+use Rattle.mix_tool.specs.Stream.{AppendsFront, ConsumesAtMost}
+use Rattle.mix_tool.specs.Cut.{cut_of}
+use Rattle.mix_tool.specs.Assembly.{ProgramValue, assembly}
+use Rattle.mix_tool.specs.Deck.{deck_of}
+use Rattle.mix_tool.specs.Fault.{asm_fault_text}
+use Rattle.mix_tool.specs.Wrapped.{fault_of_read}
+use Rattle.mix_tool.specs.declared.fault.AsmFault.{AsmFault}
+use Rattle.mix_tool.specs.declared.fault.DeckFault.{DeckFault}
+use Rattle.mix_tool.specs.declared.fault.ToolFault.{ToolFault}
+use Rattle.mix_tool.specs.declared.fault.ToolFault.TheVariants as faults
+use Rattle.mix_tool.specs.declared.stream.input.ReadFault.{ReadFault}
+use Rattle.mix_tool.specs.declared.stream.input.ReadFault.TheVariants as reads
+use Rattle.mix_tool.proofs.Truncation.{limited-take, deck_of-take, assembly-take}
+use Rattle.mix_tool.specs.declared.session.Told.{Told}
+use Rattle.mix_tool.specs.declared.session.Told.TheVariants.{Accepted, Refused}
+use Rattle.mix_tool.proofs.Written.{Appends-then, Appends-same, Appends-nothing, AppendsFront-after, AppendsFront-all}
+
+-- one line more is written
+pub written-next : (base first : WorldState) (changes next : List Change) (line rest after : List ℕ) (a b c : Option (List ℕ)) (whole : List ℕ) →
+    first ≡ base → lines rest ≡ line ∷ lines after → next ≡ (command first changes line).changes →
+    (done : List ℕ) × Appends a b done × (whole ≡ done ++ (replies base changes (lines rest)).bytes) →
+    Appends b c (command first changes line).reply →
+    (more : List ℕ) × Appends a c more × (whole ≡ more ++ (replies base next (lines after)).bytes)
+written-next base first changes next line rest after a b c whole same split changed so_far reply =
+    let said = (command base changes line).reply in
+    let reply_here : Appends b c said = rw same at reply in
+    let rest_said : (replies base changes (lines rest)).bytes ≡ said ++ (replies base next (lines after)).bytes = rw (split, changed, same) refl in
+    (so_far.0 ++ said,
+     Appends-then a b c so_far.0 said so_far.1 reply_here,
+     so_far.2 ∙ ap (λ t. so_far.0 ++ t) rest_said ∙ sym (append_assoc so_far.0 said (replies base next (lines after)).bytes))
+
+-- a beginning of one line more is written
+pub begun-at : (base first : WorldState) (changes : List Change) (line rest after : List ℕ) (a b c : Option (List ℕ)) (whole : List ℕ) →
+    first ≡ base → lines rest ≡ line ∷ lines after →
+    (done : List ℕ) × Appends a b done × (whole ≡ done ++ (replies base changes (lines rest)).bytes) →
+    AppendsFront b c (command first changes line).reply → AppendsFront a c whole
+begun-at base first changes line rest after a b c whole same split so_far reply =
+    let said = (command base changes line).reply in
+    let reply_here : AppendsFront b c said = rw same at reply in
+    AppendsFront-after a b c so_far.0 said (replies base (command base changes line).changes (lines after)).bytes whole so_far.1 reply_here
+      (so_far.2 ∙ ap (λ t. so_far.0 ++ t) (rw split refl))
+
+told-refused : (b : Bool) → Refused ≡ told_of b → b ≡ false
+told-refused true e = cc
+told-refused false e = refl
+
+told-accepted : (b : Bool) → Accepted ≡ told_of b → b ≡ true
+told-accepted true e = refl
+told-accepted false e = cc
+
+-- the line was accepted
+pub accepted-next : (base first : WorldState) (changes next : List Change) (line rest after : List ℕ) (so_far whole : Bool) →
+    first ≡ base → lines rest ≡ line ∷ lines after → next ≡ (command first changes line).changes →
+    (so_far && (replies base changes (lines rest)).accepted) ≡ whole → Accepted ≡ told_of (command first changes line).accepted →
+    (so_far && (replies base next (lines after)).accepted) ≡ whole
+accepted-next base first changes next line rest after so_far whole same split changed before told =
+    let yes : (command base changes line).accepted ≡ true = rw same at (told-accepted _ told) in
+    let rest_said : (replies base changes (lines rest)).accepted ≡ (replies base next (lines after)).accepted = rw (split, changed, same, yes) refl in
+    ap (λ t. so_far && t) (sym rest_said) ∙ before
+
+-- the line was refused
+pub refused-next : (base first : WorldState) (changes : List Change) (line rest after : List ℕ) (so_far whole : Bool) →
+    first ≡ base → lines rest ≡ line ∷ lines after →
+    (so_far && (replies base changes (lines rest)).accepted) ≡ whole → Refused ≡ told_of (command first changes line).accepted → false ≡ whole
+refused-next base first changes line rest after so_far whole same split before told =
+    let no : (command base changes line).accepted ≡ false = rw same at (told-refused _ told) in
+    let rest_said : (replies base changes (lines rest)).accepted ≡ false = rw (split, no) refl in
+    sym (and-false so_far) ∙ ap (λ t. so_far && t) (sym rest_said) ∙ before
+
+-- no line is left
+pub all-said : (base : WorldState) (changes : List Change) (a b : Option (List ℕ)) (whole rest : List ℕ) → rest ≡ [] →
+    (done : List ℕ) × Appends a b done × (whole ≡ done ++ (replies base changes (lines rest)).bytes) → Appends a b whole
+all-said base changes a b whole rest none so_far =
+    Appends-same a b so_far.0 whole (sym (so_far.2 ∙ (rw (none, lines-nil) (append-nil so_far.0)))) so_far.1
+
+pub all-accepted : (base : WorldState) (changes : List Change) (so_far whole : Bool) (rest : List ℕ) → rest ≡ [] →
+    (so_far && (replies base changes (lines rest)).accepted) ≡ whole → so_far ≡ whole
+all-accepted base changes so_far whole rest none before =
+    sym (and-true so_far) ∙ (rw (none, lines-nil) at before)
+
+-- a list of length 0
+pub nil-from_length : (xs : List ℕ) → true ≡ eqb (length xs) 0 → xs ≡ []
+nil-from_length [] e = refl
+nil-from_length (x ∷ xs) e = absurd (omega (arith, eqb-true (length (x ∷ xs)) 0 (sym e)))
+
+-- a script is told from its first 1,048,577 bytes
+pub executed-take : (base : WorldState) (script : List ℕ) → executed base (take 1048577 script) ≡ executed base script
+unfolding executed
+executed-take base script =
+    limited-take 1048576 TooLong (λ text. let said = replies base [] (lines text) in Ended said.bytes (status_of said.accepted)) script
+
+-- a bundle is told from its first 41,943,041 bytes
+pub bundle_output-take : (bundle : List ℕ) → bundle_output (take 41943041 bundle) ≡ bundle_output bundle
+unfolding bundle_output
+bundle_output-take bundle =
+    limited-take 41943040 TooLong (λ text. let parts = cut_of text in output parts.source parts.deck parts.script) bundle
+
+-- nothing was read
+pub ConsumesAtMost-none : (rest : Option (List ℕ)) (most : ℕ) → ConsumesAtMost rest rest most
+ConsumesAtMost-none None most = tt
+ConsumesAtMost-none (Some known) most =
+    let none : length known - length known ≡ 0 = omega arith in (rw none refl, omega arith)
+
+pub Keeps-same : (told : Option (List ℕ)) → Keeps told told
+Keeps-same None = tt
+Keeps-same (Some bytes) = refl
+
+-- nothing was written, and memory was refused or a read failed
+pub Meets-unread : (outcome : Outcome) (fault : ReadFault) (told : Option (List ℕ)) → Meets outcome (Err (fault_of_read fault)) told told
+Meets-unread outcome reads.Memory told = (0, omega arith, Appends-nothing told)
+Meets-unread outcome reads.Failed told = Keeps-same told
+
+-- nothing was written for want of memory
+pub Meets-nothing : (outcome : Outcome) (told : Option (List ℕ)) → Meets outcome (Err faults.Memory) told told
+Meets-nothing outcome told = (0, omega arith, Appends-nothing told)
+
+-- a deck that was read up to one byte more than it may have
+pub deck_of-read : (deck read : List ℕ) → read ≡ take 33554433 deck → deck_of read ≡ deck_of deck
+deck_of-read deck read e = ap deck_of e ∙ deck_of-take deck
+
+pub Meets-deck : (program : ProgramValue) (deck read script : List ℕ) (fault : DeckFault) (told : Option (List ℕ)) →
+    read ≡ take 33554433 deck → deck_of read ≡ Err fault → Meets (outcome_of (Ok program) (deck_of deck) script) (Err (faults.Deck fault)) told told
+unfolding outcome_of
+Meets-deck program deck read script fault told e f =
+    let refused : deck_of deck ≡ Err fault = sym (deck_of-read deck read e) ∙ f in
+    rw refused (refl, Keeps-same told)
+
+pub Meets-executed : (program : ProgramValue) (deck read script commands : List ℕ) (done : Result ℕ ToolFault) (old new : Option (List ℕ)) →
+    read ≡ take 33554433 deck → deck_of read ≡ Ok tt → commands ≡ take 1048577 script →
+    Meets (executed (loaded program.words program.start) commands) done old new → Meets (outcome_of (Ok program) (deck_of deck) script) done old new
+unfolding outcome_of
+Meets-executed program deck read script commands done old new e f same met =
+    let taken : deck_of deck ≡ Ok tt = sym (deck_of-read deck read e) ∙ f in
+    let whole : executed (loaded program.words program.start) commands ≡ executed (loaded program.words program.start) script =
+      ap (executed (loaded program.words program.start)) same ∙ executed-take (loaded program.words program.start) script in
+    rw taken (rw whole at met)
+
+-- a source that was read up to one byte more than it may have
+pub Meets-source : (source read deck script : List ℕ) (made : Result ProgramValue AsmFault) (done : Result ℕ ToolFault) (old new : Option (List ℕ)) →
+    read ≡ take 1048577 source → assembly read ≡ made → Meets (outcome_of made (deck_of deck) script) done old new → Meets (output source deck script) done old new
+unfolding output
+Meets-source source read deck script made done old new e f met =
+    let here : assembly source ≡ made = sym (ap assembly e ∙ assembly-take source) ∙ f in
+    rw here met
+
+-- a refused source
+pub Meets-refused : (source read deck script : List ℕ) (fault : AsmFault) (done : Result ℕ ToolFault) (old new : Option (List ℕ)) →
+    read ≡ take 1048577 source → assembly read ≡ Err fault → Meets (Ended (asm_fault_text fault ++ 10 ∷ []) 1) done old new →
+    Meets (output source deck script) done old new
+unfolding outcome_of
+Meets-refused source read deck script fault done old new e f met = Meets-source source read deck script (Err fault) done old new e f met
+
+-- a bundle that was read up to one byte more than it may have
+pub Meets-bundle : (bundle read : List ℕ) (done : Result ℕ ToolFault) (old new : Option (List ℕ)) →
+    read ≡ take 41943041 bundle → Meets (bundle_output read) done old new → Meets (bundle_output bundle) done old new
+Meets-bundle bundle read done old new e met =
+    let whole : bundle_output read ≡ bundle_output bundle = ap bundle_output e ∙ bundle_output-take bundle in
+    rw whole at met
+
+-- one that is too long
+pub Meets-long : (read : List ℕ) (told : Option (List ℕ)) → 41943040 < length read → Meets (bundle_output read) (Err faults.Long) told told
+unfolding bundle_output
+Meets-long read told long = rw (lt-ltb 41943040 (length read) long) (refl, Keeps-same told)
+
+-- one that is not, by its parts
+pub Meets-parts : (read source deck script : List ℕ) (done : Result ℕ ToolFault) (old new : Option (List ℕ)) → length read ≤ 41943040 →
+    source ≡ (cut_of read).source → deck ≡ (cut_of read).deck → script ≡ (cut_of read).script →
+    Meets (output source deck script) done old new → Meets (bundle_output read) done old new
+unfolding bundle_output
+Meets-parts read source deck script done old new short e f g met =
+    rw (le-ltb 41943040 (length read) short) (rw (e, f, g) at met)

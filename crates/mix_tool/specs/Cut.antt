@@ -1,0 +1,38 @@
+-- The parts of a bundle: source, deck and script, parted by two marker lines.
+use Rattle.std.specs.Prelude.{ℕ, Bool, List, [], ◌∷◌, codes, if◌then◌else◌}
+use Rattle.std.specs.List.{after_first, before_first, concat, onto_first}
+use Rattle.std.specs.Str.{bytes_eq}
+use Rattle.std.specs.Str.Lines.{strip_carriage_return}
+use Rattle.mix_tool.specs.Lines.{is_line_feed}
+
+-- a text cut behind each of its line feeds
+abbrev pub whole_lines : List ℕ → List (List ℕ)
+whole_lines [] = []
+whole_lines (byte ∷ rest) = if is_line_feed byte then (byte ∷ []) ∷ whole_lines rest else onto_first byte (whole_lines rest)
+
+-- whether a line is exactly a marker: what stands before its line feed, without the one carriage return that may end it
+abbrev pub is_marker : List ℕ → List ℕ → Bool
+is_marker marker line = bytes_eq (strip_carriage_return (before_first is_line_feed line)) marker
+
+-- the bytes of a text before the first line that is the marker, or all where none is
+unfoldable pub before_marker : List ℕ → List ℕ → List ℕ
+before_marker marker text = concat (before_first (is_marker marker) (whole_lines text))
+
+-- the bytes of a text after the first line that is the marker, or none where none is
+unfoldable pub after_marker : List ℕ → List ℕ → List ℕ
+after_marker marker text = concat (after_first (is_marker marker) (whole_lines text))
+
+pub record Cut : Type 0 where
+  pub source : List ℕ
+  pub deck : List ℕ
+  pub script : List ℕ
+
+-- the script follows the first line %SCRIPT; of what stands before it, the deck follows the first line %DEVICES
+abbrev pub cut_of : List ℕ → Cut
+cut_of bundle =
+    let front = before_marker (codes "%SCRIPT") bundle in
+    record {
+      source = before_marker (codes "%DEVICES") front;
+      deck = after_marker (codes "%DEVICES") front;
+      script = after_marker (codes "%SCRIPT") bundle;
+    }

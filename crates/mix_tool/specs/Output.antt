@@ -1,0 +1,94 @@
+-- What the tool writes and the status with which it ends: a function of the source, the deck and the script.
+use Rattle.std.specs.Prelude.{◌≡◌, ℕ, Option, List, [], ◌∷◌, ◌++◌, ◌&&◌, Bool, true, Result, Ok, Err, length, nat_lt, if◌then◌else◌}
+use Rattle.std.specs.Io.KnownBytes.{Appends, Keeps}
+use Rattle.mix_machine.specs.World.{WorldState}
+use Rattle.mix_machine.specs.Loaded.{loaded}
+use Rattle.mix_machine.specs.declared.old.Change.{Change}
+use Rattle.mix_tool.specs.Assembly.{assembly, ProgramValue}
+use Rattle.mix_tool.specs.Command.{command}
+use Rattle.mix_tool.specs.Cut.{cut_of}
+use Rattle.mix_tool.specs.Deck.{deck_of}
+use Rattle.mix_tool.specs.Fault.{asm_fault_text}
+use Rattle.mix_tool.specs.Lines.{lines}
+use Rattle.mix_tool.specs.Stream.{AppendsFront}
+use Rattle.mix_tool.specs.declared.fault.AsmFault.{AsmFault}
+use Rattle.mix_tool.specs.declared.fault.DeckFault.{DeckFault}
+use Rattle.mix_tool.specs.declared.fault.ToolFault.{ToolFault}
+use Rattle.mix_tool.specs.declared.fault.ToolFault.TheVariants as faults
+
+-- the bytes of a script at the most
+abbrev pub script_limit : ℕ
+script_limit = 1048576
+
+-- the bytes of a bundle at the most
+abbrev pub bundle_limit : ℕ
+bundle_limit = 41943040
+
+-- how a run ends: with these bytes and this status, or, with no byte written, for its deck or the length of its input
+pub data Outcome : Type 0 where
+  Ended : List ℕ → ℕ → Outcome
+  DeckRefused : DeckFault → Outcome
+  TooLong : Outcome
+
+-- what a script says, and whether each command was accepted
+pub record Said : Type 0 where
+  pub bytes : List ℕ
+  pub accepted : Bool
+
+-- the replies to the lines, one after the other, each from the changes that the ones before it left
+abbrev pub replies : WorldState → List Change → List (List ℕ) → Said
+replies base changes [] = record { bytes = []; accepted = true }
+replies base changes (line ∷ rest) =
+    let effect = command base changes line in
+    let more = replies base effect.changes rest in
+    record { bytes = effect.reply ++ more.bytes; accepted = effect.accepted && more.accepted }
+
+-- the status of a script: 0 where each command was accepted, else 3
+abbrev pub status_of : Bool → ℕ
+status_of accepted = if accepted then 0 else 3
+
+-- the script, from no change on the loaded machine
+unfoldable pub executed : WorldState → List ℕ → Outcome
+executed base script =
+    if nat_lt script_limit (length script) then TooLong
+    else (let said = replies base [] (lines script) in Ended said.bytes (status_of said.accepted))
+
+-- an assembled program, with its deck and its script
+unfoldable pub outcome_of : Result ProgramValue AsmFault → Result (Unit {0}) DeckFault → List ℕ → Outcome
+outcome_of (Err fault) deck script = Ended (asm_fault_text fault ++ 10 ∷ []) 1
+outcome_of (Ok program) (Err fault) script = DeckRefused fault
+outcome_of (Ok program) (Ok _) script = executed (loaded program.words program.start) script
+
+-- source, deck and script
+unfoldable pub output : List ℕ → List ℕ → List ℕ → Outcome
+output source deck script = outcome_of (assembly source) (deck_of deck) script
+
+-- a bundle, cut into its parts
+unfoldable pub bundle_output : List ℕ → Outcome
+bundle_output input =
+    if nat_lt bundle_limit (length input) then TooLong
+    else (let parts = cut_of input in output parts.source parts.deck parts.script)
+
+-- the bytes that an outcome writes
+abbrev pub bytes_of : Outcome → List ℕ
+bytes_of (Ended bytes status) = bytes
+bytes_of (DeckRefused fault) = []
+bytes_of TooLong = []
+
+-- What a call answers and writes is the outcome. Where memory is refused, or a write fails, a beginning of its bytes stands written;
+-- where a read fails, none.
+abbrev pub Meets : Outcome → Result ℕ ToolFault → Option (List ℕ) → Option (List ℕ) → Type 0
+Meets outcome (Ok status) old new = (outcome ≡ Ended (bytes_of outcome) status) × Appends old new (bytes_of outcome)
+Meets outcome (Err (faults.Deck fault)) old new = (outcome ≡ DeckRefused fault) × Keeps old new
+Meets outcome (Err faults.Long) old new = (outcome ≡ TooLong) × Keeps old new
+Meets outcome (Err faults.Memory) old new = AppendsFront old new (bytes_of outcome)
+Meets outcome (Err faults.Write) old new = AppendsFront old new (bytes_of outcome)
+Meets outcome (Err faults.Read) old new = Keeps old new
+
+-- the faults that a command or a script meets: no memory, or a write that failed
+abbrev pub IsOwn : ToolFault → Type 0
+IsOwn faults.Memory = Unit {0}
+IsOwn faults.Write = Unit {0}
+IsOwn faults.Read = ⊥
+IsOwn (faults.Deck fault) = ⊥
+IsOwn faults.Long = ⊥

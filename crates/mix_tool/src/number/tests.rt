@@ -1,0 +1,38 @@
+use super::*;
+
+const NUMBERS: [(&[u8], Option<u64>); 13] = [
+    (b"0", Some(0)),
+    (b"07", Some(7)),
+    (b"1000000", Some(1_000_000)),
+    (b"0000000004", Some(4)),
+    (b"9999999999", Some(9_999_999_999)),
+    (b"", None),
+    (b"00000000001", None),
+    (b"-1", None),
+    (b"+1", None),
+    (b"1a", None),
+    (b" 1", None),
+    (b"1/", None),
+    (b":", None),
+];
+
+#[test]
+fn reads_numbers_of_one_to_ten_digits(rt: HostRuntime) {
+    for (text, value) in NUMBERS {
+        assert_eq!(rt; number(text), value, "{text:?}");
+    }
+}
+
+const DIGITS: [(&[u8], bool); 4] = [
+    (b"", false),
+    (b"0123456789", true),
+    (b"00000000001", true),
+    (b"12 ", false),
+];
+
+#[test]
+fn tells_digits(rt: HostRuntime) {
+    for (text, answer) in DIGITS {
+        assert_eq!(rt; all_digits(text), answer, "{text:?}");
+    }
+}

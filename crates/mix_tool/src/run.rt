@@ -1,0 +1,208 @@
+//! The runs of the program: a source, a deck and a script, each from a reader of its own or all in one bundle.
+
+ghost use Rattle.std.specs.Prelude.{◌≡◌, ◌≢◌, ◌<◌, ◌≤◌, ◌+◌, ◌-◌, ◌^◌, ◌↔◌, ◌++◌, ◌&&◌, [], ◌∷◌, ℕ, List, Some, Ok, Err, IfOk, IfErr, string_bytes};
+ghost use Rattle.std.specs.Io.KnownBytes.{Appends, Keeps};
+ghost use Rattle.mix_machine.specs.Loaded.{loaded};
+ghost use Rattle.mix_tool.specs.Fault.{asm_fault_text};
+ghost use Rattle.mix_tool.specs.Lines.{lines};
+ghost use Rattle.mix_tool.specs.Assembly.{program_of};
+ghost use Rattle.mix_tool.specs.Deck.{deck_of};
+ghost use Rattle.mix_tool.specs.Output.{Meets, Ended, IsOwn, output, outcome_of, bundle_output, executed, replies};
+ghost use Rattle.mix_tool.specs.Stream.{AppendsFront, ConsumesAtMost};
+
+use crate::bundle::cut;
+use crate::deck::{MAX_DECK_BYTES, read_deck};
+use crate::fault::{AsmFault, ToolFault};
+use crate::lines::split_line;
+use crate::session::{Session, Told};
+use crate::small::{MAX_SOURCE_BYTES, Program, assemble};
+use crate::stream::{In, Out, read_up_to, write_all};
+use std::alloc::Global;
+use undo_core::{Memory, Refused};
+
+/// The most bytes that a script may have.
+const MAX_SCRIPT_BYTES: usize = 1_048_576;
+
+/// The most bytes that a bundle may have.
+const MAX_BUNDLE_BYTES: usize = 41_943_040;
+
+/// The status where the source is refused.
+const SOURCE_REFUSED: u8 = 1;
+
+/// The status where some command is refused.
+const COMMAND_REFUSED: u8 = 3;
+
+// The first fault of a source is all that is written.
+fn refuse_source<W: Out>(alloc: Global, fault: AsmFault, out: &mut W) -> Result<u8, ToolFault>
+    requires { W.failed out.old < 2 ^ 64 - 1 }
+    ensures output { Meets (Ended (asm_fault_text fault ++ 10 ∷ []) 1) result (W.told out.old) (W.told out.new) }
+    ensures write { (result ≡ Err ToolFault.Write) ↔ (W.failed out.new ≡ W.failed out.old + 1) }
+    ensures others { result ≢ Err ToolFault.Write → W.failed out.new ≡ W.failed out.old }
+    ensures only { IfErr result IsOwn }
+{
+    let line = fault_line(alloc, fault)?;
+    write_all(out, line.as_bytes())?;
+    Ok(SOURCE_REFUSED)
+}
+
+fn fault_line(alloc: Global, fault: AsmFault) -> Result<String, Memory>
+    ensures { IfOk result (λ s. string_bytes s ≡ asm_fault_text fault ++ 10 ∷ []) }
+{
+    let text = format!(in alloc; "{fault}\n")?;
+    Ok(text)
+}
+
+// The lines of a script, one after the other, and whether each was accepted.
+fn execute_lines<W: Out>(session: &mut Session, script: &[u8], out: &mut W) -> Result<bool, ToolFault>
+    requires { W.failed out.old < 2 ^ 64 - 1 }
+    ensures said { let all = replies session.old.journal.first session.old.journal.changes (lines script.now) in
+        IfOk result (λ accepted. (accepted ≡ all.accepted) × Appends (W.told out.old) (W.told out.new) all.bytes) }
+    ensures begun { AppendsFront (W.told out.old) (W.told out.new) (replies session.old.journal.first session.old.journal.changes (lines script.now)).bytes }
+    ensures write { (result ≡ Err ToolFault.Write) ↔ (W.failed out.new ≡ W.failed out.old + 1) }
+    ensures others { result ≢ Err ToolFault.Write → W.failed out.new ≡ W.failed out.old }
+    ensures only { IfErr result IsOwn }
+{
+    let mut accepted = true;
+    let mut rest = script;
+    while !rest.is_empty() {
+        let (line, after) = split_line(rest);
+        match session.command(line, out)? {
+            Told::Accepted => {}
+            Told::Refused => accepted = false,
+        }
+        rest = after;
+    }
+    Ok(accepted)
+}
+
+// A script on the loaded machine.
+#[tactic(auto, unfolding(crate::specs::Output::executed))]
+fn execute<W: Out>(alloc: Global, program: &Program, script: &[u8], out: &mut W) -> Result<u8, ToolFault>
+    requires { W.failed out.old < 2 ^ 64 - 1 }
+    ensures output { Meets (executed (loaded program.now.words.items program.now.start) script.now) result (W.told out.old) (W.told out.new) }
+    ensures write { (result ≡ Err ToolFault.Write) ↔ (W.failed out.new ≡ W.failed out.old + 1) }
+    ensures others { result ≢ Err ToolFault.Write → W.failed out.new ≡ W.failed out.old }
+    ensures unread { result ≢ Err ToolFault.Read }
+{
+    if script.len() > MAX_SCRIPT_BYTES {
+        return Err(ToolFault::Long);
+    }
+    let mut session = Session::open(alloc, program)?;
+    if execute_lines(&mut session, script, out)? {
+        Ok(0)
+    } else {
+        Ok(COMMAND_REFUSED)
+    }
+}
+
+// A source, a deck and a script that are read already.
+#[tactic(auto, unfolding(crate::specs::Output::output, crate::specs::Output::outcome_of))]
+fn run_parts<W: Out>(alloc: Global, source: &[u8], deck: &[u8], script: &[u8], out: &mut W) -> Result<u8, ToolFault>
+    requires { W.failed out.old < 2 ^ 64 - 1 }
+    ensures output { Meets (output source.now deck.now script.now) result (W.told out.old) (W.told out.new) }
+    ensures write { (result ≡ Err ToolFault.Write) ↔ (W.failed out.new ≡ W.failed out.old + 1) }
+    ensures others { result ≢ Err ToolFault.Write → W.failed out.new ≡ W.failed out.old }
+    ensures unread { result ≢ Err ToolFault.Read }
+{
+    match assemble(alloc, source) {
+        Err(Refused::Memory) => Err(ToolFault::Memory),
+        Err(Refused::Fault(fault)) => refuse_source(alloc, fault, out),
+        Ok(program) => {
+            read_deck(deck)?;
+            execute(alloc, &program, script, out)
+        }
+    }
+}
+
+// The deck and the script of an assembled source.
+#[tactic(auto, unfolding(crate::specs::Output::outcome_of))]
+fn run_program<D: In, C: In, W: Out>(
+    alloc: Global,
+    program: &Program,
+    deck: &mut D,
+    script: &mut C,
+    out: &mut W,
+) -> Result<u8, ToolFault>
+    requires deck_count { D.failed deck.old < 2 ^ 64 - 1 }
+    requires script_count { C.failed script.old < 2 ^ 64 - 1 }
+    requires out_count { W.failed out.old < 2 ^ 64 - 1 }
+    ensures output { (d t : List ℕ) → D.rest deck.old ≡ Some d → C.rest script.old ≡ Some t
+        → Meets (outcome_of (Ok (program_of program.now)) (deck_of d) t) result (W.told out.old) (W.told out.new) }
+    ensures read { (result ≡ Err ToolFault.Read) ↔ (D.failed deck.old + C.failed script.old < D.failed deck.new + C.failed script.new) }
+    ensures reads { (D.failed deck.old ≤ D.failed deck.new) × (C.failed script.old ≤ C.failed script.new) }
+    ensures write { (result ≡ Err ToolFault.Write) ↔ (W.failed out.old < W.failed out.new) }
+    ensures unread { result ≡ Err ToolFault.Read → Keeps (W.told out.old) (W.told out.new) }
+    ensures deck { ConsumesAtMost (D.rest deck.old) (D.rest deck.new) 33554433 }
+    ensures script { ConsumesAtMost (C.rest script.old) (C.rest script.new) 1048577 }
+{
+    let devices = read_up_to(alloc, deck, MAX_DECK_BYTES + 1)?;
+    read_deck(&devices)?;
+    let commands = read_up_to(alloc, script, MAX_SCRIPT_BYTES + 1)?;
+    execute(alloc, program, &commands, out)
+}
+
+/// Assembles a source, reads a deck and a script, and executes the script on the loaded machine. The status is 0 where each command
+/// was accepted, 3 where one was refused, and 1 where the source is refused: then its first fault is written, and nothing else is
+/// read. At most 1,048,577 bytes of the source are read, 33,554,433 of the deck and 1,048,577 of the script, all of them before the
+/// first byte is written.
+#[tactic(auto, unfolding(crate::specs::Output::output, crate::specs::Output::outcome_of))]
+pub fn run_debug<S: In, D: In, C: In, W: Out>(
+    alloc: Global,
+    source: &mut S,
+    deck: &mut D,
+    script: &mut C,
+    out: &mut W,
+) -> Result<u8, ToolFault>
+    requires source_count { S.failed source.old < 2 ^ 64 - 1 }
+    requires deck_count { D.failed deck.old < 2 ^ 64 - 1 }
+    requires script_count { C.failed script.old < 2 ^ 64 - 1 }
+    requires out_count { W.failed out.old < 2 ^ 64 - 1 }
+
+    // The headline.
+    ensures output { (s d t : List ℕ) → S.rest source.old ≡ Some s → D.rest deck.old ≡ Some d → C.rest script.old ≡ Some t
+        → Meets (output s d t) result (W.told out.old) (W.told out.new) }
+
+    // A read or a write has failed exactly where that is answered.
+    ensures read { (result ≡ Err ToolFault.Read) ↔ (S.failed source.old + D.failed deck.old + C.failed script.old
+        < S.failed source.new + D.failed deck.new + C.failed script.new) }
+    ensures write { (result ≡ Err ToolFault.Write) ↔ (W.failed out.old < W.failed out.new) }
+    ensures unread { result ≡ Err ToolFault.Read → Keeps (W.told out.old) (W.told out.new) }
+
+    // Never more is read.
+    ensures source { ConsumesAtMost (S.rest source.old) (S.rest source.new) 1048577 }
+    ensures deck { ConsumesAtMost (D.rest deck.old) (D.rest deck.new) 33554433 }
+    ensures script { ConsumesAtMost (C.rest script.old) (C.rest script.new) 1048577 }
+{
+    let text = read_up_to(alloc, source, MAX_SOURCE_BYTES + 1)?;
+    match assemble(alloc, &text) {
+        Err(Refused::Memory) => Err(ToolFault::Memory),
+        Err(Refused::Fault(fault)) => refuse_source(alloc, fault, out),
+        Ok(program) => run_program(alloc, &program, deck, script, out),
+    }
+}
+
+/// The same of a bundle: the source, then the deck after a line `%DEVICES`, then the script after a line `%SCRIPT`; a part that is
+/// missing is empty. At most 41,943,041 bytes are read, all of them before the first byte is written.
+#[tactic(auto, unfolding(crate::specs::Output::bundle_output))]
+pub fn run_bundle<R: In, W: Out>(alloc: Global, input: &mut R, out: &mut W) -> Result<u8, ToolFault>
+    requires input_count { R.failed input.old < 2 ^ 64 - 1 }
+    requires out_count { W.failed out.old < 2 ^ 64 - 1 }
+
+    // The headline.
+    ensures output { (b : List ℕ) → R.rest input.old ≡ Some b → Meets (bundle_output b) result (W.told out.old) (W.told out.new) }
+
+    // A read or a write has failed exactly where that is answered.
+    ensures read { (result ≡ Err ToolFault.Read) ↔ (R.failed input.old < R.failed input.new) }
+    ensures write { (result ≡ Err ToolFault.Write) ↔ (W.failed out.old < W.failed out.new) }
+    ensures unread { result ≡ Err ToolFault.Read → Keeps (W.told out.old) (W.told out.new) }
+
+    // Never more is read.
+    ensures input { ConsumesAtMost (R.rest input.old) (R.rest input.new) 41943041 }
+{
+    let bundle = read_up_to(alloc, input, MAX_BUNDLE_BYTES + 1)?;
+    if bundle.len() > MAX_BUNDLE_BYTES {
+        return Err(ToolFault::Long);
+    }
+    let parts = cut(&bundle);
+    run_parts(alloc, parts.source, parts.deck, parts.script, out)
+}

@@ -1,0 +1,32 @@
+//! The program: a bundle from standard input, its replies to standard output.
+#![tactic(auto)]
+
+use mix_tool::{Counted, ToolFault, run_bundle};
+use std::process::ExitCode;
+use std::{env, io};
+
+/// The status of a bad command line and of a fault of the tool.
+const FAILED: u8 = 2;
+
+fn main(rt: HostRuntime) -> ExitCode {
+    let words = match env::args(&rt) {
+        Ok(args) => args.count(),
+        Err(_) => return ExitCode::from(FAILED),
+    };
+    if words > 1 {
+        let _ = eprintln!(rt; "mixrev: it takes no words; a bundle comes from standard input");
+        return ExitCode::from(FAILED);
+    }
+    let mut input = Counted::of(rt.reader());
+    let mut output = Counted::of(io::writer(&rt));
+    match run_bundle(rt.alloc(), &mut input, &mut output) {
+        Ok(status) => ExitCode::from(status),
+        Err(fault) => tell(&rt, fault),
+    }
+}
+
+// A fault of the tool is told on standard error; where that fails too, the status alone tells it.
+fn tell(rt: &impl Eprint, fault: ToolFault) -> ExitCode {
+    let _ = eprintln!(rt; "mixrev: {fault}");
+    ExitCode::from(FAILED)
+}
