@@ -81,6 +81,6 @@ pub stepped-is : (base first world : WorldState) (changes now : List Change) (n 
 unfolding stepped steps_done
 stepped-is base first world changes now n k end same steps e within holds before =
     let count : least_below n (λ j. is_some (end_at base changes n j)) ≡ k =
-      least_below-is n k (λ j. is_some (end_at base changes n j)) within (λ _. ap is_some holds) (λ j below. ap is_some (before j below)) in
+    least_below-is n k (λ j. is_some (end_at base changes n j)) within (λ _. ap is_some holds) (λ j below. ap is_some (before j below)) in
     let here = world_after-is base world (with_steps changes k) (stands_after base first world changes now k same steps e) in
     rw (count, holds, here, steps) refl

@@ -36,10 +36,11 @@ pub written-next : (base first : WorldState) (changes next : List Change) (line 
 written-next base first changes next line rest after a b c whole same split changed so_far reply =
     let said = (command base changes line).reply in
     let reply_here : Appends b c said = rw same at reply in
-    let rest_said : (replies base changes (lines rest)).bytes ≡ said ++ (replies base next (lines after)).bytes = rw (split, changed, same) refl in
-    (so_far.0 ++ said,
-     Appends-then a b c so_far.0 said so_far.1 reply_here,
-     so_far.2 ∙ ap (λ t. so_far.0 ++ t) rest_said ∙ sym (append_assoc so_far.0 said (replies base next (lines after)).bytes))
+    let rest_said : (replies base changes (lines rest)).bytes ≡ said ++ (replies base next (lines after)).bytes = rw (split, changed, same) refl in (
+      so_far.0 ++ said,
+      Appends-then a b c so_far.0 said so_far.1 reply_here,
+      so_far.2 ∙ ap (λ t. so_far.0 ++ t) rest_said ∙ sym (append_assoc so_far.0 said (replies base next (lines after)).bytes),
+    )
 
 -- a beginning of one line more is written
 pub begun-at : (base first : WorldState) (changes : List Change) (line rest after : List ℕ) (a b c : Option (List ℕ)) (whole : List ℕ) →
@@ -50,7 +51,7 @@ begun-at base first changes line rest after a b c whole same split so_far reply 
     let said = (command base changes line).reply in
     let reply_here : AppendsFront b c said = rw same at reply in
     AppendsFront-after a b c so_far.0 said (replies base (command base changes line).changes (lines after)).bytes whole so_far.1 reply_here
-      (so_far.2 ∙ ap (λ t. so_far.0 ++ t) (rw split refl))
+    (so_far.2 ∙ ap (λ t. so_far.0 ++ t) (rw split refl))
 
 told-refused : (b : Bool) → Refused ≡ told_of b → b ≡ false
 told-refused true e = cc
@@ -144,7 +145,7 @@ unfolding outcome_of
 Meets-executed program deck read script commands done old new e f same met =
     let taken : deck_of deck ≡ Ok tt = sym (deck_of-read deck read e) ∙ f in
     let whole : executed (loaded program.words program.start) commands ≡ executed (loaded program.words program.start) script =
-      ap (executed (loaded program.words program.start)) same ∙ executed-take (loaded program.words program.start) script in
+    ap (executed (loaded program.words program.start)) same ∙ executed-take (loaded program.words program.start) script in
     rw taken (rw whole at met)
 
 -- a source that was read up to one byte more than it may have

@@ -27,10 +27,11 @@ AppendsFront-after a b c xs ys rest whole h k e =
     let n = k.0 in
     let within : n ≤ length ys = k.1 in
     let front : take (length xs + n) whole ≡ xs ++ take n ys =
-      rw (e, take-append-add) (ap (λ t. xs ++ t) (take-append-le n ys rest within)) in
-    (length xs + n,
-     (rw (e, length-append, length-append) (omega arith)),
-     Appends-same a c (xs ++ take n ys) (take (length xs + n) whole) (sym front) (Appends-then a b c xs (take n ys) h k.2))
+    rw (e, take-append-add) (ap (λ t. xs ++ t) (take-append-le n ys rest within)) in (
+      length xs + n,
+      (rw (e, length-append, length-append) (omega arith)),
+      Appends-same a c (xs ++ take n ys) (take (length xs + n) whole) (sym front) (Appends-then a b c xs (take n ys) h k.2),
+    )
 
 -- all of the bytes are a beginning of them
 pub AppendsFront-all : (a b : Option (List ℕ)) (xs : List ℕ) → Appends a b xs → AppendsFront a b xs

@@ -73,7 +73,12 @@ fn stand_of(world: &World) -> Stand
 
 /// The line of `step`.
 #[tactic(auto, unfolding(crate::specs::Reply::ran_text))]
-pub(crate) fn ran_line(alloc: Global, done: u32, world: &World, end: End) -> Result<String, AllocError>
+pub(crate) fn ran_line(
+    alloc: Global,
+    done: u32,
+    world: &World,
+    end: End,
+) -> Result<String, AllocError>
     ensures { IfOk result (λ s. string_bytes s ≡ ran_text done world.now.loc world.now.clock end) }
 {
     let stand = stand_of(world);
@@ -128,7 +133,11 @@ impl fmt::Display for Flags<'_> {
     #[tactic(auto, unfolding(crate::specs::Reply::flags_text))]
     fn fmt<W: fmt::Write>(&self, f: &mut fmt::Formatter<W>) -> fmt::Result {
         let world = self.0;
-        let (over, cmp, stand) = (over_text(world.over()), cmp_text(world.cmp()), stand_of(world));
+        let (over, cmp, stand) = (
+            over_text(world.over()),
+            cmp_text(world.cmp()),
+            stand_of(world),
+        );
         write!(f, "over {over} cmp {cmp} loc {stand}\n")
     }
 }
@@ -144,8 +153,20 @@ impl fmt::Display for Shorts<'_> {
     fn fmt<W: fmt::Write>(&self, f: &mut fmt::Formatter<W>) -> fmt::Result {
         let world = self.0;
         let short = |r| Short(world.register(r));
-        write!(f, "I1 {}\nI2 {}\nI3 {}\n", short(Reg::I1), short(Reg::I2), short(Reg::I3))?;
-        write!(f, "I4 {}\nI5 {}\nI6 {}\n", short(Reg::I4), short(Reg::I5), short(Reg::I6))?;
+        write!(
+            f,
+            "I1 {}\nI2 {}\nI3 {}\n",
+            short(Reg::I1),
+            short(Reg::I2),
+            short(Reg::I3)
+        )?;
+        write!(
+            f,
+            "I4 {}\nI5 {}\nI6 {}\n",
+            short(Reg::I4),
+            short(Reg::I5),
+            short(Reg::I6)
+        )?;
         write!(f, "J  {}\n", short(Reg::J))
     }
 }

@@ -53,7 +53,11 @@ fn fault_line(alloc: Global, fault: AsmFault) -> Result<String, Memory>
 }
 
 // The lines of a script, one after the other, and whether each was accepted.
-fn execute_lines<W: Out>(session: &mut Session, script: &[u8], out: &mut W) -> Result<bool, ToolFault>
+fn execute_lines<W: Out>(
+    session: &mut Session,
+    script: &[u8],
+    out: &mut W,
+) -> Result<bool, ToolFault>
     requires { W.failed out.old < 2 ^ 64 - 1 }
     ensures said { let all = replies session.old.journal.first session.old.journal.changes (lines script.now) in
         IfOk result (λ accepted. (accepted ≡ all.accepted) × Appends (W.told out.old) (W.told out.new) all.bytes) }
@@ -77,7 +81,12 @@ fn execute_lines<W: Out>(session: &mut Session, script: &[u8], out: &mut W) -> R
 
 // A script on the loaded machine.
 #[tactic(auto, unfolding(crate::specs::Output::executed))]
-fn execute<W: Out>(alloc: Global, program: &Program, script: &[u8], out: &mut W) -> Result<u8, ToolFault>
+fn execute<W: Out>(
+    alloc: Global,
+    program: &Program,
+    script: &[u8],
+    out: &mut W,
+) -> Result<u8, ToolFault>
     requires { W.failed out.old < 2 ^ 64 - 1 }
     ensures output { Meets (executed (loaded program.now.words.items program.now.start) script.now) result (W.told out.old) (W.told out.new) }
     ensures write { (result ≡ Err ToolFault.Write) ↔ (W.failed out.new ≡ W.failed out.old + 1) }
@@ -97,7 +106,13 @@ fn execute<W: Out>(alloc: Global, program: &Program, script: &[u8], out: &mut W)
 
 // A source, a deck and a script that are read already.
 #[tactic(auto, unfolding(crate::specs::Output::output, crate::specs::Output::outcome_of))]
-fn run_parts<W: Out>(alloc: Global, source: &[u8], deck: &[u8], script: &[u8], out: &mut W) -> Result<u8, ToolFault>
+fn run_parts<W: Out>(
+    alloc: Global,
+    source: &[u8],
+    deck: &[u8],
+    script: &[u8],
+    out: &mut W,
+) -> Result<u8, ToolFault>
     requires { W.failed out.old < 2 ^ 64 - 1 }
     ensures output { Meets (output source.now deck.now script.now) result (W.told out.old) (W.told out.new) }
     ensures write { (result ≡ Err ToolFault.Write) ↔ (W.failed out.new ≡ W.failed out.old + 1) }

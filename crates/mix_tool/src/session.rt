@@ -52,7 +52,7 @@ impl Session {
         ensures first { self.new.journal.first ≡ self.old.journal.first }
         ensures effect { let effect = command self.old.journal.first self.old.journal.changes line.now in
             IfOk result (λ told. (self.new.journal.changes ≡ effect.changes) × (told ≡ told_of effect.accepted)
-                × Appends (W.told out.old) (W.told out.new) effect.reply) }
+            × Appends (W.told out.old) (W.told out.new) effect.reply) }
         ensures begun { AppendsFront (W.told out.old) (W.told out.new) (command self.old.journal.first self.old.journal.changes line.now).reply }
         ensures done { result ≡ Err ToolFault.Write → self.new.journal.changes ≡ (command self.old.journal.first self.old.journal.changes line.now).changes }
         ensures write { (result ≡ Err ToolFault.Write) ↔ (W.failed out.new ≡ W.failed out.old + 1) }
@@ -68,7 +68,11 @@ impl Session {
 fn answer(accepted: bool) -> Told
     ensures { result ≡ told_of accepted }
 {
-    if accepted { Told::Accepted } else { Told::Refused }
+    if accepted {
+        Told::Accepted
+    } else {
+        Told::Refused
+    }
 }
 
 /// What a command says, and whether it was accepted.

@@ -12,7 +12,7 @@ returns-in-Err-Memory-clause-script g c = ConsumesAtMost-none _ _
 pub returns-in-Err-Fault-clause-output : goal.returns-in-Err-Fault-clause-output
 returns-in-Err-Fault-clause-output g c s d t hs hd ht =
     Meets-refused s _ d t _ _ _ _ (c.deref.ensures.value ∙ (c.in_ok-text.ensures.whole s hs).0) (rw c.in-Err-Fault.field-0-is at c.in-Err-Fault.ensures.fault)
-      c.refuse_source.ensures.output
+    c.refuse_source.ensures.output
 
 pub returns-in-Err-Fault-clause-deck : goal.returns-in-Err-Fault-clause-deck
 returns-in-Err-Fault-clause-deck g c = ConsumesAtMost-none _ _

@@ -23,4 +23,4 @@ returns-in_err-commands-clause-output g c d t hd ht =
 pub returns-clause-output : goal.returns-clause-output
 returns-clause-output g c d t hd ht =
     Meets-executed _ d _ t _ _ _ _ (c.deref.ensures.value ∙ (c.in_ok-devices.ensures.whole d hd).0) (sym c.in_ok-read_deck.ensures)
-      (c.deref-2.ensures.value ∙ (c.in_ok-commands.ensures.whole t ht).0) c.execute.ensures.output
+    (c.deref-2.ensures.value ∙ (c.in_ok-commands.ensures.whole t ht).0) c.execute.ensures.output
