@@ -37,6 +37,12 @@ fn machine(alloc: Global, start: Place, program: &[Code]) -> Result<World, Fail>
     Ok(world)
 }
 
+// rA and rI1 set.
+fn prepare(world: &mut World, a: Number, index: Number) {
+    world.a = number(a);
+    world.i1 = Word::of(index.0, index.1 % 4096);
+}
+
 // The fault of a step, where `Some(None)` is want of memory.
 fn fault_of(told: Result<(), Refused<MixFault>>) -> Option<Option<MixFault>> {
     match told {
@@ -72,8 +78,7 @@ fn a_step_is_done_and_taken_back(rt: HostRuntime) -> Result<(), Fail> {
     for (name, code, (a, index), after) in STEPS {
         let (fault, a_after, over, time, kept) = after;
         let mut world = machine(rt.alloc(), start, &[code])?;
-        world.a = number(a);
-        world.i1 = Word::of(index.0, index.1 % 4096);
+        prepare(&mut world, a, index);
         let mut journal = Journal::new(rt.alloc(), world);
         let loc = if fault.is_some() { 0 } else { 1 };
         assert_eq!(rt; step(&mut journal, 1), fault.map(Some), "{name}");

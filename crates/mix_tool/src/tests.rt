@@ -3,6 +3,8 @@
 mod hostile;
 mod rows;
 
+ghost use Rattle.std.specs.Prelude.{◌<◌, ◌-◌, ◌^◌};
+
 use crate::fake::{Chunks, Sink};
 use crate::fault::ToolFault;
 use crate::run::run_debug;
