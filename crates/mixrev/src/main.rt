@@ -3,7 +3,7 @@
 
 use mix_tool::{Counted, ToolFault, run_bundle};
 use std::process::ExitCode;
-use std::{env, io};
+use std::{env, fmt, io};
 
 /// The status of a bad command line and of a fault of the tool.
 const FAILED: u8 = 2;
@@ -11,11 +11,14 @@ const FAILED: u8 = 2;
 fn main(rt: HostRuntime) -> ExitCode {
     let words = match env::args(&rt) {
         Ok(args) => args.count(),
-        Err(_) => return ExitCode::from(FAILED),
+        Err(error) if error.kind() == io::ErrorKind::OutOfMemory => return tell(
+            &rt,
+            ToolFault::Memory,
+        ),
+        Err(error) => return tell(&rt, error),
     };
     if words > 1 {
-        let _ = eprintln!(rt; "mixrev: it takes no words; a bundle comes from standard input");
-        return ExitCode::from(FAILED);
+        return tell(&rt, "it takes no words; a bundle comes from standard input");
     }
     let mut input = Counted::of(rt.reader());
     let mut output = Counted::of(io::writer(&rt));
@@ -25,8 +28,8 @@ fn main(rt: HostRuntime) -> ExitCode {
     }
 }
 
-// A fault of the tool is told on standard error; where that fails too, the status alone tells it.
-fn tell(rt: &impl Eprint, fault: ToolFault) -> ExitCode {
+// What went wrong is told on standard error; where that fails too, the status alone tells it.
+fn tell(rt: &impl Eprint, fault: impl fmt::Display + Drop) -> ExitCode {
     let _ = eprintln!(rt; "mixrev: {fault}");
     ExitCode::from(FAILED)
 }
