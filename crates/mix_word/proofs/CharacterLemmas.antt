@@ -1,5 +1,5 @@
 -- the table of characters, read both ways
-use Rattle.std.proofs.Common.{◌≡◌, ℕ, zero, suc, ◌<◌, ◌≤◌, Bool, true, false, ◌==◌, ◌&&◌, length, get_or, Option, Some, None, Decides, refl, ap, ◌∙◌, sym, arith, rules}
+use Rattle.std.proofs.Common.{◌≡◌, ℕ, zero, suc, ◌<◌, ◌≤◌, Bool, true, false, ◌==◌, ◌&&◌, get_or, Option, Some, None, Decides, refl, ap, ◌∙◌, sym}
 use Rattle.std.specs.List.{position}
 use Rattle.std.specs.Char.{to_ascii_uppercase}
 use Rattle.std.proofs.lemmas.Bool.Decides.{Decides-below_and, Decides-eqb}

@@ -7,11 +7,11 @@ use Rattle.mix_word.proofs.FindLemmas.{find-passes}
 use Rattle.mix_word.specs.declared.register.DataReg.{DataReg}
 use Rattle.mix_word.specs.declared.register.DataReg.TheVariants.{A, I1, I2, I3, I4, I5, I6, X}
 use Rattle.mix_word.specs.declared.operation.ShiftKind.{ShiftKind}
-use Rattle.mix_word.specs.declared.operation.ShiftKind.TheVariants.{Sla, Sra, Slax, Srax, Slc, Src}
+use Rattle.mix_word.specs.declared.operation.ShiftKind.TheVariants.{Sla}
 use Rattle.mix_word.specs.declared.operation.JumpKind.{JumpKind}
-use Rattle.mix_word.specs.declared.operation.JumpKind.TheVariants.{Jmp, Jsj, Jov, Jnov, Less, Equal, Greater, GreaterEqual, NotEqual, LessEqual}
+use Rattle.mix_word.specs.declared.operation.JumpKind.TheVariants.{Jmp}
 use Rattle.mix_word.specs.declared.operation.Test.{Test}
-use Rattle.mix_word.specs.declared.operation.Test.TheVariants.{Negative, Zero, Positive, NotNegative, NotZero, NotPositive}
+use Rattle.mix_word.specs.declared.operation.Test.TheVariants.{Negative}
 use Rattle.mix_word.specs.declared.operation.Operation.{Operation}
 use Rattle.mix_word.specs.declared.operation.Operation.TheVariants.{Nop, Add, Sub, Mul, Div, Num, Char, Hlt, Shift, Move, Load, LoadNegated, Store, StoreJ, StoreZero, Jbus, Ioc, In, Out, Jred, Jump, RegisterJump, Increase, Decrease, Enter, EnterNegated, Compare}
 use Rattle.mix_word.specs.Names.{name_of}

@@ -1,5 +1,5 @@
 -- powers of 64 as powers of 2: a byte is six bits
-use Rattle.std.proofs.Common.{◌≡◌, ℕ, zero, suc, ◌+◌, ◌*◌, ◌-◌, ◌/◌, ◌%◌, ◌^◌, ◌≤◌, arith, refl, ap, ◌∙◌, sym}
+use Rattle.std.proofs.Common.{◌≡◌, ℕ, zero, suc, ◌*◌, ◌-◌, ◌/◌, ◌%◌, ◌^◌, arith, refl}
 use Rattle.std.proofs.lemmas.Nat.{pow-add}
 
 pub six_bits : (k : ℕ) → 64 ^ k ≡ 2 ^ (6 * k)

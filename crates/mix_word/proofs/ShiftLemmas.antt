@@ -1,5 +1,5 @@
 -- ten bytes moved by bits
-use Rattle.std.proofs.Common.{◌≡◌, ℕ, ◌+◌, ◌*◌, ◌-◌, ◌/◌, ◌%◌, ◌^◌, ◌<◌, ◌≤◌, arith, refl, ap, ◌∙◌, sym, subst, bit_and}
+use Rattle.std.proofs.Common.{◌≡◌, ℕ, ◌+◌, ◌*◌, ◌-◌, ◌/◌, ◌%◌, ◌^◌, ◌<◌, ◌≤◌, arith, ap, ◌∙◌, sym, bit_and}
 use Rattle.std.proofs.lemmas.Nat.{pow-add, pow_pos, and_mask, mod-pow-add, mod-mul-add, div_below, mul-add-lt, mod_below, div-add-mod'}
 use Rattle.mix_word.proofs.Powers.{six_bits}
 

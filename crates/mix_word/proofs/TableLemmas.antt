@@ -1,19 +1,18 @@
 -- the list of operations, looked up: what is found has the code, and each operation is found by its own
-use Rattle.std.proofs.Common.{◌≡◌, ◌↔◌, ◌⊎◌, inl, inr, ℕ, zero, suc, cond, ◌-◌, ◌+◌, ◌<◌, ◌≤◌, Bool, true, false, not, ◌&&◌, ◌||◌, ◌==◌, IsTrue, List, [], ◌∷◌, Option, Some, None, refl, ap, subst, ◌∙◌, sym, arith, rules}
-use Rattle.std.specs.List.{find}
+use Rattle.std.proofs.Common.{◌≡◌, ◌↔◌, ◌⊎◌, inl, inr, ℕ, zero, suc, cond, ◌-◌, ◌+◌, ◌<◌, ◌≤◌, true, false, ◌==◌, IsTrue, Option, Some, None, refl, subst, ◌∙◌, sym, arith}
 use Rattle.mix_word.proofs.FindLemmas.{find-none, find-passes}
-use Rattle.std.proofs.lemmas.Bool.Decides.{nat_tests, Decides-eqb}
+use Rattle.std.proofs.lemmas.Bool.Decides.{nat_tests}
 use Rattle.mix_word.specs.Register.{number_of_register}
 use Rattle.mix_word.specs.declared.register.DataReg.{DataReg}
 use Rattle.mix_word.specs.declared.register.DataReg.TheVariants.{A, I1, I2, I3, I4, I5, I6, X}
 use Rattle.mix_word.specs.declared.operation.ShiftKind.{ShiftKind}
-use Rattle.mix_word.specs.declared.operation.ShiftKind.TheVariants.{Sla, Sra, Slax, Srax, Slc, Src}
+use Rattle.mix_word.specs.declared.operation.ShiftKind.TheVariants.{Sla}
 use Rattle.mix_word.specs.declared.operation.JumpKind.{JumpKind}
-use Rattle.mix_word.specs.declared.operation.JumpKind.TheVariants.{Jmp, Jsj, Jov, Jnov, Less, Equal, Greater, GreaterEqual, NotEqual, LessEqual}
+use Rattle.mix_word.specs.declared.operation.JumpKind.TheVariants.{Jmp}
 use Rattle.mix_word.specs.declared.operation.Test.{Test}
-use Rattle.mix_word.specs.declared.operation.Test.TheVariants.{Negative, Zero, Positive, NotNegative, NotZero, NotPositive}
+use Rattle.mix_word.specs.declared.operation.Test.TheVariants.{Negative}
 use Rattle.mix_word.specs.declared.operation.Operation.{Operation}
-use Rattle.mix_word.specs.declared.operation.Operation.TheVariants.{Nop, Add, Sub, Mul, Div, Num, Char, Hlt, Shift, Move, Load, LoadNegated, Store, StoreJ, StoreZero, Jbus, Ioc, In, Out, Jred, Jump, RegisterJump, Increase, Decrease, Enter, EnterNegated, Compare}
+use Rattle.mix_word.specs.declared.operation.Operation.TheVariants.{Num, Char, Hlt, Shift, Load, LoadNegated, Store, Jump, RegisterJump, Increase, Decrease, Enter, EnterNegated, Compare}
 use Rattle.mix_word.specs.declared.decoding.Decoded.{Decoded}
 use Rattle.mix_word.specs.declared.decoding.Decoded.TheVariants.{Named, Floating, Unknown}
 use Rattle.mix_word.specs.Operation.{code_of, normal_f_of, is_by_f, number_of_shift, number_of_jump, number_of_test}

@@ -1,7 +1,6 @@
 -- A field (L:R) of a word (1.3.1): bytes L to R, where position 0 is the sign.
 use Rattle.std.specs.Prelude.{ℕ, ◌+◌, ◌-◌, ◌*◌, ◌/◌, ◌%◌, ◌^◌, ◌==◌, nat_le, ◌&&◌, max, Option, Some, None, if◌then◌else◌}
-use Rattle.mix_word.specs.declared.word.Sign.{Sign}
-use Rattle.mix_word.specs.declared.word.Sign.TheVariants.{Plus, Minus}
+use Rattle.mix_word.specs.declared.word.Sign.TheVariants.{Plus}
 use Rattle.mix_word.specs.Word.{WordValue, word}
 
 pub record FieldValue : Type 0 where

@@ -8,6 +8,7 @@ mod conversion;
 mod decoding;
 mod display;
 mod field;
+mod letters;
 mod naming;
 mod needs;
 mod operation;

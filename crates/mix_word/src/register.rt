@@ -30,8 +30,8 @@ pub enum DataReg {
 }
 
 impl DataReg {
-    /// The register of this number, 0 to 7: rA, rI1 to rI6, rX.
-    pub fn numbered(n: u8) -> DataReg
+    // The register of this number, 0 to 7: rA, rI1 to rI6, rX.
+    pub(crate) fn numbered(n: u8) -> DataReg
         requires { n < 8 }
         ensures { number_of_register result ≡ n }
     {
@@ -47,8 +47,8 @@ impl DataReg {
         }
     }
 
-    /// The number, 0 to 7: of rA, rI1 to rI6, rX.
-    pub fn number(self) -> u8
+    // The number, 0 to 7: of rA, rI1 to rI6, rX.
+    pub(crate) fn number(self) -> u8
         ensures is { result ≡ number_of_register self }
         ensures bound { result < 8 }
     {

@@ -11,11 +11,7 @@ const FAILED: u8 = 2;
 fn main(rt: HostRuntime) -> ExitCode {
     let words = match env::args(&rt) {
         Ok(args) => args.count(),
-        Err(error) if error.kind() == io::ErrorKind::OutOfMemory => return tell(
-            &rt,
-            ToolFault::Memory,
-        ),
-        Err(error) => return tell(&rt, error),
+        Err(error) => return unread(&rt, error),
     };
     if words > 1 {
         return tell(&rt, "it takes no words; a bundle comes from standard input");
@@ -25,6 +21,15 @@ fn main(rt: HostRuntime) -> ExitCode {
     match run_bundle(rt.alloc(), &mut input, &mut output) {
         Ok(status) => ExitCode::from(status),
         Err(fault) => tell(&rt, fault),
+    }
+}
+
+// The words could not be read: for want of memory, or because one of them is no text.
+fn unread(rt: &impl Eprint, error: io::Error) -> ExitCode {
+    if error.kind() == io::ErrorKind::OutOfMemory {
+        tell(rt, ToolFault::Memory)
+    } else {
+        tell(rt, error)
     }
 }
 

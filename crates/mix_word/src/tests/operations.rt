@@ -8,20 +8,15 @@ use std::process::Abort;
 #[test]
 fn rows_of_the_table(rt: HostRuntime) {
     for row in table() {
-        match named(row.name.as_bytes()) {
-            Some(op) => check_row(&rt, row, op),
-            None => assert!(rt; false, "{}", row.name),
+        match named(row.0.as_bytes()) {
+            Some(op) => check_row(&rt, *row, op),
+            None => assert!(rt; false, "{}", row.0),
         }
     }
 }
 
-fn check_row(rt: &impl Abort, row: &Row, op: Operation) {
-    let Row {
-        name,
-        code,
-        f,
-        time,
-    } = *row;
+fn check_row(rt: &impl Abort, row: Row, op: Operation) {
+    let (name, code, f, time) = row;
     assert_eq!(rt; op.name(), name);
     assert_eq!(rt; (op.code(), op.normal_f()), (code, f), "{name}");
     assert_eq!(rt; op.time(f), time, "{name}");
