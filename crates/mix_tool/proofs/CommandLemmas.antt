@@ -1,18 +1,18 @@
 -- Facts of the definitions of commands, over plain variables.
-use Rattle.std.proofs.Common.{◌≡◌, ℕ, zero, suc, ◌+◌, ◌-◌, ◌<◌, ◌≤◌, List, [], ◌∷◌, ◌++◌, length, take, replicate, Bool, true, false, Option, None, Some, Result, Ok, Err, refl, ap, sym, ◌∙◌, arith, cond, append_assoc, eqb, ltb, below_more, is_some}
-use Rattle.std.proofs.lemmas.Grind.{common_steps, replicate_next}
-use Rattle.std.proofs.lemmas.List.{take-take, length-take-le}
+use Rattle.std.proofs.Common.{◌≡◌, ℕ, zero, suc, ◌+◌, ◌-◌, ◌<◌, ◌≤◌, List, [], ◌∷◌, ◌++◌, length, take, replicate, Bool, true, false, None, Some, Ok, refl, ap, sym, ◌∙◌, arith, append_assoc, eqb, ltb, below_more, is_some}
+use Rattle.std.proofs.lemmas.Grind.{replicate_next}
+use Rattle.std.proofs.lemmas.List.{take-take, length-take-le, take_all, take-replicate}
+use Rattle.std.proofs.Math.Seq.{take-append-add}
 use Rattle.std.proofs.lemmas.Bool.Decides.{nat_tests}
 use Rattle.undo_core.specs.Replay.{replay}
 use Rattle.mix_machine.specs.World.{WorldState}
 use Rattle.mix_machine.specs.Do.{does, is_halt_next}
 use Rattle.mix_machine.specs.declared.old.Change.{Change}
 use Rattle.mix_machine.specs.declared.old.Change.TheVariants.{Step}
-use Rattle.mix_machine.specs.declared.fault.MixFault.{MixFault}
 use Rattle.mix_tool.specs.Reply.{ran_text}
-use Rattle.mix_tool.specs.Command.{stepped, steps_done, is_accepted, world_after, least_below, with_steps, is_halted, end_at, fault_end}
+use Rattle.mix_tool.specs.Command.{stepped, steps_done, is_accepted, world_after, least_below, with_steps, is_halted, end_at, fault_end, Begun}
 use Rattle.mix_tool.specs.declared.reply.End.{End}
-use Rattle.mix_tool.specs.declared.reply.End.TheVariants.{Halt, Limit, Fault}
+use Rattle.mix_tool.specs.declared.reply.End.TheVariants.{Halt, Limit}
 
 -- the least number below n that passes is the one that passes with none below it; n, where none does
 pub least_below-is : (n k : ℕ) (p : ℕ → Bool) → k ≤ n → (k < n → p k ≡ true) → ((j : ℕ) → j < k → p j ≡ false) → least_below n p ≡ k
@@ -84,3 +84,26 @@ stepped-is base first world changes now n k end same steps e within holds before
     least_below-is n k (λ j. is_some (end_at base changes n j)) within (λ _. ap is_some holds) (λ j below. ap is_some (before j below)) in
     let here = world_after-is base world (with_steps changes k) (stands_after base first world changes now k same steps e) in
     rw (count, holds, here, steps) refl
+
+-- none below k passes, so the least number that does is not below k
+pub least_below-beyond : (n k : ℕ) (p : ℕ → Bool) → k ≤ n → ((j : ℕ) → j < k → p j ≡ false) → k ≤ least_below n p
+least_below-beyond zero k p within below = omega arith
+least_below-beyond (suc n) zero p within below = omega arith
+least_below-beyond (suc n) (suc k) p within below =
+    let more : k ≤ least_below n (λ j. p (suc j)) = least_below-beyond n k (λ j. p (suc j)) (omega arith) (λ j h. below (suc j) (omega arith)) in
+    rw (below 0 (omega arith)) (omega arith)
+
+-- all that a command leaves
+pub Begun-all : (old whole new : List Change) → new ≡ whole → Begun old whole new
+Begun-all old whole new e = (length old + length whole, omega arith, e ∙ sym (take_all (length old + length whole) whole (omega arith)))
+
+-- k of the steps, with no end before them
+pub Begun-steps : (base : WorldState) (changes now : List Change) (n k : ℕ) → now ≡ with_steps changes k → k ≤ n →
+    ((j : ℕ) → j < k → end_at base changes n j ≡ None) → Begun changes (stepped base changes n).changes now
+unfolding stepped steps_done
+Begun-steps base changes now n k e within before =
+    let d = least_below n (λ j. is_some (end_at base changes n j)) in
+    let more : k ≤ d = least_below-beyond n k (λ j. is_some (end_at base changes n j)) within (λ j below. ap is_some (before j below)) in
+    let front : take (length changes + k) (with_steps changes d) ≡ with_steps changes k =
+    take-append-add _ _ _ ∙ ap (λ steps. changes ++ steps) (take-replicate _ _ _ more) in
+    (length changes + k, omega arith, e ∙ sym front)

@@ -23,9 +23,8 @@ use Rattle.mix_tool.specs.declared.fault.ToolFault.TheVariants as faults
 use Rattle.mix_tool.specs.declared.stream.input.ReadFault.{ReadFault}
 use Rattle.mix_tool.specs.declared.stream.input.ReadFault.TheVariants as reads
 use Rattle.mix_tool.proofs.Truncation.{limited-take, deck_of-take, assembly-take}
-use Rattle.mix_tool.specs.declared.session.Told.{Told}
 use Rattle.mix_tool.specs.declared.session.Told.TheVariants.{Accepted, Refused}
-use Rattle.mix_tool.proofs.Written.{Appends-then, Appends-same, Appends-nothing, AppendsFront-after, AppendsFront-all}
+use Rattle.mix_tool.proofs.Written.{Appends-then, Appends-same, Appends-nothing, AppendsFront-after}
 
 -- one line more is written
 pub written-next : (base first : WorldState) (changes next : List Change) (line rest after : List ℕ) (a b c : Option (List ℕ)) (whole : List ℕ) →

@@ -1,6 +1,6 @@
 -- What a command does: to the list of changes, and what it says. The machine is run anew, from its first state on the changes of
 -- the list, wherever something of it is asked; no value from before a `back` is left to be shown.
-use Rattle.std.specs.Prelude.{◌==◌, ◌&&◌, ℕ, zero, suc, ◌-◌, List, [], ◌∷◌, ◌++◌, length, take, replicate, Bool, true, false, Option, None, Some, Result, Ok, Err, is_some, unwrap_or, nat_lt, if◌then◌else◌}
+use Rattle.std.specs.Prelude.{◌≡◌, ◌≤◌, ◌==◌, ◌&&◌, ℕ, zero, suc, ◌-◌, List, [], ◌++◌, length, take, replicate, Bool, true, false, Option, None, Some, Result, Ok, Err, is_some, unwrap_or, nat_lt, if◌then◌else◌}
 use Rattle.undo_core.specs.Replay.{replay}
 use Rattle.mix_machine.specs.World.{WorldState}
 use Rattle.mix_machine.specs.Do.{does, is_halt_next}
@@ -102,6 +102,11 @@ obeyed base changes (Ok (ask.Back n)) =
     if nat_lt (length changes) n then refused changes TooFewChanges else taken_back base changes n
 obeyed base changes (Ok ask.BackAll) = taken_back base changes (length changes)
 obeyed base changes (Ok ask.ShowRegs) = told changes (registers_text (world_after base changes))
+
+-- What stands where memory is refused: a beginning of the changes that the command would leave, at least as long as the list that there
+-- was, or all. So of a `step` some of its steps stand, and any other command is done or not.
+abbrev pub Begun : List Change → List Change → List Change → Type 0
+Begun old whole new = (m : ℕ) × (length old ≤ m) × (new ≡ take m whole)
 
 -- what a line of the script does
 unfoldable pub command : WorldState → List Change → List ℕ → Effect

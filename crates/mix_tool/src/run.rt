@@ -180,6 +180,7 @@ pub fn run_debug<S: In, D: In, C: In, W: Out>(
     // A read or a write has failed exactly where that is answered.
     ensures read { (result ≡ Err ToolFault.Read) ↔ (S.failed source.old + D.failed deck.old + C.failed script.old
         < S.failed source.new + D.failed deck.new + C.failed script.new) }
+    ensures reads { (S.failed source.old ≤ S.failed source.new) × (D.failed deck.old ≤ D.failed deck.new) × (C.failed script.old ≤ C.failed script.new) }
     ensures write { (result ≡ Err ToolFault.Write) ↔ (W.failed out.old < W.failed out.new) }
     ensures unread { result ≡ Err ToolFault.Read → Keeps (W.told out.old) (W.told out.new) }
 

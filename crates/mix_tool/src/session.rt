@@ -2,11 +2,11 @@
 
 ghost use Rattle.std.specs.Prelude.{◌≡◌, ◌≤◌, ◌<◌, ◌++◌, ◌-◌, ◌≢◌, ◌+◌, ◌^◌, ◌↔◌, ℕ, Err, IfErr, true, false, [], ◌∷◌, IfOk, MatchResult, OnOk, length, replicate, string_bytes, take, Some, None};
 ghost use Rattle.mix_machine.specs.Loaded.{loaded};
-ghost use Rattle.mix_tool.specs.Command.{command, obeyed, stepped, taken_back, end_at, with_steps, is_accepted};
+ghost use Rattle.mix_tool.specs.Command.{command, obeyed, stepped, taken_back, end_at, with_steps, is_accepted, Begun};
 ghost use Rattle.mix_tool.specs.Command.{world_after, told_of};
 ghost use Rattle.mix_tool.specs.Output.{IsOwn};
 ghost use Rattle.mix_tool.specs.Stream.{AppendsFront};
-ghost use Rattle.std.specs.Io.KnownBytes.{Appends};
+ghost use Rattle.std.specs.Io.KnownBytes.{Appends, Keeps};
 ghost use Rattle.mix_tool.specs.Reply.{refused_text, registers_text};
 ghost use Rattle.mix_tool.specs.declared.request.Request.TheVariants as ask;
 
@@ -54,6 +54,8 @@ impl Session {
             IfOk result (λ told. (self.new.journal.changes ≡ effect.changes) × (told ≡ told_of effect.accepted)
             × Appends (W.told out.old) (W.told out.new) effect.reply) }
         ensures begun { AppendsFront (W.told out.old) (W.told out.new) (command self.old.journal.first self.old.journal.changes line.now).reply }
+        ensures memory { result ≡ Err ToolFault.Memory → Keeps (W.told out.old) (W.told out.new)
+            × Begun self.old.journal.changes (command self.old.journal.first self.old.journal.changes line.now).changes self.new.journal.changes }
         ensures done { result ≡ Err ToolFault.Write → self.new.journal.changes ≡ (command self.old.journal.first self.old.journal.changes line.now).changes }
         ensures write { (result ≡ Err ToolFault.Write) ↔ (W.failed out.new ≡ W.failed out.old + 1) }
         ensures others { result ≢ Err ToolFault.Write → W.failed out.new ≡ W.failed out.old }
@@ -88,6 +90,7 @@ fn obey(alloc: Global, journal: &mut Journal<World>, line: &[u8]) -> Result<Repl
     ensures first { journal.new.first ≡ journal.old.first }
     ensures effect { IfOk result (λ r. command journal.old.first journal.old.changes line.now
         ≡ record { changes = journal.new.changes; reply = string_bytes r.text; accepted = r.accepted }) }
+    ensures memory { IfErr result (λ _. Begun journal.old.changes (command journal.old.first journal.old.changes line.now).changes journal.new.changes) }
 {
     match read_request(line) {
         Err(refusal) => refuse(alloc, refusal),
@@ -119,6 +122,7 @@ fn step(alloc: Global, journal: &mut Journal<World>, count: u32) -> Result<Reply
     ensures first { journal.new.first ≡ journal.old.first }
     ensures effect { IfOk result (λ r. stepped journal.old.first journal.old.changes count
         ≡ record { changes = journal.new.changes; reply = string_bytes r.text; accepted = r.accepted }) }
+    ensures memory { IfErr result (λ _. Begun journal.old.changes (stepped journal.old.first journal.old.changes count).changes journal.new.changes) }
 {
     let (done, end) = run_steps(journal, count)?;
     Ok(Reply {
@@ -143,6 +147,7 @@ fn run_steps(journal: &mut Journal<World>, count: u32) -> Result<(u32, End), Mem
     ensures within { IfOk result (λ r. r.0 ≤ count) }
     ensures end { IfOk result (λ r. end_at journal.old.first journal.old.changes count r.0 ≡ Some r.1) }
     ensures least { IfOk result (λ r. (k : ℕ) → k < r.0 → end_at journal.old.first journal.old.changes count k ≡ None) }
+    ensures memory { IfErr result (λ _. Begun journal.old.changes (stepped journal.old.first journal.old.changes count).changes journal.new.changes) }
 {
     for done in 0..count {
         let halts = journal.state().next_is_halt();
@@ -164,6 +169,7 @@ fn back(alloc: Global, journal: &mut Journal<World>, count: u64) -> Result<Reply
     ensures first { journal.new.first ≡ journal.old.first }
     ensures effect { IfOk result (λ r. obeyed journal.old.first journal.old.changes (Ok (ask.Back count))
         ≡ record { changes = journal.new.changes; reply = string_bytes r.text; accepted = r.accepted }) }
+    ensures memory { IfErr result (λ _. Begun journal.old.changes (obeyed journal.old.first journal.old.changes (Ok (ask.Back count))).changes journal.new.changes) }
 {
     if (journal.changes().len() as u64) < count {
         return refuse(alloc, Refusal::TooFewChanges);
@@ -177,6 +183,7 @@ fn take_back(alloc: Global, journal: &mut Journal<World>, count: usize) -> Resul
     ensures first { journal.new.first ≡ journal.old.first }
     ensures effect { IfOk result (λ r. taken_back journal.old.first journal.old.changes count
         ≡ record { changes = journal.new.changes; reply = string_bytes r.text; accepted = r.accepted }) }
+    ensures memory { IfErr result (λ _. Begun journal.old.changes (taken_back journal.old.first journal.old.changes count).changes journal.new.changes) }
 {
     go_back(journal, count);
     Ok(Reply {

@@ -1,5 +1,5 @@
 -- One line more: what stands written and what is left to say are all that is said.
-use Rattle.std.proofs.Common.{◌≡◌, sym, ◌∙◌}
+use Rattle.std.proofs.Common.{sym, ◌∙◌}
 use Rattle.mix_tool.proofs.RunLemmas.{written-next, begun-at, accepted-next, refused-next, all-said, all-accepted, nil-from_length}
 use Rattle.mix_tool.proofs.Written.{AppendsFront-all}
 use Rattle.mix_tool.proofs.run.execute_lines.Goals as goal

@@ -1,7 +1,7 @@
 -- Each step is one more from where the loop began, so the ends are those of the world that the journal stands in.
-use Rattle.std.proofs.Common.{refl, sym, ◌∙◌, ap, ◌++◌, ◌∷◌, [], ◌≡◌, arith}
+use Rattle.std.proofs.Common.{sym, ◌∙◌, ap, ◌++◌, ◌∷◌, [], ◌≡◌, arith}
 use Rattle.mix_machine.specs.declared.old.Change.TheVariants.{Step}
-use Rattle.mix_tool.proofs.CommandLemmas.{stands_after, none_before-next, is_halted-next, end_at-halt, end_at-limit, end_at-step, with_steps-next}
+use Rattle.mix_tool.proofs.CommandLemmas.{Begun-steps, stands_after, none_before-next, is_halted-next, end_at-halt, end_at-limit, end_at-step, with_steps-next}
 use Rattle.mix_tool.specs.Command.{fault_end}
 use Rattle.mix_tool.proofs.session.run_steps.Goals as goal
 
@@ -19,6 +19,10 @@ pub returns-in-Err-Fault-clause-end : goal.returns-in-Err-Fault-clause-end
 returns-in-Err-Fault-clause-end c =
     let here = stands_after _ _ _ _ _ _ c.loop-done.invariant.first c.loop-done.invariant.steps c.state.ensures in
     end_at-step _ _ _ _ _ c.loop-done.invariant.halted c.loop-done-test.true here ∙ ap fault_end ((rw c.in-Err-Fault.field-0-is at c.in-Err-Fault.ensures.fault) _ c.state.ensures)
+
+pub returns-in-Err-Memory-clause-memory : goal.returns-in-Err-Memory-clause-memory
+returns-in-Err-Memory-clause-memory c =
+    Begun-steps _ _ _ _ _ (ap (λ j. j.changes) c.in-Err-Memory.ensures.err ∙ c.loop-done.invariant.steps) (omega (arith, c.loop-done-test.true)) c.loop-done.invariant.before
 
 pub loop-done-preserved : goal.loop-done-preserved
 loop-done-preserved c =
