@@ -23,7 +23,8 @@ use Rattle.mix_machine.specs.declared.old.Change.{Change}
 use Rattle.mix_machine.specs.declared.old.Change.TheVariants.{Step}
 
 -- the tests that an accepted action has passed
-pub record Passes (w : WorldState) (a : Action) : Type 0 where
+pub record Passes (w : WorldState) (d : Decoded) (a : Action) : Type 0 where
+  pub named : d ≡ Named a.operation
   pub served : is_served a.operation a.f ≡ true
   pub cell : (uses_cell a.operation && not (is_cell a.m)) ≡ false
   pub clock : nat_lt last_clock (w.clock + time_of a.operation a.f) ≡ false
@@ -49,12 +50,12 @@ all_passed (t ∷ ts) x y h =
     let rest = all_passed ts x y first.1 in
     ((first.0, rest.0), rest.1)
 
-passes-checked : (w : WorldState) (p : Parts) (d : Decoded) (a : Action) → checked w p d ≡ Ok a → Passes w a
+passes-checked : (w : WorldState) (p : Parts) (d : Decoded) (a : Action) → checked w p d ≡ Ok a → Passes w d a
 passes-checked w p (Named op) a h =
     let b = action_of w p op in
     let s = served (is_served op p.f) NoOperation (first_fault (tests w p b) b) a h in
     let all = all_passed (tests w p b) b a s.1 in
-    subst (Passes w) all.1 (record { served = s.0; cell = all.0.1.1.0; clock = all.0.1.1.1.0 })
+    subst (Passes w (Named op)) all.1 (record { named = refl; served = s.0; cell = all.0.1.1.0; clock = all.0.1.1.1.0 })
 passes-checked w p Floating a h = cc
 passes-checked w p Unknown a h = cc
 
@@ -68,12 +69,13 @@ effects-fit (Increase A) w a h = (refl, (refl, tt))
 effects-fit (Store A) w a h = (cell_fits a.m h, tt)
 effects-fit _ w a h = tt
 
-writes-fit : (w : WorldState) (a : Action) → w.loc < 4000 → Passes w a → AllFit (writes w a)
-writes-fit w a l h =
+writes-fit : (w : WorldState) (d : Decoded) (a : Action) → w.loc < 4000 → Passes w d a → AllFit (writes w a)
+writes-fit w d a l h =
     let c = h.clock in
     ((grind (arith, nat_tests)), ((grind (arith, nat_tests)), effects-fit a.operation w a h.cell))
 
-pub passes-decoded : (w : WorldState) (a : Action) → decoded w ≡ Ok a → (w.loc == 4000) ≡ false × Passes w a
+pub passes-decoded : (w : WorldState) (a : Action) → decoded w ≡ Ok a →
+    (w.loc == 4000) ≡ false × Passes w (operation_of (instruction w).code (instruction w).f) a
 unfolding decoded
 passes-decoded w a e =
     let at = not_refused (w.loc == 4000) NoCellAtLocation (decoded_by w (instruction w)) a e in
@@ -87,7 +89,7 @@ fit-decoded w a h e =
     let there = passed.0 in
     let low = h.loc in
     let l : w.loc < 4000 = grind (arith, nat_tests) in
-    writes-fit w a l passed.1
+    writes-fit w _ a l passed.1
 
 undone-acted : (w t : WorldState) (r : Result Action MixFault) → IsWorld w → decoded w ≡ r → acted w r ≡ Ok t →
     put_back put_value (kept_by_action w r) t ≡ Some w

@@ -2,7 +2,7 @@
 ghost use Rattle.std.specs.Prelude.{◌≡◌};
 
 use self::rows::{CLOCKS, Code, HLT, LAST_CLOCK, Number, PROGRAMS, STEPS};
-use crate::{Change, MixFault, Old, World, kept_count_law};
+use crate::{Change, MixFault, Old, World, halt_law, kept_count_law};
 use mix_word::Sign::{Minus, Plus};
 use mix_word::{Cmp, Place, Reg, Word};
 use std::alloc::Global;
@@ -164,6 +164,7 @@ fn a_loaded_machine_is_read(rt: HostRuntime) -> Result<(), Fail> {
     assert_eq!(rt; world.cmp(), Cmp::Equal);
     assert_eq!(rt; world.clock(), 0);
     assert!(rt; world.next_is_halt());
+    halt_law();
     kept_count_law();
     Ok(())
 }

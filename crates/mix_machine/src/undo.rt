@@ -59,6 +59,7 @@ impl World {
         ensures same { OnErr result (self.new ≡ self.old) }
         ensures same_kept { OnErr result (kept.new.items ≡ kept.old.items) }
     {
+        // (the proof knows the ranges of the machine where a field of it is named)
         let _ = &self.loc;
         match self.decoded() {
             Err(fault) => Err(Refused::Fault(fault)),

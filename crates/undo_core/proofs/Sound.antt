@@ -5,7 +5,7 @@ use Rattle.std.proofs.Math.ListN.{set, length-set}
 use Rattle.std.proofs.Math.Seq.{drop-cons, drop-append_seam, take-append_seam}
 use Rattle.std.proofs.lemmas.List.{reverse-append, reverse-reverse, length-take-le, take_all, drop_all, take_more}
 use Rattle.std.proofs.lemmas.List.{take_more_set, take-append-drop, drop-append-le}
-use Rattle.std.specs.Result.{result_ok, IsErrAnd}
+use Rattle.std.specs.Result.{IsErrAnd}
 use Rattle.undo_core.specs.declared.refused.Refused.{Refused}
 use Rattle.undo_core.specs.declared.refused.Refused.TheVariants.{Fault, Memory}
 use Rattle.undo_core.specs.Refused.{IfFault}

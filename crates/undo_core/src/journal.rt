@@ -1,4 +1,4 @@
-// The changes done on a state, each of which can be taken back and done again.
+//! The changes done on a state, each of which can be taken back and done again.
 ghost use Rattle.std.specs.Prelude.{◌≡◌, ◌+◌, ◌-◌, ◌<◌, ◌↔◌, ◌++◌, [], ◌∷◌, length, take, drop, vec_len, vec_capacity, Some, Ok, Err, IsTrue, OnOk, OnErr, IfOk};
 ghost use Rattle.std.specs.Bool.{OnFalse};
 ghost use Rattle.undo_core.specs.Refused.{IfFault};

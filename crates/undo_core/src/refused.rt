@@ -1,4 +1,4 @@
-// Why a change is refused: a fault of its own, or want of memory.
+//! Why a change is refused: a fault of its own, or want of memory.
 ghost use Rattle.std.specs.Prelude.{◌≡◌};
 ghost use Rattle.undo_core.specs.declared.refused.Refused.TheVariants.{Memory as memory};
 

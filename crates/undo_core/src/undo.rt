@@ -1,4 +1,4 @@
-// A state whose changes can be taken back by the values that they overwrote.
+//! A state whose changes can be taken back by the values that they overwrote.
 ghost use Rattle.std.specs.Prelude.{◌≡◌, ◌≤◌, ◌++◌, List, Option, Result, Some, Ok, Err, IsSome, OnOk, OnErr, vec_len, take, drop};
 ghost use Rattle.undo_core.specs.Refused.{IfFault};
 ghost use Rattle.undo_core.specs.Replay.{put_back};

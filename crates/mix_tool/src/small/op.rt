@@ -15,8 +15,8 @@ pub(crate) enum Op {
 /// How long the longest name of an operation is.
 const LONGEST_NAME: usize = 4;
 
-#[tactic(auto, using(crate::proofs::ShortNames::long_name))]
 /// What a name says in the place of OP, in either case of letters, or `None` where it says nothing.
+#[tactic(auto, using(crate::proofs::ShortNames::long_name))]
 pub(crate) fn read_op(name: &[u8]) -> Option<Op>
     ensures { result ≡ op_named (str_to_ascii_uppercase name.now) }
 {
