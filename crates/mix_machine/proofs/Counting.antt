@@ -1,12 +1,15 @@
 -- The number of old values that an accepted change keeps.
-use Rattle.std.proofs.Common.{ℕ, suc, ◌+◌, ◌≡◌, ◌≤◌, ◌∙◌, true, List, [], ◌∷◌, Result, Ok, Err, length, refl, ap, arith}
+use Rattle.std.proofs.Common.{ℕ, suc, ◌+◌, ◌*◌, ◌≡◌, ◌≤◌, ◌∙◌, true, List, [], ◌∷◌, Result, Ok, Err, length, refl, ap, arith}
 use Rattle.mix_word.specs.declared.register.DataReg.TheVariants.{A}
 use Rattle.mix_word.specs.declared.operation.Operation.{Operation}
 use Rattle.mix_word.specs.declared.operation.Operation.TheVariants.{Nop, Hlt, Enter, Increase, Store}
+use Rattle.std.specs.Option.{option_map_or}
+use Rattle.std.specs.Result.{result_ok}
+use Rattle.undo_core.specs.Replay.{count_kept}
 use Rattle.mix_machine.specs.World.{WorldState}
 use Rattle.mix_machine.specs.Write.{Write, written, kept_by}
 use Rattle.mix_machine.specs.Decode.{decoded, is_served}
-use Rattle.mix_machine.specs.Do.{kept_values, kept_by_action, effects, writes}
+use Rattle.mix_machine.specs.Do.{does, kept_values, kept_by_action, effects, writes}
 use Rattle.mix_machine.specs.KeptCount.{beside, count_of, kept_count}
 use Rattle.mix_machine.specs.Accepted.{passes-decoded}
 use Rattle.mix_machine.specs.declared.decode.Action.{Action}
@@ -40,9 +43,9 @@ unfolding kept_values kept_count
 counted w Step = counted-action w (decoded w) refl
 
 few : (op : Operation) → 2 + beside op ≤ 103
-few (Enter r) = omega arith
-few (Store r) = omega arith
-few (Increase r) = omega arith
+few (Enter A) = omega arith
+few (Store A) = omega arith
+few (Increase A) = omega arith
 few _ = omega arith
 
 few-result : (r : Result Action MixFault) → count_of r ≤ 103
@@ -52,3 +55,13 @@ few-result (Err f) = omega arith
 pub few_kept : (w : WorldState) (c : Change) → kept_count w c ≤ 103
 unfolding kept_count
 few_kept w Step = few-result (decoded w)
+
+-- so a list of changes keeps no more than 103 for each
+pub few_in_all : (w : WorldState) (cs : List Change) → count_kept does kept_values w cs ≤ 103 * length cs
+few_in_all w [] = omega arith
+few_in_all w (c ∷ cs) =
+    let one : length (kept_values w c) ≤ 103 = rw (counted w c) (few_kept w c) in
+    elim (does w c) as (λ r. length (kept_values w c) + option_map_or (λ t. count_kept does kept_values t cs) (result_ok r) 0 ≤ 103 * suc (length cs)) [
+      | Ok t ↦ let rest = few_in_all t cs in omega arith
+      | Err f ↦ omega arith
+    ]

@@ -4,6 +4,7 @@ use Rattle.std.proofs.Common.{ap, sym, subst, arith}
 use Rattle.std.proofs.lemmas.Bool.Decides.{nat_tests}
 use Rattle.undo_core.specs.Replay.{put_back}
 use Rattle.mix_word.specs.Operation.{time_of}
+use Rattle.mix_word.specs.Needs.{needs_operand}
 use Rattle.mix_word.specs.Table.{decoded as operation_of}
 use Rattle.mix_word.specs.declared.word.Parts.{Parts}
 use Rattle.mix_word.specs.declared.register.DataReg.TheVariants.{A}
@@ -14,7 +15,7 @@ use Rattle.mix_word.specs.declared.operation.Operation.TheVariants.{Enter, Incre
 use Rattle.mix_machine.specs.World.{WorldState, IsWorld, last_clock}
 use Rattle.mix_machine.specs.Write.{put_value, kept_by, write_all}
 use Rattle.mix_machine.specs.Fits.{AllFit, undone-write_all}
-use Rattle.mix_machine.specs.Decode.{decoded, decoded_by, instruction, checked, tests, action_of, first_fault, is_served, uses_cell, is_cell}
+use Rattle.mix_machine.specs.Decode.{decoded, decoded_by, instruction, checked, tests, action_of, first_fault, is_served, is_cell}
 use Rattle.mix_machine.specs.Do.{does, kept_values, acted, kept_by_action, effects, writes}
 use Rattle.mix_machine.specs.declared.decode.Action.{Action}
 use Rattle.mix_machine.specs.declared.fault.MixFault.{MixFault}
@@ -26,7 +27,7 @@ use Rattle.mix_machine.specs.declared.old.Change.TheVariants.{Step}
 pub record Passes (w : WorldState) (d : Decoded) (a : Action) : Type 0 where
   pub named : d ≡ Named a.operation
   pub served : is_served a.operation a.f ≡ true
-  pub cell : (uses_cell a.operation && not (is_cell a.m)) ≡ false
+  pub cell : (needs_operand a.operation && not (is_cell a.m)) ≡ false
   pub clock : nat_lt last_clock (w.clock + time_of a.operation a.f) ≡ false
 
 -- what stands behind a test that did not refuse
@@ -63,7 +64,7 @@ cell_fits : (m : ℤ) → not (is_cell m) ≡ false → IsTrue (nat_lt (unsigned
 cell_fits (pos n) h = grind (arith, nat_tests)
 cell_fits (negsuc n) h = cc
 
-effects-fit : (op : Operation) (w : WorldState) (a : Action) → (uses_cell op && not (is_cell a.m)) ≡ false → AllFit (effects op w a)
+effects-fit : (op : Operation) (w : WorldState) (a : Action) → (needs_operand op && not (is_cell a.m)) ≡ false → AllFit (effects op w a)
 effects-fit (Enter A) w a h = (refl, tt)
 effects-fit (Increase A) w a h = (refl, (refl, tt))
 effects-fit (Store A) w a h = (cell_fits a.m h, tt)

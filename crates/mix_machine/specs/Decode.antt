@@ -3,6 +3,7 @@
 use Rattle.std.specs.Prelude.{ℕ, ℤ, pos, negsuc, ◌+ℤ◌, unsigned_abs, Bool, true, false, not, ◌&&◌, ◌==◌, nat_le, nat_lt, if◌then◌else◌, List, [], ◌∷◌, ◌+◌, Result, Ok, Err}
 use Rattle.mix_word.specs.Word.{number_of, parts_of, signed}
 use Rattle.mix_word.specs.Operation.{time_of}
+use Rattle.mix_word.specs.Needs.{needs_address, needs_operand}
 use Rattle.mix_word.specs.Table.{decoded as operation_of}
 use Rattle.mix_word.specs.declared.word.Parts.{Parts}
 use Rattle.mix_word.specs.declared.register.DataReg.TheVariants.{A}
@@ -38,17 +39,6 @@ is_served (Increase A) f = true
 is_served (Store A) f = f == 5
 is_served _ f = false
 
--- whether an operation looks at its index and at M
-abbrev pub uses_address : Operation → Bool
-uses_address Nop = false
-uses_address Hlt = false
-uses_address _ = true
-
--- whether M has to be a cell
-abbrev pub uses_cell : Operation → Bool
-uses_cell (Store r) = true
-uses_cell _ = false
-
 -- whether a number is that of a cell
 abbrev pub is_cell : ℤ → Bool
 is_cell (pos n) = nat_lt n 4000
@@ -62,9 +52,9 @@ first_fault (t ∷ ts) x = if t.0 then Err t.1 else first_fault ts x
 -- what can refuse an operation, first to last: the index, M, the cell, the clock
 abbrev pub tests : WorldState → Parts → Action → List (Bool × MixFault)
 tests w p a =
-    (uses_address a.operation && nat_lt 6 p.index, IndexOverSix)
-    ∷ (uses_address a.operation && nat_le 4096 (unsigned_abs a.m), LargeAddress)
-    ∷ (uses_cell a.operation && not (is_cell a.m), NoCell)
+    (needs_address a.operation && nat_lt 6 p.index, IndexOverSix)
+    ∷ (needs_address a.operation && nat_le 4096 (unsigned_abs a.m), LargeAddress)
+    ∷ (needs_operand a.operation && not (is_cell a.m), NoCell)
     ∷ (nat_lt last_clock (w.clock + time_of a.operation a.f), ClockFull)
     ∷ []
 

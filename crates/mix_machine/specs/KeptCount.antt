@@ -1,5 +1,6 @@
 -- How many old values an accepted change keeps.
 use Rattle.std.specs.Prelude.{ℕ, ◌+◌, Result, Ok, Err}
+use Rattle.mix_word.specs.declared.register.DataReg.TheVariants.{A}
 use Rattle.mix_word.specs.declared.operation.Operation.{Operation}
 use Rattle.mix_word.specs.declared.operation.Operation.TheVariants.{Enter, Increase, Store}
 use Rattle.mix_machine.specs.World.{WorldState}
@@ -9,12 +10,12 @@ use Rattle.mix_machine.specs.declared.fault.MixFault.{MixFault}
 use Rattle.mix_machine.specs.declared.old.Change.{Change}
 use Rattle.mix_machine.specs.declared.old.Change.TheVariants.{Step}
 
--- beside the location and the clock: NOP and HLT nothing, a load or a store one value, and a sum two, the
--- register and the toggle, whether or not they alter
+-- beside the location and the clock: NOP and HLT nothing, ENTA and STA one value, and INCA two, the register
+-- and the toggle, whether or not they alter
 abbrev pub beside : Operation → ℕ
-beside (Enter r) = 1
-beside (Store r) = 1
-beside (Increase r) = 2
+beside (Enter A) = 1
+beside (Store A) = 1
+beside (Increase A) = 2
 beside _ = 0
 
 abbrev pub count_of : Result Action MixFault → ℕ

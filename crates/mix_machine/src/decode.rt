@@ -1,7 +1,7 @@
 //! The instruction at the location: its operation and its address M, or the first fault (1.3.1).
 ghost use Rattle.std.specs.Prelude.{◌≡◌, ◌<◌, ◌^◌, IfOk, unsigned_abs};
 ghost use Rattle.mix_word.specs.Word.{number_of, signed};
-ghost use Rattle.mix_machine.specs.Decode.{decoded, decoded_by, is_served, uses_address, uses_cell, is_cell, index_number, effective, checked};
+ghost use Rattle.mix_machine.specs.Decode.{decoded, decoded_by, is_served, is_cell, index_number, effective, checked};
 
 use crate::fault::MixFault;
 use crate::world::World;
@@ -51,13 +51,13 @@ impl World {
             return Err(MixFault::NoOperation);
         }
         let m = self.effective(parts);
-        if uses_address(operation) && parts.index > 6 {
+        if operation.needs_address() && parts.index > 6 {
             return Err(MixFault::IndexOverSix);
         }
-        if uses_address(operation) && m.unsigned_abs() >= 4096 {
+        if operation.needs_address() && m.unsigned_abs() >= 4096 {
             return Err(MixFault::LargeAddress);
         }
-        if uses_cell(operation) && !is_cell(m) {
+        if operation.needs_operand() && !is_cell(m) {
             return Err(MixFault::NoCell);
         }
         if self.clock + u64::from(operation.time(parts.f)) > LAST_CLOCK {
@@ -131,26 +131,6 @@ fn is_served(operation: Operation, f: u8) -> bool
         Operation::Nop | Operation::Hlt => true,
         Operation::Enter(DataReg::A) | Operation::Increase(DataReg::A) => true,
         Operation::Store(DataReg::A) => f == 5,
-        _ => false,
-    }
-}
-
-// Whether an operation looks at its index and at M.
-fn uses_address(operation: Operation) -> bool
-    ensures { result ≡ uses_address operation }
-{
-    match operation {
-        Operation::Nop | Operation::Hlt => false,
-        _ => true,
-    }
-}
-
-// Whether M has to be a cell.
-fn uses_cell(operation: Operation) -> bool
-    ensures { result ≡ uses_cell operation }
-{
-    match operation {
-        Operation::Store(_) => true,
         _ => false,
     }
 }

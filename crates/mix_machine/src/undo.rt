@@ -1,6 +1,6 @@
 //! The machine as a state whose changes can be taken back by the values that they replaced.
-ghost use Rattle.std.specs.Prelude.{◌≡◌, ◌≤◌, ◌++◌, Ok, Err, OnOk, OnErr};
-ghost use Rattle.undo_core.specs.Refused.{IfFault};
+ghost use Rattle.std.specs.Prelude.{◌≡◌, ◌≤◌, ◌++◌, Ok, Err, IsOk, OnOk, OnErr};
+ghost use Rattle.undo_core.specs.Refused.{IfFault, IfMemory};
 ghost use Rattle.mix_machine.specs.World.{IsWorld};
 ghost use Rattle.mix_machine.specs.Write.{put_value};
 ghost use Rattle.mix_machine.specs.Do.{does, kept_values};
@@ -56,6 +56,7 @@ impl World {
         ensures given { OnOk result (does self.old Change.Step ≡ Ok self.new) }
         ensures kept { OnOk result (kept.new.items ≡ kept.old.items ++ kept_values self.old Change.Step) }
         ensures fault { IfFault result (λ f. does self.old Change.Step ≡ Err f) }
+        ensures last { IfMemory result (IsOk (does self.old Change.Step)) }
         ensures same { OnErr result (self.new ≡ self.old) }
         ensures same_kept { OnErr result (kept.new.items ≡ kept.old.items) }
     {

@@ -109,6 +109,7 @@ impl<S: Undo> Journal<S> {
         ensures all { self.new.changes ++ self.new.ahead ≡ self.old.changes ++ self.old.ahead }
         ensures none { IfOk result (λ b. OnFalse b (self.new ≡ self.old)) }
         ensures err { OnErr result (self.new ≡ self.old) }
+        ensures some { OnErr result (0 < length self.old.ahead) }
     {
         if self.cursor == self.changes.len() {
             return Ok(false);

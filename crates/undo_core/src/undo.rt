@@ -1,6 +1,6 @@
 //! A state whose changes can be taken back by the values that they overwrote.
-ghost use Rattle.std.specs.Prelude.{◌≡◌, ◌≤◌, ◌++◌, List, Option, Result, Some, Ok, Err, IsSome, OnOk, OnErr, vec_len, take, drop};
-ghost use Rattle.undo_core.specs.Refused.{IfFault};
+ghost use Rattle.std.specs.Prelude.{◌≡◌, ◌≤◌, ◌++◌, List, Option, Result, Some, Ok, Err, IsOk, IsSome, OnOk, OnErr, vec_len, take, drop};
+ghost use Rattle.undo_core.specs.Refused.{IfFault, IfMemory};
 ghost use Rattle.undo_core.specs.Replay.{put_back};
 
 use crate::refused::Refused;
@@ -28,7 +28,8 @@ pub trait Undo: Drop {
     /// The state with one value put back, or none where the value doesn't fit.
     ghost put: { Self → Self.Old → Option Self };
 
-    /// Does the change and appends the values that it overwrites to `kept`. A fault, or want of memory, alters nothing.
+    /// Does the change and appends the values that it overwrites to `kept`. A fault, or want of memory, alters nothing;
+    /// want of memory is told of no change that has a fault.
     fn apply(
         &mut self,
         change: &Self::Change,
@@ -38,6 +39,7 @@ pub trait Undo: Drop {
         ensures given { OnOk result (gives self.old change.now ≡ Ok self.new) }
         ensures kept { OnOk result (kept.new.items ≡ kept.old.items ++ keeps self.old change.now) }
         ensures fault { IfFault result (λ f. gives self.old change.now ≡ Err f) }
+        ensures last { IfMemory result (IsOk (gives self.old change.now)) }
         ensures same { OnErr result (self.new ≡ self.old) }
         ensures same_kept { OnErr result (kept.new.items ≡ kept.old.items) };
 

@@ -1,4 +1,5 @@
-use Rattle.std.proofs.Common.{sym, subst, refl}
+use Rattle.std.proofs.Common.{IsOk, sym, subst, refl}
+use Rattle.undo_core.specs.Refused.{IfMemory-holds}
 use Rattle.mix_machine.specs.World.{IsWorld}
 use Rattle.mix_machine.specs.Accepted.{fit-decoded, does-refused, does-accepted, kept-accepted}
 use Rattle.mix_machine.proofs.world.World.step.Goals as goal
@@ -16,3 +17,7 @@ returns-in_ok-reserve-in-Ok-clause-given c = rw c.perform.ensures.state (does-ac
 pub returns-in_ok-reserve-in-Ok-clause-kept : goal.returns-in_ok-reserve-in-Ok-clause-kept
 returns-in_ok-reserve-in-Ok-clause-kept c =
     rw (kept-accepted _ _ c.in-Ok.ensures.is, c.perform.ensures.kept, c.in_ok-reserve-in-Ok.ensures.items) refl
+
+pub returns-in_err-reserve-in-Ok-clause-last : goal.returns-in_err-reserve-in-Ok-clause-last
+returns-in_err-reserve-in-Ok-clause-last c =
+    let accepted = sym (does-accepted _ _ c.in-Ok.ensures.is) in IfMemory-holds _ _ (subst IsOk accepted refl)
