@@ -99,6 +99,21 @@ fn a_step_is_done_and_taken_back(rt: HostRuntime) -> Result<(), Fail> {
 }
 
 #[test]
+fn a_stored_word_is_read_and_taken_back(rt: HostRuntime) -> Result<(), Fail> {
+    let start = Place::of(0).expect(&rt, "a place");
+    let cell = Place::of(100).expect(&rt, "a place");
+    // ENTA -5, STA 100
+    let program = [(Minus, 5, 0, 2, 48), (Plus, 100, 0, 5, 24)];
+    let world = machine(rt.alloc(), start, &program)?;
+    let mut journal = Journal::new(rt.alloc(), world);
+    assert_eq!(rt; step(&mut journal, 2), None);
+    assert_eq!(rt; journal.state().cell(cell), number((Minus, 5)));
+    assert!(rt; journal.back());
+    assert_eq!(rt; journal.state().cell(cell), number((Plus, 0)));
+    Ok(())
+}
+
+#[test]
 fn the_clock_ends(rt: HostRuntime) -> Result<(), Fail> {
     let start = Place::of(0).expect(&rt, "a place");
     for (name, code, clock, fault, after) in CLOCKS {

@@ -4,6 +4,7 @@ ghost use Rattle.std.specs.Prelude.{◌≡◌, ◌≢◌, ◌<◌, ◌≤◌, �
 ghost use Rattle.std.specs.Io.KnownBytes.{Appends, Keeps};
 ghost use Rattle.mix_machine.specs.Loaded.{loaded};
 ghost use Rattle.mix_tool.specs.Fault.{asm_fault_text};
+ghost use Rattle.mix_tool.specs.declared.fault.DeckFault.{DeckFault};
 ghost use Rattle.mix_tool.specs.Lines.{lines};
 ghost use Rattle.mix_tool.specs.Assembly.{program_of};
 ghost use Rattle.mix_tool.specs.Deck.{deck_of};
@@ -92,6 +93,8 @@ fn execute<W: Out>(
     ensures write { (result ≡ Err ToolFault.Write) ↔ (W.failed out.new ≡ W.failed out.old + 1) }
     ensures others { result ≢ Err ToolFault.Write → W.failed out.new ≡ W.failed out.old }
     ensures unread { result ≢ Err ToolFault.Read }
+    ensures status { result ≢ Ok 1 }
+    ensures deck { (f : DeckFault) → result ≢ Err (ToolFault.Deck f) }
 {
     if script.len() > MAX_SCRIPT_BYTES {
         return Err(ToolFault::Long);
@@ -149,6 +152,8 @@ fn run_program<D: In, C: In, W: Out>(
     ensures unread { result ≡ Err ToolFault.Read → Keeps (W.told out.old) (W.told out.new) }
     ensures deck { ConsumesAtMost (D.rest deck.old) (D.rest deck.new) 33554433 }
     ensures script { ConsumesAtMost (C.rest script.old) (C.rest script.new) 1048577 }
+    ensures status { result ≢ Ok 1 }
+    ensures deck_refused { (f : DeckFault) → result ≡ Err (ToolFault.Deck f) → script.new ≡ script.old }
 {
     let devices = read_up_to(alloc, deck, MAX_DECK_BYTES + 1)?;
     read_deck(&devices)?;
@@ -188,6 +193,10 @@ pub fn run_debug<S: In, D: In, C: In, W: Out>(
     ensures source { ConsumesAtMost (S.rest source.old) (S.rest source.new) 1048577 }
     ensures deck { ConsumesAtMost (D.rest deck.old) (D.rest deck.new) 33554433 }
     ensures script { ConsumesAtMost (C.rest script.old) (C.rest script.new) 1048577 }
+
+    // After a refusal nothing else is read.
+    ensures source_refused { result ≡ Ok 1 → (deck.new ≡ deck.old) × (script.new ≡ script.old) }
+    ensures deck_refused { (f : DeckFault) → result ≡ Err (ToolFault.Deck f) → script.new ≡ script.old }
 {
     let text = read_up_to(alloc, source, MAX_SOURCE_BYTES + 1)?;
     match assemble(alloc, &text) {
@@ -209,6 +218,7 @@ pub fn run_bundle<R: In, W: Out>(alloc: Global, input: &mut R, out: &mut W) -> R
 
     // A read or a write has failed exactly where that is answered.
     ensures read { (result ≡ Err ToolFault.Read) ↔ (R.failed input.old < R.failed input.new) }
+    ensures reads { R.failed input.old ≤ R.failed input.new }
     ensures write { (result ≡ Err ToolFault.Write) ↔ (W.failed out.old < W.failed out.new) }
     ensures unread { result ≡ Err ToolFault.Read → Keeps (W.told out.old) (W.told out.new) }
 

@@ -65,6 +65,9 @@ fn prints_the_faults_of_a_source(rt: HostRuntime) -> Result<(), Fail> {
     for (kind, text) in SOURCE_FAULTS {
         let printed = format!(in rt.alloc(); "{kind}")?;
         assert_eq!(rt; printed.as_str(), text);
+        let (number, told) = (kind.number(), kind.text());
+        let parts = format!(in rt.alloc(); "A{number} {told}")?;
+        assert_eq!(rt; parts.as_str(), text);
     }
     Ok(())
 }
@@ -74,6 +77,9 @@ fn prints_the_faults_of_a_deck(rt: HostRuntime) -> Result<(), Fail> {
     for (kind, text) in DECK_FAULTS {
         let printed = format!(in rt.alloc(); "{kind}")?;
         assert_eq!(rt; printed.as_str(), text);
+        let (number, told) = (kind.number(), kind.text());
+        let parts = format!(in rt.alloc(); "K{number} {told}")?;
+        assert_eq!(rt; parts.as_str(), text);
     }
     Ok(())
 }
@@ -83,6 +89,9 @@ fn prints_the_faults_of_the_tool(rt: HostRuntime) -> Result<(), Fail> {
     for (fault, text) in TOOL_FAULTS {
         let printed = format!(in rt.alloc(); "{fault}")?;
         assert_eq!(rt; printed.as_str(), text);
+        let (number, told) = (fault.number(), fault.text());
+        let parts = format!(in rt.alloc(); "T{number} {told}")?;
+        assert!(rt; text.starts_with(parts.as_str()));
     }
     Ok(())
 }

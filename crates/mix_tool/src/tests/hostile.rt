@@ -31,6 +31,45 @@ fn each_read_fails_in_turn(rt: HostRuntime) {
     }
 }
 
+const PARTS: [&[u8]; 3] = [b" HLT\n END\n", b"\n\n", b"step\n"];
+
+#[test]
+fn each_read_of_a_part_fails_in_turn(rt: HostRuntime) {
+    for part in 0..3 {
+        for call in 1..PARTS[part].len() as u64 + 2 {
+            let failing = |other| if other == part { call } else { 0 };
+            let mut source = Chunks::of(PARTS[0], 1, failing(0));
+            let mut deck = Chunks::of(PARTS[1], 1, failing(1));
+            let mut script = Chunks::of(PARTS[2], 1, failing(2));
+            let mut sink = Sink::of(ALL, 0);
+            let outcome = run_debug(rt.alloc(), &mut source, &mut deck, &mut script, &mut sink);
+            assert_eq!(rt; outcome, Err(ToolFault::Read), "read {call} of part {part}");
+            assert_eq!(rt; sink.bytes().len(), 0, "read {call} of part {part}");
+        }
+    }
+}
+
+#[test]
+fn nothing_is_read_after_a_refusal(rt: HostRuntime) {
+    let mut sink = Sink::of(ALL, 0);
+    let mut deck = Chunks::of(b"", 1, 1);
+    let mut script = Chunks::of(b"", 1, 1);
+    let mut refused = Chunks::of(b" JMP 0", 1, 0);
+    let outcome = run_debug(rt.alloc(), &mut refused, &mut deck, &mut script, &mut sink);
+    assert_eq!(rt; outcome, Ok(1));
+    assert_eq!(rt; sink.bytes(), b"line 1: A2 no such operation\n".as_slice());
+    let mut source = Chunks::of(b" END 0", 1, 0);
+    let mut unit = Chunks::of(b"\nX", 1, 0);
+    let outcome = run_debug(rt.alloc(), &mut source, &mut unit, &mut script, &mut sink);
+    let fault = DeckFault {
+        line: 2,
+        kind: DeckKind::BadHeader,
+    };
+    assert_eq!(rt; outcome, Err(ToolFault::Deck(fault)));
+    assert_eq!(rt; deck.failures(), 0);
+    assert_eq!(rt; script.failures(), 0);
+}
+
 #[test]
 fn each_write_fails_in_turn(rt: HostRuntime) {
     for size in [1, 5, ALL] {
