@@ -4,7 +4,7 @@ ghost use Rattle.mix_machine.specs.Fault.{number_of, text_of, shown};
 
 use std::fmt;
 
-/// Why the machine refuses a step.
+/// Why the machine refuses a step: M1 to M15. The book leaves open what the machine then does (1.3.1).
 #[derive(Clone, Copy, Debug, PartialEq, Eq)]
 pub enum MixFault {
     NoOperation,

@@ -11,7 +11,7 @@ use undo_core::Memory;
 const CELLS: usize = 4000;
 
 impl World {
-    /// The machine with words put at their places in order, so that a later one wins, and the location at
+    /// The machine before its first step (1.3.2), with words put at their places in order, so that a later one wins, and the location at
     /// `start`: all else is +0, off, EQUAL and 0. `Memory` where there is no room for the cells.
     #[tactic(auto, unfolding(crate::specs::Loaded::loaded))]
     pub fn load(alloc: Global, words: &[(Place, Word)], start: Place) -> Result<World, Memory>

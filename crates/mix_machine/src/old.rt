@@ -1,7 +1,7 @@
 //! The changes of a state, and the old values that take them back.
 use mix_word::{Place, Reg, Word};
 
-/// What is asked of the machine.
+/// What is asked of the machine: one step (1.3.1).
 #[derive(Clone, Copy, Debug, PartialEq, Eq)]
 pub enum Change {
     Step,

@@ -6,7 +6,7 @@ ghost use Rattle.mix_machine.specs.Do.{is_halt_next};
 use mix_word::{Cmp, Place, Reg, Word};
 use std::marker::Model;
 
-/// The machine: registers, overflow toggle, comparison indicator, 4,000 cells, location and clock.
+/// The machine (1.3.1): registers, overflow toggle, comparison indicator, 4,000 cells, location and clock.
 #[derive(Drop)]
 pub struct World {
     pub(crate) a: Word,
@@ -38,7 +38,7 @@ impl Model for World {
 }
 
 impl World {
-    /// What a register holds.
+    /// What a register holds; of an index register and of rJ the magnitude is below 4096.
     pub fn register(&self, r: Reg) -> Word
         ensures { result ≡ register_of self.now r }
     {
@@ -77,7 +77,7 @@ impl World {
         self.over
     }
 
-    /// The comparison indicator.
+    /// The comparison indicator: what the last comparison gave, and EQUAL before any.
     pub fn cmp(&self) -> Cmp
         ensures { result ≡ self.now.cmp }
     {

@@ -165,6 +165,9 @@ fn run_program<D: In, C: In, W: Out>(
 /// was accepted, 3 where one was refused, and 1 where the source is refused: then its first fault is written, and nothing else is
 /// read. At most 1,048,577 bytes of the source are read, 33,554,433 of the deck and 1,048,577 of the script, all of them before the
 /// first byte is written.
+///
+/// It fails with T1 where memory is refused, with T2 or T3 where a read or the write fails, with T5 where the deck is refused, and with
+/// T6 where the script is over 1,048,576 bytes. After T1 and T3 a beginning of the output stands written, after the others nothing.
 #[tactic(auto, unfolding(crate::specs::Output::output, crate::specs::Output::outcome_of))]
 pub fn run_debug<S: In, D: In, C: In, W: Out>(
     alloc: Global,
@@ -207,7 +210,8 @@ pub fn run_debug<S: In, D: In, C: In, W: Out>(
 }
 
 /// The same of a bundle: the source, then the deck after a line `%DEVICES`, then the script after a line `%SCRIPT`; a part that is
-/// missing is empty. At most 41,943,041 bytes are read, all of them before the first byte is written.
+/// missing is empty. At most 41,943,041 bytes are read, all of them before the first byte is written. T6 is for a bundle over
+/// 41,943,040 bytes too.
 #[tactic(auto, unfolding(crate::specs::Output::bundle_output))]
 pub fn run_bundle<R: In, W: Out>(alloc: Global, input: &mut R, out: &mut W) -> Result<u8, ToolFault>
     requires input_count { R.failed input.old < 2 ^ 64 - 1 }

@@ -7,7 +7,7 @@ use crate::word::{Sign, Word};
 
 const MAX: u32 = 0x3fff_ffff;
 
-/// The sum, and whether it overflows: then it is the exact sum's magnitude modulo 64^5.
+/// ADD: the sum (1.3.1), and whether it overflows: then it is the exact sum's magnitude modulo 64^5.
 /// A sum of zero has the sign of `a`.
 pub fn add(a: Word, v: Word) -> (Word, bool)
     ensures { result ≡ sum_of a v }
@@ -23,14 +23,14 @@ pub fn add(a: Word, v: Word) -> (Word, bool)
     }
 }
 
-/// The difference, as the sum of `a` and the negated `v`.
+/// SUB: the difference (1.3.1), as the sum of `a` and the negated `v`, and whether it overflows.
 pub fn sub(a: Word, v: Word) -> (Word, bool)
     ensures { result ≡ sum_of a (negation_of v) }
 {
     add(a, v.negated())
 }
 
-/// The product of ten bytes, its upper and its lower word, both + where the signs agree and - where not.
+/// MUL: the product of ten bytes (1.3.1), its upper and its lower word, both + where the signs agree and - where not.
 pub fn mul(a: Word, v: Word) -> (Word, Word)
     ensures { result ≡ product_of a v }
 {
@@ -42,7 +42,7 @@ pub fn mul(a: Word, v: Word) -> (Word, Word)
     )
 }
 
-/// The quotient and the remainder of the ten bytes of `a` and `x` by `v`: the quotient is + where the
+/// DIV: the quotient and the remainder of the ten bytes of `a` and `x` by `v` (1.3.1). The quotient is + where the
 /// signs of `a` and `v` agree and - where not, and the remainder has the sign of `a`.
 /// None where `v` is zero, or its magnitude is not above that of `a`.
 pub fn div(a: Word, x: Word, v: Word) -> Option<(Word, Word)>

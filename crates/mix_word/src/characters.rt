@@ -7,7 +7,7 @@ ghost use Rattle.std.specs.List.{position};
 // The printed byte of each code from 0 on. The Greek letters delta, sigma and pi are `~`, `[` and `#`.
 const CHARACTERS: [u8; 56] = *b" ABCDEFGHI~JKLMNOPQR[#STUVWXYZ0123456789.,()+-*/=$<>@;:'";
 
-/// The printed byte of a code, or `?` where the code has none.
+/// The printed byte of a character code (1.3.1), or `?` where the code has none, as all from 56 on.
 #[tactic(auto, using(crate::proofs::CharacterLemmas::characters_read_back))]
 pub fn char_of(code: u8) -> u8
     ensures is { result ≡ character_of code }
@@ -28,7 +28,7 @@ fn printed_byte(code: u8) -> u8
     }
 }
 
-/// The code of a printed byte, a small letter read as its capital, or none.
+/// The character code of a printed byte, 0 to 55 (1.3.1), a small letter read as its capital, or none.
 pub fn code_of(byte: u8) -> Option<u8>
     ensures is { result ≡ character_code byte }
     ensures printed { IfSome result (λ c. (c < 56) × (character_of c ≡ to_ascii_uppercase byte)) }

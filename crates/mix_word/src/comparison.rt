@@ -6,7 +6,7 @@ ghost use Rattle.mix_word.specs.Comparison.{order_of, comparison_of};
 use crate::field::Field;
 use crate::word::{Cmp, Sign, Word};
 
-/// The order of the field `f` of `a` and of `v` as signed numbers: -0 equals +0, and (0:0) is always equal.
+/// CMP: the order of the field `f` of `a` and of `v` as signed numbers (1.3.1): -0 equals +0, and (0:0) is always equal.
 pub fn compare(a: Word, v: Word, f: Field) -> Cmp
     ensures { result ≡ comparison_of a v f }
 {

@@ -5,7 +5,7 @@ ghost use Rattle.mix_word.specs.Conversion.{digit_of, five_digits_of, num_of, ch
 use crate::arithmetic::lower;
 use crate::word::Word;
 
-/// The number of ten decimal digits, each a byte of `a` and then of `x` modulo 10, with the sign of `a`;
+/// NUM: the number of ten decimal digits (1.3.1), each a byte of `a` and then of `x` modulo 10, with the sign of `a`;
 /// and whether it is 64^5 or more: then the number is modulo 64^5.
 pub fn num(a: Word, x: Word) -> (Word, bool)
     ensures { result ≡ num_of a x }
@@ -14,7 +14,7 @@ pub fn num(a: Word, x: Word) -> (Word, bool)
     (Word::of(a.sign(), lower(number)), number > 0x3fff_ffff)
 }
 
-/// The ten decimal digits of `a` as the codes 30 to 39: five in each word, whose signs stay.
+/// CHAR: the ten decimal digits of `a` (1.3.1) as the codes 30 to 39: five in each word, whose signs stay.
 pub fn to_char(a: Word, x: Word) -> (Word, Word)
     ensures { result ≡ characters_of a x }
 {

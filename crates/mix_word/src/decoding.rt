@@ -16,7 +16,8 @@ pub enum Decoded {
     Unknown,
 }
 
-/// What an instruction of this code C and this F says.
+/// What an instruction of this code C and this F says (1.3.1): an operation of the table, a floating one, or nothing. C and F are
+/// below 64 in an instruction; nothing is said by larger ones.
 pub fn decode(code: u8, f: u8) -> Decoded
     ensures is { result ≡ decoded code f }
     ensures law { (op : Operation) → (result ≡ Decoded.Named op) ↔ IsNamedBy op code f }

@@ -5,7 +5,7 @@ ghost use Rattle.mix_word.specs.Field.{field_of, field_value_of, put_field_of, f
 use crate::word::{Sign, Word};
 use std::marker::Model;
 
-/// A field (L:R), 0 <= L <= R <= 5.
+/// A field (L:R) of a word, 0 <= L <= R <= 5 (1.3.1).
 #[derive(Clone, Copy, Debug, PartialEq, Eq)]
 pub struct Field {
     left: u8,
@@ -72,7 +72,7 @@ impl Field {
 }
 
 impl Word {
-    /// The bytes of a field at the right end of a word: with the sign if L is 0, or else with +.
+    /// What a load takes (1.3.1): the bytes of a field at the right end of a word, with the sign if L is 0, or else with +.
     #[tactic(auto, using(crate::proofs::FieldLemmas::fields))]
     pub fn field_value(self, f: Field) -> Word
         ensures { result ≡ field_value_of self f }
@@ -86,7 +86,7 @@ impl Word {
         Word::of(sign, taken(self.magnitude(), below, bits))
     }
 
-    /// The word with the rightmost bytes of `v` in the field, and with the sign of `v` if L is 0.
+    /// What a store leaves (1.3.1): the word with the rightmost bytes of `v` in the field, and with the sign of `v` if L is 0.
     #[tactic(auto, using(crate::proofs::FieldLemmas::fields))]
     pub fn put_field(self, f: Field, v: Word) -> Word
         ensures { result ≡ put_field_of self f v }

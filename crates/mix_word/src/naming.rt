@@ -13,7 +13,7 @@ use crate::letters::{
 use crate::operation::Operation;
 use crate::operations::OPERATIONS;
 
-/// The operation of this name, in capitals as it is given; floating operations have none.
+/// The operation of this name (1.3.1), in capitals as it is given, or none where no operation has it; floating operations have none.
 pub fn named(name: &[u8]) -> Option<Operation>
     ensures is { result ≡ operation_named name.now }
     ensures law { (op : Operation) → (result ≡ Some op) ↔ (name_of op ≡ name.now) }

@@ -43,7 +43,7 @@ pub enum Test {
     NotPositive,
 }
 
-/// An operation of MIX, without those of the floating-point attachment.
+/// An operation of MIX (1.3.1), without those of the floating-point attachment.
 #[derive(Clone, Copy, Debug, PartialEq, Eq)]
 pub enum Operation {
     Nop,
@@ -125,7 +125,7 @@ impl Test {
 }
 
 impl Operation {
-    /// The operation code C, 0 to 63.
+    /// The operation code C, 0 to 63 (1.3.1).
     pub fn code(self) -> u8
         ensures is { result ≡ code_of self }
         ensures bound { result < 64 }
@@ -186,7 +186,7 @@ impl Operation {
         }
     }
 
-    /// The time that it takes with this F, in units u.
+    /// The time that it takes with this F, in units u (1.3.1).
     pub fn time(self, f: u8) -> u16
         ensures { result ≡ time_of self f }
     {

@@ -6,7 +6,7 @@ use std::marker::Model;
 /// How many cells the memory has.
 pub const CELLS: u16 = 4000;
 
-/// The number of a cell, 0 to 3999.
+/// The number of a cell, 0 to 3999 (1.3.1).
 #[derive(Clone, Copy, Debug, PartialEq, Eq)]
 pub struct Place {
     number: u16,

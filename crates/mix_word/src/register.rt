@@ -2,7 +2,7 @@
 ghost use Rattle.std.specs.Prelude.{◌≡◌, ◌<◌};
 ghost use Rattle.mix_word.specs.Register.{register_of, number_of_register};
 
-/// A register.
+/// A register: rA and rX of five bytes, rI1 to rI6 and rJ of two (1.3.1).
 #[derive(Clone, Copy, Debug, PartialEq, Eq)]
 pub enum Reg {
     A,

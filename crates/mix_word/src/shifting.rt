@@ -6,7 +6,7 @@ use crate::arithmetic::{lower, ten_bytes, upper};
 use crate::operation::ShiftKind;
 use crate::word::Word;
 
-/// The words `a` and `x` shifted by `m` bytes. SLA and SRA move `a` alone, SLAX and SRAX the ten bytes of
+/// The words `a` and `x` shifted by `m` bytes (1.3.1), whose signs stay. SLA and SRA move `a` alone, SLAX and SRAX the ten bytes of
 /// both, and SLC and SRC turn these in a circle. Where bytes go out, zeros come in.
 pub fn shift(k: ShiftKind, a: Word, x: Word, m: u16) -> (Word, Word)
     ensures { result ≡ shifted k a x m }

@@ -31,7 +31,7 @@ impl Sign {
     }
 }
 
-/// A sign and a magnitude of five bytes. +0 and -0 are different words.
+/// A word (1.3.1): a sign and a magnitude of five bytes, below 64^5. +0 and -0 are different words and equal numbers.
 // Bits 0 to 29 are the magnitude, and bit 30 is set where the sign is -.
 #[derive(Clone, Copy, Debug, PartialEq, Eq)]
 pub struct Word {
@@ -59,7 +59,7 @@ impl Model for Word {
     ghost inverse_ok = { λ a h. Prim.grind (arith, nat_tests) };
 }
 
-/// An instruction word in its parts: bytes 1 and 2, byte 3, byte 4, byte 5.
+/// An instruction word in its parts (1.3.1): the sign, bytes 1 and 2 below 4096, and bytes 3, 4 and 5, each below 64.
 #[derive(Clone, Copy, Debug, PartialEq, Eq)]
 pub struct Parts {
     pub sign: Sign,
