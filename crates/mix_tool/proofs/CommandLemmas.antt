@@ -1,7 +1,7 @@
 -- Facts of the definitions of commands, over plain variables.
 use Rattle.std.proofs.Common.{◌≡◌, ℕ, zero, suc, ◌+◌, ◌-◌, ◌<◌, ◌≤◌, List, [], ◌∷◌, ◌++◌, length, take, replicate, Bool, true, false, None, Some, Ok, refl, ap, sym, ◌∙◌, arith, append_assoc, eqb, ltb, below_more, is_some}
 use Rattle.std.proofs.lemmas.Grind.{replicate_next}
-use Rattle.std.proofs.lemmas.List.{take-take, length-take-le, take_all, take-replicate}
+use Rattle.std.proofs.lemmas.List.{take-replicate}
 use Rattle.std.proofs.Math.Seq.{take-append-add}
 use Rattle.std.proofs.lemmas.Bool.Decides.{nat_tests}
 use Rattle.undo_core.specs.Replay.{replay}
@@ -20,14 +20,6 @@ least_below-is zero k p within here below = omega arith
 least_below-is (suc n) zero p within here below = rw (here (omega arith)) refl
 least_below-is (suc n) (suc k) p within here below =
     rw (below 0 (omega arith)) (ap suc (least_below-is n k (λ j. p (suc j)) (omega arith) (λ h. here (omega arith)) (λ j h. below (suc j) (omega arith))))
-
--- one more is taken away
-pub take_one_less : {X : Type 0} (all left : List X) (gone : ℕ) → left ≡ take (length all - gone) all → gone < length all →
-    take (length left - 1) left ≡ take (length all - (gone + 1)) all
-take_one_less all left gone e h =
-    let long : length left ≡ length all - gone = rw e (length-take-le (length all - gone) all (omega arith)) in
-    let fewer : length left - 1 ≡ length all - (gone + 1) = omega arith in
-    rw (fewer, e) (take-take (length all - (gone + 1)) (length all - gone) all (omega arith))
 
 -- the world after the changes is what their replay gives
 pub world_after-is : (base world : WorldState) (changes : List Change) → replay does base changes ≡ Some world → world_after base changes ≡ world
@@ -92,10 +84,6 @@ least_below-beyond (suc n) zero p within below = omega arith
 least_below-beyond (suc n) (suc k) p within below =
     let more : k ≤ least_below n (λ j. p (suc j)) = least_below-beyond n k (λ j. p (suc j)) (omega arith) (λ j h. below (suc j) (omega arith)) in
     rw (below 0 (omega arith)) (omega arith)
-
--- all that a command leaves
-pub Begun-all : (old whole new : List Change) → new ≡ whole → Begun old whole new
-Begun-all old whole new e = (length old + length whole, omega arith, e ∙ sym (take_all (length old + length whole) whole (omega arith)))
 
 -- k of the steps, with no end before them
 pub Begun-steps : (base : WorldState) (changes now : List Change) (n k : ℕ) → now ≡ with_steps changes k → k ≤ n →

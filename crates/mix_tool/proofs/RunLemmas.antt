@@ -122,10 +122,6 @@ pub Meets-unread : (outcome : Outcome) (fault : ReadFault) (told : Option (List 
 Meets-unread outcome reads.Memory told = (0, omega arith, Appends-nothing told)
 Meets-unread outcome reads.Failed told = Keeps-same told
 
--- nothing was written for want of memory
-pub Meets-nothing : (outcome : Outcome) (told : Option (List ℕ)) → Meets outcome (Err faults.Memory) told told
-Meets-nothing outcome told = (0, omega arith, Appends-nothing told)
-
 -- a deck that was read up to one byte more than it may have
 pub deck_of-read : (deck read : List ℕ) → read ≡ take 33554433 deck → deck_of read ≡ deck_of deck
 deck_of-read deck read e = ap deck_of e ∙ deck_of-take deck
