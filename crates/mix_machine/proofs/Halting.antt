@@ -2,7 +2,7 @@
 use Rattle.std.proofs.Common.{ℕ, ◌≡◌, ◌==◌, ◌&&◌, ◌↔◌, Bool, true, false, cond, List, [], ◌∷◌, Option, None, Some, Ok, IsTrue, refl, ap, subst, arith, ◌∙◌}
 use Rattle.std.proofs.lemmas.Bool.Decides.{nat_tests}
 use Rattle.std.specs.List.{find}
-use Rattle.mix_word.specs.Table.{decoded as operation_of, operation_coded, operations, has_code, is_floating, named_or_unknown}
+use Rattle.mix_word.specs.Table.{decode_of as operation_of, operation_at, operations, has_code, is_floating, named_or_unknown}
 use Rattle.mix_word.specs.declared.decoding.Decoded.TheVariants.{Named, Floating}
 use Rattle.mix_word.specs.declared.operation.Operation.{Operation}
 use Rattle.mix_word.specs.declared.operation.Operation.TheVariants.{Hlt}
@@ -26,16 +26,16 @@ found (Some x) op e = cc
 
 -- HLT is said by C = 5 and F = 2
 said-hlt : (c f : ℕ) → operation_of c f ≡ Named Hlt → (c == 5 && f == 2) ≡ true
-unfolding operation_of operation_coded
+unfolding operation_of operation_at
 said-hlt c f e =
-    elim (is_floating c f) as (λ b. cond b Floating (named_or_unknown (operation_coded c f)) ≡ Named Hlt → (c == 5 && f == 2) ≡ true) [
+    elim (is_floating c f) as (λ b. cond b Floating (named_or_unknown (operation_at c f)) ≡ Named Hlt → (c == 5 && f == 2) ≡ true) [
       | true ↦ λ q. absurd (cc)
       | false ↦ λ q. let has : has_code c f Hlt ≡ true = find-passes (has_code c f) operations Hlt (found _ Hlt q) in grind (arith, nat_tests)
     ] e
 
 -- and they say nothing else
 says-hlt : (c f : ℕ) (op : Operation) → operation_of c f ≡ Named op → (c == 5 && f == 2) ≡ true → op ≡ Hlt
-unfolding operation_of operation_coded operations
+unfolding operation_of operation_at operations
 says-hlt c f op e h =
     let five : c ≡ 5 = grind (arith, nat_tests) in
     let two : f ≡ 2 = grind (arith, nat_tests) in

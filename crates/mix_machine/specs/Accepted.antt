@@ -5,7 +5,7 @@ use Rattle.std.proofs.lemmas.Bool.Decides.{nat_tests}
 use Rattle.undo_core.specs.Replay.{put_back}
 use Rattle.mix_word.specs.Operation.{time_of}
 use Rattle.mix_word.specs.Needs.{needs_operand}
-use Rattle.mix_word.specs.Table.{decoded as operation_of}
+use Rattle.mix_word.specs.Table.{decode_of as operation_of}
 use Rattle.mix_word.specs.declared.word.Parts.{Parts}
 use Rattle.mix_word.specs.declared.register.DataReg.TheVariants.{A}
 use Rattle.mix_word.specs.declared.decoding.Decoded.{Decoded}

@@ -4,7 +4,7 @@ use Rattle.std.specs.Prelude.{ℕ, ℤ, pos, negsuc, ◌+ℤ◌, unsigned_abs, B
 use Rattle.mix_word.specs.Word.{number_of, parts_of, signed}
 use Rattle.mix_word.specs.Operation.{time_of}
 use Rattle.mix_word.specs.Needs.{needs_address, needs_operand}
-use Rattle.mix_word.specs.Table.{decoded as operation_of}
+use Rattle.mix_word.specs.Table.{decode_of as operation_of}
 use Rattle.mix_word.specs.declared.word.Parts.{Parts}
 use Rattle.mix_word.specs.declared.register.DataReg.TheVariants.{A}
 use Rattle.mix_word.specs.declared.decoding.Decoded.{Decoded}

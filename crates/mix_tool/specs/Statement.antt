@@ -10,9 +10,9 @@ use Rattle.mix_word.specs.declared.operation.Operation.{Operation}
 use Rattle.mix_word.specs.declared.operation.Operation.TheVariants.{Hlt, Store, Increase, Enter}
 use Rattle.mix_word.specs.declared.word.Sign.TheVariants.{Plus}
 use Rattle.mix_word.specs.Characters.{character_code}
-use Rattle.mix_word.specs.Operation.{code_of, normal_f_of}
+use Rattle.mix_word.specs.Operation.{operation_code, normal_f_of}
 use Rattle.mix_word.specs.Table.{operation_named}
-use Rattle.mix_word.specs.Word.{WordValue, joined}
+use Rattle.mix_word.specs.Word.{WordValue, word_of_parts}
 use Rattle.mix_tool.specs.declared.fault.AsmKind.{AsmKind}
 use Rattle.mix_tool.specs.declared.fault.AsmKind.TheVariants.{BadByte, NoSuchOperation, BadSymbol, BadExpression, NumberTooLarge, AddressTooLarge, LocationOutOfRange, StartOutOfRange}
 use Rattle.mix_tool.specs.declared.small.op.Op.{Op}
@@ -74,13 +74,13 @@ address_number (byte ∷ rest) =
 -- the word of an instruction: +, the address, no index, the normal F and C
 abbrev pub instruction_word : Operation → ℕ → WordValue
 instruction_word operation address =
-    joined
+    word_of_parts
     record {
       sign = Plus;
       address = address;
       index = 0;
       f = normal_f_of operation;
-      code = code_of operation;
+      code = operation_code operation;
     }
 
 -- what an OP says with the number of its ADDRESS, at a location. END takes the number's last two bytes as the start

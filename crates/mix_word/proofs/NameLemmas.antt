@@ -10,8 +10,8 @@ use Rattle.mix_word.specs.declared.operation.ShiftKind.{ShiftKind}
 use Rattle.mix_word.specs.declared.operation.ShiftKind.TheVariants.{Sla}
 use Rattle.mix_word.specs.declared.operation.JumpKind.{JumpKind}
 use Rattle.mix_word.specs.declared.operation.JumpKind.TheVariants.{Jmp}
-use Rattle.mix_word.specs.declared.operation.Test.{Test}
-use Rattle.mix_word.specs.declared.operation.Test.TheVariants.{Negative}
+use Rattle.mix_word.specs.declared.operation.Condition.{Condition}
+use Rattle.mix_word.specs.declared.operation.Condition.TheVariants.{Negative}
 use Rattle.mix_word.specs.declared.operation.Operation.{Operation}
 use Rattle.mix_word.specs.declared.operation.Operation.TheVariants.{Nop, Add, Sub, Mul, Div, Num, Char, Hlt, Shift, Move, Load, LoadNegated, Store, StoreJ, StoreZero, Jbus, Ioc, In, Out, Jred, Jump, RegisterJump, Increase, Decrease, Enter, EnterNegated, Compare}
 use Rattle.mix_word.specs.Names.{name_of}
@@ -67,7 +67,7 @@ unfolding operation_named operations
 named_jump Jmp = refl
 named_jump _ = refl
 
-named_register_jump : (r : DataReg) (t : Test) → operation_named (name_of (RegisterJump r t)) ≡ Some (RegisterJump r t)
+named_register_jump : (r : DataReg) (t : Condition) → operation_named (name_of (RegisterJump r t)) ≡ Some (RegisterJump r t)
 unfolding operation_named operations
 named_register_jump A Negative = refl
 named_register_jump I1 Negative = refl

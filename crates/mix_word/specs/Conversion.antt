@@ -29,5 +29,5 @@ digit_codes n k =
     + digit_code n (k + 1) * 64 + digit_code n k
 
 -- the ten decimal digits of a as characters; signs stay
-abbrev pub characters_of : WordValue → WordValue → WordValue × WordValue
-characters_of a x = (word a.sign (digit_codes a.magnitude 5), word x.sign (digit_codes a.magnitude 0))
+abbrev pub digit_characters_of : WordValue → WordValue → WordValue × WordValue
+digit_characters_of a x = (word a.sign (digit_codes a.magnitude 5), word x.sign (digit_codes a.magnitude 0))

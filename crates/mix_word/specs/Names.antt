@@ -6,8 +6,8 @@ use Rattle.mix_word.specs.declared.operation.ShiftKind.{ShiftKind}
 use Rattle.mix_word.specs.declared.operation.ShiftKind.TheVariants.{Sla, Sra, Slax, Srax, Slc, Src}
 use Rattle.mix_word.specs.declared.operation.JumpKind.{JumpKind}
 use Rattle.mix_word.specs.declared.operation.JumpKind.TheVariants.{Jmp, Jsj, Jov, Jnov, Less, Equal, Greater, GreaterEqual, NotEqual, LessEqual}
-use Rattle.mix_word.specs.declared.operation.Test.{Test}
-use Rattle.mix_word.specs.declared.operation.Test.TheVariants.{Negative, Zero, Positive, NotNegative, NotZero, NotPositive}
+use Rattle.mix_word.specs.declared.operation.Condition.{Condition}
+use Rattle.mix_word.specs.declared.operation.Condition.TheVariants.{Negative, Zero, Positive, NotNegative, NotZero, NotPositive}
 use Rattle.mix_word.specs.declared.operation.Operation.{Operation}
 use Rattle.mix_word.specs.declared.operation.Operation.TheVariants.{Nop, Add, Sub, Mul, Div, Num, Char, Hlt, Shift, Move, Load, LoadNegated, Store, StoreJ, StoreZero, Jbus, Ioc, In, Out, Jred, Jump, RegisterJump, Increase, Decrease, Enter, EnterNegated, Compare}
 
@@ -43,7 +43,7 @@ name_of_jump NotEqual = codes "JNE"
 name_of_jump LessEqual = codes "JLE"
 
 -- the end of a register jump's name
-abbrev pub ending_of : Test → List ℕ
+abbrev pub ending_of : Condition → List ℕ
 ending_of Negative = codes "N"
 ending_of Zero = codes "Z"
 ending_of Positive = codes "P"
@@ -73,7 +73,7 @@ name_of In = codes "IN"
 name_of Out = codes "OUT"
 name_of Jred = codes "JRED"
 name_of (Jump kind) = name_of_jump kind
-name_of (RegisterJump r test) = codes "J" ++ letter_of r ++ ending_of test
+name_of (RegisterJump r condition) = codes "J" ++ letter_of r ++ ending_of condition
 name_of (Increase r) = codes "INC" ++ letter_of r
 name_of (Decrease r) = codes "DEC" ++ letter_of r
 name_of (Enter r) = codes "ENT" ++ letter_of r

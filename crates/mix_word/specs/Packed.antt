@@ -4,12 +4,12 @@ use Rattle.mix_word.specs.declared.word.Sign.{Sign}
 use Rattle.mix_word.specs.declared.word.Sign.TheVariants.{Plus, Minus}
 use Rattle.mix_word.specs.Word.{WordValue, word}
 
-abbrev pub unpacked : ℕ → WordValue
-unpacked bits = word (if nat_lt bits (2 ^ 30) then Plus else Minus) (bits % 2 ^ 30)
+abbrev pub word_of_bits : ℕ → WordValue
+word_of_bits bits = word (if nat_lt bits (2 ^ 30) then Plus else Minus) (bits % 2 ^ 30)
 
 abbrev pub sign_bit : Sign → ℕ
 sign_bit Plus = 0
 sign_bit Minus = 2 ^ 30
 
-abbrev pub packed : WordValue → ℕ
-packed w = sign_bit w.sign + w.magnitude
+abbrev pub bits_of_word : WordValue → ℕ
+bits_of_word w = sign_bit w.sign + w.magnitude

@@ -8,12 +8,12 @@ use Rattle.mix_word.specs.declared.operation.ShiftKind.{ShiftKind}
 use Rattle.mix_word.specs.declared.operation.ShiftKind.TheVariants.{Sla, Sra, Slax, Srax, Slc, Src}
 use Rattle.mix_word.specs.declared.operation.JumpKind.{JumpKind}
 use Rattle.mix_word.specs.declared.operation.JumpKind.TheVariants.{Jmp, Jsj, Jov, Jnov, Less, Equal, Greater, GreaterEqual, NotEqual, LessEqual}
-use Rattle.mix_word.specs.declared.operation.Test.TheVariants.{Negative, Zero, Positive, NotNegative, NotZero, NotPositive}
+use Rattle.mix_word.specs.declared.operation.Condition.TheVariants.{Negative, Zero, Positive, NotNegative, NotZero, NotPositive}
 use Rattle.mix_word.specs.declared.operation.Operation.{Operation}
 use Rattle.mix_word.specs.declared.operation.Operation.TheVariants.{Nop, Add, Sub, Mul, Div, Num, Char, Hlt, Shift, Move, Load, LoadNegated, Store, StoreJ, StoreZero, Jbus, Ioc, In, Out, Jred, Jump, RegisterJump, Increase, Decrease, Enter, EnterNegated, Compare}
 use Rattle.mix_word.specs.declared.decoding.Decoded.{Decoded}
 use Rattle.mix_word.specs.declared.decoding.Decoded.TheVariants.{Named, Floating, Unknown}
-use Rattle.mix_word.specs.Operation.{code_of, normal_f_of, is_by_f}
+use Rattle.mix_word.specs.Operation.{operation_code, normal_f_of, is_by_f}
 use Rattle.mix_word.specs.Names.{name_of}
 
 abbrev pub data_registers : List DataReg
@@ -25,8 +25,8 @@ shift_kinds = Sla ∷ Sra ∷ Slax ∷ Srax ∷ Slc ∷ Src ∷ []
 abbrev pub jump_kinds : List JumpKind
 jump_kinds = Jmp ∷ Jsj ∷ Jov ∷ Jnov ∷ Less ∷ Equal ∷ Greater ∷ GreaterEqual ∷ NotEqual ∷ LessEqual ∷ []
 
-abbrev pub tests_of : DataReg → List Operation
-tests_of r = map (RegisterJump r) (Negative ∷ Zero ∷ Positive ∷ NotNegative ∷ NotZero ∷ NotPositive ∷ [])
+abbrev pub register_jumps_of : DataReg → List Operation
+register_jumps_of r = map (RegisterJump r) (Negative ∷ Zero ∷ Positive ∷ NotNegative ∷ NotZero ∷ NotPositive ∷ [])
 
 abbrev pub address_transfers_of : DataReg → List Operation
 address_transfers_of r = Increase r ∷ Decrease r ∷ Enter r ∷ EnterNegated r ∷ []
@@ -41,7 +41,7 @@ operations =
     ++ map Store data_registers
     ++ (StoreJ ∷ StoreZero ∷ Jbus ∷ Ioc ∷ In ∷ Out ∷ Jred ∷ [])
     ++ map Jump jump_kinds
-    ++ flat_map tests_of data_registers
+    ++ flat_map register_jumps_of data_registers
     ++ flat_map address_transfers_of data_registers
     ++ map Compare data_registers
 
@@ -51,24 +51,24 @@ is_floating c f = (f == 6 && (nat_lt 0 c && nat_lt c 6 || c == 56)) || (f == 7 &
 
 -- whether C is this operation's code, and F its F where F tells operations apart
 abbrev pub has_code : ℕ → ℕ → Operation → Bool
-has_code c f op = code_of op == c && (not (is_by_f op) || normal_f_of op == f)
+has_code c f op = operation_code op == c && (not (is_by_f op) || normal_f_of op == f)
 
 -- the operation of a pair that is no floating one
-unfoldable pub operation_coded : ℕ → ℕ → Option Operation
-operation_coded c f = find (has_code c f) operations
+unfoldable pub operation_at : ℕ → ℕ → Option Operation
+operation_at c f = find (has_code c f) operations
 
 abbrev pub named_or_unknown : Option Operation → Decoded
 named_or_unknown (Some op) = Named op
 named_or_unknown None = Unknown
 
 -- what a pair (C, F) says
-unfoldable pub decoded : ℕ → ℕ → Decoded
-decoded c f = if is_floating c f then Floating else named_or_unknown (operation_coded c f)
+unfoldable pub decode_of : ℕ → ℕ → Decoded
+decode_of c f = if is_floating c f then Floating else named_or_unknown (operation_at c f)
 
 -- the pair (C, F) says this operation
 abbrev pub IsNamedBy : Operation → ℕ → ℕ → Type 0
 IsNamedBy op c f =
-    (code_of op ≡ c) × (IsTrue (is_by_f op) → normal_f_of op ≡ f) × (is_floating c f ≡ false)
+    (operation_code op ≡ c) × (IsTrue (is_by_f op) → normal_f_of op ≡ f) × (is_floating c f ≡ false)
 
 -- the operation of a name in capitals
 unfoldable pub operation_named : List ℕ → Option Operation

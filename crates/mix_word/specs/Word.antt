@@ -52,5 +52,5 @@ parts_of w =
     }
 
 -- the word of these parts
-abbrev pub joined : Parts → WordValue
-joined p = word p.sign (((p.address * 64 + p.index) * 64 + p.f) * 64 + p.code)
+abbrev pub word_of_parts : Parts → WordValue
+word_of_parts p = word p.sign (((p.address * 64 + p.index) * 64 + p.f) * 64 + p.code)

@@ -1,6 +1,6 @@
 //! NUM and CHAR (1.3.1): between ten bytes that stand for decimal digits, and a number.
 ghost use Rattle.std.specs.Prelude.{◌≡◌, ◌+◌, ◌*◌, ◌%◌, ◌^◌, ◌<◌, ◌≤◌};
-ghost use Rattle.mix_word.specs.Conversion.{digit_of, five_digits_of, num_of, characters_of};
+ghost use Rattle.mix_word.specs.Conversion.{digit_of, five_digits_of, num_of, digit_characters_of};
 
 use crate::arithmetic::lower;
 use crate::word::Word;
@@ -16,7 +16,7 @@ pub fn num(a: Word, x: Word) -> (Word, bool)
 
 /// CHAR: the ten decimal digits of `a` (1.3.1) as the codes 30 to 39: five in each word, whose signs stay.
 pub fn to_char(a: Word, x: Word) -> (Word, Word)
-    ensures { result ≡ characters_of a x }
+    ensures { result ≡ digit_characters_of a x }
 {
     let n = a.magnitude();
     let first = codes(

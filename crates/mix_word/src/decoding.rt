@@ -1,11 +1,11 @@
 //! What the pair (C, F) of an instruction says (1.3.1).
 ghost use Rattle.std.specs.Prelude.{◌≡◌, ◌+◌, ◌<◌, ◌≤◌, ◌↔◌, Bool, true, false, ◌⊎◌, IsTrue};
 ghost use Rattle.mix_word.specs.declared.operation.Operation.{Operation};
-ghost use Rattle.mix_word.specs.Register.{number_of_register};
-ghost use Rattle.mix_word.specs.Operation.{code_of, normal_f_of, is_by_f};
-ghost use Rattle.mix_word.specs.Table.{decoded, is_floating, IsNamedBy};
+ghost use Rattle.mix_word.specs.Register.{offset_of};
+ghost use Rattle.mix_word.specs.Operation.{operation_code, normal_f_of, is_by_f};
+ghost use Rattle.mix_word.specs.Table.{decode_of, is_floating, IsNamedBy};
 
-use crate::operation::{JumpKind, Operation, ShiftKind, Test};
+use crate::operation::{Condition, JumpKind, Operation, ShiftKind};
 use crate::register::DataReg;
 
 /// What a pair (C, F) says: an operation, one of the floating-point attachment, or nothing.
@@ -19,31 +19,31 @@ pub enum Decoded {
 /// What an instruction of this code C and this F says (1.3.1): an operation of the table, a floating one, or nothing. C and F are
 /// below 64 in an instruction; nothing is said by larger ones.
 pub fn decode(code: u8, f: u8) -> Decoded
-    ensures is { result ≡ decoded code f }
+    ensures is { result ≡ decode_of code f }
     ensures law { (op : Operation) → (result ≡ Decoded.Named op) ↔ IsNamedBy op code f }
 {
     row(code, f)
 }
 
 fn row(code: u8, f: u8) -> Decoded
-    ensures { result ≡ decoded code f }
+    ensures { result ≡ decode_of code f }
 {
     match code {
-        0 => said(Operation::Nop, code, f),
+        0 => found(Operation::Nop, code, f),
         1..=4 => arithmetic(code, f),
         5 => special(f),
         6 => shift(f),
-        7 => said(Operation::Move, code, f),
-        8..=15 => said(Operation::Load(DataReg::numbered(code - 8)), code, f),
-        16..=23 => said(
-            Operation::LoadNegated(DataReg::numbered(code - 16)),
+        7 => found(Operation::Move, code, f),
+        8..=15 => found(Operation::Load(DataReg::at_offset(code - 8)), code, f),
+        16..=23 => found(
+            Operation::LoadNegated(DataReg::at_offset(code - 16)),
             code,
             f,
         ),
-        24..=31 => said(Operation::Store(DataReg::numbered(code - 24)), code, f),
-        32 => said(Operation::StoreJ, code, f),
-        33 => said(Operation::StoreZero, code, f),
-        34..=38 => said(control(code), code, f),
+        24..=31 => found(Operation::Store(DataReg::at_offset(code - 24)), code, f),
+        32 => found(Operation::StoreJ, code, f),
+        33 => found(Operation::StoreZero, code, f),
+        34..=38 => found(control(code), code, f),
         39 => jump(f),
         40..=47 => register_jump(code, f),
         48..=55 => address_transfer(code, f),
@@ -53,11 +53,11 @@ fn row(code: u8, f: u8) -> Decoded
 }
 
 // The pair says this operation.
-fn said(op: Operation, code: u8, f: u8) -> Decoded
-    requires code { code_of op ≡ code }
+fn found(op: Operation, code: u8, f: u8) -> Decoded
+    requires code { operation_code op ≡ code }
     requires by_f { IsTrue (is_by_f op) → normal_f_of op ≡ f }
     requires plain { is_floating code f ≡ false }
-    ensures { result ≡ decoded code f }
+    ensures { result ≡ decode_of code f }
 {
     Decoded::Named(op)
 }
@@ -66,7 +66,7 @@ fn said(op: Operation, code: u8, f: u8) -> Decoded
 #[tactic(auto, using(crate::proofs::TableLemmas::unsaid))]
 fn unknown(code: u8, f: u8) -> Decoded
     requires { (63 < code) ⊎ (40 ≤ code × code < 48 × 5 < f) ⊎ (48 ≤ code × code < 56 × 3 < f) }
-    ensures { result ≡ decoded code f }
+    ensures { result ≡ decode_of code f }
 {
     Decoded::Unknown
 }
@@ -74,7 +74,7 @@ fn unknown(code: u8, f: u8) -> Decoded
 #[tactic(auto, using(crate::proofs::TableLemmas::floats))]
 fn floating(code: u8, f: u8) -> Decoded
     requires { is_floating code f ≡ true }
-    ensures { result ≡ decoded code f }
+    ensures { result ≡ decode_of code f }
 {
     Decoded::Floating
 }
@@ -82,22 +82,22 @@ fn floating(code: u8, f: u8) -> Decoded
 fn arithmetic(code: u8, f: u8) -> Decoded
     requires low { 0 < code }
     requires high { code < 5 }
-    ensures { result ≡ decoded code f }
+    ensures { result ≡ decode_of code f }
 {
     if f == 6 {
         return floating(code, f);
     }
     match code {
-        1 => said(Operation::Add, code, f),
-        2 => said(Operation::Sub, code, f),
-        3 => said(Operation::Mul, code, f),
-        _ => said(Operation::Div, code, f),
+        1 => found(Operation::Add, code, f),
+        2 => found(Operation::Sub, code, f),
+        3 => found(Operation::Mul, code, f),
+        _ => found(Operation::Div, code, f),
     }
 }
 
-#[tactic(auto, unfolding(crate::specs::Table::decoded, crate::specs::Table::operation_coded, crate::specs::Table::operations))]
+#[tactic(auto, unfolding(crate::specs::Table::decode_of, crate::specs::Table::operation_at, crate::specs::Table::operations))]
 fn special(f: u8) -> Decoded
-    ensures { result ≡ decoded 5 f }
+    ensures { result ≡ decode_of 5 f }
 {
     match f {
         0 => Decoded::Named(Operation::Num),
@@ -108,9 +108,9 @@ fn special(f: u8) -> Decoded
     }
 }
 
-#[tactic(auto, unfolding(crate::specs::Table::decoded, crate::specs::Table::operation_coded, crate::specs::Table::operations))]
+#[tactic(auto, unfolding(crate::specs::Table::decode_of, crate::specs::Table::operation_at, crate::specs::Table::operations))]
 fn shift(f: u8) -> Decoded
-    ensures { result ≡ decoded 6 f }
+    ensures { result ≡ decode_of 6 f }
 {
     let kind = match f {
         0 => ShiftKind::Sla,
@@ -127,7 +127,7 @@ fn shift(f: u8) -> Decoded
 fn control(code: u8) -> Operation
     requires low { 34 ≤ code }
     requires high { code ≤ 38 }
-    ensures is { code_of result ≡ code }
+    ensures is { operation_code result ≡ code }
     ensures any_f { is_by_f result ≡ false }
 {
     match code {
@@ -139,9 +139,9 @@ fn control(code: u8) -> Operation
     }
 }
 
-#[tactic(auto, unfolding(crate::specs::Table::decoded, crate::specs::Table::operation_coded, crate::specs::Table::operations))]
+#[tactic(auto, unfolding(crate::specs::Table::decode_of, crate::specs::Table::operation_at, crate::specs::Table::operations))]
 fn jump(f: u8) -> Decoded
-    ensures { result ≡ decoded 39 f }
+    ensures { result ≡ decode_of 39 f }
 {
     let kind = match f {
         0 => JumpKind::Jmp,
@@ -162,19 +162,19 @@ fn jump(f: u8) -> Decoded
 fn register_jump(code: u8, f: u8) -> Decoded
     requires low { 40 ≤ code }
     requires high { code < 48 }
-    ensures { result ≡ decoded code f }
+    ensures { result ≡ decode_of code f }
 {
-    let test = match f {
-        0 => Test::Negative,
-        1 => Test::Zero,
-        2 => Test::Positive,
-        3 => Test::NotNegative,
-        4 => Test::NotZero,
-        5 => Test::NotPositive,
+    let condition = match f {
+        0 => Condition::Negative,
+        1 => Condition::Zero,
+        2 => Condition::Positive,
+        3 => Condition::NotNegative,
+        4 => Condition::NotZero,
+        5 => Condition::NotPositive,
         _ => return unknown(code, f),
     };
-    said(
-        Operation::RegisterJump(DataReg::numbered(code - 40), test),
+    found(
+        Operation::RegisterJump(DataReg::at_offset(code - 40), condition),
         code,
         f,
     )
@@ -183,14 +183,14 @@ fn register_jump(code: u8, f: u8) -> Decoded
 fn address_transfer(code: u8, f: u8) -> Decoded
     requires low { 48 ≤ code }
     requires high { code < 56 }
-    ensures { result ≡ decoded code f }
+    ensures { result ≡ decode_of code f }
 {
-    let r = DataReg::numbered(code - 48);
+    let r = DataReg::at_offset(code - 48);
     match f {
-        0 => said(Operation::Increase(r), code, f),
-        1 => said(Operation::Decrease(r), code, f),
-        2 => said(Operation::Enter(r), code, f),
-        3 => said(Operation::EnterNegated(r), code, f),
+        0 => found(Operation::Increase(r), code, f),
+        1 => found(Operation::Decrease(r), code, f),
+        2 => found(Operation::Enter(r), code, f),
+        3 => found(Operation::EnterNegated(r), code, f),
         _ => unknown(code, f),
     }
 }
@@ -198,11 +198,11 @@ fn address_transfer(code: u8, f: u8) -> Decoded
 fn comparison(code: u8, f: u8) -> Decoded
     requires low { 56 ≤ code }
     requires high { code < 64 }
-    ensures { result ≡ decoded code f }
+    ensures { result ≡ decode_of code f }
 {
     if f == 6 && code == 56 {
         floating(code, f)
     } else {
-        said(Operation::Compare(DataReg::numbered(code - 56)), code, f)
+        found(Operation::Compare(DataReg::at_offset(code - 56)), code, f)
     }
 }

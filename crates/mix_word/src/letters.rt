@@ -2,7 +2,7 @@
 ghost use Rattle.std.specs.Prelude.{◌≡◌, ◌++◌, codes};
 ghost use Rattle.mix_word.specs.Names.{letter_of, name_of_shift, name_of_jump, ending_of};
 
-use crate::operation::{JumpKind, ShiftKind, Test};
+use crate::operation::{Condition, JumpKind, ShiftKind};
 use crate::register::DataReg;
 
 pub(crate) fn shift_name(kind: ShiftKind) -> &'static str
@@ -35,16 +35,16 @@ pub(crate) fn jump_name(kind: JumpKind) -> &'static str
     }
 }
 
-pub(crate) fn register_jump_name(r: DataReg, test: Test) -> &'static str
-    ensures { result.now ≡ codes "J" ++ letter_of r ++ ending_of test }
+pub(crate) fn register_jump_name(r: DataReg, condition: Condition) -> &'static str
+    ensures { result.now ≡ codes "J" ++ letter_of r ++ ending_of condition }
 {
-    match test {
-        Test::Negative => negative_name(r),
-        Test::Zero => zero_name(r),
-        Test::Positive => positive_name(r),
-        Test::NotNegative => not_negative_name(r),
-        Test::NotZero => not_zero_name(r),
-        Test::NotPositive => not_positive_name(r),
+    match condition {
+        Condition::Negative => negative_name(r),
+        Condition::Zero => zero_name(r),
+        Condition::Positive => positive_name(r),
+        Condition::NotNegative => not_negative_name(r),
+        Condition::NotZero => not_zero_name(r),
+        Condition::NotPositive => not_positive_name(r),
     }
 }
 

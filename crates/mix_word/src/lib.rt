@@ -28,7 +28,7 @@ pub use decoding::{Decoded, decode};
 pub use display::Short;
 pub use field::Field;
 pub use naming::named;
-pub use operation::{JumpKind, Operation, ShiftKind, Test};
+pub use operation::{Condition, JumpKind, Operation, ShiftKind};
 pub use place::{CELLS, Place};
 pub use register::{DataReg, Reg};
 pub use shifting::shift;

@@ -74,7 +74,7 @@ impl Operation {
             Operation::Out => "OUT",
             Operation::Jred => "JRED",
             Operation::Jump(kind) => jump_name(kind),
-            Operation::RegisterJump(r, test) => register_jump_name(r, test),
+            Operation::RegisterJump(r, condition) => register_jump_name(r, condition),
             Operation::Increase(r) => increase_name(r),
             Operation::Decrease(r) => decrease_name(r),
             Operation::Enter(r) => enter_name(r),

@@ -1,7 +1,7 @@
 //! The table of operations (1.3.1): their codes, the F that goes with each, names and times.
 ghost use Rattle.std.specs.Prelude.{◌≡◌, ◌<◌, ◌≤◌};
-ghost use Rattle.mix_word.specs.Operation.{code_of, normal_f_of, time_of, number_of_shift, number_of_jump, number_of_test};
-ghost use Rattle.mix_word.specs.Table.{decoded};
+ghost use Rattle.mix_word.specs.Operation.{operation_code, normal_f_of, time_of, number_of_shift, number_of_jump, number_of_condition};
+ghost use Rattle.mix_word.specs.Table.{decode_of};
 
 use crate::decoding::Decoded;
 use crate::register::DataReg;
@@ -34,7 +34,7 @@ pub enum JumpKind {
 
 /// What a jump asks of the number in a register.
 #[derive(Clone, Copy, Debug, PartialEq, Eq)]
-pub enum Test {
+pub enum Condition {
     Negative,
     Zero,
     Positive,
@@ -67,7 +67,7 @@ pub enum Operation {
     Out,
     Jred,
     Jump(JumpKind),
-    RegisterJump(DataReg, Test),
+    RegisterJump(DataReg, Condition),
     Increase(DataReg),
     Decrease(DataReg),
     Enter(DataReg),
@@ -109,17 +109,17 @@ impl JumpKind {
     }
 }
 
-impl Test {
+impl Condition {
     fn number(self) -> u8
-        ensures { result ≡ number_of_test self }
+        ensures { result ≡ number_of_condition self }
     {
         match self {
-            Test::Negative => 0,
-            Test::Zero => 1,
-            Test::Positive => 2,
-            Test::NotNegative => 3,
-            Test::NotZero => 4,
-            Test::NotPositive => 5,
+            Condition::Negative => 0,
+            Condition::Zero => 1,
+            Condition::Positive => 2,
+            Condition::NotNegative => 3,
+            Condition::NotZero => 4,
+            Condition::NotPositive => 5,
         }
     }
 }
@@ -127,7 +127,7 @@ impl Test {
 impl Operation {
     /// The operation code C, 0 to 63 (1.3.1).
     pub fn code(self) -> u8
-        ensures is { result ≡ code_of self }
+        ensures is { result ≡ operation_code self }
         ensures bound { result < 64 }
     {
         match self {
@@ -139,9 +139,9 @@ impl Operation {
             Operation::Num | Operation::Char | Operation::Hlt => 5,
             Operation::Shift(_) => 6,
             Operation::Move => 7,
-            Operation::Load(r) => 8 + r.number(),
-            Operation::LoadNegated(r) => 16 + r.number(),
-            Operation::Store(r) => 24 + r.number(),
+            Operation::Load(r) => 8 + r.offset(),
+            Operation::LoadNegated(r) => 16 + r.offset(),
+            Operation::Store(r) => 24 + r.offset(),
             Operation::StoreJ => 32,
             Operation::StoreZero => 33,
             Operation::Jbus => 34,
@@ -150,10 +150,10 @@ impl Operation {
             Operation::Out => 37,
             Operation::Jred => 38,
             Operation::Jump(_) => 39,
-            Operation::RegisterJump(r, _) => 40 + r.number(),
-            Operation::Increase(r) | Operation::Decrease(r) => 48 + r.number(),
-            Operation::Enter(r) | Operation::EnterNegated(r) => 48 + r.number(),
-            Operation::Compare(r) => 56 + r.number(),
+            Operation::RegisterJump(r, _) => 40 + r.offset(),
+            Operation::Increase(r) | Operation::Decrease(r) => 48 + r.offset(),
+            Operation::Enter(r) | Operation::EnterNegated(r) => 48 + r.offset(),
+            Operation::Compare(r) => 56 + r.offset(),
         }
     }
 
@@ -161,7 +161,7 @@ impl Operation {
     pub fn normal_f(self) -> u8
         ensures is { result ≡ normal_f_of self }
         ensures bound { result < 10 }
-        ensures decoded { decoded (code_of self) result ≡ Decoded.Named self }
+        ensures decodes { decode_of (operation_code self) result ≡ Decoded.Named self }
     {
         self.usual_f()
     }
@@ -173,7 +173,7 @@ impl Operation {
         match self {
             Operation::Shift(kind) => kind.number(),
             Operation::Jump(kind) => kind.number(),
-            Operation::RegisterJump(_, test) => test.number(),
+            Operation::RegisterJump(_, condition) => condition.number(),
             Operation::Char | Operation::Move | Operation::Decrease(_) => 1,
             Operation::Hlt | Operation::StoreJ | Operation::Enter(_) => 2,
             Operation::EnterNegated(_) => 3,

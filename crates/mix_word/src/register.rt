@@ -1,6 +1,6 @@
 //! The registers (1.3.1).
 ghost use Rattle.std.specs.Prelude.{◌≡◌, ◌<◌};
-ghost use Rattle.mix_word.specs.Register.{register_of, number_of_register};
+ghost use Rattle.mix_word.specs.Register.{reg_of, offset_of};
 
 /// A register: rA and rX of five bytes, rI1 to rI6 and rJ of two (1.3.1).
 #[derive(Clone, Copy, Debug, PartialEq, Eq)]
@@ -31,9 +31,9 @@ pub enum DataReg {
 
 impl DataReg {
     // The register of this number, 0 to 7: rA, rI1 to rI6, rX.
-    pub(crate) fn numbered(n: u8) -> DataReg
+    pub(crate) fn at_offset(n: u8) -> DataReg
         requires { n < 8 }
-        ensures { number_of_register result ≡ n }
+        ensures { offset_of result ≡ n }
     {
         match n {
             0 => DataReg::A,
@@ -48,8 +48,8 @@ impl DataReg {
     }
 
     // The number, 0 to 7: of rA, rI1 to rI6, rX.
-    pub(crate) fn number(self) -> u8
-        ensures is { result ≡ number_of_register self }
+    pub(crate) fn offset(self) -> u8
+        ensures is { result ≡ offset_of self }
         ensures bound { result < 8 }
     {
         match self {
@@ -66,7 +66,7 @@ impl DataReg {
 
     /// The register itself.
     pub fn reg(self) -> Reg
-        ensures { result ≡ register_of self }
+        ensures { result ≡ reg_of self }
     {
         match self {
             DataReg::A => Reg::A,

@@ -1,15 +1,15 @@
 //! Shifts by a number of bytes (1.3.1): of one word, or of the ten bytes of two. Signs stay.
 ghost use Rattle.std.specs.Prelude.{◌≡◌, ◌*◌, ◌/◌, ◌%◌, ◌^◌, ◌<◌, ◌≤◌};
-ghost use Rattle.mix_word.specs.Shift.{shifted, split_into, turned};
+ghost use Rattle.mix_word.specs.Shift.{shift_of, split_into, rotation_of};
 
 use crate::arithmetic::{lower, ten_bytes, upper};
 use crate::operation::ShiftKind;
 use crate::word::Word;
 
-/// The words `a` and `x` shifted by `m` bytes (1.3.1), whose signs stay. SLA and SRA move `a` alone, SLAX and SRAX the ten bytes of
+/// The words `a` and `x` shift_of by `m` bytes (1.3.1), whose signs stay. SLA and SRA move `a` alone, SLAX and SRAX the ten bytes of
 /// both, and SLC and SRC turn these in a circle. Where bytes go out, zeros come in.
 pub fn shift(k: ShiftKind, a: Word, x: Word, m: u16) -> (Word, Word)
-    ensures { result ≡ shifted k a x m }
+    ensures { result ≡ shift_of k a x m }
 {
     let word = u64::from(a.magnitude());
     let pair = ten_bytes(a.magnitude(), x.magnitude());
@@ -59,12 +59,12 @@ fn right(number: u64, m: u16) -> u64
     if m < 10 { number >> (6 * m) } else { 0 }
 }
 
-// Ten bytes turned to the left.
+// Ten bytes rotation_of to the left.
 #[tactic(auto, using(crate::proofs::ShiftLemmas::moves))]
 fn turn(number: u64, k: u16) -> u64
     requires number { number < 64 ^ 10 }
     requires k { k < 10 }
-    ensures is { result ≡ turned number k }
+    ensures is { result ≡ rotation_of number k }
     ensures bound { result < 64 ^ 10 }
 {
     left(number, k) + right(number, 10 - k)

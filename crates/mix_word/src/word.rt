@@ -1,6 +1,6 @@
 //! A word: a sign and five bytes of 0 to 63 (1.3.1).
 ghost use Rattle.std.specs.Prelude.{◌≡◌, ◌<◌, ◌≤◌, ◌/◌, ◌%◌, ◌^◌};
-ghost use Rattle.mix_word.specs.Word.{word, byte_of, negation_of, parts_of, joined, opposite};
+ghost use Rattle.mix_word.specs.Word.{word, byte_of, negation_of, parts_of, word_of_parts, opposite};
 
 use std::marker::Model;
 
@@ -46,15 +46,15 @@ impl Model for Word {
 
     ghost Value = { WordValue };
 
-    ghost use Rattle.mix_word.specs.Packed.{unpacked, packed};
+    ghost use Rattle.mix_word.specs.Packed.{word_of_bits, bits_of_word};
     ghost use Rattle.std.proofs.Common.{arith};
     ghost use Rattle.std.proofs.lemmas.Bool.Decides.{nat_tests};
 
-    ghost view = { λ w. unpacked w.bits };
+    ghost view = { λ w. word_of_bits w.bits };
 
     ghost invariant = { λ w. w.bits < 2 ^ 31 };
 
-    ghost inverse = { λ v. record { bits = packed v } };
+    ghost inverse = { λ v. record { bits = bits_of_word v } };
 
     ghost inverse_ok = { λ a h. Prim.grind (arith, nat_tests) };
 }
@@ -123,7 +123,7 @@ impl Word {
     /// The parts of an instruction word: the sign, bytes 1 and 2 as one number, and bytes 3, 4 and 5.
     pub fn parts(self) -> Parts
         ensures is { result ≡ parts_of self }
-        ensures joins { joined result ≡ self }
+        ensures joins { word_of_parts result ≡ self }
     {
         let m = self.magnitude();
         Parts {
@@ -141,7 +141,7 @@ impl Word {
         requires index { p.index < 64 }
         requires f { p.f < 64 }
         requires code { p.code < 64 }
-        ensures is { result ≡ joined p }
+        ensures is { result ≡ word_of_parts p }
         ensures parts { parts_of result ≡ p }
     {
         let address = u32::from(p.address);

@@ -99,7 +99,7 @@ const REGISTERS: [(u8, Reg); 8] = [
 #[test]
 fn registers(rt: HostRuntime) {
     for (number, reg) in REGISTERS {
-        let data = DataReg::numbered(number % 8);
-        assert_eq!(rt; (data.number(), data.reg()), (number, reg));
+        let data = DataReg::at_offset(number % 8);
+        assert_eq!(rt; (data.offset(), data.reg()), (number, reg));
     }
 }
