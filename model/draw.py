@@ -72,7 +72,8 @@ def huge(r, which):
         return b" END 0\n%SCRIPT\nstep 3\n" + b" " * (1048576 - 21 + more) + b"show regs\nstep"
     if kind == 6:
         return b" END 0\n%DEVICES\n" + b"\t\n" * 2000 + b" " * 1048577 + (b"x" if more else b"") + b"\n" + script
-    return b" ENTA 5\n END 0\n%SCRIPT\nstep 5000\nback 1\nback 3999\nshow cells 0 3999\nset loc 0\nstep 4000\nback all\nshow regs\n"
+    return b" ENTA 5\n END 0\n%SCRIPT\n" + b"\n".join([
+        b"step 5000", b"back 1", b"back 3999", b"show cells 0 3999", b"set loc 0", b"step 4000", b"back all", b"show regs"])
 
 
 def colossal(which):

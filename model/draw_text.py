@@ -15,7 +15,8 @@ LABELS = b"X START 2H 2 ABCDEFGHIJK % %SCRIPTS %script %DEVICES. - ?X X? \xe9".s
 BEHIND_LABELS = [b"", b" ", b" HLT", b" NOP?", b" END 0", b" X\xff", b"\tENTA 5", b" EN?A"]
 NOTHING = [b"", b" ", b"\t", b" \t ", b"*", b"* any \xff?", b"** END 0", b"*\t", b" ", b"\r"]
 BEHIND_HLT = b"halt h\xff? Z? x5 5x a\x00 ?x [ ~ \xe9 @ `a {".split()
-STARTS = [b"", b" ", b" 0", b" 1", b" 3999", b"\t3998 x", b" 4000", b" 4095", b" 4096", b" 4097", b" 8095", b" 8096", b" 1073741823"]
+STARTS = [b"", b" ", b" 0", b" 1", b" 3999", b"\t3998 x", b" 4000", b" 4095", b" 4096", b" 4097", b" 8095", b" 8096",
+          b" 1073741823"]
 
 
 def source_line(r):
