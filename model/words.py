@@ -1,0 +1,153 @@
+"""MIX words, their fields and their arithmetic, with bytes of 0 to 63 (1.3.1)."""
+
+# A word is a pair (sign, magnitude): the sign "+" or "-", the magnitude below 64^5. So +0 and -0 are two words.
+FULL = 64**5
+ZERO = ("+", 0)
+
+# The characters of the codes 0 to 55; ~ [ # stand for the Greek delta, sigma and pi.
+CHARACTERS = b" ABCDEFGHI~JKLMNOPQR[#STUVWXYZ0123456789.,()+-*/=$<>@;:'"
+
+# The fields: the code 8L+R stands for (L:R). Every other code is no field.
+FIELDS = {8 * left + right: (left, right) for right in range(6) for left in range(right + 1)}
+
+
+def number(word):
+    sign, magnitude = word
+    return magnitude if sign == "+" else -magnitude
+
+
+def word_of(n, sign_of_zero="+"):
+    """The word of a number below 64^5 in magnitude; the number 0 doesn't say its sign."""
+    if n == 0:
+        return (sign_of_zero, 0)
+    return ("+" if n > 0 else "-", abs(n))
+
+
+def negated(word):
+    sign, magnitude = word
+    return ("-" if sign == "+" else "+", magnitude)
+
+
+def bytes_of(word):
+    """Bytes 1 to 5."""
+    magnitude = word[1]
+    found = []
+    for _ in range(5):
+        found.insert(0, magnitude % 64)
+        magnitude //= 64
+    return found
+
+
+def joined(sign, five):
+    magnitude = 0
+    for byte in five:
+        magnitude = 64 * magnitude + byte
+    return (sign, magnitude)
+
+
+def written(word, first=1):
+    """The sign, and bytes `first` to 5 as two digits each."""
+    return word[0] + "".join(" %02d" % byte for byte in bytes_of(word)[first - 1:])
+
+
+# Fields
+
+
+def field_value(word, code):
+    """The bytes of the field, moved to the right end of a zero word; the sign is + where the field leaves it out."""
+    left, right = FIELDS[code]
+    kept = bytes_of(word)[max(left, 1) - 1:right]
+    return joined(word[0] if left == 0 else "+", kept)
+
+
+def put_field(word, code, value):
+    """The rightmost bytes of the value take the place of the field's bytes."""
+    left, right = FIELDS[code]
+    first = max(left, 1)
+    five = bytes_of(word)
+    count = right - first + 1
+    if count > 0:
+        five[first - 1:right] = bytes_of(value)[5 - count:]
+    return joined(value[0] if left == 0 else word[0], five)
+
+
+# Arithmetic
+
+
+def add(a, v):
+    """The sum and whether it overflows. A zero sum has the sign of the first word."""
+    total = number(a) + number(v)
+    if total == 0:
+        return (a[0], 0), False
+    return ("+" if total > 0 else "-", abs(total) % FULL), abs(total) >= FULL
+
+
+def sub(a, v):
+    return add(a, negated(v))
+
+
+def mul(a, v):
+    """The ten bytes of the product, as two words of the same sign."""
+    sign = "+" if a[0] == v[0] else "-"
+    high, low = divmod(a[1] * v[1], FULL)
+    return (sign, high), (sign, low)
+
+
+def div(a, x, v):
+    """Quotient and remainder of the ten bytes of a and x by v, or None where the quotient has no room."""
+    if v[1] == 0 or a[1] >= v[1]:
+        return None
+    quotient, remainder = divmod(a[1] * FULL + x[1], v[1])
+    return ("+" if a[0] == v[0] else "-", quotient), (a[0], remainder)
+
+
+def shift(kind, a, x, m):
+    """A shift by m bytes: SLA and SRA move a alone, the others the ten bytes of a and x. The signs stay."""
+    moved = bytes_of(a) if kind in ("SLA", "SRA") else bytes_of(a) + bytes_of(x)
+    size = len(moved)
+    if kind in ("SLC", "SRC"):
+        m %= 10
+        cut = m if kind == "SLC" else size - m
+        moved = moved[cut:] + moved[:cut]
+    else:
+        m = min(m, size)
+        if kind in ("SLA", "SLAX"):
+            moved = moved[m:] + [0] * m
+        else:
+            moved = [0] * m + moved[:size - m]
+    if size == 5:
+        return joined(a[0], moved), x
+    return joined(a[0], moved[:5]), joined(x[0], moved[5:])
+
+
+def num(a, x):
+    """The number that ten digit characters spell, in the width of a word, and whether it is too wide for it."""
+    spelt = int("".join(str(byte % 10) for byte in bytes_of(a) + bytes_of(x)))
+    return (a[0], spelt % FULL), spelt >= FULL
+
+
+def to_char(a, x):
+    """The ten characters of the digits of |a|."""
+    codes = [30 + int(digit) for digit in "%010d" % a[1]]
+    return joined(a[0], codes[:5]), joined(x[0], codes[5:])
+
+
+def compare(a, v, code):
+    """L, E or G: the field of the first word against the same field of the second, as numbers."""
+    first, second = number(field_value(a, code)), number(field_value(v, code))
+    return "L" if first < second else "G" if first > second else "E"
+
+
+# Characters
+
+
+def char_of(code):
+    return CHARACTERS[code] if code < len(CHARACTERS) else ord("?")
+
+
+def code_of(byte):
+    """The code of a byte of a text, small letters read as capitals; None where it is no MIX character."""
+    if ord("a") <= byte <= ord("z"):
+        byte -= 32
+    found = CHARACTERS.find(bytes([byte]))
+    return None if found < 0 else found
