@@ -2,10 +2,7 @@ mod AssemblyLemmas
 mod CommandLemmas
 mod CutLemmas
 mod EmptyLines
-mod LinesLemmas
-mod NumberLemmas
 mod RunLemmas
 mod ShortNames
-mod StreamLemmas
 mod Truncation
 mod Written

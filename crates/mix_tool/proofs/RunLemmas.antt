@@ -8,9 +8,9 @@ use Rattle.mix_machine.specs.Loaded.{loaded}
 use Rattle.mix_machine.specs.World.{WorldState}
 use Rattle.mix_machine.specs.declared.old.Change.{Change}
 use Rattle.mix_tool.specs.Command.{command, told_of}
-use Rattle.mix_tool.specs.Lines.{lines, lines-nil}
+use Rattle.mix_lines.specs.Lines.{lines, lines-nil}
 use Rattle.mix_tool.specs.Output.{Outcome, Meets, outcome_of, replies, executed, bundle_output, output, status_of, TooLong, Ended}
-use Rattle.mix_tool.specs.Stream.{AppendsFront, ConsumesAtMost}
+use Rattle.mix_stream.specs.Stream.{AppendsFront, ConsumesAtMost}
 use Rattle.mix_tool.specs.Cut.{cut_of}
 use Rattle.mix_tool.specs.Assembly.{ProgramValue, assembly}
 use Rattle.mix_tool.specs.Deck.{deck_of}
@@ -20,8 +20,8 @@ use Rattle.mix_tool.specs.declared.fault.AsmFault.{AsmFault}
 use Rattle.mix_tool.specs.declared.fault.DeckFault.{DeckFault}
 use Rattle.mix_tool.specs.declared.fault.ToolFault.{ToolFault}
 use Rattle.mix_tool.specs.declared.fault.ToolFault.TheVariants as faults
-use Rattle.mix_tool.specs.declared.stream.input.ReadFault.{ReadFault}
-use Rattle.mix_tool.specs.declared.stream.input.ReadFault.TheVariants as reads
+use Rattle.mix_stream.specs.declared.input.ReadFault.{ReadFault}
+use Rattle.mix_stream.specs.declared.input.ReadFault.TheVariants as reads
 use Rattle.mix_tool.proofs.Truncation.{limited-take, deck_of-take, assembly-take}
 use Rattle.mix_tool.specs.declared.session.Told.TheVariants.{Accepted, Refused}
 use Rattle.mix_tool.proofs.Written.{Appends-then, Appends-same, Appends-nothing, AppendsFront-after}

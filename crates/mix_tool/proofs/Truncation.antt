@@ -4,7 +4,7 @@ use Rattle.std.proofs.lemmas.Bool.{lt-ltb, ltb-true, ltb-false}
 use Rattle.std.proofs.lemmas.List.{take_all, length-take-le}
 use Rattle.mix_tool.specs.Assembly.{assembly_from, assembly}
 use Rattle.mix_tool.specs.Deck.{deck_from, deck_of}
-use Rattle.mix_tool.specs.Lines.{lines}
+use Rattle.mix_lines.specs.Lines.{lines}
 
 by_length : {A : Type 0} (limit : ℕ) (refused : A) (read : List ℕ → A) (bytes : List ℕ) (v : Bool) → ltb limit (length bytes) ≡ v
     → cond (ltb limit (length (take (suc limit) bytes))) refused (read (take (suc limit) bytes)) ≡ cond v refused (read bytes)

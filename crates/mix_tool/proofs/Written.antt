@@ -3,7 +3,7 @@ use Rattle.std.proofs.Common.{◌≡◌, ℕ, ◌+◌, ◌≤◌, List, [], ◌+
 use Rattle.std.proofs.lemmas.List.{take-append-le, length-append, append-nil}
 use Rattle.std.proofs.Math.Seq.{take-append-add, take-length}
 use Rattle.std.specs.Io.KnownBytes.{Appends}
-use Rattle.mix_tool.specs.Stream.{AppendsFront}
+use Rattle.mix_stream.specs.Stream.{AppendsFront}
 
 -- bytes, and then others
 pub Appends-then : (a b c : Option (List ℕ)) (xs ys : List ℕ) → Appends a b xs → Appends b c ys → Appends a c (xs ++ ys)

@@ -7,7 +7,7 @@ use Rattle.mix_tool.specs.declared.fault.AsmFault.{AsmFault}
 use Rattle.mix_tool.specs.declared.small.statement.Statement.{Statement}
 use Rattle.mix_tool.specs.declared.small.statement.Statement.TheVariants.{Remark, Instruction, Start}
 use Rattle.mix_tool.specs.declared.small.Program.{Program}
-use Rattle.mix_tool.specs.Lines.{lines}
+use Rattle.mix_lines.specs.Lines.{lines}
 use Rattle.mix_tool.specs.Statement.{statement}
 
 -- words with their places, in the order of the lines, and the place of the first instruction

@@ -1,18 +1,12 @@
 -- The parts of a bundle: source, deck and script, parted by two marker lines.
-use Rattle.std.specs.Prelude.{ℕ, Bool, List, [], ◌∷◌, codes, if◌then◌else◌}
-use Rattle.std.specs.List.{after_first, before_first, concat, onto_first}
+use Rattle.std.specs.Prelude.{ℕ, Bool, List, codes}
+use Rattle.std.specs.List.{after_first, before_first, concat}
 use Rattle.std.specs.Str.{bytes_eq}
-use Rattle.std.specs.Str.Lines.{strip_carriage_return}
-use Rattle.mix_tool.specs.Lines.{is_line_feed}
+use Rattle.mix_lines.specs.Lines.{text_of_line, whole_lines}
 
--- a text cut behind each of its line feeds
-abbrev pub whole_lines : List ℕ → List (List ℕ)
-whole_lines [] = []
-whole_lines (byte ∷ rest) = if is_line_feed byte then (byte ∷ []) ∷ whole_lines rest else onto_first byte (whole_lines rest)
-
--- whether a line is exactly a marker: what stands before its line feed, without the one carriage return that may end it
+-- whether a line is exactly a marker, but for its line end
 abbrev pub is_marker : List ℕ → List ℕ → Bool
-is_marker marker line = bytes_eq (strip_carriage_return (before_first is_line_feed line)) marker
+is_marker marker line = bytes_eq (text_of_line line) marker
 
 -- the bytes of a text before the first line that is the marker, or all where none is
 unfoldable pub before_marker : List ℕ → List ℕ → List ℕ

@@ -3,7 +3,7 @@ use Rattle.std.specs.Prelude.{ℕ, ◌+◌, nat_lt, List, [], ◌∷◌, length,
 use Rattle.mix_tool.specs.declared.fault.DeckKind.{DeckKind}
 use Rattle.mix_tool.specs.declared.fault.DeckKind.TheVariants.{BadHeader, DeckTooLong}
 use Rattle.mix_tool.specs.declared.fault.DeckFault.{DeckFault}
-use Rattle.mix_tool.specs.Lines.{lines, words}
+use Rattle.mix_lines.specs.Lines.{lines, words}
 
 -- how many bytes a deck may have
 abbrev pub max_deck_bytes : ℕ

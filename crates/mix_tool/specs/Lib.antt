@@ -3,11 +3,8 @@ pub mod Command
 pub mod Cut
 pub mod Deck
 pub mod Fault
-pub mod Lines
-pub mod Number
 pub mod Output
 pub mod Reply
 pub mod Request
 pub mod Statement
-pub mod Stream
 pub mod Wrapped

@@ -9,8 +9,8 @@ use Rattle.mix_tool.specs.Command.{command}
 use Rattle.mix_tool.specs.Cut.{cut_of}
 use Rattle.mix_tool.specs.Deck.{deck_of}
 use Rattle.mix_tool.specs.Fault.{asm_fault_text}
-use Rattle.mix_tool.specs.Lines.{lines}
-use Rattle.mix_tool.specs.Stream.{AppendsFront}
+use Rattle.mix_lines.specs.Lines.{lines}
+use Rattle.mix_stream.specs.Stream.{AppendsFront}
 use Rattle.mix_tool.specs.declared.fault.AsmFault.{AsmFault}
 use Rattle.mix_tool.specs.declared.fault.DeckFault.{DeckFault}
 use Rattle.mix_tool.specs.declared.fault.ToolFault.{ToolFault}

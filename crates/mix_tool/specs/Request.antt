@@ -3,8 +3,8 @@ use Rattle.std.specs.Prelude.{◌==◌, ◌||◌, ℕ, List, [], ◌∷◌, Opti
 use Rattle.std.specs.List.{starts_with}
 use Rattle.std.specs.Str.{bytes_eq}
 use Rattle.std.specs.Char.{to_ascii_lowercase}
-use Rattle.mix_tool.specs.Lines.{words}
-use Rattle.mix_tool.specs.Number.{number_of}
+use Rattle.mix_lines.specs.Lines.{words}
+use Rattle.mix_lines.specs.Number.{decimal_number as number_of}
 use Rattle.mix_tool.specs.declared.fault.Refusal.{Refusal}
 use Rattle.mix_tool.specs.declared.fault.Refusal.TheVariants.{NoSuchCommand, BadArgument, OutOfRange}
 use Rattle.mix_tool.specs.declared.request.Request.{Request}

@@ -1,6 +1,6 @@
 -- What one line of a source says (1.3.2), in a first profile: no LOC, as OP one of ENTA, INCA, STA, HLT and END,
 -- and as ADDRESS nothing or a number.
-use Rattle.std.specs.Prelude.{ℕ, ◌%◌, ◌^◌, ◌==◌, ◌&&◌, nat_le, nat_lt, Bool, true, false, List, [], ◌∷◌, Option, None, Some, is_some, Result, Ok, Err, if◌then◌else◌, codes}
+use Rattle.std.specs.Prelude.{ℕ, ◌%◌, ◌^◌, ◌&&◌, nat_le, nat_lt, Bool, true, false, List, [], ◌∷◌, Option, None, Some, is_some, Result, Ok, Err, if◌then◌else◌, codes}
 use Rattle.std.specs.List.{list_all}
 use Rattle.std.specs.Option.{option_and_then}
 use Rattle.std.specs.Str.{bytes_eq, str_to_ascii_uppercase}
@@ -19,13 +19,8 @@ use Rattle.mix_tool.specs.declared.small.op.Op.{Op}
 use Rattle.mix_tool.specs.declared.small.op.Op.TheVariants.{Machine, End}
 use Rattle.mix_tool.specs.declared.small.statement.Statement.{Statement}
 use Rattle.mix_tool.specs.declared.small.statement.Statement.TheVariants.{Remark, Instruction, Start}
-use Rattle.mix_tool.specs.Lines.{is_blank, words}
-use Rattle.mix_tool.specs.Number.{is_digits, number_of}
-
--- whether the first byte passes a test
-abbrev pub begins_with : (ℕ → Bool) → List ℕ → Bool
-begins_with test [] = false
-begins_with test (byte ∷ rest) = test byte
+use Rattle.mix_lines.specs.Lines.{begins_with, is_blank, is_comment, words}
+use Rattle.mix_lines.specs.Number.{is_digits, decimal_number}
 
 -- whether each byte is a MIX character
 abbrev pub are_characters : List ℕ → Bool
@@ -68,7 +63,7 @@ unfoldable pub address_number : List ℕ → Result ℕ AsmKind
 address_number [] = Ok 0
 address_number (byte ∷ rest) =
     if are_characters (byte ∷ rest)
-    then (if is_digits (byte ∷ rest) then fitting (number_of (byte ∷ rest)) else Err BadExpression)
+    then (if is_digits (byte ∷ rest) then fitting (decimal_number (byte ∷ rest)) else Err BadExpression)
     else Err BadByte
 
 -- the word of an instruction: +, the address, no index, the normal F and C
@@ -120,5 +115,5 @@ worded here indented (first ∷ rest) =
 -- a line, where the next instruction stands at the location `here`. A comment begins with `*`
 unfoldable pub statement : ℕ → List ℕ → Result Statement AsmKind
 statement here line =
-    if begins_with (λ byte. byte == 42) line then Ok Remark
+    if is_comment line then Ok Remark
     else worded here (begins_with is_blank line) (words line)

@@ -3,7 +3,7 @@
 ghost use Rattle.std.specs.Prelude.{◌≡◌};
 ghost use Rattle.mix_tool.specs.Cut.{after_marker, before_marker, cut_of};
 
-use crate::lines::split_line;
+use mix_lines::{line_text, split_whole_line};
 
 const DEVICES: &[u8] = b"%DEVICES";
 
@@ -39,8 +39,8 @@ fn split_at_marker<'a>(text: &'a [u8], marker: &[u8]) -> (&'a [u8], &'a [u8])
 {
     let mut rest = text;
     while !rest.is_empty() {
-        let (line, after) = split_line(rest);
-        if line == marker {
+        let (line, after) = split_whole_line(rest);
+        if line_text(line) == marker {
             return (&text[..text.len() - rest.len()], after);
         }
         rest = after;

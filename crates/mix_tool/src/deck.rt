@@ -3,7 +3,7 @@ ghost use Rattle.std.specs.Prelude.{◌≡◌};
 ghost use Rattle.mix_tool.specs.Deck.{deck_of};
 
 use crate::fault::{DeckFault, DeckKind};
-use crate::lines::{next_word, split_line};
+use mix_lines::{next_word, split_line};
 
 /// The most bytes that a deck may have.
 pub(crate) const MAX_DECK_BYTES: usize = 33_554_432;

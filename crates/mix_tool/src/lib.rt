@@ -3,21 +3,16 @@
 
 mod bundle;
 mod deck;
-#[cfg(test)]
-mod fake;
 mod fault;
-mod lines;
-mod number;
 mod reply;
 mod request;
 mod run;
 mod session;
 mod small;
-mod stream;
 
 pub use fault::{AsmFault, AsmKind, DeckFault, DeckKind, ToolFault};
+pub use mix_stream::{Counted, Failed, In, Out};
 pub use run::{run_bundle, run_debug};
-pub use stream::{Counted, Failed, In, Out};
 
 #[cfg(test)]
 mod tests;

@@ -1,13 +1,11 @@
 //! A line of the script, read into what it asks for.
 
 ghost use Rattle.std.specs.Prelude.{◌≡◌, ◌<◌, ◌≤◌, MatchOption, MatchResult, codes, option_copied};
-ghost use Rattle.mix_tool.specs.Lines.{words};
-ghost use Rattle.mix_tool.specs.Number.{number_of};
+ghost use Rattle.mix_lines.specs.Lines.{words};
 ghost use Rattle.mix_tool.specs.Request.{request_of, asked_by, step_of, back_of, show_of, argument_of, in_range, is_name};
 
 use crate::fault::Refusal;
-use crate::lines::next_word;
-use crate::number::number;
+use mix_lines::{next_word, number};
 
 /// What a line of the script asks for.
 #[derive(Clone, Copy, Debug, PartialEq, Eq)]

@@ -5,19 +5,19 @@ ghost use Rattle.std.specs.Io.KnownBytes.{Appends, Keeps};
 ghost use Rattle.mix_machine.specs.Loaded.{loaded};
 ghost use Rattle.mix_tool.specs.Fault.{asm_fault_text};
 ghost use Rattle.mix_tool.specs.declared.fault.DeckFault.{DeckFault};
-ghost use Rattle.mix_tool.specs.Lines.{lines};
+ghost use Rattle.mix_lines.specs.Lines.{lines};
 ghost use Rattle.mix_tool.specs.Assembly.{program_of};
 ghost use Rattle.mix_tool.specs.Deck.{deck_of};
 ghost use Rattle.mix_tool.specs.Output.{Meets, Ended, IsOwn, output, outcome_of, bundle_output, executed, replies};
-ghost use Rattle.mix_tool.specs.Stream.{AppendsFront, ConsumesAtMost};
+ghost use Rattle.mix_stream.specs.Stream.{AppendsFront, ConsumesAtMost};
 
 use crate::bundle::cut;
 use crate::deck::{MAX_DECK_BYTES, read_deck};
 use crate::fault::{AsmFault, ToolFault};
-use crate::lines::split_line;
 use crate::session::{Session, Told};
 use crate::small::{MAX_SOURCE_BYTES, Program, assemble};
-use crate::stream::{In, Out, read_up_to, write_all};
+use mix_lines::split_line;
+use mix_stream::{In, Out, read_up_to, write_all};
 use std::alloc::Global;
 use undo_core::{Memory, Refused};
 

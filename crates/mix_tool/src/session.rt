@@ -5,7 +5,7 @@ ghost use Rattle.mix_machine.specs.Loaded.{loaded};
 ghost use Rattle.mix_tool.specs.Command.{command, obeyed, stepped, taken_back, end_at, with_steps, is_accepted, Begun};
 ghost use Rattle.mix_tool.specs.Command.{world_after, told_of};
 ghost use Rattle.mix_tool.specs.Output.{IsOwn};
-ghost use Rattle.mix_tool.specs.Stream.{AppendsFront};
+ghost use Rattle.mix_stream.specs.Stream.{AppendsFront};
 ghost use Rattle.std.specs.Io.KnownBytes.{Appends, Keeps};
 ghost use Rattle.mix_tool.specs.Reply.{refused_text, registers_text};
 ghost use Rattle.mix_tool.specs.declared.request.Request.TheVariants as ask;
@@ -14,8 +14,8 @@ use crate::fault::{Refusal, ToolFault};
 use crate::reply::{End, back_line, ran_line, refused_line, registers_lines};
 use crate::request::{Request, read_request};
 use crate::small::Program;
-use crate::stream::{Out, write_all};
 use mix_machine::{Change, World};
+use mix_stream::{Out, write_all};
 use std::alloc::Global;
 use undo_core::{Journal, Memory, Refused};
 

@@ -4,8 +4,8 @@ ghost use Rattle.undo_core.specs.Refused.{IfFault};
 ghost use Rattle.mix_tool.specs.Assembly.{assembly, program_of};
 
 use crate::fault::{AsmFault, AsmKind};
-use crate::lines::split_line;
 use crate::small::statement::{Statement, read_statement};
+use mix_lines::split_line;
 use mix_word::{Place, Word};
 use std::alloc::Global;
 use undo_core::Refused;

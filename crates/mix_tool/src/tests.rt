@@ -5,9 +5,9 @@ mod rows;
 
 ghost use Rattle.std.specs.Prelude.{◌<◌, ◌-◌, ◌^◌};
 
-use crate::fake::{Chunks, Sink};
 use crate::fault::ToolFault;
 use crate::run::run_debug;
+use mix_stream::fake::{Chunks, Sink};
 use std::alloc::Global;
 
 /// All bytes in one call.

@@ -5,7 +5,7 @@ ghost use Rattle.mix_tool.specs.Wrapped.{fault_of_read};
 ghost use Rattle.mix_tool.specs.declared.fault.ToolFault.TheVariants.{Memory as memory, Write as write, Deck as deck};
 
 use crate::fault::{DeckFault, ToolFault};
-use crate::stream::{Failed, ReadFault};
+use mix_stream::{Failed, ReadFault};
 use undo_core::Memory;
 
 impl From<Memory> for ToolFault {

@@ -3,13 +3,12 @@ ghost use Rattle.std.specs.Prelude.{◌≡◌, ◌<◌, ◌^◌, IfOk, is_some};
 ghost use Rattle.std.specs.List.{list_all};
 ghost use Rattle.std.specs.Char.{is_ascii_alphabetic};
 ghost use Rattle.mix_word.specs.Characters.{character_code};
-ghost use Rattle.mix_tool.specs.Lines.{words};
-ghost use Rattle.mix_tool.specs.Statement.{address_of, address_number, are_characters, begins_with, fitting};
+ghost use Rattle.mix_lines.specs.Lines.{begins_with, words};
+ghost use Rattle.mix_tool.specs.Statement.{address_of, address_number, are_characters, fitting};
 
 use crate::fault::AsmKind;
-use crate::lines::next_word;
-use crate::number::{all_digits, number};
 use crate::small::op::Op;
+use mix_lines::{all_digits, next_word, number};
 use mix_word::code_of;
 
 /// The first number that no word holds.
@@ -34,10 +33,7 @@ pub(crate) fn address_text(op: Op, rest: &[u8]) -> &[u8]
 fn begins_with_letter(text: &[u8]) -> bool
     ensures { result ≡ begins_with is_ascii_alphabetic text.now }
 {
-    match text {
-        [] => false,
-        [byte, ..] => byte.is_ascii_alphabetic(),
-    }
+    text.first().is_some_and(|byte| byte.is_ascii_alphabetic())
 }
 
 /// The number of an ADDRESS, 0 where it is empty. A byte that is no character is A1, what is not all digits A5, and

@@ -1,12 +1,12 @@
 //! What one line of a source says.
 ghost use Rattle.std.specs.Prelude.{◌≡◌, ◌==◌, ◌<◌};
-ghost use Rattle.mix_tool.specs.Lines.{is_blank, words};
-ghost use Rattle.mix_tool.specs.Statement.{begins_with, coded, instruction_word, label_refusal, stated, statement};
+ghost use Rattle.mix_lines.specs.Lines.{begins_with, is_blank, words};
+ghost use Rattle.mix_tool.specs.Statement.{coded, instruction_word, label_refusal, stated, statement};
 
 use crate::fault::AsmKind;
-use crate::lines::next_word;
 use crate::small::address::{address_text, are_characters, read_number};
 use crate::small::op::{Op, read_op};
+use mix_lines::{is_blank, is_comment, next_word};
 use mix_word::{Operation, Parts, Place, Sign, Word};
 
 /// What a line says: nothing, a word at a place, or where the program starts.
@@ -41,22 +41,10 @@ pub(crate) fn read_statement(here: u16, line: &[u8]) -> Result<Statement, AsmKin
     }
 }
 
-fn is_comment(line: &[u8]) -> bool
-    ensures { result ≡ begins_with (λ byte. byte == 42) line.now }
-{
-    match line {
-        [] => false,
-        [byte, ..] => *byte == b'*',
-    }
-}
-
 fn is_indented(line: &[u8]) -> bool
     ensures { result ≡ begins_with is_blank line.now }
 {
-    match line {
-        [] => false,
-        [byte, ..] => *byte == b' ' || *byte == b'\t',
-    }
+    line.first().is_some_and(|byte| is_blank(*byte))
 }
 
 fn label_refusal(label: &[u8]) -> AsmKind

@@ -1,10 +1,10 @@
 use super::ALL;
-use crate::fake::{Chunks, Sink};
 use crate::fault::{AsmFault, AsmKind, DeckFault, DeckKind, ToolFault};
 use crate::run::{run_bundle, run_debug};
 use crate::session::{Session, Told};
 use crate::small::assemble;
-use crate::stream::{Counted, In, Out};
+use mix_stream::fake::{Chunks, Sink};
+use mix_stream::{Counted, In, Out};
 use std::io;
 use std::test::Fail;
 

@@ -1,7 +1,7 @@
 use super::{ALL, debug};
-use crate::fake::{Chunks, Sink};
 use crate::fault::{DeckFault, DeckKind, ToolFault};
 use crate::run::run_bundle;
+use mix_stream::fake::{Chunks, Sink};
 
 const FIRST: &str = " ENTA 5\n INCA 7\n STA 100\n HLT\n END 0\n";
 

@@ -1,6 +1,6 @@
 use Rattle.std.proofs.Common.{◌≡◌, ◌+◌, ◌≤◌, length}
 use Rattle.mix_tool.specs.Deck.{deck_from}
-use Rattle.mix_tool.specs.Lines.{lines}
+use Rattle.mix_lines.specs.Lines.{lines}
 use Rattle.mix_tool.proofs.deck.read_deck.Given as goal
 
 abbrev pub invariant-loop-rest : goal.invariant-loop-rest

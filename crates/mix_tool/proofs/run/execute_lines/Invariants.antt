@@ -1,6 +1,6 @@
 use Rattle.std.proofs.Common.{◌≡◌, ◌++◌, ◌&&◌, List, ℕ, length}
 use Rattle.std.specs.Io.KnownBytes.{Appends}
-use Rattle.mix_tool.specs.Lines.{lines}
+use Rattle.mix_lines.specs.Lines.{lines}
 use Rattle.mix_tool.specs.Output.{replies}
 use Rattle.mix_tool.proofs.run.execute_lines.Given as goal
 

@@ -1,6 +1,6 @@
 use Rattle.std.proofs.Common.{◌≡◌, ◌≤◌, length}
 use Rattle.mix_tool.specs.Assembly.{assembly_from}
-use Rattle.mix_tool.specs.Lines.{lines}
+use Rattle.mix_lines.specs.Lines.{lines}
 use Rattle.mix_tool.proofs.AssemblyLemmas.{with_words}
 use Rattle.mix_tool.proofs.small.assemble.Given as goal
 

@@ -1,0 +1,4 @@
+mod LinesLemmas
+mod NumberLemmas
+mod Positions
+mod WordsLemmas

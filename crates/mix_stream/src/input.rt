@@ -1,0 +1,104 @@
+//! Readers, and reading up to a limit.
+
+ghost use Rattle.std.specs.Prelude.{◌≡◌, ◌≢◌, ◌<◌, ◌≤◌, ◌+◌, ◌-◌, ◌^◌, ◌↔◌, ℕ, List, Option, Some, Ok, Err, IfOk, OnOk, OnErr, length, take, drop, vec_len};
+ghost use Rattle.std.specs.Io.KnownBytes.{ReadConsumes};
+ghost use Rattle.mix_stream.specs.Stream.{ConsumesAtMost, CountsRead};
+
+use crate::counted::{Counted, Failed};
+use std::alloc::{AllocError, Global};
+use std::io::Read;
+
+/// A reader that counts its failed reads.
+pub trait In {
+    // The bytes that reads will give from here on, where they are known.
+    ghost rest: { Self → Option (List ℕ) };
+
+    // How many reads have failed.
+    ghost failed: { Self → ℕ };
+
+    /// Reads some bytes into a buffer with room, at least one unless the end is reached; a failed read gives none.
+    fn read(&mut self, buf: &mut [u8]) -> Result<usize, Failed>
+        requires room { 0 < length buf.old }
+        requires count { failed self.old < 2 ^ 64 - 1 }
+        ensures bound { IfOk result (λ n. n ≤ length buf.new) }
+        ensures bytes { ReadConsumes (rest self.old) (rest self.new) result buf.new }
+        ensures ok { OnOk result (failed self.new ≡ failed self.old) }
+        ensures err { OnErr result (failed self.new ≡ failed self.old + 1) };
+
+    /// How many reads have failed.
+    fn failures(&self) -> u64
+        ensures { result ≡ failed self.now };
+}
+
+impl<T: Read> In for Counted<T> {
+    ghost rest = { λ c. T.remaining c.inner };
+
+    ghost failed = { λ c. c.count };
+
+    fn read(&mut self, buf: &mut [u8]) -> Result<usize, Failed> {
+        match self.inner.read(buf) {
+            Ok(count) => Ok(count),
+            Err(_) => Err(self.failed_once()),
+        }
+    }
+
+    fn failures(&self) -> u64 {
+        self.count
+    }
+}
+
+/// Why bytes could not be read.
+#[derive(Clone, Copy, Debug, PartialEq, Eq)]
+pub enum ReadFault {
+    /// Out of memory.
+    Memory,
+    /// A read failed.
+    Failed,
+}
+
+impl From<AllocError> for ReadFault {
+    ghost use Rattle.mix_stream.specs.declared.input.ReadFault.{ReadFault};
+
+    ghost from_gives = { λ _ fault. fault ≡ ReadFault.Memory };
+
+    fn from(_: AllocError) -> ReadFault {
+        ReadFault::Memory
+    }
+}
+
+impl From<Failed> for ReadFault {
+    ghost use Rattle.mix_stream.specs.declared.input.ReadFault.{ReadFault};
+
+    ghost from_gives = { λ _ fault. fault ≡ ReadFault.Failed };
+
+    fn from(_: Failed) -> ReadFault {
+        ReadFault::Failed
+    }
+}
+
+const CHUNK: usize = 4096;
+
+/// The bytes of a reader up to its end or up to a limit; it never takes more than that from the reader. It fails where memory is
+/// refused, and at the first failed read.
+#[tactic(auto, using(crate::proofs::StreamLemmas::reads))]
+pub fn read_up_to<R: In>(alloc: Global, source: &mut R, most: usize) -> Result<Vec<u8>, ReadFault>
+    requires { R.failed source.old < 2 ^ 64 - 1 }
+    ensures whole { (s : List ℕ) → R.rest source.old ≡ Some s
+        → IfOk result (λ v. (v.items ≡ take most s) × (R.rest source.new ≡ Some (drop most s))) }
+    ensures within { ConsumesAtMost (R.rest source.old) (R.rest source.new) most }
+    ensures length { IfOk result (λ v. vec_len v ≤ most) }
+    ensures failed { CountsRead (result ≡ Err ReadFault.Failed) (R.failed source.old) (R.failed source.new) }
+{
+    let mut bytes = Vec::new(alloc);
+    let mut buffer = [0; CHUNK];
+    while bytes.len() < most {
+        let room = CHUNK.min(most - bytes.len());
+        let part = &mut buffer[..room];
+        let count = source.read(part)?;
+        if count == 0 {
+            return Ok(bytes);
+        }
+        bytes.extend_from_slice(&part[..count])?;
+    }
+    Ok(bytes)
+}

@@ -1,6 +1,0 @@
-use Rattle.std.proofs.Common.{◌≡◌, ◌<◌, ◌^◌, take}
-use Rattle.mix_tool.specs.Number.{value_of}
-use Rattle.mix_tool.proofs.number.value.Given as goal
-
-abbrev pub invariant-loop-digit : goal.invariant-loop-digit
-invariant-loop-digit l = (l.value ≡ value_of (take l.digit-index l.text)) × (l.value < 10 ^ l.digit-index)
