@@ -3,6 +3,8 @@ pub mod CharacterLemmas
 pub mod FindLemmas
 pub mod TableLemmas
 pub mod NameLemmas
+pub mod RegisterLemmas
+pub mod LengthLemmas
 pub mod TextLemmas
 pub mod FieldLemmas
 pub mod ShiftLemmas

@@ -127,7 +127,7 @@ own_name In = named_single.13
 own_name Out = named_single.14
 own_name Jred = named_single.15
 
-found_name : (name : List ℕ) (op : Operation) → operation_named name ≡ Some op → name_of op ≡ name
+pub found_name : (name : List ℕ) (op : Operation) → operation_named name ≡ Some op → name_of op ≡ name
 unfolding operation_named
 found_name name op e =
     (bytes_eq-Decides (name_of op) name).0 (find-passes (λ (x : Operation). bytes_eq (name_of x) name) operations op e)

@@ -11,13 +11,13 @@ sign_of_number s (pos (suc n)) = Plus
 sign_of_number s (negsuc n) = Minus
 
 -- a number as a word, and whether it is too large for one
-abbrev pub word_of_number : Sign → ℤ → WordValue × Bool
-word_of_number s t =
+abbrev pub cut_to_word : Sign → ℤ → WordValue × Bool
+cut_to_word s t =
     (word (sign_of_number s t) (unsigned_abs t % 64 ^ 5), nat_le (64 ^ 5) (unsigned_abs t))
 
 -- the sum, where zero takes the sign of the first word
 abbrev pub sum_of : WordValue → WordValue → WordValue × Bool
-sum_of a v = word_of_number a.sign (number_of a +ℤ number_of v)
+sum_of a v = cut_to_word a.sign (number_of a +ℤ number_of v)
 
 -- + where the signs agree
 abbrev pub product_sign : Sign → Sign → Sign

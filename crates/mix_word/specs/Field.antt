@@ -10,10 +10,17 @@ pub record FieldValue : Type 0 where
 abbrev pub field : ℕ → ℕ → FieldValue
 field l r = record { left = l; right = r }
 
+-- the field from L to R, where there is one
+abbrev pub field_between : ℕ → ℕ → Option FieldValue
+field_between l r = if nat_le l r && nat_le r 5 then Some (field l r) else None
+
+-- the code of a field
+abbrev pub code_of_field : FieldValue → ℕ
+code_of_field f = 8 * f.left + f.right
+
 -- the field of a code, which is 8L + R
 abbrev pub field_of : ℕ → Option FieldValue
-field_of code =
-    if nat_le (code / 8) (code % 8) && nat_le (code % 8) 5 then Some (field (code / 8) (code % 8)) else None
+field_of code = field_between (code / 8) (code % 8)
 
 -- how many bytes it has: the sign is none
 abbrev pub width_of : FieldValue → ℕ

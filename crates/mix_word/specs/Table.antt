@@ -61,11 +61,11 @@ abbrev pub named_or_unknown : Option Operation → Decoded
 named_or_unknown (Some op) = Named op
 named_or_unknown None = Unknown
 
--- what a pair (C, F) says
+-- what a pair (C, F) names
 unfoldable pub decode_of : ℕ → ℕ → Decoded
 decode_of c f = if is_floating c f then Floating else named_or_unknown (operation_at c f)
 
--- the pair (C, F) says this operation
+-- the pair (C, F) names this operation
 abbrev pub IsNamedBy : Operation → ℕ → ℕ → Type 0
 IsNamedBy op c f =
     (operation_code op ≡ c) × (IsTrue (is_by_f op) → normal_f_of op ≡ f) × (is_floating c f ≡ false)

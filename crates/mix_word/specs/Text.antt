@@ -1,4 +1,4 @@
--- How words are written: the sign, and each byte as two digits behind a blank.
+-- How words are written: the sign, and each byte as two digits after a blank.
 use Rattle.std.specs.Prelude.{ℕ, ◌+◌, ◌/◌, ◌%◌, List, [], ◌∷◌, ◌++◌}
 use Rattle.mix_word.specs.declared.word.Sign.{Sign}
 use Rattle.mix_word.specs.declared.word.Sign.TheVariants.{Plus, Minus}

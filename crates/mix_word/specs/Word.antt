@@ -1,5 +1,5 @@
 -- A word is a sign and a magnitude, whose five digits to the base 64 are its bytes (1.3.1).
-use Rattle.std.specs.Prelude.{ℕ, ◌+◌, ◌-◌, ◌*◌, ◌/◌, ◌%◌, ◌^◌, ℤ, pos, neg_ℤ}
+use Rattle.std.specs.Prelude.{ℕ, ◌+◌, ◌-◌, ◌*◌, ◌/◌, ◌%◌, ◌^◌, ℤ, pos, negsuc, neg_ℤ, suc, List, [], ◌∷◌}
 use Rattle.mix_word.specs.declared.word.Sign.{Sign}
 use Rattle.mix_word.specs.declared.word.Sign.TheVariants.{Plus, Minus}
 use Rattle.mix_word.specs.declared.word.Parts.{Parts}
@@ -33,9 +33,27 @@ signed Minus m = neg_ℤ (pos m)
 abbrev pub number_of : WordValue → ℤ
 number_of w = signed w.sign w.magnitude
 
+-- the word of a number whose magnitude fits one; 0 is +0
+abbrev pub word_of_number : ℤ → WordValue
+word_of_number (pos n) = plus n
+word_of_number (negsuc n) = minus (suc n)
+
 -- byte i, 1 to 5, of which byte 1 is the most significant
 abbrev pub byte_of : WordValue → ℕ → ℕ
 byte_of w i = w.magnitude / 64 ^ (5 - i) % 64
+
+-- the five bytes, from the most significant one on
+abbrev pub bytes_of : WordValue → List ℕ
+bytes_of w = byte_of w 1 ∷ byte_of w 2 ∷ byte_of w 3 ∷ byte_of w 4 ∷ byte_of w 5 ∷ []
+
+-- the number to the base 64 whose digits are bytes, after those of a number before them
+abbrev pub magnitude_of_bytes : ℕ → List ℕ → ℕ
+magnitude_of_bytes before [] = before
+magnitude_of_bytes before (byte ∷ bytes) = magnitude_of_bytes (before * 64 + byte) bytes
+
+-- the word of a sign and bytes, from the most significant one on
+abbrev pub word_of_bytes : Sign → List ℕ → WordValue
+word_of_bytes s bytes = word s (magnitude_of_bytes 0 bytes)
 
 abbrev pub negation_of : WordValue → WordValue
 negation_of w = word (opposite w.sign) w.magnitude

@@ -1,4 +1,4 @@
-//! What the pair (C, F) of an instruction says (1.3.1).
+//! What the pair (C, F) of an instruction names (1.3.1).
 ghost use Rattle.std.specs.Prelude.{◌≡◌, ◌+◌, ◌<◌, ◌≤◌, ◌↔◌, Bool, true, false, ◌⊎◌, IsTrue};
 ghost use Rattle.mix_word.specs.declared.operation.Operation.{Operation};
 ghost use Rattle.mix_word.specs.Register.{offset_of};
@@ -8,16 +8,16 @@ ghost use Rattle.mix_word.specs.Table.{decode_of, is_floating, IsNamedBy};
 use crate::operation::{Condition, JumpKind, Operation, ShiftKind};
 use crate::register::DataReg;
 
-/// What a pair (C, F) says: an operation, one of the floating-point attachment, or nothing.
-#[derive(Clone, Copy, Debug, PartialEq, Eq)]
+/// What a pair (C, F) names: an operation, one of the floating-point attachment, or none.
+#[derive(Clone, Copy, Debug, PartialEq, Eq, Hash)]
 pub enum Decoded {
     Named(Operation),
     Floating,
     Unknown,
 }
 
-/// What an instruction of this code C and this F says (1.3.1): an operation of the table, a floating one, or nothing. C and F are
-/// below 64 in an instruction; nothing is said by larger ones.
+/// What an instruction of this code C and this F names (1.3.1): an operation of the table, a floating one, or none. C and F are
+/// below 64 in an instruction. A C of 64 or more names no operation; where an operation takes any F, it takes one of 64 or more too.
 pub fn decode(code: u8, f: u8) -> Decoded
     ensures is { result ≡ decode_of code f }
     ensures law { (op : Operation) → (result ≡ Decoded.Named op) ↔ IsNamedBy op code f }
@@ -52,7 +52,7 @@ fn row(code: u8, f: u8) -> Decoded
     }
 }
 
-// The pair says this operation.
+// The pair names this operation.
 fn found(op: Operation, code: u8, f: u8) -> Decoded
     requires code { operation_code op ≡ code }
     requires by_f { IsTrue (is_by_f op) → normal_f_of op ≡ f }
@@ -62,7 +62,7 @@ fn found(op: Operation, code: u8, f: u8) -> Decoded
     Decoded::Named(op)
 }
 
-// The pair says nothing.
+// The pair names no operation.
 #[tactic(auto, using(crate::proofs::TableLemmas::unsaid))]
 fn unknown(code: u8, f: u8) -> Decoded
     requires { (63 < code) ⊎ (40 ≤ code × code < 48 × 5 < f) ⊎ (48 ≤ code × code < 56 × 3 < f) }

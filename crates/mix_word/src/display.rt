@@ -1,13 +1,17 @@
-//! How words are written: the sign, and each byte as two digits behind a blank.
+//! How words are written: the sign, and each byte as two digits after a blank. Operations and registers are written by name.
 ghost use Rattle.std.specs.Prelude.{Some, ◌≡◌, ◌<◌, ◌≤◌};
 ghost use Rattle.mix_word.specs.Word.{byte_of};
+ghost use Rattle.mix_word.specs.Names.{name_of};
+ghost use Rattle.mix_word.specs.Register.{name_of_register};
 ghost use Rattle.mix_word.specs.Text.{sign_text, byte_text, word_text, short_text};
 
+use crate::operation::Operation;
+use crate::register::Reg;
 use crate::word::{Sign, Word};
 use std::fmt;
 
 /// A word of which only the sign and bytes 4 and 5 are written, as of an index register: `+ 02 36`.
-#[derive(Clone, Copy, Debug, PartialEq, Eq)]
+#[derive(Clone, Copy, Debug, PartialEq, Eq, Hash)]
 pub struct Short(pub Word);
 
 impl fmt::Display for Sign {
@@ -64,6 +68,15 @@ impl fmt::Display for Word {
     }
 }
 
+/// The same text: the bytes, and not the bits inside.
+impl fmt::Debug for Word {
+    ghost debug_output = { λ w. Some (word_text w) };
+
+    fn fmt<W: fmt::Write>(&self, f: &mut fmt::Formatter<W>) -> fmt::Result {
+        fmt::Display::fmt(self, f)
+    }
+}
+
 /// The sign and bytes 4 and 5.
 impl fmt::Display for Short {
     ghost output = { λ w. Some (short_text w.0) };
@@ -73,5 +86,23 @@ impl fmt::Display for Short {
         let w = self.0;
         let (d, e) = (digits_of(w, 4), digits_of(w, 5));
         write!(f, "{}{d}{e}", w.sign())
+    }
+}
+
+/// The name.
+impl fmt::Display for Operation {
+    ghost output = { λ op. Some (name_of op) };
+
+    fn fmt<W: fmt::Write>(&self, f: &mut fmt::Formatter<W>) -> fmt::Result {
+        f.write_str(self.name())
+    }
+}
+
+/// The name.
+impl fmt::Display for Reg {
+    ghost output = { λ r. Some (name_of_register r) };
+
+    fn fmt<W: fmt::Write>(&self, f: &mut fmt::Formatter<W>) -> fmt::Result {
+        f.write_str(self.name())
     }
 }

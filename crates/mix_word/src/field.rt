@@ -1,12 +1,12 @@
 //! A field (L:R) of a word (1.3.1): bytes L to R, where position 0 is the sign.
-ghost use Rattle.std.specs.Prelude.{◌≡◌, ◌+◌, ◌-◌, ◌*◌, ◌/◌, ◌%◌, ◌^◌, ◌<◌, ◌≤◌};
-ghost use Rattle.mix_word.specs.Field.{field_of, field_value_of, put_field_of, field, width_of};
+ghost use Rattle.std.specs.Prelude.{◌≡◌, Some, IfSome, ◌+◌, ◌-◌, ◌*◌, ◌/◌, ◌%◌, ◌^◌, ◌<◌, ◌≤◌};
+ghost use Rattle.mix_word.specs.Field.{field_between, code_of_field, field_of, field_value_of, put_field_of, field, width_of};
 
 use crate::word::{Sign, Word};
 use std::marker::Model;
 
 /// A field (L:R) of a word, 0 <= L <= R <= 5 (1.3.1).
-#[derive(Clone, Copy, Debug, PartialEq, Eq)]
+#[derive(Clone, Copy, Debug, PartialEq, Eq, Hash)]
 pub struct Field {
     left: u8,
     right: u8,
@@ -26,11 +26,10 @@ impl Model for Field {
 }
 
 impl Field {
-    /// The field of a code, 8L + R, or none where the code is of no field.
-    pub fn of(code: u8) -> Option<Field>
-        ensures { result ≡ field_of code }
+    /// The field from L to R (1.3.1), or none where L is over R, or R over 5.
+    pub fn new(left: u8, right: u8) -> Option<Field>
+        ensures { result ≡ field_between left right }
     {
-        let (left, right) = (code >> 3, code & 7);
         if left <= right && right <= 5 {
             Some(Field { left, right })
         } else {
@@ -38,21 +37,38 @@ impl Field {
         }
     }
 
-    /// The whole word, (0:5).
+    /// The field of a code, 8L + R (1.3.1), or none where the code is of no field.
+    pub fn of(code: u8) -> Option<Field>
+        ensures is { result ≡ field_of code }
+        ensures code { IfSome result (λ f. code_of_field f ≡ code) }
+    {
+        Field::new(code >> 3, code & 7)
+    }
+
+    /// The code, 8L + R (1.3.1): 0 to 45.
+    pub fn code(self) -> u8
+        ensures is { result ≡ code_of_field self }
+        ensures bound { result < 46 }
+        ensures field { field_of result ≡ Some self }
+    {
+        8 * self.left + self.right
+    }
+
+    /// The whole word, (0:5) (1.3.1).
     pub fn whole() -> Field
         ensures { result ≡ field 0 5 }
     {
         Field { left: 0, right: 5 }
     }
 
-    /// L, 0 to 5, and 0 where the field has the sign.
+    /// L (1.3.1), 0 to 5, and 0 where the field has the sign.
     pub fn left(self) -> u8
         ensures { result ≡ self.left }
     {
         self.left
     }
 
-    /// R, from L to 5.
+    /// R (1.3.1), from L to 5.
     pub fn right(self) -> u8
         ensures { result ≡ self.right }
     {

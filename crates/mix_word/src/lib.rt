@@ -2,12 +2,14 @@
 #![tactic(auto)]
 
 mod arithmetic;
+mod bytes;
 mod characters;
 mod comparison;
 mod conversion;
 mod decoding;
 mod display;
 mod field;
+mod laws;
 mod letters;
 mod naming;
 mod needs;
@@ -27,7 +29,8 @@ pub use conversion::{num, to_char};
 pub use decoding::{Decoded, decode};
 pub use display::Short;
 pub use field::Field;
-pub use naming::named;
+pub use laws::{decode_law, long_name_law};
+pub use naming::{LONGEST_NAME, named};
 pub use operation::{Condition, JumpKind, Operation, ShiftKind};
 pub use place::{CELLS, Place};
 pub use register::{DataReg, Reg};

@@ -7,7 +7,7 @@ use crate::decoding::Decoded;
 use crate::register::DataReg;
 
 /// A shift: of rA alone, of rA and rX, or of both in a circle, to the left or to the right.
-#[derive(Clone, Copy, Debug, PartialEq, Eq)]
+#[derive(Clone, Copy, Debug, PartialEq, Eq, Hash)]
 pub enum ShiftKind {
     Sla,
     Sra,
@@ -18,7 +18,7 @@ pub enum ShiftKind {
 }
 
 /// A jump that looks at no register: always, by the overflow toggle, or by the comparison indicator.
-#[derive(Clone, Copy, Debug, PartialEq, Eq)]
+#[derive(Clone, Copy, Debug, PartialEq, Eq, Hash)]
 pub enum JumpKind {
     Jmp,
     Jsj,
@@ -33,7 +33,7 @@ pub enum JumpKind {
 }
 
 /// What a jump asks of the number in a register.
-#[derive(Clone, Copy, Debug, PartialEq, Eq)]
+#[derive(Clone, Copy, Debug, PartialEq, Eq, Hash)]
 pub enum Condition {
     Negative,
     Zero,
@@ -44,7 +44,7 @@ pub enum Condition {
 }
 
 /// An operation of MIX (1.3.1), without those of the floating-point attachment.
-#[derive(Clone, Copy, Debug, PartialEq, Eq)]
+#[derive(Clone, Copy, Debug, PartialEq, Eq, Hash)]
 pub enum Operation {
     Nop,
     Add,

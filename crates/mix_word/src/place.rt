@@ -3,11 +3,11 @@ ghost use Rattle.std.specs.Prelude.{◌≡◌, ◌<◌, ◌↔◌, IsSome, IfSom
 
 use std::marker::Model;
 
-/// How many cells the memory has.
+/// How many cells the memory has (1.3.1).
 pub const CELLS: u16 = 4000;
 
-/// The number of a cell, 0 to 3999 (1.3.1).
-#[derive(Clone, Copy, Debug, PartialEq, Eq)]
+/// The number of a cell, 0 to 3999 (1.3.1), in the order of the numbers.
+#[derive(Clone, Copy, Debug, PartialEq, Eq, PartialOrd, Ord, Hash)]
 pub struct Place {
     number: u16,
 }
@@ -25,7 +25,7 @@ impl Model for Place {
 }
 
 impl Place {
-    /// The place of this number, or none where there is no such cell.
+    /// The place of this number (1.3.1), or none where it is 4000 or more, and there is no such cell.
     pub fn of(n: u16) -> Option<Place>
         ensures valid { IsSome result ↔ (n < 4000) }
         ensures value { IfSome result (λ p. p ≡ n) }

@@ -1,9 +1,12 @@
 //! The registers (1.3.1).
-ghost use Rattle.std.specs.Prelude.{◌≡◌, ◌<◌};
-ghost use Rattle.mix_word.specs.Register.{reg_of, offset_of};
+ghost use Rattle.std.specs.Prelude.{◌≡◌, ◌<◌, ◌↔◌, Some, slice_get};
+ghost use Rattle.std.specs.List.{find};
+ghost use Rattle.std.specs.Str.{bytes_eq};
+ghost use Rattle.mix_word.specs.declared.register.Reg.{Reg};
+ghost use Rattle.mix_word.specs.Register.{all_registers, number_of_register, name_of_register, register_named, reg_of, offset_of};
 
 /// A register: rA and rX of five bytes, rI1 to rI6 and rJ of two (1.3.1).
-#[derive(Clone, Copy, Debug, PartialEq, Eq)]
+#[derive(Clone, Copy, Debug, PartialEq, Eq, Hash)]
 pub enum Reg {
     A,
     X,
@@ -16,8 +19,8 @@ pub enum Reg {
     J,
 }
 
-/// A register that operations load, store and compare: any but rJ, in the order of the operation codes.
-#[derive(Clone, Copy, Debug, PartialEq, Eq)]
+/// A register that operations load, store and compare: any but rJ, in the order of the operation codes (1.3.1).
+#[derive(Clone, Copy, Debug, PartialEq, Eq, Hash)]
 pub enum DataReg {
     A,
     I1,
@@ -27,6 +30,83 @@ pub enum DataReg {
     I5,
     I6,
     X,
+}
+
+impl Reg {
+    /// The nine registers (1.3.1), in the order in which the enum lists them: rA, rX, rI1 to rI6, rJ.
+    pub const ALL: [Reg; 9] = [
+        Reg::A,
+        Reg::X,
+        Reg::I1,
+        Reg::I2,
+        Reg::I3,
+        Reg::I4,
+        Reg::I5,
+        Reg::I6,
+        Reg::J,
+    ];
+
+    /// The number, 0 to 8, in the order of `ALL`: rA, rX, rI1 to rI6, rJ.
+    pub fn number(self) -> u8
+        ensures is { result ≡ number_of_register self }
+        ensures listed { slice_get all_registers result ≡ Some self }
+        ensures bound { result < 9 }
+    {
+        match self {
+            Reg::A => 0,
+            Reg::X => 1,
+            Reg::I1 => 2,
+            Reg::I2 => 3,
+            Reg::I3 => 4,
+            Reg::I4 => 5,
+            Reg::I5 => 6,
+            Reg::I6 => 7,
+            Reg::J => 8,
+        }
+    }
+
+    /// The register of a number, 0 to 8, in the order of `ALL`, or none where there is no such number.
+    pub fn numbered(n: u8) -> Option<Reg>
+        ensures is { result ≡ slice_get all_registers n }
+        ensures law { (r : Reg) → (result ≡ Some r) ↔ (number_of_register r ≡ n) }
+    {
+        Reg::ALL.get(usize::from(n)).copied()
+    }
+
+    /// The name: `A`, `X`, `I1` to `I6`, `J`.
+    pub fn name(self) -> &'static str
+        ensures is { result.now ≡ name_of_register self }
+        ensures named { register_named result.now ≡ Some self }
+    {
+        match self {
+            Reg::A => "A",
+            Reg::X => "X",
+            Reg::I1 => "I1",
+            Reg::I2 => "I2",
+            Reg::I3 => "I3",
+            Reg::I4 => "I4",
+            Reg::I5 => "I5",
+            Reg::I6 => "I6",
+            Reg::J => "J",
+        }
+    }
+
+    /// The register of a name, in capitals as it is given, or none where no register has it.
+    pub fn named(name: &[u8]) -> Option<Reg>
+        ensures is { result ≡ register_named name.now }
+        ensures law { (r : Reg) → (result ≡ Some r) ↔ (name_of_register r ≡ name.now) }
+    {
+        first_named(name)
+    }
+}
+
+fn first_named(name: &[u8]) -> Option<Reg>
+    ensures { result ≡ register_named name.now }
+{
+    Reg::ALL
+        .iter()
+        .copied()
+        .find(|r| r.name().as_bytes() == name)
 }
 
 impl DataReg {

@@ -1,18 +1,18 @@
 //! A word: a sign and five bytes of 0 to 63 (1.3.1).
-ghost use Rattle.std.specs.Prelude.{◌≡◌, ◌<◌, ◌≤◌, ◌/◌, ◌%◌, ◌^◌};
-ghost use Rattle.mix_word.specs.Word.{word, byte_of, negation_of, parts_of, word_of_parts, opposite};
+ghost use Rattle.std.specs.Prelude.{◌≡◌, ◌<◌, ◌≤◌, ◌/◌, ◌%◌, ◌^◌, unsigned_abs};
+ghost use Rattle.mix_word.specs.Word.{word, zero_word, byte_of, negation_of, number_of, word_of_number, parts_of, word_of_parts, opposite};
 
 use std::marker::Model;
 
 /// The sign of a word.
-#[derive(Clone, Copy, Debug, PartialEq, Eq)]
+#[derive(Clone, Copy, Debug, PartialEq, Eq, Hash)]
 pub enum Sign {
     Plus,
     Minus,
 }
 
-/// What a comparison of two numbers gives.
-#[derive(Clone, Copy, Debug, PartialEq, Eq)]
+/// What a comparison of two numbers gives, as the comparison indicator has it (1.3.1).
+#[derive(Clone, Copy, Debug, PartialEq, Eq, Hash)]
 pub enum Cmp {
     Less,
     Equal,
@@ -31,9 +31,10 @@ impl Sign {
     }
 }
 
-/// A word (1.3.1): a sign and a magnitude of five bytes, below 64^5. +0 and -0 are different words and equal numbers.
+/// A word (1.3.1): a sign and a magnitude of five bytes, below 64^5. +0 and -0 are different words and equal numbers, so words have no
+/// order: compare their numbers.
 // Bits 0 to 29 are the magnitude, and bit 30 is set where the sign is -.
-#[derive(Clone, Copy, Debug, PartialEq, Eq)]
+#[derive(Clone, Copy, PartialEq, Eq, Hash)]
 pub struct Word {
     bits: u32,
 }
@@ -60,7 +61,7 @@ impl Model for Word {
 }
 
 /// An instruction word in its parts (1.3.1): the sign, bytes 1 and 2 below 4096, and bytes 3, 4 and 5, each below 64.
-#[derive(Clone, Copy, Debug, PartialEq, Eq)]
+#[derive(Clone, Copy, Debug, PartialEq, Eq, Hash)]
 pub struct Parts {
     pub sign: Sign,
     pub address: u16,
@@ -70,6 +71,9 @@ pub struct Parts {
 }
 
 impl Word {
+    /// +0.
+    pub const ZERO: Word = Word { bits: 0 };
+
     /// The word of this sign and magnitude, which is below 64^5.
     pub fn of(sign: Sign, magnitude: u32) -> Word
         requires { magnitude < 64 ^ 5 }
@@ -120,7 +124,29 @@ impl Word {
         Word::of(self.sign().opposite(), self.magnitude())
     }
 
-    /// The parts of an instruction word: the sign, bytes 1 and 2 as one number, and bytes 3, 4 and 5.
+    /// The number that it stands for, whose magnitude is below 64^5 (1.3.1): 0 for both +0 and -0.
+    pub fn number(self) -> i32
+        ensures is { result ≡ number_of self }
+        ensures bound { unsigned_abs result < 64 ^ 5 }
+    {
+        let magnitude = self.magnitude() as i32;
+        match self.sign() {
+            Sign::Plus => magnitude,
+            Sign::Minus => -magnitude,
+        }
+    }
+
+    /// The word of a number whose magnitude is below 64^5 (1.3.1): +0 for 0.
+    pub fn of_number(n: i32) -> Word
+        requires { unsigned_abs n < 64 ^ 5 }
+        ensures is { result ≡ word_of_number n }
+        ensures number { number_of result ≡ n }
+    {
+        let sign = if n < 0 { Sign::Minus } else { Sign::Plus };
+        Word::of(sign, n.unsigned_abs())
+    }
+
+    /// The parts of an instruction word (1.3.1): the sign, bytes 1 and 2 as one number, and bytes 3, 4 and 5.
     pub fn parts(self) -> Parts
         ensures is { result ≡ parts_of self }
         ensures joins { word_of_parts result ≡ self }
@@ -135,7 +161,7 @@ impl Word {
         }
     }
 
-    /// The instruction word of these parts, whose address is below 4096 and whose bytes are below 64.
+    /// The instruction word of these parts (1.3.1), whose address is below 4096 and whose bytes are below 64.
     pub fn join(p: Parts) -> Word
         requires address { p.address < 4096 }
         requires index { p.index < 64 }

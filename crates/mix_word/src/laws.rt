@@ -1,0 +1,18 @@
+//! What follows from the table of operations alone, for the proofs of other crates.
+ghost use Rattle.std.specs.Prelude.{◌≡◌, ◌<◌, ◌↔◌, ℕ, List, None, length};
+ghost use Rattle.mix_word.specs.declared.operation.Operation.{Operation};
+ghost use Rattle.mix_word.specs.declared.decoding.Decoded.TheVariants.{Named};
+ghost use Rattle.mix_word.specs.Table.{decode_of, operation_named, IsNamedBy};
+
+use crate::naming::LONGEST_NAME;
+
+/// A pair (C, F) names an operation (1.3.1) exactly where C is its code, F its F where F tells operations apart, and the pair no
+/// floating one.
+pub fn decode_law()
+    ensures { (c f : ℕ) (op : Operation) → (decode_of c f ≡ Named op) ↔ IsNamedBy op c f }
+{}
+
+/// No text of over `LONGEST_NAME` letters names an operation (1.3.1).
+pub fn long_name_law()
+    ensures { (name : List ℕ) → LONGEST_NAME < length name → operation_named name ≡ None }
+{}
