@@ -3,6 +3,7 @@ use crate::display::Short;
 use crate::field::Field;
 use crate::place::Place;
 use crate::word::{Parts, Sign, Word};
+use std::collections::HashSet;
 use std::test::Fail;
 
 // The cell 2000 of the book's examples of LDA, and its field of each code.
@@ -172,6 +173,16 @@ fn words_of_bytes(rt: HostRuntime) {
         let low = [a % 64, b % 64, c % 64, d % 64, e % 64];
         assert_eq!(rt; Word::from_bytes(bytes.0, low), word(bytes), "{bytes:?}");
     }
+}
+
+#[test]
+fn zeros_are_two_keys(rt: HostRuntime) -> Result<(), Fail> {
+    let mut words = HashSet::new(rt.alloc());
+    words.insert(Word::ZERO)?;
+    words.insert(Word::ZERO.negated())?;
+    words.insert(Word::of_number(0))?;
+    assert_eq!(rt; words.len(), 2);
+    Ok(())
 }
 
 #[test]

@@ -139,7 +139,7 @@ const REGISTERS: [(u8, Reg, &str); 9] = [
 ];
 
 #[test]
-fn registers(rt: HostRuntime) -> Result<(), Fail> {
+fn registers(rt: HostRuntime) {
     for (number, reg, name) in REGISTERS {
         assert_eq!(rt; (reg.number(), reg.name()), (number, name), "{name}");
         assert_eq!(rt; Reg::numbered(number), Some(reg), "{name}");
@@ -149,8 +149,14 @@ fn registers(rt: HostRuntime) -> Result<(), Fail> {
             Some(reg),
             "{name}"
         );
+    }
+}
+
+#[test]
+fn registers_written(rt: HostRuntime) -> Result<(), Fail> {
+    for (_, reg, name) in REGISTERS {
         let text = format!(in rt.alloc(); "{reg}")?;
-        assert_eq!(rt; text.as_str(), name, "{name}");
+        assert_eq!(rt; text.as_str(), name);
     }
     Ok(())
 }
