@@ -9,7 +9,7 @@ use Rattle.mix_word.specs.Arithmetic.{ten_bytes_of}
 abbrev pub split_into : WordValue → WordValue → ℕ → WordValue × WordValue
 split_into a x n = (word a.sign (n / 64 ^ 5), word x.sign (n % 64 ^ 5))
 
--- ten bytes rotation_of in a circle, to the left by k of them
+-- ten bytes moved circularly, to the left by k of them
 abbrev pub rotation_of : ℕ → ℕ → ℕ
 rotation_of n k = n * 64 ^ k % 64 ^ 10 + n / 64 ^ (10 - k)
 

@@ -58,7 +58,7 @@ word_of_bytes s bytes = word s (magnitude_of_bytes 0 bytes)
 abbrev pub negation_of : WordValue → WordValue
 negation_of w = word (opposite w.sign) w.magnitude
 
--- what an instruction word says: bytes 1 and 2 as one number, and bytes 3, 4 and 5
+-- the parts of an instruction word: bytes 1 and 2 as one number, and bytes 3, 4 and 5
 abbrev pub parts_of : WordValue → Parts
 parts_of w =
     record {

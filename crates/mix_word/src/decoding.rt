@@ -63,7 +63,7 @@ fn found(op: Operation, code: u8, f: u8) -> Decoded
 }
 
 // The pair names no operation.
-#[tactic(auto, using(crate::proofs::TableLemmas::unsaid))]
+#[tactic(auto, using(crate::proofs::TableLemmas::names_none))]
 fn unknown(code: u8, f: u8) -> Decoded
     requires { (63 < code) ⊎ (40 ≤ code × code < 48 × 5 < f) ⊎ (48 ≤ code × code < 56 × 3 < f) }
     ensures { result ≡ decode_of code f }

@@ -6,8 +6,8 @@ ghost use Rattle.mix_word.specs.Table.{decode_of, operation_named, IsNamedBy};
 
 use crate::naming::LONGEST_NAME;
 
-/// A pair (C, F) names an operation (1.3.1) exactly where C is its code, F its F where F tells operations apart, and the pair no
-/// floating one.
+/// A pair (C, F) names an operation (1.3.1) exactly where C is its code, F is its normal F where F tells operations apart, and the
+/// pair is no floating one.
 pub fn decode_law()
     ensures { (c f : ℕ) (op : Operation) → (decode_of c f ≡ Named op) ↔ IsNamedBy op c f }
 {}

@@ -6,7 +6,7 @@ ghost use Rattle.mix_word.specs.Table.{decode_of};
 use crate::decoding::Decoded;
 use crate::register::DataReg;
 
-/// A shift: of rA alone, of rA and rX, or of both in a circle, to the left or to the right.
+/// A shift (1.3.1): of rA alone, of rA and rX, or of both circularly, to the left or to the right.
 #[derive(Clone, Copy, Debug, PartialEq, Eq, Hash)]
 pub enum ShiftKind {
     Sla,
@@ -17,7 +17,7 @@ pub enum ShiftKind {
     Src,
 }
 
-/// A jump that looks at no register: always, by the overflow toggle, or by the comparison indicator.
+/// A jump that looks at no register (1.3.1): always, by the overflow toggle, or by the comparison indicator.
 #[derive(Clone, Copy, Debug, PartialEq, Eq, Hash)]
 pub enum JumpKind {
     Jmp,
@@ -32,7 +32,7 @@ pub enum JumpKind {
     LessEqual,
 }
 
-/// What a jump asks of the number in a register.
+/// What a jump asks of the number in a register (1.3.1).
 #[derive(Clone, Copy, Debug, PartialEq, Eq, Hash)]
 pub enum Condition {
     Negative,

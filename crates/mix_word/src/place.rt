@@ -37,7 +37,7 @@ impl Place {
         }
     }
 
-    /// The number, 0 to 3999.
+    /// The number, 0 to 3999 (1.3.1).
     pub fn number(self) -> u16
         ensures is { result ≡ self }
         ensures bound { result < 4000 }

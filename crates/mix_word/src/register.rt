@@ -46,7 +46,7 @@ impl Reg {
         Reg::J,
     ];
 
-    /// The number, 0 to 8, in the order of `ALL`: rA, rX, rI1 to rI6, rJ.
+    /// The number of a register (1.3.1), 0 to 8, in the order of `ALL`: rA, rX, rI1 to rI6, rJ.
     pub fn number(self) -> u8
         ensures is { result ≡ number_of_register self }
         ensures listed { slice_get all_registers result ≡ Some self }
@@ -65,7 +65,7 @@ impl Reg {
         }
     }
 
-    /// The register of a number, 0 to 8, in the order of `ALL`, or none where there is no such number.
+    /// The register of a number (1.3.1), 0 to 8 in the order of `ALL`, or none where the number is 9 or more.
     pub fn numbered(n: u8) -> Option<Reg>
         ensures is { result ≡ slice_get all_registers n }
         ensures law { (r : Reg) → (result ≡ Some r) ↔ (number_of_register r ≡ n) }
@@ -73,7 +73,7 @@ impl Reg {
         Reg::ALL.get(usize::from(n)).copied()
     }
 
-    /// The name: `A`, `X`, `I1` to `I6`, `J`.
+    /// The name without the r that the book puts before it (1.3.1): `A`, `X`, `I1` to `I6`, `J`.
     pub fn name(self) -> &'static str
         ensures is { result.now ≡ name_of_register self }
         ensures named { register_named result.now ≡ Some self }
@@ -91,7 +91,7 @@ impl Reg {
         }
     }
 
-    /// The register of a name, in capitals as it is given, or none where no register has it.
+    /// The register of such a name (1.3.1), in capitals as it is given, or none where no register has it.
     pub fn named(name: &[u8]) -> Option<Reg>
         ensures is { result ≡ register_named name.now }
         ensures law { (r : Reg) → (result ≡ Some r) ↔ (name_of_register r ≡ name.now) }
@@ -144,7 +144,7 @@ impl DataReg {
         }
     }
 
-    /// The register itself.
+    /// The register itself (1.3.1).
     pub fn reg(self) -> Reg
         ensures { result ≡ reg_of self }
     {

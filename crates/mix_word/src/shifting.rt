@@ -6,8 +6,8 @@ use crate::arithmetic::{lower, ten_bytes, upper};
 use crate::operation::ShiftKind;
 use crate::word::Word;
 
-/// The words `a` and `x` shift_of by `m` bytes (1.3.1), whose signs stay. SLA and SRA move `a` alone, SLAX and SRAX the ten bytes of
-/// both, and SLC and SRC turn these in a circle. Where bytes go out, zeros come in.
+/// The words `a` and `x` shifted by `m` bytes (1.3.1), whose signs stay. SLA and SRA move `a` alone, SLAX and SRAX the ten bytes of
+/// both, and SLC and SRC move these circularly. Where bytes go out, zeros come in.
 pub fn shift(k: ShiftKind, a: Word, x: Word, m: u16) -> (Word, Word)
     ensures { result ≡ shift_of k a x m }
 {
@@ -59,7 +59,7 @@ fn right(number: u64, m: u16) -> u64
     if m < 10 { number >> (6 * m) } else { 0 }
 }
 
-// Ten bytes rotation_of to the left.
+// Ten bytes moved circularly to the left.
 #[tactic(auto, using(crate::proofs::ShiftLemmas::moves))]
 fn turn(number: u64, k: u16) -> u64
     requires number { number < 64 ^ 10 }

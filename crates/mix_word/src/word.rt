@@ -4,7 +4,7 @@ ghost use Rattle.mix_word.specs.Word.{word, zero_word, byte_of, negation_of, num
 
 use std::marker::Model;
 
-/// The sign of a word.
+/// The sign of a word (1.3.1).
 #[derive(Clone, Copy, Debug, PartialEq, Eq, Hash)]
 pub enum Sign {
     Plus,
@@ -20,7 +20,7 @@ pub enum Cmp {
 }
 
 impl Sign {
-    /// The other sign.
+    /// The other sign (1.3.1).
     pub fn opposite(self) -> Sign
         ensures { result ≡ opposite self }
     {
@@ -71,10 +71,10 @@ pub struct Parts {
 }
 
 impl Word {
-    /// +0.
+    /// +0 (1.3.1).
     pub const ZERO: Word = Word { bits: 0 };
 
-    /// The word of this sign and magnitude, which is below 64^5.
+    /// The word of this sign and magnitude, which is below 64^5 (1.3.1).
     pub fn of(sign: Sign, magnitude: u32) -> Word
         requires { magnitude < 64 ^ 5 }
         ensures { result ≡ word sign magnitude }
@@ -87,7 +87,7 @@ impl Word {
         }
     }
 
-    /// The sign.
+    /// The sign (1.3.1), of a zero too.
     pub fn sign(self) -> Sign
         ensures { result ≡ self.sign }
     {
@@ -98,7 +98,7 @@ impl Word {
         }
     }
 
-    /// The magnitude, below 64^5.
+    /// The magnitude, below 64^5 (1.3.1).
     pub fn magnitude(self) -> u32
         ensures is { result ≡ self.magnitude }
         ensures bound { result < 64 ^ 5 }
@@ -106,7 +106,7 @@ impl Word {
         self.bits & (SIGN_BIT - 1)
     }
 
-    /// Byte `i`, 1 to 5, from the most significant one on.
+    /// Byte `i`, 1 to 5 (1.3.1), from the most significant one on: below 64.
     #[tactic(auto, using(crate::proofs::Powers::byte_by_shift))]
     pub fn byte(self, i: u8) -> u8
         requires low { 1 ≤ i }
@@ -117,7 +117,7 @@ impl Word {
         byte_above(self.magnitude(), 6 * u32::from(5 - i))
     }
 
-    /// The word with the other sign.
+    /// The word with the other sign (1.3.1): of +0 it is -0.
     pub fn negated(self) -> Word
         ensures { result ≡ negation_of self }
     {

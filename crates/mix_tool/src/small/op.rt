@@ -3,7 +3,7 @@ ghost use Rattle.std.specs.Prelude.{◌≡◌};
 ghost use Rattle.std.specs.Str.{str_to_ascii_uppercase};
 ghost use Rattle.mix_tool.specs.Statement.{is_of_profile, op_named, takes_remark};
 
-use mix_word::{DataReg, Operation, named};
+use mix_word::{DataReg, LONGEST_NAME, Operation, long_name_law, named};
 
 /// What stands in the place of OP: an operation of the profile, or END.
 #[derive(Clone, Copy, Debug, PartialEq, Eq)]
@@ -12,15 +12,13 @@ pub(crate) enum Op {
     End,
 }
 
-/// How long the longest name of an operation is.
-const LONGEST_NAME: usize = 4;
-
 /// What a name says in the place of OP, in either case of letters, or `None` where it says nothing.
 #[tactic(auto, using(crate::proofs::ShortNames::long_name))]
 pub(crate) fn read_op(name: &[u8]) -> Option<Op>
     ensures { result ≡ op_named (str_to_ascii_uppercase name.now) }
 {
     if name.len() > LONGEST_NAME {
+        long_name_law();
         return None;
     }
     let mut letters = [0; LONGEST_NAME];

@@ -3,6 +3,7 @@ use crate::arithmetic::{add, div, mul, sub};
 use crate::comparison::compare;
 use crate::field::Field;
 use crate::word::{Cmp, Word};
+use std::cmp::Ordering;
 use std::process::Abort;
 
 const NEGATIVE_ZERO: Bytes = (Minus, [0, 0, 0, 0, 0]);
@@ -176,4 +177,18 @@ fn comparisons(rt: HostRuntime) {
     }
     let order = compare(Word::of(Minus, 0), Word::of(Plus, 0), Field::whole());
     assert_eq!(rt; order, Cmp::Equal, "-0 and +0");
+}
+
+const ORDERINGS: [(Cmp, Ordering); 3] = [
+    (Cmp::Less, Ordering::Less),
+    (Cmp::Equal, Ordering::Equal),
+    (Cmp::Greater, Ordering::Greater),
+];
+
+#[test]
+fn orderings(rt: HostRuntime) {
+    for (cmp, ordering) in ORDERINGS {
+        assert_eq!(rt; Ordering::from(cmp), ordering, "{cmp:?}");
+        assert_eq!(rt; Cmp::from(ordering), cmp, "{cmp:?}");
+    }
 }

@@ -3,6 +3,7 @@ use crate::display::Short;
 use crate::field::Field;
 use crate::place::Place;
 use crate::word::{Parts, Sign, Word};
+use std::collections::HashSet;
 use std::test::Fail;
 
 // The cell 2000 of the book's examples of LDA, and its field of each code.
@@ -66,6 +67,27 @@ fn fields_of_codes(rt: HostRuntime) {
     assert_eq!(rt; Some(Field::whole()), Field::of(5));
 }
 
+// The two ends, and the code of the field.
+const ENDS: [(u8, u8, Option<u8>); 9] = [
+    (0, 0, Some(0)),
+    (0, 5, Some(5)),
+    (1, 5, Some(13)),
+    (4, 4, Some(36)),
+    (5, 5, Some(45)),
+    (3, 2, None),
+    (0, 6, None),
+    (6, 6, None),
+    (255, 5, None),
+];
+
+#[test]
+fn fields_of_ends(rt: HostRuntime) {
+    for (left, right, want) in ENDS {
+        let code = Field::new(left, right).map(|f| f.code());
+        assert_eq!(rt; code, want, "({left}:{right})");
+    }
+}
+
 const PARTS: [(Parts, Bytes, u32); 2] = [
     (
         Parts {
@@ -118,6 +140,51 @@ fn two_zeros(rt: HostRuntime) {
     assert_eq!(rt; (negative.sign(), Sign::Plus.opposite()), (Minus, Minus));
 }
 
+// Words and the numbers that they stand for.
+const NUMBERS: [(Bytes, i32); 6] = [
+    ((Plus, [0, 0, 0, 0, 0]), 0),
+    ((Plus, [0, 0, 0, 1, 0]), 64),
+    ((Minus, [0, 0, 0, 1, 48]), -112),
+    ((Plus, [1, 0, 0, 0, 0]), 16_777_216),
+    ((Plus, [63, 63, 63, 63, 63]), 1_073_741_823),
+    ((Minus, [63, 63, 63, 63, 63]), -1_073_741_823),
+];
+
+#[test]
+fn numbers_of_words(rt: HostRuntime) {
+    for (bytes, n) in NUMBERS {
+        assert_eq!(rt; word(bytes).number(), n, "{bytes:?}");
+        if n.unsigned_abs() < 0x4000_0000 {
+            assert_eq!(rt; Word::of_number(n), word(bytes), "{bytes:?}");
+        } else {
+            assert!(rt; false, "{bytes:?}");
+        }
+    }
+    let zeros = (Word::ZERO, Word::ZERO.negated());
+    assert_eq!(rt; zeros, (Word::of(Plus, 0), Word::of(Minus, 0)));
+    assert_eq!(rt; zeros.1.number(), 0, "-0");
+}
+
+#[test]
+fn words_of_bytes(rt: HostRuntime) {
+    for (bytes, _) in NUMBERS {
+        assert_eq!(rt; word(bytes).bytes(), bytes.1, "{bytes:?}");
+        let [a, b, c, d, e] = bytes.1;
+        let low = [a % 64, b % 64, c % 64, d % 64, e % 64];
+        assert_eq!(rt; Word::from_bytes(bytes.0, low), word(bytes), "{bytes:?}");
+    }
+}
+
+#[test]
+fn zeros_are_two_keys(rt: HostRuntime) -> Result<(), Fail> {
+    let mut words = HashSet::new(rt.alloc());
+    words.insert(Word::ZERO)?;
+    words.insert(Word::ZERO.negated())?;
+    words.insert(Word::of_number(0))?;
+    assert_eq!(rt; words.len(), 2);
+    Ok(())
+}
+
 #[test]
 fn bytes_from_the_left(rt: HostRuntime) {
     let cell = word(CELL);
@@ -137,6 +204,8 @@ fn words_written(rt: HostRuntime) -> Result<(), Fail> {
         let text = format!(in rt.alloc(); "{}|{}", value, Short(value))?;
         let want = format!(in rt.alloc(); "{whole}|{short}")?;
         assert_eq!(rt; text.as_str(), want.as_str(), "{whole}");
+        let debugged = format!(in rt.alloc(); "{value:?}")?;
+        assert_eq!(rt; debugged.as_str(), whole, "{whole}");
     }
     Ok(())
 }
@@ -145,6 +214,10 @@ fn words_written(rt: HostRuntime) -> Result<(), Fail> {
 fn places(rt: HostRuntime) -> Result<(), Fail> {
     assert_eq!(rt; Place::of(3999).ok_or("a place")?.number(), 3999);
     assert_eq!(rt; Place::of(4000), None);
+    assert!(rt;
+        Place::of(9) < Place::of(10),
+        "places in the order of their numbers"
+    );
     assert_eq!(rt; number(-5), Word::of(Minus, 5));
     Ok(())
 }

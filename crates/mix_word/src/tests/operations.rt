@@ -1,9 +1,11 @@
 use super::table::{Row, table};
 use crate::decoding::{Decoded, decode};
-use crate::naming::named;
+use crate::laws::{decode_law, long_name_law};
+use crate::naming::{LONGEST_NAME, named};
 use crate::operation::Operation;
 use crate::register::{DataReg, Reg};
 use std::process::Abort;
+use std::test::Fail;
 
 #[test]
 fn rows_of_the_table(rt: HostRuntime) {
@@ -79,13 +81,32 @@ fn all_pairs(rt: HostRuntime) {
         }
     }
     assert_eq!(rt; decode(64, 0), Decoded::Unknown);
+    assert_eq!(rt; decode(0, 64), Decoded::Named(Operation::Nop), "any F");
     assert_eq!(rt;
         (Operation::Move.time(0), Operation::Move.time(63)),
         (1, 127)
     );
 }
 
-const REGISTERS: [(u8, Reg); 8] = [
+#[test]
+fn list_of_operations(rt: HostRuntime) -> Result<(), Fail> {
+    assert_eq!(rt; Operation::all().len(), 144);
+    for (op, row) in Operation::all().iter().zip(table().iter()) {
+        let text = format!(in rt.alloc(); "{op}")?;
+        assert_eq!(rt; text.as_str(), row.0, "in the order of the table");
+    }
+    decode_law();
+    long_name_law();
+    assert_eq!(rt;
+        named(b"SLAXX"),
+        None,
+        "no name of over {LONGEST_NAME} letters"
+    );
+    Ok(())
+}
+
+// The registers that operations take, from the first of eight codes on.
+const OFFSETS: [(u8, Reg); 8] = [
     (0, Reg::A),
     (1, Reg::I1),
     (2, Reg::I2),
@@ -97,9 +118,55 @@ const REGISTERS: [(u8, Reg); 8] = [
 ];
 
 #[test]
-fn registers(rt: HostRuntime) {
-    for (number, reg) in REGISTERS {
-        let data = DataReg::at_offset(number % 8);
-        assert_eq!(rt; (data.offset(), data.reg()), (number, reg));
+fn data_registers(rt: HostRuntime) {
+    for (offset, reg) in OFFSETS {
+        let data = DataReg::at_offset(offset % 8);
+        assert_eq!(rt; (data.offset(), data.reg()), (offset, reg));
     }
+}
+
+// The registers by number, with their names.
+const REGISTERS: [(u8, Reg, &str); 9] = [
+    (0, Reg::A, "A"),
+    (1, Reg::X, "X"),
+    (2, Reg::I1, "I1"),
+    (3, Reg::I2, "I2"),
+    (4, Reg::I3, "I3"),
+    (5, Reg::I4, "I4"),
+    (6, Reg::I5, "I5"),
+    (7, Reg::I6, "I6"),
+    (8, Reg::J, "J"),
+];
+
+#[test]
+fn registers(rt: HostRuntime) {
+    for (number, reg, name) in REGISTERS {
+        assert_eq!(rt; (reg.number(), reg.name()), (number, name), "{name}");
+        assert_eq!(rt; Reg::numbered(number), Some(reg), "{name}");
+        assert_eq!(rt; Reg::named(name.as_bytes()), Some(reg), "{name}");
+        assert_eq!(rt;
+            Reg::ALL.get(usize::from(number)).copied(),
+            Some(reg),
+            "{name}"
+        );
+    }
+}
+
+#[test]
+fn registers_written(rt: HostRuntime) -> Result<(), Fail> {
+    for (_, reg, name) in REGISTERS {
+        let text = format!(in rt.alloc(); "{reg}")?;
+        assert_eq!(rt; text.as_str(), name);
+    }
+    Ok(())
+}
+
+const NO_REGISTERS: [&str; 8] = ["", "I", "I0", "I7", "a", "i1", "rA", "J1"];
+
+#[test]
+fn other_registers(rt: HostRuntime) {
+    for name in NO_REGISTERS {
+        assert_eq!(rt; Reg::named(name.as_bytes()), None, "{name}");
+    }
+    assert_eq!(rt; (Reg::numbered(9), Reg::numbered(255)), (None, None));
 }
