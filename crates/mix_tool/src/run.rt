@@ -6,10 +6,10 @@ ghost use Rattle.mix_machine.specs.Loaded.{loaded};
 ghost use Rattle.mix_tool.specs.Fault.{asm_fault_text};
 ghost use Rattle.mix_tool.specs.declared.fault.DeckFault.{DeckFault};
 ghost use Rattle.mix_lines.specs.Lines.{lines};
-ghost use Rattle.mix_tool.specs.Assembly.{program_of};
-ghost use Rattle.mix_tool.specs.Deck.{deck_of};
-ghost use Rattle.mix_tool.specs.Output.{Meets, Ended, IsOwn, output, outcome_of, bundle_output, executed, replies};
-ghost use Rattle.mix_stream.specs.Stream.{AppendsFront, ConsumesAtMost};
+ghost use Rattle.mix_tool.specs.Assembly.{assembly, max_source_bytes, program_of};
+ghost use Rattle.mix_tool.specs.Deck.{deck_of, max_deck_bytes};
+ghost use Rattle.mix_tool.specs.Output.{Meets, Ended, IsOwn, output, outcome_of, bundle_output, executed, replies, max_script_bytes, max_bundle_bytes};
+ghost use Rattle.mix_stream.specs.Stream.{AppendsFront, ConsumesAtMost, CountsRead, CountsWrite};
 
 use crate::bundle::cut;
 use crate::deck::{MAX_DECK_BYTES, read_deck};
@@ -37,8 +37,7 @@ const COMMAND_REFUSED: u8 = 3;
 fn refuse_source<W: Out>(alloc: Global, fault: AsmFault, out: &mut W) -> Result<u8, ToolFault>
     requires { W.failed out.old < 2 ^ 64 - 1 }
     ensures output { Meets (Ended (asm_fault_text fault ++ 10 ∷ []) 1) result (W.told out.old) (W.told out.new) }
-    ensures write { (result ≡ Err ToolFault.Write) ↔ (W.failed out.new ≡ W.failed out.old + 1) }
-    ensures others { result ≢ Err ToolFault.Write → W.failed out.new ≡ W.failed out.old }
+    ensures write { CountsWrite (result ≡ Err ToolFault.Write) (W.failed out.old) (W.failed out.new) }
     ensures only { IfErr result IsOwn }
 {
     let line = fault_line(alloc, fault)?;
@@ -63,8 +62,7 @@ fn execute_lines<W: Out>(
     ensures said { let all = replies session.old.journal.first session.old.journal.changes (lines script.now) in
         IfOk result (λ accepted. (accepted ≡ all.accepted) × Appends (W.told out.old) (W.told out.new) all.bytes) }
     ensures begun { AppendsFront (W.told out.old) (W.told out.new) (replies session.old.journal.first session.old.journal.changes (lines script.now)).bytes }
-    ensures write { (result ≡ Err ToolFault.Write) ↔ (W.failed out.new ≡ W.failed out.old + 1) }
-    ensures others { result ≢ Err ToolFault.Write → W.failed out.new ≡ W.failed out.old }
+    ensures write { CountsWrite (result ≡ Err ToolFault.Write) (W.failed out.old) (W.failed out.new) }
     ensures only { IfErr result IsOwn }
 {
     let mut accepted = true;
@@ -90,8 +88,7 @@ fn execute<W: Out>(
 ) -> Result<u8, ToolFault>
     requires { W.failed out.old < 2 ^ 64 - 1 }
     ensures output { Meets (executed (loaded program.now.words.items program.now.start) script.now) result (W.told out.old) (W.told out.new) }
-    ensures write { (result ≡ Err ToolFault.Write) ↔ (W.failed out.new ≡ W.failed out.old + 1) }
-    ensures others { result ≢ Err ToolFault.Write → W.failed out.new ≡ W.failed out.old }
+    ensures write { CountsWrite (result ≡ Err ToolFault.Write) (W.failed out.old) (W.failed out.new) }
     ensures unread { result ≢ Err ToolFault.Read }
     ensures status { result ≢ Ok 1 }
     ensures deck { (f : DeckFault) → result ≢ Err (ToolFault.Deck f) }
@@ -118,8 +115,7 @@ fn run_parts<W: Out>(
 ) -> Result<u8, ToolFault>
     requires { W.failed out.old < 2 ^ 64 - 1 }
     ensures output { Meets (output source.now deck.now script.now) result (W.told out.old) (W.told out.new) }
-    ensures write { (result ≡ Err ToolFault.Write) ↔ (W.failed out.new ≡ W.failed out.old + 1) }
-    ensures others { result ≢ Err ToolFault.Write → W.failed out.new ≡ W.failed out.old }
+    ensures write { CountsWrite (result ≡ Err ToolFault.Write) (W.failed out.old) (W.failed out.new) }
     ensures unread { result ≢ Err ToolFault.Read }
 {
     match assemble(alloc, source) {
@@ -146,12 +142,12 @@ fn run_program<D: In, C: In, W: Out>(
     requires out_count { W.failed out.old < 2 ^ 64 - 1 }
     ensures output { (d t : List ℕ) → D.rest deck.old ≡ Some d → C.rest script.old ≡ Some t
         → Meets (outcome_of (Ok (program_of program.now)) (deck_of d) t) result (W.told out.old) (W.told out.new) }
-    ensures read { (result ≡ Err ToolFault.Read) ↔ (D.failed deck.old + C.failed script.old < D.failed deck.new + C.failed script.new) }
+    ensures read { CountsRead (result ≡ Err ToolFault.Read) (D.failed deck.old + C.failed script.old) (D.failed deck.new + C.failed script.new) }
     ensures reads { (D.failed deck.old ≤ D.failed deck.new) × (C.failed script.old ≤ C.failed script.new) }
-    ensures write { (result ≡ Err ToolFault.Write) ↔ (W.failed out.old < W.failed out.new) }
+    ensures write { CountsWrite (result ≡ Err ToolFault.Write) (W.failed out.old) (W.failed out.new) }
     ensures unread { result ≡ Err ToolFault.Read → Keeps (W.told out.old) (W.told out.new) }
-    ensures deck { ConsumesAtMost (D.rest deck.old) (D.rest deck.new) 33554433 }
-    ensures script { ConsumesAtMost (C.rest script.old) (C.rest script.new) 1048577 }
+    ensures deck { ConsumesAtMost (D.rest deck.old) (D.rest deck.new) (max_deck_bytes + 1) }
+    ensures script { ConsumesAtMost (C.rest script.old) (C.rest script.new) (max_script_bytes + 1) }
     ensures status { result ≢ Ok 1 }
     ensures deck_refused { (f : DeckFault) → result ≡ Err (ToolFault.Deck f) → script.new ≡ script.old }
 {
@@ -186,16 +182,16 @@ pub fn run_debug<S: In, D: In, C: In, W: Out>(
         → Meets (output s d t) result (W.told out.old) (W.told out.new) }
 
     // A read or a write has failed exactly where that is answered.
-    ensures read { (result ≡ Err ToolFault.Read) ↔ (S.failed source.old + D.failed deck.old + C.failed script.old
-        < S.failed source.new + D.failed deck.new + C.failed script.new) }
+    ensures read { CountsRead (result ≡ Err ToolFault.Read) (S.failed source.old + D.failed deck.old + C.failed script.old)
+        (S.failed source.new + D.failed deck.new + C.failed script.new) }
     ensures reads { (S.failed source.old ≤ S.failed source.new) × (D.failed deck.old ≤ D.failed deck.new) × (C.failed script.old ≤ C.failed script.new) }
-    ensures write { (result ≡ Err ToolFault.Write) ↔ (W.failed out.old < W.failed out.new) }
+    ensures write { CountsWrite (result ≡ Err ToolFault.Write) (W.failed out.old) (W.failed out.new) }
     ensures unread { result ≡ Err ToolFault.Read → Keeps (W.told out.old) (W.told out.new) }
 
     // Never more is read.
-    ensures source { ConsumesAtMost (S.rest source.old) (S.rest source.new) 1048577 }
-    ensures deck { ConsumesAtMost (D.rest deck.old) (D.rest deck.new) 33554433 }
-    ensures script { ConsumesAtMost (C.rest script.old) (C.rest script.new) 1048577 }
+    ensures source { ConsumesAtMost (S.rest source.old) (S.rest source.new) (max_source_bytes + 1) }
+    ensures deck { ConsumesAtMost (D.rest deck.old) (D.rest deck.new) (max_deck_bytes + 1) }
+    ensures script { ConsumesAtMost (C.rest script.old) (C.rest script.new) (max_script_bytes + 1) }
 
     // After a refusal nothing else is read.
     ensures source_refused { result ≡ Ok 1 → (deck.new ≡ deck.old) × (script.new ≡ script.old) }
@@ -221,13 +217,12 @@ pub fn run_bundle<R: In, W: Out>(alloc: Global, input: &mut R, out: &mut W) -> R
     ensures output { (b : List ℕ) → R.rest input.old ≡ Some b → Meets (bundle_output b) result (W.told out.old) (W.told out.new) }
 
     // A read or a write has failed exactly where that is answered.
-    ensures read { (result ≡ Err ToolFault.Read) ↔ (R.failed input.old < R.failed input.new) }
-    ensures reads { R.failed input.old ≤ R.failed input.new }
-    ensures write { (result ≡ Err ToolFault.Write) ↔ (W.failed out.old < W.failed out.new) }
+    ensures read { CountsRead (result ≡ Err ToolFault.Read) (R.failed input.old) (R.failed input.new) }
+    ensures write { CountsWrite (result ≡ Err ToolFault.Write) (W.failed out.old) (W.failed out.new) }
     ensures unread { result ≡ Err ToolFault.Read → Keeps (W.told out.old) (W.told out.new) }
 
     // Never more is read.
-    ensures input { ConsumesAtMost (R.rest input.old) (R.rest input.new) 41943041 }
+    ensures input { ConsumesAtMost (R.rest input.old) (R.rest input.new) (max_bundle_bytes + 1) }
 {
     let bundle = read_up_to(alloc, input, MAX_BUNDLE_BYTES + 1)?;
     if bundle.len() > MAX_BUNDLE_BYTES {
