@@ -1,9 +1,10 @@
 //! The runs of the program: a source, a deck and a script, each from a reader of its own or all in one bundle.
 
-ghost use Rattle.std.specs.Prelude.{◌≡◌, ◌≢◌, ◌<◌, ◌≤◌, ◌+◌, ◌-◌, ◌^◌, ◌↔◌, ◌++◌, ◌&&◌, [], ◌∷◌, ℕ, List, Some, Ok, Err, IfOk, IfErr, string_bytes};
+ghost use Rattle.std.specs.Prelude.{◌≡◌, ◌⊎◌, drop, ◌≢◌, ◌<◌, ◌≤◌, ◌+◌, ◌-◌, ◌^◌, ◌↔◌, ◌++◌, ◌&&◌, [], ◌∷◌, ℕ, List, Some, Ok, Err, IfOk, IfErr, string_bytes};
 ghost use Rattle.std.specs.Io.KnownBytes.{Appends, Keeps};
 ghost use Rattle.mix_machine.specs.Loaded.{loaded};
 ghost use Rattle.mix_tool.specs.Fault.{asm_fault_text};
+ghost use Rattle.mix_tool.specs.declared.fault.AsmFault.{AsmFault};
 ghost use Rattle.mix_tool.specs.declared.fault.DeckFault.{DeckFault};
 ghost use Rattle.mix_lines.specs.Lines.{lines};
 ghost use Rattle.mix_tool.specs.Assembly.{assembly, max_source_bytes, program_of};
@@ -150,6 +151,10 @@ fn run_program<D: In, C: In, W: Out>(
     ensures script { ConsumesAtMost (C.rest script.old) (C.rest script.new) (max_script_bytes + 1) }
     ensures status { result ≢ Ok 1 }
     ensures deck_refused { (f : DeckFault) → result ≡ Err (ToolFault.Deck f) → script.new ≡ script.old }
+    ensures bad_deck { (d : List ℕ) (f : DeckFault) → D.rest deck.old ≡ Some d → deck_of d ≡ Err f → script.new ≡ script.old }
+    ensures deck_failed { D.failed deck.old < D.failed deck.new → script.new ≡ script.old }
+    ensures script_in_turn { (d : List ℕ) → D.rest deck.old ≡ Some d
+        → (script.new ≡ script.old) ⊎ (D.rest deck.new ≡ Some (drop (max_deck_bytes + 1) d)) }
 {
     let devices = read_up_to(alloc, deck, MAX_DECK_BYTES + 1)?;
     read_deck(&devices)?;
@@ -158,9 +163,9 @@ fn run_program<D: In, C: In, W: Out>(
 }
 
 /// Assembles a source, reads a deck and a script, and executes the script on the loaded machine. The status is 0 where each command
-/// was accepted, 3 where one was refused, and 1 where the source is refused: then its first fault is written, and nothing else is
-/// read. At most 1,048,577 bytes of the source are read, 33,554,433 of the deck and 1,048,577 of the script, all of them before the
-/// first byte is written.
+/// was accepted, 3 where one was refused, and 1 where the source is refused: then its first fault is written. At most 1,048,577
+/// bytes of the source are read, 33,554,433 of the deck and 1,048,577 of the script, all of them before the first byte is written;
+/// the deck is read after the source, and the script after the deck. After a refusal or a read that failed nothing else is read.
 ///
 /// It fails with T1 where memory is refused, with T2 or T3 where a read or the write fails, with T5 where the deck is refused, and with
 /// T6 where the script is over 1,048,576 bytes. After T1 and T3 a beginning of the output stands written, after the others nothing.
@@ -196,6 +201,20 @@ pub fn run_debug<S: In, D: In, C: In, W: Out>(
     // After a refusal nothing else is read.
     ensures source_refused { result ≡ Ok 1 → (deck.new ≡ deck.old) × (script.new ≡ script.old) }
     ensures deck_refused { (f : DeckFault) → result ≡ Err (ToolFault.Deck f) → script.new ≡ script.old }
+
+    // Nor is it after a source or a deck that is to be refused, whatever the call answers.
+    ensures bad_source { (s : List ℕ) (f : AsmFault) → S.rest source.old ≡ Some s → assembly s ≡ Err f → (deck.new ≡ deck.old) × (script.new ≡ script.old) }
+    ensures bad_deck { (d : List ℕ) (f : DeckFault) → D.rest deck.old ≡ Some d → deck_of d ≡ Err f → script.new ≡ script.old }
+
+    // Nor after a read that failed.
+    ensures source_failed { S.failed source.old < S.failed source.new → (deck.new ≡ deck.old) × (script.new ≡ script.old) }
+    ensures deck_failed { D.failed deck.old < D.failed deck.new → script.new ≡ script.old }
+
+    // Each is read when the one before it has been read up to its end or its limit.
+    ensures in_turn { (s : List ℕ) → S.rest source.old ≡ Some s
+        → ((deck.new ≡ deck.old) × (script.new ≡ script.old)) ⊎ (S.rest source.new ≡ Some (drop (max_source_bytes + 1) s)) }
+    ensures script_in_turn { (d : List ℕ) → D.rest deck.old ≡ Some d
+        → (script.new ≡ script.old) ⊎ (D.rest deck.new ≡ Some (drop (max_deck_bytes + 1) d)) }
 {
     let text = read_up_to(alloc, source, MAX_SOURCE_BYTES + 1)?;
     match assemble(alloc, &text) {
