@@ -1,8 +1,10 @@
 -- What is refused for its length alone is told from its first bytes, one more than it may have.
-use Rattle.std.proofs.Common.{◌≡◌, ℕ, suc, ◌<◌, ◌≤◌, Bool, true, false, cond, ltb, List, length, take, refl, arith}
+use Rattle.std.proofs.Common.{◌≡◌, ℕ, suc, ◌<◌, ◌≤◌, Bool, true, false, cond, ltb, List, length, take, Ok, Err, refl, ap, ◌∙◌, arith}
 use Rattle.std.proofs.lemmas.Bool.{lt-ltb, ltb-true, ltb-false}
 use Rattle.std.proofs.lemmas.List.{take_all, length-take-le}
-use Rattle.mix_tool.specs.Assembly.{assembly_from, assembly}
+use Rattle.mix_tool.specs.Assembly.{ProgramValue, assembly_from, assembly}
+use Rattle.mix_tool.specs.declared.fault.AsmFault.{AsmFault}
+use Rattle.mix_tool.specs.declared.fault.DeckFault.{DeckFault}
 use Rattle.mix_tool.specs.Deck.{deck_from, deck_of}
 use Rattle.mix_lines.specs.Lines.{lines}
 
@@ -29,5 +31,14 @@ deck_of-take bytes = limited-take 33554432 _ (λ text. deck_from 1 (lines text))
 pub assembly-take : (source : List ℕ) → assembly (take 1048577 source) ≡ assembly source
 unfolding assembly
 assembly-take source = limited-take 1048576 _ (λ text. assembly_from 1 0 (lines text)) source
+
+-- a deck whose first bytes are taken is not refused
+pub deck-taken : (deck read : List ℕ) (fault : DeckFault) → read ≡ take 33554433 deck → Ok tt ≡ deck_of read → deck_of deck ≡ Err fault → ⊥
+deck-taken deck read fault e taken refused = let same : deck_of read ≡ deck_of deck = ap deck_of e ∙ deck_of-take deck in cc
+
+-- nor is a source
+pub source-taken : (source read : List ℕ) (program : ProgramValue) (fault : AsmFault) → read ≡ take 1048577 source → assembly read ≡ Ok program
+    → assembly source ≡ Err fault → ⊥
+source-taken source read program fault e taken refused = let same : assembly read ≡ assembly source = ap assembly e ∙ assembly-take source in cc
 
 pub ruleset truncations = (deck_of-take, assembly-take)

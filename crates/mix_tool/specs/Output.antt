@@ -16,13 +16,13 @@ use Rattle.mix_tool.specs.declared.fault.DeckFault.{DeckFault}
 use Rattle.mix_tool.specs.declared.fault.ToolFault.{ToolFault}
 use Rattle.mix_tool.specs.declared.fault.ToolFault.TheVariants as faults
 
--- the bytes of a script at the most
-abbrev pub script_limit : ℕ
-script_limit = 1048576
+-- how many bytes a script may have
+abbrev pub max_script_bytes : ℕ
+max_script_bytes = 1048576
 
--- the bytes of a bundle at the most
-abbrev pub bundle_limit : ℕ
-bundle_limit = 41943040
+-- how many bytes a bundle may have
+abbrev pub max_bundle_bytes : ℕ
+max_bundle_bytes = 41943040
 
 -- how a run ends: with these bytes and this status, or, with no byte written, for its deck or the length of its input
 pub data Outcome : Type 0 where
@@ -50,7 +50,7 @@ status_of accepted = if accepted then 0 else 3
 -- the script, from no change on the loaded machine
 unfoldable pub executed : WorldState → List ℕ → Outcome
 executed base script =
-    if nat_lt script_limit (length script) then TooLong
+    if nat_lt max_script_bytes (length script) then TooLong
     else (let said = replies base [] (lines script) in Ended said.bytes (status_of said.accepted))
 
 -- an assembled program, with its deck and its script
@@ -66,7 +66,7 @@ output source deck script = outcome_of (assembly source) (deck_of deck) script
 -- a bundle, cut into its parts
 unfoldable pub bundle_output : List ℕ → Outcome
 bundle_output input =
-    if nat_lt bundle_limit (length input) then TooLong
+    if nat_lt max_bundle_bytes (length input) then TooLong
     else (let parts = cut_of input in output parts.source parts.deck parts.script)
 
 -- the bytes that an outcome writes

@@ -1,15 +1,16 @@
 //! The runs of the program: a source, a deck and a script, each from a reader of its own or all in one bundle.
 
-ghost use Rattle.std.specs.Prelude.{◌≡◌, ◌≢◌, ◌<◌, ◌≤◌, ◌+◌, ◌-◌, ◌^◌, ◌↔◌, ◌++◌, ◌&&◌, [], ◌∷◌, ℕ, List, Some, Ok, Err, IfOk, IfErr, string_bytes};
+ghost use Rattle.std.specs.Prelude.{◌≡◌, ◌⊎◌, drop, ◌≢◌, ◌<◌, ◌≤◌, ◌+◌, ◌-◌, ◌^◌, ◌↔◌, ◌++◌, ◌&&◌, [], ◌∷◌, ℕ, List, Some, Ok, Err, IfOk, IfErr, string_bytes};
 ghost use Rattle.std.specs.Io.KnownBytes.{Appends, Keeps};
 ghost use Rattle.mix_machine.specs.Loaded.{loaded};
 ghost use Rattle.mix_tool.specs.Fault.{asm_fault_text};
+ghost use Rattle.mix_tool.specs.declared.fault.AsmFault.{AsmFault};
 ghost use Rattle.mix_tool.specs.declared.fault.DeckFault.{DeckFault};
 ghost use Rattle.mix_lines.specs.Lines.{lines};
-ghost use Rattle.mix_tool.specs.Assembly.{program_of};
-ghost use Rattle.mix_tool.specs.Deck.{deck_of};
-ghost use Rattle.mix_tool.specs.Output.{Meets, Ended, IsOwn, output, outcome_of, bundle_output, executed, replies};
-ghost use Rattle.mix_stream.specs.Stream.{AppendsFront, ConsumesAtMost};
+ghost use Rattle.mix_tool.specs.Assembly.{assembly, max_source_bytes, program_of};
+ghost use Rattle.mix_tool.specs.Deck.{deck_of, max_deck_bytes};
+ghost use Rattle.mix_tool.specs.Output.{Meets, Ended, IsOwn, output, outcome_of, bundle_output, executed, replies, max_script_bytes, max_bundle_bytes};
+ghost use Rattle.mix_stream.specs.Stream.{AppendsFront, ConsumesAtMost, CountsRead, CountsWrite};
 
 use crate::bundle::cut;
 use crate::deck::{MAX_DECK_BYTES, read_deck};
@@ -37,8 +38,7 @@ const COMMAND_REFUSED: u8 = 3;
 fn refuse_source<W: Out>(alloc: Global, fault: AsmFault, out: &mut W) -> Result<u8, ToolFault>
     requires { W.failed out.old < 2 ^ 64 - 1 }
     ensures output { Meets (Ended (asm_fault_text fault ++ 10 ∷ []) 1) result (W.told out.old) (W.told out.new) }
-    ensures write { (result ≡ Err ToolFault.Write) ↔ (W.failed out.new ≡ W.failed out.old + 1) }
-    ensures others { result ≢ Err ToolFault.Write → W.failed out.new ≡ W.failed out.old }
+    ensures write { CountsWrite (result ≡ Err ToolFault.Write) (W.failed out.old) (W.failed out.new) }
     ensures only { IfErr result IsOwn }
 {
     let line = fault_line(alloc, fault)?;
@@ -63,8 +63,7 @@ fn execute_lines<W: Out>(
     ensures said { let all = replies session.old.journal.first session.old.journal.changes (lines script.now) in
         IfOk result (λ accepted. (accepted ≡ all.accepted) × Appends (W.told out.old) (W.told out.new) all.bytes) }
     ensures begun { AppendsFront (W.told out.old) (W.told out.new) (replies session.old.journal.first session.old.journal.changes (lines script.now)).bytes }
-    ensures write { (result ≡ Err ToolFault.Write) ↔ (W.failed out.new ≡ W.failed out.old + 1) }
-    ensures others { result ≢ Err ToolFault.Write → W.failed out.new ≡ W.failed out.old }
+    ensures write { CountsWrite (result ≡ Err ToolFault.Write) (W.failed out.old) (W.failed out.new) }
     ensures only { IfErr result IsOwn }
 {
     let mut accepted = true;
@@ -90,8 +89,7 @@ fn execute<W: Out>(
 ) -> Result<u8, ToolFault>
     requires { W.failed out.old < 2 ^ 64 - 1 }
     ensures output { Meets (executed (loaded program.now.words.items program.now.start) script.now) result (W.told out.old) (W.told out.new) }
-    ensures write { (result ≡ Err ToolFault.Write) ↔ (W.failed out.new ≡ W.failed out.old + 1) }
-    ensures others { result ≢ Err ToolFault.Write → W.failed out.new ≡ W.failed out.old }
+    ensures write { CountsWrite (result ≡ Err ToolFault.Write) (W.failed out.old) (W.failed out.new) }
     ensures unread { result ≢ Err ToolFault.Read }
     ensures status { result ≢ Ok 1 }
     ensures deck { (f : DeckFault) → result ≢ Err (ToolFault.Deck f) }
@@ -118,8 +116,7 @@ fn run_parts<W: Out>(
 ) -> Result<u8, ToolFault>
     requires { W.failed out.old < 2 ^ 64 - 1 }
     ensures output { Meets (output source.now deck.now script.now) result (W.told out.old) (W.told out.new) }
-    ensures write { (result ≡ Err ToolFault.Write) ↔ (W.failed out.new ≡ W.failed out.old + 1) }
-    ensures others { result ≢ Err ToolFault.Write → W.failed out.new ≡ W.failed out.old }
+    ensures write { CountsWrite (result ≡ Err ToolFault.Write) (W.failed out.old) (W.failed out.new) }
     ensures unread { result ≢ Err ToolFault.Read }
 {
     match assemble(alloc, source) {
@@ -146,14 +143,18 @@ fn run_program<D: In, C: In, W: Out>(
     requires out_count { W.failed out.old < 2 ^ 64 - 1 }
     ensures output { (d t : List ℕ) → D.rest deck.old ≡ Some d → C.rest script.old ≡ Some t
         → Meets (outcome_of (Ok (program_of program.now)) (deck_of d) t) result (W.told out.old) (W.told out.new) }
-    ensures read { (result ≡ Err ToolFault.Read) ↔ (D.failed deck.old + C.failed script.old < D.failed deck.new + C.failed script.new) }
+    ensures read { CountsRead (result ≡ Err ToolFault.Read) (D.failed deck.old + C.failed script.old) (D.failed deck.new + C.failed script.new) }
     ensures reads { (D.failed deck.old ≤ D.failed deck.new) × (C.failed script.old ≤ C.failed script.new) }
-    ensures write { (result ≡ Err ToolFault.Write) ↔ (W.failed out.old < W.failed out.new) }
+    ensures write { CountsWrite (result ≡ Err ToolFault.Write) (W.failed out.old) (W.failed out.new) }
     ensures unread { result ≡ Err ToolFault.Read → Keeps (W.told out.old) (W.told out.new) }
-    ensures deck { ConsumesAtMost (D.rest deck.old) (D.rest deck.new) 33554433 }
-    ensures script { ConsumesAtMost (C.rest script.old) (C.rest script.new) 1048577 }
+    ensures deck { ConsumesAtMost (D.rest deck.old) (D.rest deck.new) (max_deck_bytes + 1) }
+    ensures script { ConsumesAtMost (C.rest script.old) (C.rest script.new) (max_script_bytes + 1) }
     ensures status { result ≢ Ok 1 }
     ensures deck_refused { (f : DeckFault) → result ≡ Err (ToolFault.Deck f) → script.new ≡ script.old }
+    ensures bad_deck { (d : List ℕ) (f : DeckFault) → D.rest deck.old ≡ Some d → deck_of d ≡ Err f → script.new ≡ script.old }
+    ensures deck_failed { D.failed deck.old < D.failed deck.new → script.new ≡ script.old }
+    ensures script_in_turn { (d : List ℕ) → D.rest deck.old ≡ Some d
+        → (script.new ≡ script.old) ⊎ (D.rest deck.new ≡ Some (drop (max_deck_bytes + 1) d)) }
 {
     let devices = read_up_to(alloc, deck, MAX_DECK_BYTES + 1)?;
     read_deck(&devices)?;
@@ -162,9 +163,9 @@ fn run_program<D: In, C: In, W: Out>(
 }
 
 /// Assembles a source, reads a deck and a script, and executes the script on the loaded machine. The status is 0 where each command
-/// was accepted, 3 where one was refused, and 1 where the source is refused: then its first fault is written, and nothing else is
-/// read. At most 1,048,577 bytes of the source are read, 33,554,433 of the deck and 1,048,577 of the script, all of them before the
-/// first byte is written.
+/// was accepted, 3 where one was refused, and 1 where the source is refused: then its first fault is written. At most 1,048,577
+/// bytes of the source are read, 33,554,433 of the deck and 1,048,577 of the script, all of them before the first byte is written;
+/// the deck is read after the source, and the script after the deck. After a refusal or a read that failed nothing else is read.
 ///
 /// It fails with T1 where memory is refused, with T2 or T3 where a read or the write fails, with T5 where the deck is refused, and with
 /// T6 where the script is over 1,048,576 bytes. After T1 and T3 a beginning of the output stands written, after the others nothing.
@@ -186,20 +187,34 @@ pub fn run_debug<S: In, D: In, C: In, W: Out>(
         → Meets (output s d t) result (W.told out.old) (W.told out.new) }
 
     // A read or a write has failed exactly where that is answered.
-    ensures read { (result ≡ Err ToolFault.Read) ↔ (S.failed source.old + D.failed deck.old + C.failed script.old
-        < S.failed source.new + D.failed deck.new + C.failed script.new) }
+    ensures read { CountsRead (result ≡ Err ToolFault.Read) (S.failed source.old + D.failed deck.old + C.failed script.old)
+        (S.failed source.new + D.failed deck.new + C.failed script.new) }
     ensures reads { (S.failed source.old ≤ S.failed source.new) × (D.failed deck.old ≤ D.failed deck.new) × (C.failed script.old ≤ C.failed script.new) }
-    ensures write { (result ≡ Err ToolFault.Write) ↔ (W.failed out.old < W.failed out.new) }
+    ensures write { CountsWrite (result ≡ Err ToolFault.Write) (W.failed out.old) (W.failed out.new) }
     ensures unread { result ≡ Err ToolFault.Read → Keeps (W.told out.old) (W.told out.new) }
 
     // Never more is read.
-    ensures source { ConsumesAtMost (S.rest source.old) (S.rest source.new) 1048577 }
-    ensures deck { ConsumesAtMost (D.rest deck.old) (D.rest deck.new) 33554433 }
-    ensures script { ConsumesAtMost (C.rest script.old) (C.rest script.new) 1048577 }
+    ensures source { ConsumesAtMost (S.rest source.old) (S.rest source.new) (max_source_bytes + 1) }
+    ensures deck { ConsumesAtMost (D.rest deck.old) (D.rest deck.new) (max_deck_bytes + 1) }
+    ensures script { ConsumesAtMost (C.rest script.old) (C.rest script.new) (max_script_bytes + 1) }
 
     // After a refusal nothing else is read.
     ensures source_refused { result ≡ Ok 1 → (deck.new ≡ deck.old) × (script.new ≡ script.old) }
     ensures deck_refused { (f : DeckFault) → result ≡ Err (ToolFault.Deck f) → script.new ≡ script.old }
+
+    // Nor is it after a source or a deck that is to be refused, whatever the call answers.
+    ensures bad_source { (s : List ℕ) (f : AsmFault) → S.rest source.old ≡ Some s → assembly s ≡ Err f → (deck.new ≡ deck.old) × (script.new ≡ script.old) }
+    ensures bad_deck { (d : List ℕ) (f : DeckFault) → D.rest deck.old ≡ Some d → deck_of d ≡ Err f → script.new ≡ script.old }
+
+    // Nor after a read that failed.
+    ensures source_failed { S.failed source.old < S.failed source.new → (deck.new ≡ deck.old) × (script.new ≡ script.old) }
+    ensures deck_failed { D.failed deck.old < D.failed deck.new → script.new ≡ script.old }
+
+    // Each is read when the one before it has been read up to its end or its limit.
+    ensures in_turn { (s : List ℕ) → S.rest source.old ≡ Some s
+        → ((deck.new ≡ deck.old) × (script.new ≡ script.old)) ⊎ (S.rest source.new ≡ Some (drop (max_source_bytes + 1) s)) }
+    ensures script_in_turn { (d : List ℕ) → D.rest deck.old ≡ Some d
+        → (script.new ≡ script.old) ⊎ (D.rest deck.new ≡ Some (drop (max_deck_bytes + 1) d)) }
 {
     let text = read_up_to(alloc, source, MAX_SOURCE_BYTES + 1)?;
     match assemble(alloc, &text) {
@@ -221,13 +236,12 @@ pub fn run_bundle<R: In, W: Out>(alloc: Global, input: &mut R, out: &mut W) -> R
     ensures output { (b : List ℕ) → R.rest input.old ≡ Some b → Meets (bundle_output b) result (W.told out.old) (W.told out.new) }
 
     // A read or a write has failed exactly where that is answered.
-    ensures read { (result ≡ Err ToolFault.Read) ↔ (R.failed input.old < R.failed input.new) }
-    ensures reads { R.failed input.old ≤ R.failed input.new }
-    ensures write { (result ≡ Err ToolFault.Write) ↔ (W.failed out.old < W.failed out.new) }
+    ensures read { CountsRead (result ≡ Err ToolFault.Read) (R.failed input.old) (R.failed input.new) }
+    ensures write { CountsWrite (result ≡ Err ToolFault.Write) (W.failed out.old) (W.failed out.new) }
     ensures unread { result ≡ Err ToolFault.Read → Keeps (W.told out.old) (W.told out.new) }
 
     // Never more is read.
-    ensures input { ConsumesAtMost (R.rest input.old) (R.rest input.new) 41943041 }
+    ensures input { ConsumesAtMost (R.rest input.old) (R.rest input.new) (max_bundle_bytes + 1) }
 {
     let bundle = read_up_to(alloc, input, MAX_BUNDLE_BYTES + 1)?;
     if bundle.len() > MAX_BUNDLE_BYTES {

@@ -1,6 +1,7 @@
 -- What was read of the source is all that the outcome looks at.
 use Rattle.std.proofs.Common.{◌∙◌}
 use Rattle.mix_tool.proofs.RunLemmas.{Meets-refused, Meets-source, ConsumesAtMost-none}
+use Rattle.mix_tool.proofs.Truncation.{source-taken}
 use Rattle.mix_tool.proofs.run.run_debug.Goals as goal
 
 pub returns-in-Err-Memory-clause-deck : goal.returns-in-Err-Memory-clause-deck
@@ -23,3 +24,7 @@ returns-in-Err-Fault-clause-script g c = ConsumesAtMost-none _ _
 pub returns-clause-output : goal.returns-clause-output
 returns-clause-output g c s d t hs hd ht =
     Meets-source s _ d t _ _ _ _ (c.deref.ensures.value ∙ (c.in_ok-text.ensures.whole s hs).0) c.in-Ok.ensures.ok (c.run_program.ensures.output d t hd ht)
+
+pub returns-clause-bad_source : goal.returns-clause-bad_source
+returns-clause-bad_source g c s f hs refused =
+    absurd (source-taken s _ _ f (c.deref.ensures.value ∙ (c.in_ok-text.ensures.whole s hs).0) c.in-Ok.ensures.ok refused)
