@@ -33,3 +33,6 @@ impl<T> Counted<T> {
         Failed
     }
 }
+
+#[cfg(test)]
+mod tests;

@@ -1,7 +1,6 @@
 use crate::fake::{Chunks, Sink};
 use crate::{Counted, Failed, In, Out, ReadFault, read_up_to, write_all};
 use std::io;
-use std::io::{ErrorKind, Read};
 use std::test::Fail;
 
 const TEXT: &[u8] = b"abcdefghij";
@@ -86,47 +85,4 @@ fn stops_at_a_failed_write(rt: HostRuntime) {
         assert_eq!(rt; sink.bytes(), written, "call {call} of {size}");
         assert_eq!(rt; sink.failures(), 1, "call {call} of {size}");
     }
-}
-
-#[test]
-fn counts_no_failure_of_memory(rt: HostRuntime) -> Result<(), Fail> {
-    let mut source = Counted::of(TEXT);
-    let mut buffer = [0; 4];
-    assert_eq!(rt; source.failures(), 0);
-    assert_eq!(rt; In::read(&mut source, &mut buffer), Ok(4));
-    assert_eq!(rt; buffer, *b"abcd");
-    assert_eq!(rt; source.failures(), 0);
-    let mut sink = Counted::of(Vec::new(rt.alloc()));
-    assert_eq!(rt; Out::write(&mut sink, b"xyz"), Ok(3));
-    assert_eq!(rt; sink.failures(), 0);
-    assert_eq!(rt; sink.inner.as_slice(), b"xyz".as_slice());
-    Ok(())
-}
-
-/// A device that is broken: each of its calls fails.
-#[derive(Drop)]
-struct Broken;
-
-impl Read for Broken {
-    fn read(&mut self, _buf: &mut [u8]) -> io::Result<usize> {
-        Err(io::Error::from(ErrorKind::Interrupted))
-    }
-}
-
-#[test]
-fn counts_each_error(rt: HostRuntime) {
-    let mut source = Counted::of(Broken);
-    let mut buffer = [0; 4];
-    assert_eq!(rt; source.read(&mut buffer), Err(Failed));
-    assert_eq!(rt; source.read(&mut buffer), Err(Failed));
-    assert_eq!(rt; source.failures(), 2);
-}
-
-#[test]
-fn counts_a_write_that_takes_nothing(rt: HostRuntime) {
-    let mut room = [0; 2];
-    let mut sink = Counted::of(room.as_mut_slice());
-    assert_eq!(rt; sink.write(b"xyz"), Ok(2));
-    assert_eq!(rt; sink.write(b"z"), Err(Failed));
-    assert_eq!(rt; sink.failures(), 1);
 }
