@@ -9,8 +9,8 @@ use Rattle.mix_machine.specs.World.{WorldState}
 use Rattle.mix_machine.specs.Do.{does, is_halt_next}
 use Rattle.mix_machine.specs.declared.old.Change.{Change}
 use Rattle.mix_machine.specs.declared.old.Change.TheVariants.{Step}
-use Rattle.mix_tool.specs.Reply.{ran_text}
-use Rattle.mix_tool.specs.Command.{stepped, steps_done, is_accepted, world_after, least_below, with_steps, is_halted, end_at, fault_end, Begun}
+use Rattle.mix_tool.specs.Reply.{ran_text, told_of_end}
+use Rattle.mix_tool.specs.Command.{effect_of_step, count_of_steps, world_after, least_below, with_steps, is_halt_last, end_at, fault_end, Begun}
 use Rattle.mix_tool.specs.declared.reply.End.{End}
 use Rattle.mix_tool.specs.declared.reply.End.TheVariants.{Halt, Limit}
 
@@ -31,23 +31,23 @@ pub with_steps-next : (changes : List Change) (k : ℕ) → with_steps changes k
 with_steps-next changes k = append_assoc changes (replicate k Step) (Step ∷ []) ∙ ap (λ steps. changes ++ steps) (sym (replicate_next k Step))
 
 -- the step after k others is a halt where the machine stands before one
-pub is_halted-next : (base world : WorldState) (changes : List Change) (k : ℕ) → replay does base (with_steps changes k) ≡ Some world →
-    is_halted base changes (k + 1) ≡ is_halt_next world
-is_halted-next base world changes k e =
+pub is_halt_last-next : (base world : WorldState) (changes : List Change) (k : ℕ) → replay does base (with_steps changes k) ≡ Some world →
+    is_halt_last base changes (k + 1) ≡ is_halt_next world
+is_halt_last-next base world changes k e =
     let one : (k + 1) - 1 ≡ k = omega arith in
     let here = world_after-is base world (with_steps changes k) e in
     let some : ltb 0 (k + 1) ≡ true = grind (arith, nat_tests) in
     rw (some, one, here) refl
 
-pub end_at-halt : (base : WorldState) (changes : List Change) (n k : ℕ) → is_halted base changes k ≡ true → end_at base changes n k ≡ Some Halt
+pub end_at-halt : (base : WorldState) (changes : List Change) (n k : ℕ) → is_halt_last base changes k ≡ true → end_at base changes n k ≡ Some Halt
 unfolding end_at
 end_at-halt base changes n k halted = rw halted refl
 
-pub end_at-limit : (base : WorldState) (changes : List Change) (n : ℕ) → is_halted base changes n ≡ false → end_at base changes n n ≡ Some Limit
+pub end_at-limit : (base : WorldState) (changes : List Change) (n : ℕ) → is_halt_last base changes n ≡ false → end_at base changes n n ≡ Some Limit
 unfolding end_at
 end_at-limit base changes n halted = let same : eqb n n ≡ true = grind (arith, nat_tests) in rw (halted, same) refl
 
-pub end_at-step : (base world : WorldState) (changes : List Change) (n k : ℕ) → is_halted base changes k ≡ false → k < n →
+pub end_at-step : (base world : WorldState) (changes : List Change) (n k : ℕ) → is_halt_last base changes k ≡ false → k < n →
     replay does base (with_steps changes k) ≡ Some world → end_at base changes n k ≡ fault_end (does world Step)
 unfolding end_at
 end_at-step base world changes n k halted below e =
@@ -60,18 +60,18 @@ pub stands_after : (base first world : WorldState) (changes now : List Change) (
 stands_after base first world changes now k e f g = rw (← e, ← f) g
 
 -- one more step was done, so no end held before it
-pub none_before-next : (base world next : WorldState) (changes : List Change) (n k : ℕ) → is_halted base changes k ≡ false → k < n →
+pub none_before-next : (base world next : WorldState) (changes : List Change) (n k : ℕ) → is_halt_last base changes k ≡ false → k < n →
     replay does base (with_steps changes k) ≡ Some world → does world Step ≡ Ok next →
     ((j : ℕ) → j < k → end_at base changes n j ≡ None) → (j : ℕ) → j < k + 1 → end_at base changes n j ≡ None
 none_before-next base world next changes n k halted below e given before =
     below_more (λ j. end_at base changes n j ≡ None) k before (end_at-step base world changes n k halted below e ∙ ap fault_end given)
 
 -- so many steps are done and this end holds, with none before it: that is what `step` does
-pub stepped-is : (base first world : WorldState) (changes now : List Change) (n k : ℕ) (end : End) → first ≡ base → now ≡ with_steps changes k →
+pub effect_of_step-is : (base first world : WorldState) (changes now : List Change) (n k : ℕ) (end : End) → first ≡ base → now ≡ with_steps changes k →
     replay does first now ≡ Some world → k ≤ n → end_at base changes n k ≡ Some end → ((j : ℕ) → j < k → end_at base changes n j ≡ None) →
-    stepped base changes n ≡ record { changes = now; reply = ran_text k world.loc world.clock end; accepted = is_accepted end }
-unfolding stepped steps_done
-stepped-is base first world changes now n k end same steps e within holds before =
+    effect_of_step base changes n ≡ record { changes = now; reply = ran_text k world.loc world.clock end; told = told_of_end end }
+unfolding effect_of_step count_of_steps
+effect_of_step-is base first world changes now n k end same steps e within holds before =
     let count : least_below n (λ j. is_some (end_at base changes n j)) ≡ k =
     least_below-is n k (λ j. is_some (end_at base changes n j)) within (λ _. ap is_some holds) (λ j below. ap is_some (before j below)) in
     let here = world_after-is base world (with_steps changes k) (stands_after base first world changes now k same steps e) in
@@ -87,8 +87,8 @@ least_below-beyond (suc n) (suc k) p within below =
 
 -- k of the steps, with no end before them
 pub Begun-steps : (base : WorldState) (changes now : List Change) (n k : ℕ) → now ≡ with_steps changes k → k ≤ n →
-    ((j : ℕ) → j < k → end_at base changes n j ≡ None) → Begun changes (stepped base changes n).changes now
-unfolding stepped steps_done
+    ((j : ℕ) → j < k → end_at base changes n j ≡ None) → Begun changes (effect_of_step base changes n).changes now
+unfolding effect_of_step count_of_steps
 Begun-steps base changes now n k e within before =
     let d = least_below n (λ j. is_some (end_at base changes n j)) in
     let more : k ≤ d = least_below-beyond n k (λ j. is_some (end_at base changes n j)) within (λ j below. ap is_some (before j below)) in

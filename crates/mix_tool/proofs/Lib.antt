@@ -2,6 +2,7 @@ mod AssemblyLemmas
 mod CommandLemmas
 mod CutLemmas
 mod EmptyLines
+mod ReplyLemmas
 mod RunLemmas
 mod ShortNames
 mod Truncation

@@ -1,13 +1,12 @@
 -- A script goes on by one line: what was written so far and the replies to the lines that are left stay the replies to all.
-use Rattle.std.proofs.Common.{◌≡◌, ℕ, List, [], ◌∷◌, ◌++◌, ◌&&◌, Bool, true, false, Option, None, Some, Result, Ok, Err, ◌-◌, ◌<◌, ◌≤◌, refl, sym, ap, ◌∙◌, append_assoc, length, eqb, take, arith}
+use Rattle.std.proofs.Common.{◌≡◌, ℕ, List, [], ◌∷◌, ◌++◌, true, Option, None, Some, Result, Ok, Err, ◌-◌, ◌<◌, ◌≤◌, refl, sym, ap, ◌∙◌, append_assoc, length, eqb, take, arith}
 use Rattle.std.proofs.lemmas.Bool.{eqb-true, lt-ltb, le-ltb}
-use Rattle.std.proofs.Math.Bool.{and-false, and-true}
 use Rattle.std.proofs.lemmas.List.{append-nil}
 use Rattle.std.specs.Io.KnownBytes.{Appends, Keeps}
 use Rattle.mix_machine.specs.Loaded.{loaded}
 use Rattle.mix_machine.specs.World.{WorldState}
 use Rattle.mix_machine.specs.declared.old.Change.{Change}
-use Rattle.mix_tool.specs.Command.{command, told_of}
+use Rattle.mix_tool.specs.Command.{command}
 use Rattle.mix_lines.specs.Lines.{lines, lines-nil}
 use Rattle.mix_tool.specs.Output.{Outcome, Meets, outcome_of, replies, executed, bundle_output, output, status_of, TooLong, Ended}
 use Rattle.mix_stream.specs.Stream.{AppendsFront, ConsumesAtMost}
@@ -23,7 +22,9 @@ use Rattle.mix_tool.specs.declared.fault.ToolFault.TheVariants as faults
 use Rattle.mix_stream.specs.declared.input.ReadFault.{ReadFault}
 use Rattle.mix_stream.specs.declared.input.ReadFault.TheVariants as reads
 use Rattle.mix_tool.proofs.Truncation.{limited-take, deck_of-take, assembly-take}
-use Rattle.mix_tool.specs.declared.session.Told.TheVariants.{Accepted, Refused}
+use Rattle.mix_tool.specs.Reply.{told_of_both}
+use Rattle.mix_tool.specs.declared.reply.Told.{Told}
+use Rattle.mix_tool.specs.declared.reply.Told.TheVariants.{Accepted, Refused}
 use Rattle.mix_tool.proofs.Written.{Appends-then, Appends-same, Appends-nothing, AppendsFront-after}
 
 -- one line more is written
@@ -52,32 +53,22 @@ begun-at base first changes line rest after a b c whole same split so_far reply 
     AppendsFront-after a b c so_far.0 said (replies base (command base changes line).changes (lines after)).bytes whole so_far.1 reply_here
     (so_far.2 ∙ ap (λ t. so_far.0 ++ t) (rw split refl))
 
-told-refused : (b : Bool) → Refused ≡ told_of b → b ≡ false
-told-refused true e = cc
-told-refused false e = refl
+both-assoc : (a b c : Told) → told_of_both (told_of_both a b) c ≡ told_of_both a (told_of_both b c)
+both-assoc Accepted b c = refl
+both-assoc Refused b c = refl
 
-told-accepted : (b : Bool) → Accepted ≡ told_of b → b ≡ true
-told-accepted true e = refl
-told-accepted false e = cc
+both-accepted : (a : Told) → told_of_both a Accepted ≡ a
+both-accepted Accepted = refl
+both-accepted Refused = refl
 
--- the line was accepted
-pub accepted-next : (base first : WorldState) (changes next : List Change) (line rest after : List ℕ) (so_far whole : Bool) →
+-- what was reported so far, and of the lines that are left, is reported of all; so it is after one line more
+pub told-next : (base first : WorldState) (changes next : List Change) (line rest after : List ℕ) (so_far one whole : Told) →
     first ≡ base → lines rest ≡ line ∷ lines after → next ≡ (command first changes line).changes →
-    (so_far && (replies base changes (lines rest)).accepted) ≡ whole → Accepted ≡ told_of (command first changes line).accepted →
-    (so_far && (replies base next (lines after)).accepted) ≡ whole
-accepted-next base first changes next line rest after so_far whole same split changed before told =
-    let yes : (command base changes line).accepted ≡ true = rw same at (told-accepted _ told) in
-    let rest_said : (replies base changes (lines rest)).accepted ≡ (replies base next (lines after)).accepted = rw (split, changed, same, yes) refl in
-    ap (λ t. so_far && t) (sym rest_said) ∙ before
-
--- the line was refused
-pub refused-next : (base first : WorldState) (changes : List Change) (line rest after : List ℕ) (so_far whole : Bool) →
-    first ≡ base → lines rest ≡ line ∷ lines after →
-    (so_far && (replies base changes (lines rest)).accepted) ≡ whole → Refused ≡ told_of (command first changes line).accepted → false ≡ whole
-refused-next base first changes line rest after so_far whole same split before told =
-    let no : (command base changes line).accepted ≡ false = rw same at (told-refused _ told) in
-    let rest_said : (replies base changes (lines rest)).accepted ≡ false = rw (split, no) refl in
-    sym (and-false so_far) ∙ ap (λ t. so_far && t) (sym rest_said) ∙ before
+    told_of_both so_far (replies base changes (lines rest)).told ≡ whole → one ≡ (command first changes line).told →
+    told_of_both (told_of_both so_far one) (replies base next (lines after)).told ≡ whole
+told-next base first changes next line rest after so_far one whole same split changed before here =
+    let rest_told : (replies base changes (lines rest)).told ≡ told_of_both one (replies base next (lines after)).told = rw (split, changed, here, same) refl in
+    both-assoc so_far one (replies base next (lines after)).told ∙ ap (told_of_both so_far) (sym rest_told) ∙ before
 
 -- no line is left
 pub all-said : (base : WorldState) (changes : List Change) (a b : Option (List ℕ)) (whole rest : List ℕ) → rest ≡ [] →
@@ -85,10 +76,10 @@ pub all-said : (base : WorldState) (changes : List Change) (a b : Option (List �
 all-said base changes a b whole rest none so_far =
     Appends-same a b so_far.0 whole (sym (so_far.2 ∙ (rw (none, lines-nil) (append-nil so_far.0)))) so_far.1
 
-pub all-accepted : (base : WorldState) (changes : List Change) (so_far whole : Bool) (rest : List ℕ) → rest ≡ [] →
-    (so_far && (replies base changes (lines rest)).accepted) ≡ whole → so_far ≡ whole
-all-accepted base changes so_far whole rest none before =
-    sym (and-true so_far) ∙ (rw (none, lines-nil) at before)
+pub all-told : (base : WorldState) (changes : List Change) (so_far whole : Told) (rest : List ℕ) → rest ≡ [] →
+    told_of_both so_far (replies base changes (lines rest)).told ≡ whole → so_far ≡ whole
+all-told base changes so_far whole rest none before =
+    sym (both-accepted so_far) ∙ (rw (none, lines-nil) at before)
 
 -- a list of length 0
 pub nil-from_length : (xs : List ℕ) → true ≡ eqb (length xs) 0 → xs ≡ []
@@ -99,7 +90,7 @@ nil-from_length (x ∷ xs) e = absurd (omega (arith, eqb-true (length (x ∷ xs)
 pub executed-take : (base : WorldState) (script : List ℕ) → executed base (take 1048577 script) ≡ executed base script
 unfolding executed
 executed-take base script =
-    limited-take 1048576 TooLong (λ text. let said = replies base [] (lines text) in Ended said.bytes (status_of said.accepted)) script
+    limited-take 1048576 TooLong (λ text. let all = replies base [] (lines text) in Ended all.bytes (status_of all.told)) script
 
 -- a bundle is told from its first 41,943,041 bytes
 pub bundle_output-take : (bundle : List ℕ) → bundle_output (take 41943041 bundle) ≡ bundle_output bundle

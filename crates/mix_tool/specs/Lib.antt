@@ -3,8 +3,10 @@ pub mod Command
 pub mod Cut
 pub mod Deck
 pub mod Fault
+pub mod Keyword
 pub mod Output
 pub mod Reply
 pub mod Request
 pub mod Statement
+pub mod Then
 pub mod Wrapped

@@ -1,5 +1,5 @@
 -- What the tool writes and the status with which it ends: a function of the source, the deck and the script.
-use Rattle.std.specs.Prelude.{◌≡◌, ℕ, Option, List, [], ◌∷◌, ◌++◌, ◌&&◌, Bool, true, Result, Ok, Err, length, nat_lt, if◌then◌else◌}
+use Rattle.std.specs.Prelude.{◌≡◌, ℕ, Option, List, [], ◌∷◌, ◌++◌, Result, Ok, Err, length, nat_lt, if◌then◌else◌}
 use Rattle.std.specs.Io.KnownBytes.{Appends, Keeps}
 use Rattle.mix_machine.specs.World.{WorldState}
 use Rattle.mix_machine.specs.Loaded.{loaded}
@@ -11,10 +11,13 @@ use Rattle.mix_tool.specs.Deck.{deck_of}
 use Rattle.mix_tool.specs.Fault.{asm_fault_text}
 use Rattle.mix_lines.specs.Lines.{lines}
 use Rattle.mix_stream.specs.Stream.{AppendsFront}
+use Rattle.mix_tool.specs.Reply.{told_of_both}
 use Rattle.mix_tool.specs.declared.fault.AsmFault.{AsmFault}
 use Rattle.mix_tool.specs.declared.fault.DeckFault.{DeckFault}
 use Rattle.mix_tool.specs.declared.fault.ToolFault.{ToolFault}
 use Rattle.mix_tool.specs.declared.fault.ToolFault.TheVariants as faults
+use Rattle.mix_tool.specs.declared.reply.Told.{Told}
+use Rattle.mix_tool.specs.declared.reply.Told.TheVariants.{Accepted, Refused}
 
 -- how many bytes a script may have
 abbrev pub max_script_bytes : ℕ
@@ -30,28 +33,29 @@ pub data Outcome : Type 0 where
   DeckRefused : DeckFault → Outcome
   TooLong : Outcome
 
--- what a script says, and whether each command was accepted
-pub record Said : Type 0 where
+-- the replies to a script, and whether each command is accepted
+pub record Replies : Type 0 where
   pub bytes : List ℕ
-  pub accepted : Bool
+  pub told : Told
 
 -- the replies to the lines, one after the other, each from the changes that the ones before it left
-abbrev pub replies : WorldState → List Change → List (List ℕ) → Said
-replies base changes [] = record { bytes = []; accepted = true }
+abbrev pub replies : WorldState → List Change → List (List ℕ) → Replies
+replies base changes [] = record { bytes = []; told = Accepted }
 replies base changes (line ∷ rest) =
     let effect = command base changes line in
     let more = replies base effect.changes rest in
-    record { bytes = effect.reply ++ more.bytes; accepted = effect.accepted && more.accepted }
+    record { bytes = effect.reply ++ more.bytes; told = told_of_both effect.told more.told }
 
--- the status of a script: 0 where each command was accepted, else 3
-abbrev pub status_of : Bool → ℕ
-status_of accepted = if accepted then 0 else 3
+-- the status of a script: 0 where each command is accepted, else 3
+abbrev pub status_of : Told → ℕ
+status_of Accepted = 0
+status_of Refused = 3
 
 -- the script, from no change on the loaded machine
 unfoldable pub executed : WorldState → List ℕ → Outcome
 executed base script =
     if nat_lt max_script_bytes (length script) then TooLong
-    else (let said = replies base [] (lines script) in Ended said.bytes (status_of said.accepted))
+    else (let all = replies base [] (lines script) in Ended all.bytes (status_of all.told))
 
 -- an assembled program, with its deck and its script
 unfoldable pub outcome_of : Result ProgramValue AsmFault → Result (Unit {0}) DeckFault → List ℕ → Outcome

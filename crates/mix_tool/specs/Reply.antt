@@ -1,16 +1,34 @@
 -- What the commands say: lines of bytes, in a form of this project's own.
-use Rattle.std.specs.Prelude.{ℕ, ◌/◌, ◌%◌, List, [], ◌∷◌, ◌++◌, Bool, true, false, codes}
+use Rattle.std.specs.Prelude.{ℕ, ◌/◌, ◌%◌, List, [], ◌∷◌, ◌++◌, Bool, true, false, codes, replicate, length, flat_map, ◌-◌}
 use Rattle.std.specs.Fmt.{decimal}
 use Rattle.mix_word.specs.Word.{WordValue}
 use Rattle.mix_word.specs.Text.{word_text, short_text}
 use Rattle.mix_word.specs.declared.word.Cmp.{Cmp}
 use Rattle.mix_word.specs.declared.word.Cmp.TheVariants.{Less, Equal, Greater}
-use Rattle.mix_machine.specs.World.{WorldState}
+use Rattle.mix_word.specs.Register.{all_registers, name_of_register}
+use Rattle.mix_word.specs.declared.register.Reg.{Reg}
+use Rattle.mix_word.specs.declared.register.Reg.TheVariants as reg
+use Rattle.mix_machine.specs.World.{WorldState, register_of}
 use Rattle.mix_machine.specs.Fault.{shown as machine_fault_text}
 use Rattle.mix_tool.specs.Fault.{refusal_text}
 use Rattle.mix_tool.specs.declared.fault.Refusal.{Refusal}
 use Rattle.mix_tool.specs.declared.reply.End.{End}
 use Rattle.mix_tool.specs.declared.reply.End.TheVariants.{Halt, Limit, Fault}
+use Rattle.mix_tool.specs.declared.reply.Told.{Told}
+use Rattle.mix_tool.specs.declared.reply.Told.TheVariants.{Accepted, Refused}
+use Rattle.mix_tool.specs.declared.request.Topic.{Topic}
+use Rattle.mix_tool.specs.declared.request.Topic.TheVariants.{Registers}
+
+-- whether `step` is accepted: only a fault refuses
+abbrev pub told_of_end : End → Told
+told_of_end Halt = Accepted
+told_of_end Limit = Accepted
+told_of_end (Fault f) = Refused
+
+-- of two commands: accepted where both are
+abbrev pub told_of_both : Told → Told → Told
+told_of_both Accepted next = next
+told_of_both Refused next = Refused
 
 -- a location, in four digits
 unfoldable pub location_text : ℕ → List ℕ
@@ -52,18 +70,28 @@ cmp_text Greater = codes "G"
 unfoldable pub flags_text : WorldState → List ℕ
 flags_text w = codes "over " ++ over_text w.over ++ codes " cmp " ++ cmp_text w.cmp ++ codes " loc " ++ stand_text w.loc w.clock ++ 10 ∷ []
 
--- an index register or rJ, under its name
-abbrev pub short_line : List ℕ → WordValue → List ℕ
-short_line name word = name ++ short_text word ++ 10 ∷ []
+-- what a register holds: five bytes of rA and rX, two of the others
+abbrev pub value_text : Reg → WordValue → List ℕ
+value_text reg.A word = word_text word
+value_text reg.X word = word_text word
+value_text reg.I1 word = short_text word
+value_text reg.I2 word = short_text word
+value_text reg.I3 word = short_text word
+value_text reg.I4 word = short_text word
+value_text reg.I5 word = short_text word
+value_text reg.I6 word = short_text word
+value_text reg.J word = short_text word
 
--- the index registers and rJ
-unfoldable pub shorts_text : WorldState → List ℕ
-shorts_text w =
-    short_line (codes "I1 ") w.i1 ++ short_line (codes "I2 ") w.i2 ++ short_line (codes "I3 ") w.i3
-    ++ (short_line (codes "I4 ") w.i4 ++ short_line (codes "I5 ") w.i5 ++ short_line (codes "I6 ") w.i6)
-    ++ short_line (codes "J  ") w.j
+-- a register: its name, left in two places, a blank, and what it holds
+abbrev pub register_line : WorldState → Reg → List ℕ
+register_line w r =
+    let name = name_of_register r in
+    name ++ replicate (2 - length name) 32 ++ codes " " ++ value_text r (register_of w r) ++ 10 ∷ []
 
 -- the reply of `show regs`
 unfoldable pub registers_text : WorldState → List ℕ
-registers_text w =
-    codes "A  " ++ word_text w.a ++ 10 ∷ [] ++ (codes "X  " ++ word_text w.x ++ 10 ∷ []) ++ shorts_text w ++ flags_text w
+registers_text w = flat_map (register_line w) all_registers ++ flags_text w
+
+-- the reply of `show`
+abbrev pub topic_text : Topic → WorldState → List ℕ
+topic_text Registers w = registers_text w

@@ -2,8 +2,10 @@
 #![tactic(auto)]
 
 mod bundle;
+mod command;
 mod deck;
 mod fault;
+mod keyword;
 mod reply;
 mod request;
 mod run;

@@ -1,13 +1,41 @@
-//! The texts of the replies.
+//! The replies: what is written, and whether the command is accepted.
 
-ghost use Rattle.std.specs.Prelude.{◌≡◌, ◌++◌, ◌∷◌, [], Some, IfOk, string_bytes};
-ghost use Rattle.mix_tool.specs.Reply.{location_text, stand_text, end_text, ran_text, back_text, refused_text, over_text, cmp_text, flags_text, shorts_text, registers_text};
+ghost use Rattle.std.specs.Prelude.{◌≡◌, ◌++◌, ◌∷◌, [], Some, IfOk, string_bytes, flat_map};
+ghost use Rattle.mix_word.specs.Register.{all_registers};
+ghost use Rattle.mix_tool.specs.Reply.{location_text, stand_text, end_text, ran_text, back_text, refused_text, over_text, cmp_text, flags_text, value_text, register_line, registers_text, topic_text, told_of_end, told_of_both};
 
 use crate::fault::Refusal;
+use crate::request::Topic;
 use mix_machine::{Cmp, MixFault, Reg, World};
-use mix_word::Short;
+use mix_word::{Short, Word};
 use std::alloc::{AllocError, Global};
 use std::fmt;
+
+/// What became of a command.
+#[derive(Clone, Copy, Debug, PartialEq, Eq)]
+pub enum Told {
+    Accepted,
+    Refused,
+}
+
+impl Told {
+    /// Accepted where both are.
+    pub(crate) fn and(self, next: Told) -> Told
+        ensures { result ≡ told_of_both self next }
+    {
+        match self {
+            Told::Accepted => next,
+            Told::Refused => Told::Refused,
+        }
+    }
+}
+
+/// What a command writes, and what became of it.
+#[derive(Drop)]
+pub(crate) struct Reply {
+    pub text: String,
+    pub told: Told,
+}
 
 /// Why `step` did no more steps.
 #[derive(Clone, Copy, Debug, PartialEq, Eq)]
@@ -15,6 +43,18 @@ pub(crate) enum End {
     Halt,
     Limit,
     Fault(MixFault),
+}
+
+impl End {
+    /// Only a fault refuses.
+    pub(crate) fn told(self) -> Told
+        ensures { result ≡ told_of_end self }
+    {
+        match self {
+            End::Halt | End::Limit => Told::Accepted,
+            End::Fault(_) => Told::Refused,
+        }
+    }
 }
 
 impl fmt::Display for End {
@@ -142,42 +182,71 @@ impl fmt::Display for Flags<'_> {
     }
 }
 
-/// The lines of the index registers and of rJ.
+/// A register and what it holds.
 #[derive(Clone, Copy)]
-struct Shorts<'a>(&'a World);
+struct Register(Reg, Word);
 
-impl fmt::Display for Shorts<'_> {
-    ghost output = { λ s. Some (shorts_text s.0.now) };
+impl fmt::Display for Register {
+    ghost output = { λ r. Some (value_text r.0 r.1) };
 
-    #[tactic(auto, unfolding(crate::specs::Reply::shorts_text))]
     fn fmt<W: fmt::Write>(&self, f: &mut fmt::Formatter<W>) -> fmt::Result {
-        let world = self.0;
-        let short = |r| Short(world.register(r));
-        write!(
-            f,
-            "I1 {}\nI2 {}\nI3 {}\n",
-            short(Reg::I1),
-            short(Reg::I2),
-            short(Reg::I3)
-        )?;
-        write!(
-            f,
-            "I4 {}\nI5 {}\nI6 {}\n",
-            short(Reg::I4),
-            short(Reg::I5),
-            short(Reg::I6)
-        )?;
-        write!(f, "J  {}\n", short(Reg::J))
+        let word = self.1;
+        match self.0 {
+            Reg::A | Reg::X => write!(f, "{word}"),
+            Reg::I1 | Reg::I2 | Reg::I3 | Reg::I4 | Reg::I5 | Reg::I6 | Reg::J => {
+                write!(f, "{}", Short(word))
+            }
+        }
     }
 }
 
-/// The lines of `show regs`.
+/// The line of a register.
+#[derive(Clone, Copy)]
+struct RegisterLine<'a>(&'a World, Reg);
+
+impl fmt::Display for RegisterLine<'_> {
+    ghost output = { λ l. Some (register_line l.0.now l.1) };
+
+    fn fmt<W: fmt::Write>(&self, f: &mut fmt::Formatter<W>) -> fmt::Result {
+        let name = self.1.name();
+        let value = Register(self.1, self.0.register(self.1));
+        write!(f, "{name:<2} {value}\n")
+    }
+}
+
+/// The lines of the registers.
+#[derive(Clone, Copy)]
+struct Registers<'a>(&'a World);
+
+impl fmt::Display for Registers<'_> {
+    ghost output = { λ s. Some (flat_map (register_line s.0.now) all_registers) };
+
+    fn fmt<W: fmt::Write>(&self, f: &mut fmt::Formatter<W>) -> fmt::Result {
+        for register in Reg::ALL {
+            let line = RegisterLine(self.0, register);
+            write!(f, "{line}")?;
+        }
+        Ok(())
+    }
+}
+
+/// The lines of `show`.
+pub(crate) fn topic_lines(alloc: Global, topic: Topic, world: &World) -> Result<String, AllocError>
+    ensures { IfOk result (λ s. string_bytes s ≡ topic_text topic world.now) }
+{
+    match topic {
+        Topic::Registers => registers_lines(alloc, world),
+    }
+}
+
 #[tactic(auto, unfolding(crate::specs::Reply::registers_text))]
-pub(crate) fn registers_lines(alloc: Global, world: &World) -> Result<String, AllocError>
+fn registers_lines(alloc: Global, world: &World) -> Result<String, AllocError>
     ensures { IfOk result (λ s. string_bytes s ≡ registers_text world.now) }
 {
-    let (a, x) = (world.register(Reg::A), world.register(Reg::X));
-    let (shorts, flags) = (Shorts(world), Flags(world));
-    let text = format!(in alloc; "A  {a}\nX  {x}\n{shorts}{flags}")?;
+    let (registers, flags) = (Registers(world), Flags(world));
+    let text = format!(in alloc; "{registers}{flags}")?;
     Ok(text)
 }
+
+#[cfg(test)]
+mod tests;

@@ -9,13 +9,14 @@ ghost use Rattle.mix_tool.specs.declared.fault.DeckFault.{DeckFault};
 ghost use Rattle.mix_lines.specs.Lines.{lines};
 ghost use Rattle.mix_tool.specs.Assembly.{assembly, max_source_bytes, program_of};
 ghost use Rattle.mix_tool.specs.Deck.{deck_of, max_deck_bytes};
-ghost use Rattle.mix_tool.specs.Output.{Meets, Ended, IsOwn, output, outcome_of, bundle_output, executed, replies, max_script_bytes, max_bundle_bytes};
+ghost use Rattle.mix_tool.specs.Output.{Meets, Ended, IsOwn, output, outcome_of, bundle_output, executed, replies, status_of, max_script_bytes, max_bundle_bytes};
 ghost use Rattle.mix_stream.specs.Stream.{AppendsFront, ConsumesAtMost, CountsRead, CountsWrite};
 
 use crate::bundle::cut;
 use crate::deck::{MAX_DECK_BYTES, read_deck};
 use crate::fault::{AsmFault, ToolFault};
-use crate::session::{Session, Told};
+use crate::reply::Told;
+use crate::session::Session;
 use crate::small::{MAX_SOURCE_BYTES, Program, assemble};
 use mix_lines::split_line;
 use mix_stream::{In, Out, read_up_to, write_all};
@@ -53,30 +54,36 @@ fn fault_line(alloc: Global, fault: AsmFault) -> Result<String, Memory>
     Ok(text)
 }
 
-// The lines of a script, one after the other, and whether each was accepted.
+// The lines of a script, one after the other; accepted where each is.
 fn execute_lines<W: Out>(
     session: &mut Session,
     script: &[u8],
     out: &mut W,
-) -> Result<bool, ToolFault>
+) -> Result<Told, ToolFault>
     requires { W.failed out.old < 2 ^ 64 - 1 }
-    ensures said { let all = replies session.old.journal.first session.old.journal.changes (lines script.now) in
-        IfOk result (λ accepted. (accepted ≡ all.accepted) × Appends (W.told out.old) (W.told out.new) all.bytes) }
+    ensures replies { let all = replies session.old.journal.first session.old.journal.changes (lines script.now) in
+        IfOk result (λ told. (told ≡ all.told) × Appends (W.told out.old) (W.told out.new) all.bytes) }
     ensures begun { AppendsFront (W.told out.old) (W.told out.new) (replies session.old.journal.first session.old.journal.changes (lines script.now)).bytes }
     ensures write { CountsWrite (result ≡ Err ToolFault.Write) (W.failed out.old) (W.failed out.new) }
     ensures only { IfErr result IsOwn }
 {
-    let mut accepted = true;
+    let mut told = Told::Accepted;
     let mut rest = script;
     while !rest.is_empty() {
         let (line, after) = split_line(rest);
-        match session.command(line, out)? {
-            Told::Accepted => {}
-            Told::Refused => accepted = false,
-        }
+        told = told.and(session.command(line, out)?);
         rest = after;
     }
-    Ok(accepted)
+    Ok(told)
+}
+
+fn status(told: Told) -> u8
+    ensures { result ≡ status_of told }
+{
+    match told {
+        Told::Accepted => 0,
+        Told::Refused => COMMAND_REFUSED,
+    }
 }
 
 // A script on the loaded machine.
@@ -98,11 +105,8 @@ fn execute<W: Out>(
         return Err(ToolFault::Long);
     }
     let mut session = Session::open(alloc, program)?;
-    if execute_lines(&mut session, script, out)? {
-        Ok(0)
-    } else {
-        Ok(COMMAND_REFUSED)
-    }
+    let told = execute_lines(&mut session, script, out)?;
+    Ok(status(told))
 }
 
 // A source, a deck and a script that are read already.

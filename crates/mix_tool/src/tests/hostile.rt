@@ -1,7 +1,8 @@
 use super::ALL;
 use crate::fault::{AsmFault, AsmKind, DeckFault, DeckKind, ToolFault};
+use crate::reply::Told;
 use crate::run::{run_bundle, run_debug};
-use crate::session::{Session, Told};
+use crate::session::Session;
 use crate::small::assemble;
 use mix_stream::fake::{Chunks, Sink};
 use mix_stream::{Counted, In, Out};

@@ -1,6 +1,6 @@
--- One line more: what stands written and what is left to say are all that is said.
+-- One line more: what stands written and what is left to write are the replies to all.
 use Rattle.std.proofs.Common.{sym, ◌∙◌}
-use Rattle.mix_tool.proofs.RunLemmas.{written-next, begun-at, accepted-next, refused-next, all-said, all-accepted, nil-from_length}
+use Rattle.mix_tool.proofs.RunLemmas.{written-next, begun-at, told-next, all-said, all-told, nil-from_length}
 use Rattle.mix_tool.proofs.Written.{AppendsFront-all}
 use Rattle.mix_tool.proofs.run.execute_lines.Goals as goal
 
@@ -8,30 +8,20 @@ pub returns-in_err-command-clause-begun : goal.returns-in_err-command-clause-beg
 returns-in_err-command-clause-begun g c =
     begun-at _ _ _ _ _ _ _ _ _ _ c.loop-rest.invariant.first c.split_line.ensures.lines c.loop-rest.invariant.written c.in_err-command.ensures.begun
 
-pub loop-rest-preserved-in-Accepted : goal.loop-rest-preserved-in-Accepted
-loop-rest-preserved-in-Accepted g c =
-    let effect = c.in_ok-command.ensures.effect in
-    record {
-      first = c.in_ok-command.ensures.first ∙ c.loop-rest.invariant.first;
-      written = written-next _ _ _ _ _ _ _ _ _ _ _ c.loop-rest.invariant.first c.split_line.ensures.lines effect.0 c.loop-rest.invariant.written effect.2;
-      accepted = accepted-next _ _ _ _ _ _ _ _ _ c.loop-rest.invariant.first c.split_line.ensures.lines effect.0 c.loop-rest.invariant.accepted (sym c.in-Accepted.is ∙ effect.1);
-      failed = c.in_ok-command.ensures.others (λ e. cc) ∙ c.loop-rest.invariant.failed;
-    }
-
 pub loop-rest-preserved : goal.loop-rest-preserved
 loop-rest-preserved g c =
     let effect = c.in_ok-command.ensures.effect in
     record {
       first = c.in_ok-command.ensures.first ∙ c.loop-rest.invariant.first;
       written = written-next _ _ _ _ _ _ _ _ _ _ _ c.loop-rest.invariant.first c.split_line.ensures.lines effect.0 c.loop-rest.invariant.written effect.2;
-      accepted = refused-next _ _ _ _ _ _ _ _ c.loop-rest.invariant.first c.split_line.ensures.lines c.loop-rest.invariant.accepted (sym c.in-Refused.is ∙ effect.1);
+      told = rw c.and-told.ensures (told-next _ _ _ _ _ _ _ _ _ _ c.loop-rest.invariant.first c.split_line.ensures.lines effect.0 c.loop-rest.invariant.told effect.1);
       failed = c.in_ok-command.ensures.others (λ e. cc) ∙ c.loop-rest.invariant.failed;
     }
 
-pub returns-clause-said : goal.returns-clause-said
-returns-clause-said g c =
+pub returns-clause-replies : goal.returns-clause-replies
+returns-clause-replies g c =
     let none = nil-from_length _ (sym c.loop-rest-test.false ∙ c.is_empty.ensures) in
-    (all-accepted _ _ _ _ _ none c.loop-rest.invariant.accepted, all-said _ _ _ _ _ _ none c.loop-rest.invariant.written)
+    (all-told _ _ _ _ _ none c.loop-rest.invariant.told, all-said _ _ _ _ _ _ none c.loop-rest.invariant.written)
 
 pub returns-clause-begun : goal.returns-clause-begun
 returns-clause-begun g c =

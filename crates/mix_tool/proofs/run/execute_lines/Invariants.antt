@@ -1,7 +1,8 @@
-use Rattle.std.proofs.Common.{◌≡◌, ◌++◌, ◌&&◌, List, ℕ, length}
+use Rattle.std.proofs.Common.{◌≡◌, ◌++◌, List, ℕ, length}
 use Rattle.std.specs.Io.KnownBytes.{Appends}
 use Rattle.mix_lines.specs.Lines.{lines}
 use Rattle.mix_tool.specs.Output.{replies}
+use Rattle.mix_tool.specs.Reply.{told_of_both}
 use Rattle.mix_tool.proofs.run.execute_lines.Given as goal
 
 -- what was written so far, and the replies to the lines that are left, are the replies to all
@@ -13,7 +14,7 @@ invariant-loop-rest g l =
     record {
       first : l.session.journal.first ≡ first;
       written : (done : List ℕ) × Appends (g.W.Out.told l.fn.out) (g.W.Out.told l.out) done × (whole.bytes ≡ done ++ left.bytes);
-      accepted : (l.accepted && left.accepted) ≡ whole.accepted;
+      told : told_of_both l.told left.told ≡ whole.told;
       failed : g.W.Out.failed l.out ≡ g.W.Out.failed l.fn.out;
     }
 

@@ -1,0 +1,35 @@
+-- Facts of the texts of replies.
+use Rattle.std.proofs.Common.{◌≡◌, ℕ, ◌+◌, ◌-◌, ◌<◌, List, [], ◌∷◌, ◌++◌, length, take, replicate, get_or, flat_map, refl, sym, ap, append_assoc}
+use Rattle.std.proofs.lemmas.List.{append-nil, take_more}
+use Rattle.std.proofs.lemmas.Grind.{flat_map-append}
+use Rattle.std.specs.Fmt.{format_spec, styled_text, padded, char_count, take_chars}
+use Rattle.mix_word.specs.declared.register.Reg.{Reg}
+use Rattle.mix_word.specs.declared.register.Reg.TheVariants as reg
+use Rattle.mix_word.specs.Word.{WordValue}
+use Rattle.mix_word.specs.Register.{name_of_register}
+use Rattle.mix_machine.specs.World.{WorldState, register_of}
+use Rattle.mix_tool.specs.Reply.{value_text, register_line}
+
+-- a name that is written left in two places
+pub name-padded : (r : Reg) → styled_text (format_spec 32 1 0 2 18446744073709551615) (name_of_register r) ≡ name_of_register r ++ replicate (2 - length (name_of_register r)) 32
+unfolding padded char_count take_chars lib.Utf8.encode
+name-padded reg.A = refl
+name-padded reg.X = refl
+name-padded reg.I1 = refl
+name-padded reg.I2 = refl
+name-padded reg.I3 = refl
+name-padded reg.I4 = refl
+name-padded reg.I5 = refl
+name-padded reg.I6 = refl
+name-padded reg.J = refl
+
+-- a register's line is what the format with its name left in two places writes
+pub register_line-is : (w : WorldState) (r : Reg) (spec : _) (name : List ℕ) (word : WordValue) → spec ≡ format_spec 32 1 0 2 18446744073709551615 →
+    name ≡ name_of_register r → word ≡ register_of w r → styled_text spec name ++ 32 ∷ (value_text r word ++ 10 ∷ []) ≡ register_line w r
+register_line-is w r spec name word e f g = rw (e, f, g, name-padded r) (simp append_assoc)
+
+-- the texts of one more of a list of things
+pub flat_map-next : {X : Type 0} (f : X → List ℕ) (xs : List X) (i : ℕ) (d : X) → i < length xs →
+    flat_map f (take i xs) ++ f (get_or xs i d) ≡ flat_map f (take (i + 1) xs)
+flat_map-next f xs i d below =
+    rw (take_more xs i d below) (rw flat_map-append (ap (λ t. flat_map f (take i xs) ++ t) (sym (append-nil (f (get_or xs i d))))))
