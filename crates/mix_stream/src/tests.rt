@@ -38,7 +38,7 @@ fn reads_more_than_one_buffer(rt: HostRuntime) -> Result<(), Fail> {
 }
 
 #[test]
-fn tells_each_failed_read(rt: HostRuntime) -> Result<(), Fail> {
+fn reports_each_failed_read(rt: HostRuntime) -> Result<(), Fail> {
     // ten reads of a byte, and one that finds the end
     for call in 1..12 {
         let mut source = Chunks::of(TEXT, 1, call);

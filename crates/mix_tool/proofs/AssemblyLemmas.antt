@@ -1,4 +1,4 @@
--- The words of the lines that were read, in front of what the lines behind them give.
+-- The words of the lines that were read, before what the lines after them give.
 use Rattle.std.proofs.Common.{◌≡◌, ℕ, ◌++◌, List, [], ◌∷◌, Result, Ok, Err, refl, append_assoc}
 use Rattle.mix_word.specs.Word.{WordValue}
 use Rattle.mix_tool.specs.declared.fault.AsmFault.{AsmFault}

@@ -4,7 +4,7 @@ use Rattle.std.specs.List.{after_first, before_first, concat, onto_first, positi
 use Rattle.std.specs.Str.{bytes_eq}
 use Rattle.std.proofs.lemmas.List.{take_at, length-append}
 use Rattle.mix_lines.specs.Lines.{is_line_feed, text_of_line, whole_lines}
-use Rattle.mix_tool.specs.Cut.{is_marker, before_marker, after_marker}
+use Rattle.mix_tool.specs.Bundle.{is_marker, before_marker, after_marker}
 
 -- what is left of a text when the lines before it are no marker
 pub record Remains (marker text rest : List ℕ) : Type 0 where

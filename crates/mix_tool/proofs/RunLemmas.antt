@@ -10,7 +10,7 @@ use Rattle.mix_tool.specs.Command.{command}
 use Rattle.mix_lines.specs.Lines.{lines, lines-nil}
 use Rattle.mix_tool.specs.Output.{Outcome, Meets, outcome_of, replies, executed, bundle_output, output, status_of, TooLong, Ended}
 use Rattle.mix_stream.specs.Stream.{AppendsFront, ConsumesAtMost}
-use Rattle.mix_tool.specs.Cut.{cut_of}
+use Rattle.mix_tool.specs.Bundle.{cut_of}
 use Rattle.mix_tool.specs.Assembly.{ProgramValue, assembly}
 use Rattle.mix_tool.specs.Deck.{deck_of}
 use Rattle.mix_tool.specs.Fault.{asm_fault_text}

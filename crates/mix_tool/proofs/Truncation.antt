@@ -1,4 +1,4 @@
--- What is refused for its length alone is told from its first bytes, one more than it may have.
+-- What is refused for its length alone shows in its first bytes, one more than it may have.
 use Rattle.std.proofs.Common.{◌≡◌, ℕ, suc, ◌<◌, ◌≤◌, Bool, true, false, cond, ltb, List, length, take, Ok, Err, refl, ap, ◌∙◌, arith}
 use Rattle.std.proofs.lemmas.Bool.{lt-ltb, ltb-true, ltb-false}
 use Rattle.std.proofs.lemmas.List.{take_all, length-take-le}
@@ -22,12 +22,12 @@ pub limited-take : {A : Type 0} (limit : ℕ) (refused : A) (read : List ℕ →
     → cond (ltb limit (length (take (suc limit) bytes))) refused (read (take (suc limit) bytes)) ≡ cond (ltb limit (length bytes)) refused (read bytes)
 limited-take limit refused read bytes = by_length limit refused read bytes (ltb limit (length bytes)) refl
 
--- a deck is told from its first 33,554,433 bytes
+-- a deck is read from its first 33,554,433 bytes
 pub deck_of-take : (bytes : List ℕ) → deck_of (take 33554433 bytes) ≡ deck_of bytes
 unfolding deck_of
 deck_of-take bytes = limited-take 33554432 _ (λ text. deck_from 1 (lines text)) bytes
 
--- a source is told from its first 1,048,577 bytes
+-- a source is assembled from its first 1,048,577 bytes
 pub assembly-take : (source : List ℕ) → assembly (take 1048577 source) ≡ assembly source
 unfolding assembly
 assembly-take source = limited-take 1048576 _ (λ text. assembly_from 1 0 (lines text)) source

@@ -35,19 +35,19 @@ abbrev pub with_word : ℕ × WordValue → Result ProgramValue AsmFault → Res
 with_word word (Ok program) = Ok (record program { words = word ∷ program.words })
 with_word word (Err fault) = Err fault
 
--- a line's statement, and the lines behind it from the next location on
-abbrev pub followed : ℕ → ℕ → Result Statement AsmKind → (ℕ → Result ProgramValue AsmFault) → Result ProgramValue AsmFault
-followed line here (Err kind) rest = fault_at line kind
-followed line here (Ok Remark) rest = rest here
-followed line here (Ok (Instruction place word)) rest = with_word (place, word) (rest (place + 1))
-followed line here (Ok (Start start)) rest = Ok (record { words = []; start = start })
+-- a line's statement, and what the lines after it give from the next location on
+abbrev pub assembly_of_statement : ℕ → ℕ → Result Statement AsmKind → (ℕ → Result ProgramValue AsmFault) → Result ProgramValue AsmFault
+assembly_of_statement line here (Err kind) rest = fault_at line kind
+assembly_of_statement line here (Ok Remark) rest = rest here
+assembly_of_statement line here (Ok (Instruction place word)) rest = with_word (place, word) (rest (place + 1))
+assembly_of_statement line here (Ok (Start start)) rest = Ok (record { words = []; start = start })
 
 -- the lines of a source, the first of which has this number and this location
 abbrev pub assembly_from : ℕ → ℕ → List (List ℕ) → Result ProgramValue AsmFault
 assembly_from line here [] = fault_at line NoEnd
 assembly_from line here (text ∷ rest) =
     if nat_lt max_lines line then fault_at line SourceTooLong
-    else followed line here (statement here text) (λ next. assembly_from (line + 1) next rest)
+    else assembly_of_statement line here (statement here text) (λ next. assembly_from (line + 1) next rest)
 
 -- a source as a program, or its first fault
 unfoldable pub assembly : List ℕ → Result ProgramValue AsmFault

@@ -110,7 +110,7 @@ tool_text Write = codes "write failed"
 tool_text (Deck fault) = codes "deck refused"
 tool_text Long = codes "input too long"
 
--- what is told behind the words: of a deck its line and its own fault
+-- what stands after the words: of a deck its line and its own fault
 abbrev pub tool_detail : ToolFault → List ℕ
 tool_detail Memory = []
 tool_detail Read = []

@@ -1,6 +1,6 @@
 pub mod Assembly
+pub mod Bundle
 pub mod Command
-pub mod Cut
 pub mod Deck
 pub mod Fault
 pub mod Keyword

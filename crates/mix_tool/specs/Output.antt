@@ -6,7 +6,7 @@ use Rattle.mix_machine.specs.Loaded.{loaded}
 use Rattle.mix_machine.specs.declared.old.Change.{Change}
 use Rattle.mix_tool.specs.Assembly.{assembly, ProgramValue}
 use Rattle.mix_tool.specs.Command.{command}
-use Rattle.mix_tool.specs.Cut.{cut_of}
+use Rattle.mix_tool.specs.Bundle.{cut_of}
 use Rattle.mix_tool.specs.Deck.{deck_of}
 use Rattle.mix_tool.specs.Fault.{asm_fault_text}
 use Rattle.mix_lines.specs.Lines.{lines}

@@ -42,28 +42,28 @@ op_of operation = if is_of_profile operation then Some (Machine operation) else 
 unfoldable pub op_named : List ℕ → Option Op
 op_named name = if bytes_eq name (codes "END") then Some End else option_and_then op_of (operation_named name)
 
--- behind HLT a text that begins with a letter is a remark
+-- after HLT a text that begins with a letter is a remark
 abbrev pub takes_remark : Op → Bool
 takes_remark (Machine Hlt) = true
 takes_remark _ = false
 
--- the ADDRESS of an OP, in the words behind it
+-- the ADDRESS of an OP, in the words after it
 abbrev pub address_of : Op → List (List ℕ) → List ℕ
 address_of op [] = []
 address_of op (text ∷ rest) =
     if takes_remark op && begins_with is_ascii_alphabetic text then [] else text
 
--- a number that a word holds; of more than ten digits there is none
-abbrev pub fitting : Option ℕ → Result ℕ AsmKind
-fitting None = Err NumberTooLarge
-fitting (Some number) = if nat_lt number (64 ^ 5) then Ok number else Err NumberTooLarge
+-- the number of an ADDRESS in digits, where a word holds it; of more than ten digits there is none
+abbrev pub number_of_address : Option ℕ → Result ℕ AsmKind
+number_of_address None = Err NumberTooLarge
+number_of_address (Some number) = if nat_lt number (64 ^ 5) then Ok number else Err NumberTooLarge
 
 -- the number that an ADDRESS stands for; an empty one is 0
 unfoldable pub address_number : List ℕ → Result ℕ AsmKind
 address_number [] = Ok 0
 address_number (byte ∷ rest) =
     if are_characters (byte ∷ rest)
-    then (if is_digits (byte ∷ rest) then fitting (decimal_number (byte ∷ rest)) else Err BadExpression)
+    then (if is_digits (byte ∷ rest) then number_of_address (decimal_number (byte ∷ rest)) else Err BadExpression)
     else Err BadByte
 
 -- the word of an instruction: +, the address, no index, the normal F and C
@@ -79,41 +79,41 @@ instruction_word operation address =
     }
 
 -- what an OP says with the number of its ADDRESS, at a location. END takes the number's last two bytes as the start
-unfoldable pub stated : ℕ → Op → ℕ → Result Statement AsmKind
-stated here (Machine operation) number =
+unfoldable pub statement_of_number : ℕ → Op → ℕ → Result Statement AsmKind
+statement_of_number here (Machine operation) number =
     if nat_le 4096 number then Err AddressTooLarge
     else (if nat_le 4000 here then Err LocationOutOfRange
     else Ok (Instruction here (instruction_word operation number)))
-stated here End number =
+statement_of_number here End number =
     if nat_lt (number % 4096) 4000 then Ok (Start (number % 4096)) else Err StartOutOfRange
 
 -- an OP whose ADDRESS was read, or refused
-abbrev pub then_stated : ℕ → Op → Result ℕ AsmKind → Result Statement AsmKind
-then_stated here op (Ok number) = stated here op number
-then_stated here op (Err kind) = Err kind
+abbrev pub statement_of_address : ℕ → Op → Result ℕ AsmKind → Result Statement AsmKind
+statement_of_address here op (Ok number) = statement_of_number here op number
+statement_of_address here op (Err kind) = Err kind
 
--- an OP and the words behind it; of a name that says nothing there is none
-abbrev pub operated : ℕ → Option Op → List (List ℕ) → Result Statement AsmKind
-operated here None rest = Err NoSuchOperation
-operated here (Some op) rest = then_stated here op (address_number (address_of op rest))
+-- an OP and the words after it; a name that names no operation gives none
+abbrev pub statement_of_op : ℕ → Option Op → List (List ℕ) → Result Statement AsmKind
+statement_of_op here None rest = Err NoSuchOperation
+statement_of_op here (Some op) rest = statement_of_address here op (address_number (address_of op rest))
 
--- a line with this word as OP and these words behind it
-unfoldable pub coded : ℕ → List ℕ → List (List ℕ) → Result Statement AsmKind
-coded here name rest =
-    if are_characters name then operated here (op_named (str_to_ascii_uppercase name)) rest else Err BadByte
+-- a line with this word as OP and these words after it
+unfoldable pub statement_of_name : ℕ → List ℕ → List (List ℕ) → Result Statement AsmKind
+statement_of_name here name rest =
+    if are_characters name then statement_of_op here (op_named (str_to_ascii_uppercase name)) rest else Err BadByte
 
 -- why a LOC is refused
 abbrev pub label_refusal : List ℕ → AsmKind
 label_refusal label = if are_characters label then BadSymbol else BadByte
 
 -- the words of a line: the first one is OP where the line begins with a blank, and LOC where it does not
-abbrev pub worded : ℕ → Bool → List (List ℕ) → Result Statement AsmKind
-worded here indented [] = Ok Remark
-worded here indented (first ∷ rest) =
-    if indented then coded here first rest else Err (label_refusal first)
+abbrev pub statement_of_words : ℕ → Bool → List (List ℕ) → Result Statement AsmKind
+statement_of_words here indented [] = Ok Remark
+statement_of_words here indented (first ∷ rest) =
+    if indented then statement_of_name here first rest else Err (label_refusal first)
 
 -- a line, where the next instruction stands at the location `here`. A comment begins with `*`
 unfoldable pub statement : ℕ → List ℕ → Result Statement AsmKind
 statement here line =
     if is_comment line then Ok Remark
-    else worded here (begins_with is_blank line) (words line)
+    else statement_of_words here (begins_with is_blank line) (words line)

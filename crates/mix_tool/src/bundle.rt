@@ -1,7 +1,7 @@
 //! The parts of a bundle.
 
 ghost use Rattle.std.specs.Prelude.{◌≡◌};
-ghost use Rattle.mix_tool.specs.Cut.{after_marker, before_marker, cut_of};
+ghost use Rattle.mix_tool.specs.Bundle.{after_marker, before_marker, cut_of};
 
 use mix_lines::{line_text, split_whole_line};
 
@@ -11,21 +11,21 @@ const SCRIPT: &[u8] = b"%SCRIPT";
 
 /// The source, the deck and the script of a bundle, each with all its bytes; a part that is missing is empty.
 #[derive(Clone, Copy, Debug)]
-pub(crate) struct Parts<'a> {
+pub(crate) struct BundleParts<'a> {
     pub source: &'a [u8],
     pub deck: &'a [u8],
     pub script: &'a [u8],
 }
 
 /// Cuts a bundle at its first line `%SCRIPT`, and what stands before it at its first line `%DEVICES`.
-pub(crate) fn cut(bundle: &[u8]) -> Parts<'_>
+pub(crate) fn cut(bundle: &[u8]) -> BundleParts<'_>
     ensures source { result.source.now ≡ (cut_of bundle.now).source }
     ensures deck { result.deck.now ≡ (cut_of bundle.now).deck }
     ensures script { result.script.now ≡ (cut_of bundle.now).script }
 {
     let (front, script) = split_at_marker(bundle, SCRIPT);
     let (source, deck) = split_at_marker(front, DEVICES);
-    Parts {
+    BundleParts {
         source,
         deck,
         script,

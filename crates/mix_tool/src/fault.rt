@@ -31,14 +31,14 @@ pub enum AsmKind {
 }
 
 impl AsmKind {
-    /// The number behind the letter A, 1 to 16.
+    /// The number after the letter A, 1 to 16.
     pub fn number(self) -> u8
         ensures { result ≡ asm_number self }
     {
         self as u8 + 1
     }
 
-    /// The words behind the number.
+    /// The words after the number.
     pub fn text(self) -> &'static str
         ensures { result.now ≡ asm_text self }
     {
@@ -102,14 +102,14 @@ pub enum DeckKind {
 }
 
 impl DeckKind {
-    /// The number behind the letter K, 1 to 9.
+    /// The number after the letter K, 1 to 9.
     pub fn number(self) -> u8
         ensures { result ≡ deck_number self }
     {
         self as u8 + 1
     }
 
-    /// The words behind the number.
+    /// The words after the number.
     pub fn text(self) -> &'static str
         ensures { result.now ≡ deck_text self }
     {
@@ -162,7 +162,7 @@ pub enum ToolFault {
 }
 
 impl ToolFault {
-    /// The number behind the letter T: 1, 2, 3, 5 or 6.
+    /// The number after the letter T: 1, 2, 3, 5 or 6.
     pub fn number(self) -> u8
         ensures { result ≡ tool_number self }
     {
@@ -175,7 +175,7 @@ impl ToolFault {
         }
     }
 
-    /// The words behind the number; a deck's own fault is told after them.
+    /// The words after the number; a deck's own fault stands after them.
     pub fn text(self) -> &'static str
         ensures { result.now ≡ tool_text self }
     {
@@ -211,14 +211,14 @@ pub enum Refusal {
 }
 
 impl Refusal {
-    /// The number behind the letter C, 1 to 4.
+    /// The number after the letter C, 1 to 4.
     pub fn number(self) -> u8
         ensures { result ≡ refusal_number self }
     {
         self as u8 + 1
     }
 
-    /// The words behind the number.
+    /// The words after the number.
     pub fn text(self) -> &'static str
         ensures { result.now ≡ refusal_name self }
     {

@@ -28,7 +28,7 @@ pub(crate) struct Program {
 }
 
 /// Assembles a source of ENTA, INCA, STA, HLT and END. Too many bytes are A16 at line 1, before all else; otherwise
-/// the first faulty line is told, and where no END comes A13 at the line after the last.
+/// the first faulty line is reported, and where no END comes A13 at the line after the last.
 #[tactic(auto, using(crate::proofs::EmptyLines::no_lines, crate::proofs::AssemblyLemmas::no_words, crate::proofs::AssemblyLemmas::one_more), unfolding(crate::specs::Assembly::assembly))]
 pub(crate) fn assemble(alloc: Global, source: &[u8]) -> Result<Program, Refused<AsmFault>>
     ensures ok { IfOk result (λ program. assembly source.now ≡ Ok (program_of program)) }

@@ -31,7 +31,7 @@ const DIGITS: [(&[u8], bool); 4] = [
 ];
 
 #[test]
-fn tells_digits(rt: HostRuntime) {
+fn knows_digits(rt: HostRuntime) {
     for (text, answer) in DIGITS {
         assert_eq!(rt; all_digits(text), answer, "{text:?}");
     }

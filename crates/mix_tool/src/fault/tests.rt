@@ -65,8 +65,8 @@ fn prints_the_faults_of_a_source(rt: HostRuntime) -> Result<(), Fail> {
     for (kind, text) in SOURCE_FAULTS {
         let printed = format!(in rt.alloc(); "{kind}")?;
         assert_eq!(rt; printed.as_str(), text);
-        let (number, told) = (kind.number(), kind.text());
-        let parts = format!(in rt.alloc(); "A{number} {told}")?;
+        let (number, words) = (kind.number(), kind.text());
+        let parts = format!(in rt.alloc(); "A{number} {words}")?;
         assert_eq!(rt; parts.as_str(), text);
     }
     Ok(())
@@ -77,8 +77,8 @@ fn prints_the_faults_of_a_deck(rt: HostRuntime) -> Result<(), Fail> {
     for (kind, text) in DECK_FAULTS {
         let printed = format!(in rt.alloc(); "{kind}")?;
         assert_eq!(rt; printed.as_str(), text);
-        let (number, told) = (kind.number(), kind.text());
-        let parts = format!(in rt.alloc(); "K{number} {told}")?;
+        let (number, words) = (kind.number(), kind.text());
+        let parts = format!(in rt.alloc(); "K{number} {words}")?;
         assert_eq!(rt; parts.as_str(), text);
     }
     Ok(())
@@ -89,8 +89,8 @@ fn prints_the_faults_of_the_tool(rt: HostRuntime) -> Result<(), Fail> {
     for (fault, text) in TOOL_FAULTS {
         let printed = format!(in rt.alloc(); "{fault}")?;
         assert_eq!(rt; printed.as_str(), text);
-        let (number, told) = (fault.number(), fault.text());
-        let parts = format!(in rt.alloc(); "T{number} {told}")?;
+        let (number, words) = (fault.number(), fault.text());
+        let parts = format!(in rt.alloc(); "T{number} {words}")?;
         assert!(rt; text.starts_with(parts.as_str()));
     }
     Ok(())
@@ -101,17 +101,50 @@ fn prints_the_refusals_of_a_command(rt: HostRuntime) -> Result<(), Fail> {
     for (refusal, text) in REFUSALS {
         let printed = format!(in rt.alloc(); "{refusal}")?;
         assert_eq!(rt; printed.as_str(), text);
+        let (number, words) = (refusal.number(), refusal.text());
+        let parts = format!(in rt.alloc(); "C{number} {words}")?;
+        assert_eq!(rt; parts.as_str(), text);
+    }
+    Ok(())
+}
+
+/// Lines, as they are counted and as they are printed.
+const LINES: [(u32, &str); 7] = [
+    (1, "line 1: "),
+    (2, "line 2: "),
+    (9, "line 9: "),
+    (10, "line 10: "),
+    (4096, "line 4096: "),
+    (20_001, "line 20001: "),
+    (4_294_967_295, "line 4294967295: "),
+];
+
+#[test]
+fn prints_the_line_before_a_fault_of_a_source(rt: HostRuntime) -> Result<(), Fail> {
+    for (line, front) in LINES {
+        for (kind, text) in SOURCE_FAULTS {
+            let fault = AsmFault { line, kind };
+            let printed = format!(in rt.alloc(); "{fault}")?;
+            let wanted = format!(in rt.alloc(); "{front}{text}")?;
+            assert_eq!(rt; printed.as_str(), wanted.as_str());
+        }
     }
     Ok(())
 }
 
 #[test]
-fn prints_a_line_with_its_fault(rt: HostRuntime) -> Result<(), Fail> {
-    let fault = AsmFault {
-        line: 2,
-        kind: AsmKind::NoEnd,
-    };
-    let printed = format!(in rt.alloc(); "{fault}")?;
-    assert_eq!(rt; printed.as_str(), "line 2: A13 no END");
+fn prints_the_line_before_a_fault_of_a_deck(rt: HostRuntime) -> Result<(), Fail> {
+    for (line, front) in LINES {
+        for (kind, text) in DECK_FAULTS {
+            let fault = DeckFault { line, kind };
+            let printed = format!(in rt.alloc(); "{fault}")?;
+            let wanted = format!(in rt.alloc(); "{front}{text}")?;
+            assert_eq!(rt; printed.as_str(), wanted.as_str());
+            let refused = ToolFault::Deck(fault);
+            let whole = format!(in rt.alloc(); "{refused}")?;
+            let wanted = format!(in rt.alloc(); "T5 deck refused at {front}{text}")?;
+            assert_eq!(rt; whole.as_str(), wanted.as_str());
+        }
+    }
     Ok(())
 }

@@ -4,7 +4,7 @@ ghost use Rattle.std.specs.List.{list_all};
 ghost use Rattle.std.specs.Char.{is_ascii_alphabetic};
 ghost use Rattle.mix_word.specs.Characters.{character_code};
 ghost use Rattle.mix_lines.specs.Lines.{begins_with, words};
-ghost use Rattle.mix_tool.specs.Statement.{address_of, address_number, are_characters, fitting};
+ghost use Rattle.mix_tool.specs.Statement.{address_of, address_number, are_characters, number_of_address};
 
 use crate::fault::AsmKind;
 use crate::small::op::Op;
@@ -14,7 +14,7 @@ use mix_word::code_of;
 /// The first number that no word holds.
 const WORD_LIMIT: u64 = 1_073_741_824;
 
-/// The ADDRESS of an OP in what stands behind it, or nothing where that is a remark.
+/// The ADDRESS of an OP in what stands after it, or nothing where that is a remark.
 pub(crate) fn address_text(op: Op, rest: &[u8]) -> &[u8]
     ensures { result.now ≡ address_of op (words rest.now) }
 {

@@ -1,7 +1,7 @@
 //! What one line of a source says.
 ghost use Rattle.std.specs.Prelude.{◌≡◌, ◌==◌, ◌<◌};
 ghost use Rattle.mix_lines.specs.Lines.{begins_with, is_blank, words};
-ghost use Rattle.mix_tool.specs.Statement.{coded, instruction_word, label_refusal, stated, statement};
+ghost use Rattle.mix_tool.specs.Statement.{statement_of_name, instruction_word, label_refusal, statement_of_number, statement};
 
 use crate::fault::AsmKind;
 use crate::small::address::{address_text, are_characters, read_number};
@@ -57,9 +57,9 @@ fn label_refusal(label: &[u8]) -> AsmKind
     }
 }
 
-#[tactic(auto, unfolding(crate::specs::Statement::coded))]
+#[tactic(auto, unfolding(crate::specs::Statement::statement_of_name))]
 fn read_code(here: u16, name: &[u8], rest: &[u8]) -> Result<Statement, AsmKind>
-    ensures { result ≡ coded here name.now (words rest.now) }
+    ensures { result ≡ statement_of_name here name.now (words rest.now) }
 {
     if !are_characters(name) {
         return Err(AsmKind::BadByte);
@@ -73,9 +73,9 @@ fn read_code(here: u16, name: &[u8], rest: &[u8]) -> Result<Statement, AsmKind>
     }
 }
 
-#[tactic(auto, unfolding(crate::specs::Statement::stated))]
+#[tactic(auto, unfolding(crate::specs::Statement::statement_of_number))]
 fn state(here: u16, op: Op, number: u32) -> Result<Statement, AsmKind>
-    ensures { result ≡ stated here op number }
+    ensures { result ≡ statement_of_number here op number }
 {
     match op {
         Op::Machine(operation) => {

@@ -1,5 +1,6 @@
 //! Small sources: their words, their starts and their first faults.
 use crate::small::assemble;
+use mix_machine::World;
 use mix_word::{Sign, Word};
 use std::alloc::{AllocError, Global};
 use std::test::Fail;
@@ -102,8 +103,8 @@ const REPEATED: [(&str, u32, &str, &str); 7] = [
     ("\n", 20_000, "", "line 20001: A13 no END"),
 ];
 
-// What is told of a source.
-fn told(alloc: Global, source: &[u8]) -> Result<String, AllocError> {
+// The first fault of a source.
+fn fault_of(alloc: Global, source: &[u8]) -> Result<String, AllocError> {
     match assemble(alloc, source) {
         Ok(_) => format!(in alloc; "no fault"),
         Err(Refused::Fault(fault)) => format!(in alloc; "{fault}"),
@@ -145,9 +146,9 @@ fn finds_the_start(rt: HostRuntime) -> Result<(), Fail> {
 }
 
 #[test]
-fn tells_the_first_fault(rt: HostRuntime) -> Result<(), Fail> {
+fn reports_the_first_fault(rt: HostRuntime) -> Result<(), Fail> {
     for (source, fault) in FAULTS {
-        let text = told(rt.alloc(), source.as_bytes())?;
+        let text = fault_of(rt.alloc(), source.as_bytes())?;
         assert_eq!(rt; text.as_str(), fault, "{source:?}");
     }
     Ok(())
@@ -161,19 +162,40 @@ fn counts_locations_and_lines(rt: HostRuntime) -> Result<(), Fail> {
             source.extend_from_slice(line.as_bytes())?;
         }
         source.extend_from_slice(last.as_bytes())?;
-        let text = told(rt.alloc(), &source)?;
+        let text = fault_of(rt.alloc(), &source)?;
         assert_eq!(rt; text.as_str(), fault, "{times} times {line:?}, {last:?}");
     }
     Ok(())
 }
 
 #[test]
+fn takes_the_most_words_that_fit(rt: HostRuntime) -> Result<(), Fail> {
+    let mut source = Vec::new(rt.alloc());
+    for _ in 0..4000 {
+        source.extend_from_slice(b" STA 4095\n")?;
+    }
+    source.extend_from_slice(b" END 3999")?;
+    let program = assemble(rt.alloc(), &source)?;
+    assert_eq!(rt; program.words.len(), 4000);
+    for (i, (place, word)) in program.words.iter().enumerate() {
+        assert_eq!(rt; usize::from(place.number()), i);
+        assert!(rt; is_word(*word, [63, 63, 0, 5, 24]), "{i}");
+    }
+    assert_eq!(rt; program.start.number(), 3999);
+    let world = World::load(rt.alloc(), &program.words, program.start)
+        .ok()
+        .ok_or("out of memory")?;
+    assert_eq!(rt; world.loc(), 3999);
+    Ok(())
+}
+
+#[test]
 fn refuses_a_byte_too_many_before_all_else(rt: HostRuntime) -> Result<(), Fail> {
     let mut source = vec![in rt.alloc(); b'?'; 1_048_576]?;
-    let text = told(rt.alloc(), &source)?;
+    let text = fault_of(rt.alloc(), &source)?;
     assert_eq!(rt; text.as_str(), "line 1: A1 bad byte");
     source.push(b'?')?;
-    let text = told(rt.alloc(), &source)?;
+    let text = fault_of(rt.alloc(), &source)?;
     assert_eq!(rt; text.as_str(), "line 1: A16 source too long");
     Ok(())
 }
