@@ -1,7 +1,7 @@
 //! For tests, of this crate and of those above it: a reader and a writer over memory that give and take a few bytes a call and fail
 //! at one call. So a test can have each read and each write fail in turn, with no file and no allocation.
 
-ghost use Rattle.std.specs.Prelude.{◌≡◌, ◌≤◌, [], ℕ, List, Option, Some, take};
+ghost use Rattle.std.specs.Prelude.{◌≡◌, ◌≤◌, [], Some, take};
 ghost use Rattle.mix_stream.specs.Fake.{ChunksValue, SinkValue};
 
 use crate::counted::Failed;

@@ -1,6 +1,6 @@
 //! Readers, and reading up to a limit.
 
-ghost use Rattle.std.specs.Prelude.{◌≡◌, ◌≢◌, ◌<◌, ◌≤◌, ◌+◌, ◌-◌, ◌^◌, ◌↔◌, ℕ, List, Option, Some, Ok, Err, IfOk, OnOk, OnErr, length, take, drop, vec_len};
+ghost use Rattle.std.specs.Prelude.{◌≡◌, ◌<◌, ◌≤◌, ◌+◌, ◌-◌, ◌^◌, ℕ, List, Option, Some, Ok, Err, IfOk, OnOk, OnErr, length, take, drop, vec_len};
 ghost use Rattle.std.specs.Io.KnownBytes.{ReadConsumes};
 ghost use Rattle.mix_stream.specs.Stream.{ConsumesAtMost, CountsRead};
 

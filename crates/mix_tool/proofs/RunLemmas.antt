@@ -8,7 +8,7 @@ use Rattle.mix_machine.specs.World.{WorldState}
 use Rattle.mix_machine.specs.declared.old.Change.{Change}
 use Rattle.mix_tool.specs.Command.{command}
 use Rattle.mix_lines.specs.Lines.{lines, lines-nil}
-use Rattle.mix_tool.specs.Output.{Outcome, Meets, outcome_of, replies, executed, bundle_output, output, status_of, TooLong, Ended}
+use Rattle.mix_tool.specs.Output.{Outcome, Meets, outcome_of, replies, outcome_of_script, bundle_output, output, status_of, TooLong, Ended}
 use Rattle.mix_stream.specs.Stream.{AppendsFront, ConsumesAtMost}
 use Rattle.mix_tool.specs.Bundle.{cut_of}
 use Rattle.mix_tool.specs.Assembly.{ProgramValue, assembly}
@@ -86,13 +86,13 @@ pub nil-from_length : (xs : List ℕ) → true ≡ eqb (length xs) 0 → xs ≡ 
 nil-from_length [] e = refl
 nil-from_length (x ∷ xs) e = absurd (omega (arith, eqb-true (length (x ∷ xs)) 0 (sym e)))
 
--- a script is told from its first 1,048,577 bytes
-pub executed-take : (base : WorldState) (script : List ℕ) → executed base (take 1048577 script) ≡ executed base script
-unfolding executed
-executed-take base script =
+-- a script is read from its first 1,048,577 bytes
+pub outcome_of_script-take : (base : WorldState) (script : List ℕ) → outcome_of_script base (take 1048577 script) ≡ outcome_of_script base script
+unfolding outcome_of_script
+outcome_of_script-take base script =
     limited-take 1048576 TooLong (λ text. let all = replies base [] (lines text) in Ended all.bytes (status_of all.told)) script
 
--- a bundle is told from its first 41,943,041 bytes
+-- a bundle is read from its first 41,943,041 bytes
 pub bundle_output-take : (bundle : List ℕ) → bundle_output (take 41943041 bundle) ≡ bundle_output bundle
 unfolding bundle_output
 bundle_output-take bundle =
@@ -126,12 +126,12 @@ Meets-deck program deck read script fault told e f =
 
 pub Meets-executed : (program : ProgramValue) (deck read script commands : List ℕ) (done : Result ℕ ToolFault) (old new : Option (List ℕ)) →
     read ≡ take 33554433 deck → deck_of read ≡ Ok tt → commands ≡ take 1048577 script →
-    Meets (executed (loaded program.words program.start) commands) done old new → Meets (outcome_of (Ok program) (deck_of deck) script) done old new
+    Meets (outcome_of_script (loaded program.words program.start) commands) done old new → Meets (outcome_of (Ok program) (deck_of deck) script) done old new
 unfolding outcome_of
 Meets-executed program deck read script commands done old new e f same met =
     let taken : deck_of deck ≡ Ok tt = sym (deck_of-read deck read e) ∙ f in
-    let whole : executed (loaded program.words program.start) commands ≡ executed (loaded program.words program.start) script =
-    ap (executed (loaded program.words program.start)) same ∙ executed-take (loaded program.words program.start) script in
+    let whole : outcome_of_script (loaded program.words program.start) commands ≡ outcome_of_script (loaded program.words program.start) script =
+    ap (outcome_of_script (loaded program.words program.start)) same ∙ outcome_of_script-take (loaded program.words program.start) script in
     rw taken (rw whole at met)
 
 -- a source that was read up to one byte more than it may have

@@ -52,8 +52,8 @@ status_of Accepted = 0
 status_of Refused = 3
 
 -- the script, from no change on the loaded machine
-unfoldable pub executed : WorldState → List ℕ → Outcome
-executed base script =
+unfoldable pub outcome_of_script : WorldState → List ℕ → Outcome
+outcome_of_script base script =
     if nat_lt max_script_bytes (length script) then TooLong
     else (let all = replies base [] (lines script) in Ended all.bytes (status_of all.told))
 
@@ -61,7 +61,7 @@ executed base script =
 unfoldable pub outcome_of : Result ProgramValue AsmFault → Result (Unit {0}) DeckFault → List ℕ → Outcome
 outcome_of (Err fault) deck script = Ended (asm_fault_text fault ++ 10 ∷ []) 1
 outcome_of (Ok program) (Err fault) script = DeckRefused fault
-outcome_of (Ok program) (Ok _) script = executed (loaded program.words program.start) script
+outcome_of (Ok program) (Ok _) script = outcome_of_script (loaded program.words program.start) script
 
 -- source, deck and script
 unfoldable pub output : List ℕ → List ℕ → List ℕ → Outcome

@@ -54,16 +54,16 @@ address_of op (text ∷ rest) =
     if takes_remark op && begins_with is_ascii_alphabetic text then [] else text
 
 -- the number of an ADDRESS in digits, where a word holds it; of more than ten digits there is none
-abbrev pub number_of_address : Option ℕ → Result ℕ AsmKind
-number_of_address None = Err NumberTooLarge
-number_of_address (Some number) = if nat_lt number (64 ^ 5) then Ok number else Err NumberTooLarge
+abbrev pub within_word : Option ℕ → Result ℕ AsmKind
+within_word None = Err NumberTooLarge
+within_word (Some number) = if nat_lt number (64 ^ 5) then Ok number else Err NumberTooLarge
 
 -- the number that an ADDRESS stands for; an empty one is 0
 unfoldable pub address_number : List ℕ → Result ℕ AsmKind
 address_number [] = Ok 0
 address_number (byte ∷ rest) =
     if are_characters (byte ∷ rest)
-    then (if is_digits (byte ∷ rest) then number_of_address (decimal_number (byte ∷ rest)) else Err BadExpression)
+    then (if is_digits (byte ∷ rest) then within_word (decimal_number (byte ∷ rest)) else Err BadExpression)
     else Err BadByte
 
 -- the word of an instruction: +, the address, no index, the normal F and C

@@ -1,6 +1,6 @@
 //! The runs of the program: a source, a deck and a script, each from a reader of its own or all in one bundle.
 
-ghost use Rattle.std.specs.Prelude.{◌≡◌, ◌⊎◌, drop, ◌≢◌, ◌<◌, ◌≤◌, ◌+◌, ◌-◌, ◌^◌, ◌↔◌, ◌++◌, ◌&&◌, [], ◌∷◌, ℕ, List, Some, Ok, Err, IfOk, IfErr, string_bytes};
+ghost use Rattle.std.specs.Prelude.{◌≡◌, ◌⊎◌, drop, ◌≢◌, ◌<◌, ◌≤◌, ◌+◌, ◌-◌, ◌^◌, ◌++◌, [], ◌∷◌, ℕ, List, Some, Ok, Err, IfOk, IfErr, string_bytes};
 ghost use Rattle.std.specs.Io.KnownBytes.{Appends, Keeps};
 ghost use Rattle.mix_machine.specs.Loaded.{loaded};
 ghost use Rattle.mix_tool.specs.Fault.{asm_fault_text};
@@ -9,7 +9,7 @@ ghost use Rattle.mix_tool.specs.declared.fault.DeckFault.{DeckFault};
 ghost use Rattle.mix_lines.specs.Lines.{lines};
 ghost use Rattle.mix_tool.specs.Assembly.{assembly, max_source_bytes, program_of};
 ghost use Rattle.mix_tool.specs.Deck.{deck_of, max_deck_bytes};
-ghost use Rattle.mix_tool.specs.Output.{Meets, Ended, IsOwn, output, outcome_of, bundle_output, executed, replies, status_of, max_script_bytes, max_bundle_bytes};
+ghost use Rattle.mix_tool.specs.Output.{Meets, Ended, IsOwn, output, outcome_of, bundle_output, outcome_of_script, replies, status_of, max_script_bytes, max_bundle_bytes};
 ghost use Rattle.mix_stream.specs.Stream.{AppendsFront, ConsumesAtMost, CountsRead, CountsWrite};
 
 use crate::bundle::cut;
@@ -87,7 +87,7 @@ fn status(told: Told) -> u8
 }
 
 // A script on the loaded machine.
-#[tactic(auto, unfolding(crate::specs::Output::executed))]
+#[tactic(auto, unfolding(crate::specs::Output::outcome_of_script))]
 fn execute<W: Out>(
     alloc: Global,
     program: &Program,
@@ -95,7 +95,7 @@ fn execute<W: Out>(
     out: &mut W,
 ) -> Result<u8, ToolFault>
     requires { W.failed out.old < 2 ^ 64 - 1 }
-    ensures output { Meets (executed (loaded program.now.words.items program.now.start) script.now) result (W.told out.old) (W.told out.new) }
+    ensures output { Meets (outcome_of_script (loaded program.now.words.items program.now.start) script.now) result (W.told out.old) (W.told out.new) }
     ensures write { CountsWrite (result ≡ Err ToolFault.Write) (W.failed out.old) (W.failed out.new) }
     ensures unread { result ≢ Err ToolFault.Read }
     ensures status { result ≢ Ok 1 }

@@ -1,11 +1,11 @@
 //! A session: a machine whose changes can be taken back, and the commands over it.
 
-ghost use Rattle.std.specs.Prelude.{◌≡◌, ◌<◌, ◌-◌, ◌≢◌, ◌+◌, ◌^◌, ◌↔◌, Err, IfErr, [], IfOk};
+ghost use Rattle.std.specs.Prelude.{◌≡◌, ◌<◌, ◌-◌, ◌^◌, Err, IfErr, [], IfOk};
 ghost use Rattle.std.specs.Io.KnownBytes.{Appends, Keeps};
 ghost use Rattle.mix_machine.specs.Loaded.{loaded};
 ghost use Rattle.mix_tool.specs.Command.{command, Begun};
 ghost use Rattle.mix_tool.specs.Output.{IsOwn};
-ghost use Rattle.mix_stream.specs.Stream.{AppendsFront};
+ghost use Rattle.mix_stream.specs.Stream.{AppendsFront, CountsWrite};
 
 use crate::command::obey;
 use crate::fault::ToolFault;
@@ -47,8 +47,7 @@ impl Session {
         ensures memory { result ≡ Err ToolFault.Memory → Keeps (W.told out.old) (W.told out.new)
             × Begun self.old.journal.changes (command self.old.journal.first self.old.journal.changes line.now).changes self.new.journal.changes }
         ensures done { result ≡ Err ToolFault.Write → self.new.journal.changes ≡ (command self.old.journal.first self.old.journal.changes line.now).changes }
-        ensures write { (result ≡ Err ToolFault.Write) ↔ (W.failed out.new ≡ W.failed out.old + 1) }
-        ensures others { result ≢ Err ToolFault.Write → W.failed out.new ≡ W.failed out.old }
+        ensures write { CountsWrite (result ≡ Err ToolFault.Write) (W.failed out.old) (W.failed out.new) }
         ensures only { IfErr result IsOwn }
     {
         let reply = obey(self.alloc, &mut self.journal, line)?;

@@ -1,10 +1,8 @@
 //! The ADDRESS of a line.
-ghost use Rattle.std.specs.Prelude.{◌≡◌, ◌<◌, ◌^◌, IfOk, is_some};
-ghost use Rattle.std.specs.List.{list_all};
+ghost use Rattle.std.specs.Prelude.{◌≡◌, ◌<◌, is_some};
 ghost use Rattle.std.specs.Char.{is_ascii_alphabetic};
-ghost use Rattle.mix_word.specs.Characters.{character_code};
 ghost use Rattle.mix_lines.specs.Lines.{begins_with, words};
-ghost use Rattle.mix_tool.specs.Statement.{address_of, address_number, are_characters, number_of_address};
+ghost use Rattle.mix_tool.specs.Statement.{address_of, address_number, are_characters};
 
 use crate::fault::AsmKind;
 use crate::small::op::Op;

@@ -1,5 +1,5 @@
 //! What one line of a source says.
-ghost use Rattle.std.specs.Prelude.{◌≡◌, ◌==◌, ◌<◌};
+ghost use Rattle.std.specs.Prelude.{◌≡◌, ◌<◌};
 ghost use Rattle.mix_lines.specs.Lines.{begins_with, is_blank, words};
 ghost use Rattle.mix_tool.specs.Statement.{statement_of_name, instruction_word, label_refusal, statement_of_number, statement};
 

@@ -15,7 +15,7 @@ loop-rest-preserved g c =
       first = c.in_ok-command.ensures.first ∙ c.loop-rest.invariant.first;
       written = written-next _ _ _ _ _ _ _ _ _ _ _ c.loop-rest.invariant.first c.split_line.ensures.lines effect.0 c.loop-rest.invariant.written effect.2;
       told = rw c.and-told.ensures (told-next _ _ _ _ _ _ _ _ _ _ c.loop-rest.invariant.first c.split_line.ensures.lines effect.0 c.loop-rest.invariant.told effect.1);
-      failed = c.in_ok-command.ensures.others (λ e. cc) ∙ c.loop-rest.invariant.failed;
+      failed = c.in_ok-command.ensures.write.1 (λ e. cc) ∙ c.loop-rest.invariant.failed;
     }
 
 pub returns-clause-replies : goal.returns-clause-replies
