@@ -6,7 +6,7 @@ use Rattle.mix_word.specs.Text.{word_text, short_text}
 use Rattle.mix_word.specs.declared.word.Cmp.{Cmp}
 use Rattle.mix_word.specs.declared.word.Cmp.TheVariants.{Less, Equal, Greater}
 use Rattle.mix_machine.specs.World.{WorldState}
-use Rattle.mix_machine.specs.Fault.{shown as machine_fault_text}
+use Rattle.mix_machine.specs.Fault.{fault_line as machine_fault_text}
 use Rattle.mix_tool.specs.Fault.{refusal_text}
 use Rattle.mix_tool.specs.declared.fault.Refusal.{Refusal}
 use Rattle.mix_tool.specs.declared.reply.End.{End}
@@ -59,11 +59,11 @@ short_line name word = name ++ short_text word ++ 10 ∷ []
 -- the index registers and rJ
 unfoldable pub shorts_text : WorldState → List ℕ
 shorts_text w =
-    short_line (codes "I1 ") w.i1 ++ short_line (codes "I2 ") w.i2 ++ short_line (codes "I3 ") w.i3
-    ++ (short_line (codes "I4 ") w.i4 ++ short_line (codes "I5 ") w.i5 ++ short_line (codes "I6 ") w.i6)
-    ++ short_line (codes "J  ") w.j
+    short_line (codes "I1 ") w.registers.i1 ++ short_line (codes "I2 ") w.registers.i2 ++ short_line (codes "I3 ") w.registers.i3
+    ++ (short_line (codes "I4 ") w.registers.i4 ++ short_line (codes "I5 ") w.registers.i5 ++ short_line (codes "I6 ") w.registers.i6)
+    ++ short_line (codes "J  ") w.registers.j
 
 -- the reply of `show regs`
 unfoldable pub registers_text : WorldState → List ℕ
 registers_text w =
-    codes "A  " ++ word_text w.a ++ 10 ∷ [] ++ (codes "X  " ++ word_text w.x ++ 10 ∷ []) ++ shorts_text w ++ flags_text w
+    codes "A  " ++ word_text w.registers.a ++ 10 ∷ [] ++ (codes "X  " ++ word_text w.registers.x ++ 10 ∷ []) ++ shorts_text w ++ flags_text w
