@@ -1,67 +1,189 @@
 -- The number of old values that an accepted change keeps.
-use Rattle.std.proofs.Common.{ℕ, suc, ◌+◌, ◌*◌, ◌≡◌, ◌≤◌, ◌∙◌, true, List, [], ◌∷◌, Result, Ok, Err, length, refl, ap, arith}
-use Rattle.mix_word.specs.declared.register.DataReg.TheVariants.{A}
-use Rattle.mix_word.specs.declared.operation.Operation.{Operation}
-use Rattle.mix_word.specs.declared.operation.Operation.TheVariants.{Nop, Hlt, Enter, Increase, Store}
+use Rattle.std.proofs.Common.{ℕ, suc, ◌+◌, ◌*◌, ◌<◌, ◌≡◌, ◌≤◌, ◌∙◌, ◌==◌, Bool, true, false, cond, List, [], ◌∷◌, Option, Some, None, Result, Ok, Err, length, refl, ap, sym, subst, arith, length-append}
 use Rattle.std.specs.Option.{option_map_or}
-use Rattle.std.specs.Result.{result_ok}
+use Rattle.std.specs.Result.{result_ok, is_ok}
 use Rattle.undo_core.specs.Replay.{count_kept}
+use Rattle.mix_word.specs.Word.{WordValue, plus}
+use Rattle.mix_word.specs.Arithmetic.{sum_of}
+use Rattle.mix_word.specs.declared.register.DataReg.{DataReg}
+use Rattle.mix_word.specs.declared.register.DataReg.TheVariants.{A, I1, I2, I3, I4, I5, I6, X}
+use Rattle.mix_word.specs.declared.operation.ShiftKind.{ShiftKind}
+use Rattle.mix_word.specs.declared.operation.ShiftKind.TheVariants.{Sla, Sra, Slax, Srax, Slc, Src}
+use Rattle.mix_word.specs.declared.operation.JumpKind.{JumpKind}
+use Rattle.mix_word.specs.declared.operation.JumpKind.TheVariants.{Jmp, Jsj, Jov, Jnov, Less, Equal, Greater, GreaterEqual, NotEqual, LessEqual}
+use Rattle.mix_word.specs.declared.operation.Operation.{Operation}
+use Rattle.mix_word.specs.declared.operation.Operation.TheVariants.{Div, Shift, Move, Jump, Increase, Decrease}
+use Rattle.mix_machine.specs.Registers.{fits_register}
 use Rattle.mix_machine.specs.World.{WorldState}
-use Rattle.mix_machine.specs.Write.{Write, written, kept_by}
-use Rattle.mix_machine.specs.Decode.{decoded, is_served}
-use Rattle.mix_machine.specs.Do.{does, kept_values, kept_by_action, effects, writes}
-use Rattle.mix_machine.specs.KeptCount.{beside, count_of, kept_count}
-use Rattle.mix_machine.specs.Accepted.{passes-decoded}
-use Rattle.mix_machine.specs.declared.decode.Action.{Action}
+use Rattle.mix_machine.specs.Write.{writes_in, writes_of, copies}
+use Rattle.mix_machine.specs.Decode.{decode_at, arguments_at}
+use Rattle.mix_machine.specs.Effects.{effects, sum_into, shift_into, quotient_into, copy_of}
+use Rattle.mix_machine.specs.Jump.{jump_writes}
+use Rattle.mix_machine.specs.Order.{applies, operation_or_nop}
+use Rattle.mix_machine.specs.Do.{does, kept_values, plan_of, values_kept, step_plan}
+use Rattle.mix_machine.specs.KeptCount.{beside, beside_sum, beside_shift, beside_jump, count_of, kept_count, most_kept}
+use Rattle.mix_machine.specs.law.Passed.{passed}
+use Rattle.mix_machine.specs.declared.decode.Arguments.{Arguments}
+use Rattle.mix_machine.specs.declared.plan.Plan.{Plan}
+use Rattle.mix_machine.specs.declared.plan.Plan.TheVariants as plan
+use Rattle.mix_machine.specs.declared.plan.Writes.{Writes}
+use Rattle.mix_machine.specs.declared.plan.Writes.TheVariants.{Nothing, Copy}
+use Rattle.mix_machine.specs.declared.old.Old.TheVariants as old
 use Rattle.mix_machine.specs.declared.fault.MixFault.{MixFault}
+use Rattle.mix_machine.specs.declared.fault.MixFault.TheVariants.{IndexOverflow}
 use Rattle.mix_machine.specs.declared.old.Change.{Change}
-use Rattle.mix_machine.specs.declared.old.Change.TheVariants.{Step}
+use Rattle.mix_machine.specs.declared.old.Change.TheVariants.{Step, SetReg, SetCell, SetLoc, SetOver, SetCmp}
+use Rattle.mix_machine.proofs.WriteLemmas.{length-copies, length-kept_by}
 
-length-kept_by : (w : WorldState) (xs : List Write) → length (kept_by w xs) ≡ length xs
-length-kept_by w [] = refl
-length-kept_by w (x ∷ xs) = ap suc (length-kept_by (written w x) xs)
+-- how many values an operation's writes keep
+abbrev number : WorldState → Writes → ℕ
+number w x = length (writes_in w x)
 
-length-effects : (op : Operation) (f : ℕ) (w : WorldState) (a : Action) → is_served op f ≡ true → length (effects op w a) ≡ beside op
-length-effects Nop f w a h = refl
-length-effects Hlt f w a h = refl
-length-effects (Enter A) f w a h = refl
-length-effects (Increase A) f w a h = refl
-length-effects (Store A) f w a h = refl
-length-effects _ f w a h = cc
+number-sum : (r : DataReg) (w v : WorldState) (s : WordValue × Bool) → number w (sum_into r v s) ≡ beside_sum r
+number-sum A w v s = refl
+number-sum X w v s = refl
+number-sum I1 w v s = refl
+number-sum I2 w v s = refl
+number-sum I3 w v s = refl
+number-sum I4 w v s = refl
+number-sum I5 w v s = refl
+number-sum I6 w v s = refl
 
-counted-action : (w : WorldState) (r : Result Action MixFault) → decoded w ≡ r → length (kept_by_action w r) ≡ count_of r
-counted-action w (Ok a) e =
-    let passed = passes-decoded w a e in
-    length-kept_by w (writes w a)
-    ∙ ap (λ n. suc (suc n)) (length-effects a.operation a.f w a passed.1.served)
-    ∙ omega arith
-counted-action w (Err f) e = refl
+number-shift : (kind : ShiftKind) (w : WorldState) (p : WordValue × WordValue) → number w (shift_into kind p) ≡ beside_shift kind
+number-shift Sla w p = refl
+number-shift Sra w p = refl
+number-shift Slax w p = refl
+number-shift Srax w p = refl
+number-shift Slc w p = refl
+number-shift Src w p = refl
 
--- an accepted change keeps as many values as the table says
+number-jump : (kind : JumpKind) (w : WorldState) (j : WordValue) → number w (jump_writes kind j) ≡ beside_jump kind
+number-jump Jmp w j = refl
+number-jump Jsj w j = refl
+number-jump Jov w j = refl
+number-jump Jnov w j = refl
+number-jump Less w j = refl
+number-jump Equal w j = refl
+number-jump Greater w j = refl
+number-jump GreaterEqual w j = refl
+number-jump NotEqual w j = refl
+number-jump LessEqual w j = refl
+
+number-quotient : (w v : WorldState) (q : Option (WordValue × WordValue)) → number w (quotient_into v q) ≡ 3
+number-quotient w v (Some q) = refl
+number-quotient w v None = refl
+
+number-copy : (w : WorldState) (a : Arguments) → number w (copy_of w a) ≡ cond (a.f == 0) 0 (a.f + 1)
+number-copy w a =
+    elim (a.f == 0) as (λ b. number w (cond b Nothing (Copy (record { count = a.f; from = a.m.magnitude; to = w.registers.i1.magnitude; index = (sum_of w.registers.i1 (plus a.f)).0 }))) ≡ cond b 0 (a.f + 1)) [
+      | true ↦ refl
+      | false ↦ length-append (copies a.f a.m.magnitude w.registers.i1.magnitude w) _ ∙ ap (λ n. n + 1) (length-copies a.f a.m.magnitude w.registers.i1.magnitude w)
+    ]
+
+number-effects : (op : Operation) (w : WorldState) (a : Arguments) → number w (effects op w a).writes ≡ beside op w a
+number-effects Div w a = number-quotient w w _
+number-effects (Shift kind) w a = number-shift kind w _
+number-effects Move w a = number-copy w a
+number-effects (Jump kind) w a = number-jump kind w _
+number-effects (Increase r) w a = number-sum r w w _
+number-effects (Decrease r) w a = number-sum r w w _
+number-effects _ w a = refl
+
+number-step : (op : Operation) (w : WorldState) (a : Arguments) → length (writes_of w (step_plan op w a)) ≡ 2 + beside op w a
+number-step op w a =
+    length-append (writes_in w (effects op w a).writes) _ ∙ ap (λ n. n + 2) (number-effects op w a) ∙ omega arith
+
+-- the number of values that an accepted change writes is that of the table
+pub number-written : (w : WorldState) (c : Change) (p : Plan) → plan_of w c ≡ Ok p → length (writes_of w p) ≡ count_of w c
+unfolding plan_of
+number-written w Step p e =
+    let op = operation_or_nop (decode_at w) in
+    let a = arguments_at w in
+    let same = passed (applies (decode_at w) w a) (step_plan op w a) p e in
+    subst (λ q. length (writes_of w q) ≡ count_of w Step) same.1 (number-step op w a)
+number-written w (SetReg r v) p e =
+    elim (fits_register r v) as (λ b. cond b (Ok (plan.Value (old.Reg r v))) (Err IndexOverflow) ≡ Ok p → length (writes_of w p) ≡ 1) [
+      | true ↦ λ q. let same : plan.Value (old.Reg r v) ≡ p = cc in subst (λ q. length (writes_of w q) ≡ 1) same refl
+      | false ↦ λ q. absurd (cc)
+    ] e
+number-written w (SetCell at v) p e =
+    let same : plan.Value (old.Cell at v) ≡ p = cc in subst (λ q. length (writes_of w q) ≡ 1) same refl
+number-written w (SetLoc at) p e =
+    let same : plan.Value (old.Loc at) ≡ p = cc in subst (λ q. length (writes_of w q) ≡ 1) same refl
+number-written w (SetOver b) p e =
+    let same : plan.Value (old.Over b) ≡ p = cc in subst (λ q. length (writes_of w q) ≡ 1) same refl
+number-written w (SetCmp c) p e =
+    let same : plan.Value (old.Cmp c) ≡ p = cc in subst (λ q. length (writes_of w q) ≡ 1) same refl
+
+counted-plan : (w : WorldState) (c : Change) (r : Result Plan MixFault) → plan_of w c ≡ r → length (values_kept w r) ≡ cond (is_ok r) (count_of w c) 0
+counted-plan w c (Ok p) e = length-kept_by w (writes_of w p) ∙ number-written w c p e
+counted-plan w c (Err f) e = refl
+
+-- a change keeps as many values as the table says
 pub counted : (w : WorldState) (c : Change) → length (kept_values w c) ≡ kept_count w c
 unfolding kept_values kept_count
-counted w Step = counted-action w (decoded w) refl
+counted w c = counted-plan w c (plan_of w c) refl
 
-few : (op : Operation) → 2 + beside op ≤ 103
-few (Enter A) = omega arith
-few (Store A) = omega arith
-few (Increase A) = omega arith
-few _ = omega arith
+few-sum : (r : DataReg) → 2 + beside_sum r ≤ most_kept
+few-sum A = omega arith
+few-sum X = omega arith
+few-sum _ = omega arith
 
-few-result : (r : Result Action MixFault) → count_of r ≤ 103
-few-result (Ok a) = few a.operation
-few-result (Err f) = omega arith
+few-shift : (kind : ShiftKind) → 2 + beside_shift kind ≤ most_kept
+few-shift Sla = omega arith
+few-shift Sra = omega arith
+few-shift _ = omega arith
 
-pub few_kept : (w : WorldState) (c : Change) → kept_count w c ≤ 103
+few-jump : (kind : JumpKind) → 2 + beside_jump kind ≤ most_kept
+few-jump Jsj = omega arith
+few-jump Jov = omega arith
+few-jump Jnov = omega arith
+few-jump _ = omega arith
+
+few-copies : (n : ℕ) → n < 64 → 2 + cond (n == 0) 0 (n + 1) ≤ most_kept
+few-copies n h =
+    elim (n == 0) as (λ b. 2 + cond b 0 (n + 1) ≤ most_kept) [
+      | true ↦ omega arith
+      | false ↦ omega arith
+    ]
+
+few-beside : (op : Operation) (w : WorldState) (a : Arguments) → a.f < 64 → 2 + beside op w a ≤ most_kept
+few-beside (Shift kind) w a h = few-shift kind
+few-beside Move w a h = few-copies a.f h
+few-beside (Jump kind) w a h = few-jump kind
+few-beside (Increase r) w a h = few-sum r
+few-beside (Decrease r) w a h = few-sum r
+few-beside _ w a h = omega arith
+
+-- no change keeps more than the most
+pub few : (w : WorldState) (c : Change) → count_of w c ≤ most_kept
+few w Step =
+    let f : (arguments_at w).f < 64 = omega arith in
+    few-beside (operation_or_nop (decode_at w)) w (arguments_at w) f
+few w (SetReg r v) = omega arith
+few w (SetCell p v) = omega arith
+few w (SetLoc p) = omega arith
+few w (SetOver b) = omega arith
+few w (SetCmp c) = omega arith
+
+pub few_kept : (w : WorldState) (c : Change) → kept_count w c ≤ most_kept
 unfolding kept_count
-few_kept w Step = few-result (decoded w)
+few_kept w c =
+    elim (is_ok (plan_of w c)) as (λ b. cond b (count_of w c) 0 ≤ most_kept) [
+      | true ↦ few w c
+      | false ↦ omega arith
+    ]
 
--- so a list of changes keeps no more than 103 for each
-pub few_in_all : (w : WorldState) (cs : List Change) → count_kept does kept_values w cs ≤ 103 * length cs
+-- so a list of changes keeps no more than that for each
+pub few_in_all : (w : WorldState) (cs : List Change) → count_kept does kept_values w cs ≤ most_kept * length cs
 few_in_all w [] = omega arith
 few_in_all w (c ∷ cs) =
-    let one : length (kept_values w c) ≤ 103 = rw (counted w c) (few_kept w c) in
-    elim (does w c) as (λ r. length (kept_values w c) + option_map_or (λ t. count_kept does kept_values t cs) (result_ok r) 0 ≤ 103 * suc (length cs)) [
+    let one : length (kept_values w c) ≤ most_kept = rw (counted w c) (few_kept w c) in
+    elim (does w c) as (λ r. length (kept_values w c) + option_map_or (λ t. count_kept does kept_values t cs) (result_ok r) 0 ≤ most_kept * suc (length cs)) [
       | Ok t ↦ let rest = few_in_all t cs in omega arith
       | Err f ↦ omega arith
     ]
+
+-- there is room for what a change writes where there is room for the most
+pub few_written : (w : WorldState) (c : Change) (p : Plan) → Ok p ≡ plan_of w c → length (writes_of w p) ≤ most_kept
+few_written w c p e = rw (number-written w c p (sym e)) (few w c)

@@ -1,55 +1,63 @@
--- An accepted step is one of HLT exactly where a halt stands next.
-use Rattle.std.proofs.Common.{ℕ, ◌≡◌, ◌==◌, ◌&&◌, ◌↔◌, Bool, true, false, cond, List, [], ◌∷◌, Option, None, Some, Ok, IsTrue, refl, ap, subst, arith, ◌∙◌}
+-- HLT is named by C = 5 and F = 2, and by nothing else.
+use Rattle.std.proofs.Common.{ℕ, ◌≡◌, ◌<◌, ◌==◌, ◌&&◌, ◌↔◌, Bool, true, false, IsTrue, Result, Ok, Err, refl, arith}
 use Rattle.std.proofs.lemmas.Bool.Decides.{nat_tests}
-use Rattle.std.specs.List.{find}
-use Rattle.mix_word.specs.Table.{decode_of as operation_of, operation_at, operations, has_code, is_floating, named_or_unknown}
-use Rattle.mix_word.specs.declared.decoding.Decoded.TheVariants.{Named, Floating}
-use Rattle.mix_word.specs.declared.operation.Operation.{Operation}
+use Rattle.mix_word.specs.Table.{IsNamedBy}
+use Rattle.mix_word.specs.declared.decoding.Decoded.{Decoded}
+use Rattle.mix_word.specs.declared.decoding.Decoded.TheVariants.{Named}
 use Rattle.mix_word.specs.declared.operation.Operation.TheVariants.{Hlt}
 use Rattle.mix_machine.specs.World.{WorldState, IsWorld}
-use Rattle.mix_machine.specs.Decode.{decoded, instruction}
-use Rattle.mix_machine.specs.Do.{is_halt_next}
-use Rattle.mix_machine.specs.Accepted.{passes-decoded}
-use Rattle.mix_machine.specs.declared.decode.Action.{Action}
+use Rattle.mix_machine.specs.Decode.{instruction, decode_at, arguments_at}
+use Rattle.mix_machine.specs.Order.{applies, operation_or_nop}
+use Rattle.mix_machine.specs.Do.{does, plan_of, state_after, step_plan, is_halt_next}
+use Rattle.mix_machine.specs.law.Passed.{passed}
+use Rattle.mix_machine.specs.declared.plan.Plan.{Plan}
+use Rattle.mix_machine.specs.declared.fault.MixFault.{MixFault}
+use Rattle.mix_machine.specs.declared.old.Change.TheVariants.{Step}
 
-find-passes : {X : Type 0} (p : X → Bool) (xs : List X) (y : X) → find p xs ≡ Some y → p y ≡ true
-find-passes p [] y e = absurd (cc)
-find-passes p (x ∷ xs) y e =
-    elim (p x) as (λ b. p x ≡ b → cond b (Some x) (find p xs) ≡ Some y → p y ≡ true) [
-      | true ↦ λ t q. let same : x ≡ y = cc in subst (λ (z : _). p z ≡ true) same t
-      | false ↦ λ t q. find-passes p xs y q
-    ] refl e
+named-hlt : (c f : ℕ) → IsNamedBy Hlt c f → (c == 5 && f == 2) ≡ true
+named-hlt c f h =
+    let five : 5 ≡ c = h.0 in
+    let two : 2 ≡ f = h.1 refl in
+    grind (arith, nat_tests)
 
-found : (o : Option Operation) (op : Operation) → named_or_unknown o ≡ Named op → o ≡ Some op
-found None op e = absurd (cc)
-found (Some x) op e = cc
-
--- HLT is said by C = 5 and F = 2
-said-hlt : (c f : ℕ) → operation_of c f ≡ Named Hlt → (c == 5 && f == 2) ≡ true
-unfolding operation_of operation_at
-said-hlt c f e =
-    elim (is_floating c f) as (λ b. cond b Floating (named_or_unknown (operation_at c f)) ≡ Named Hlt → (c == 5 && f == 2) ≡ true) [
-      | true ↦ λ q. absurd (cc)
-      | false ↦ λ q. let has : has_code c f Hlt ≡ true = find-passes (has_code c f) operations Hlt (found _ Hlt q) in grind (arith, nat_tests)
-    ] e
-
--- and they say nothing else
-says-hlt : (c f : ℕ) (op : Operation) → operation_of c f ≡ Named op → (c == 5 && f == 2) ≡ true → op ≡ Hlt
-unfolding operation_of operation_at operations
-says-hlt c f op e h =
+hlt-named : (c f : ℕ) → (c == 5 && f == 2) ≡ true → IsNamedBy Hlt c f
+hlt-named c f h =
     let five : c ≡ 5 = grind (arith, nat_tests) in
     let two : f ≡ 2 = grind (arith, nat_tests) in
-    let here : operation_of 5 2 ≡ Named op = rw (five, two) at e in
-    cc
+    rw (five, two) (refl, (λ _. refl), refl)
 
--- an accepted step is one of HLT exactly where the cell at the location has C = 5 and F = 2
-pub halting : (w : WorldState) (a : Action) → IsWorld w → decoded w ≡ Ok a → IsTrue (is_halt_next w) ↔ (a.operation ≡ Hlt)
-halting w a h e =
-    let passed = passes-decoded w a e in
-    let there = passed.0 in
-    let named = passed.1.named in
+-- the test of C and F, by what they name
+pub halt-tested : (c f : ℕ) (d : Decoded) (b : Bool) → ((d ≡ Named Hlt) ↔ IsNamedBy Hlt c f) → (IsTrue b ↔ (d ≡ Named Hlt)) →
+    b ≡ (c == 5 && f == 2)
+halt-tested c f d true law test = let is = named-hlt c f (law.0 (test.0 refl)) in cc
+halt-tested c f d false law test =
+    elim (c == 5 && f == 2) as (λ t. (c == 5 && f == 2) ≡ t → false ≡ t) [
+      | true ↦ λ q. let no = test.1 (law.1 (hlt-named c f q)) in cc
+      | false ↦ λ q. refl
+    ] refl
+
+planned : (w t : WorldState) (r : Result Plan MixFault) → plan_of w Step ≡ r → state_after w r ≡ Ok t → (p : Plan) × (plan_of w Step ≡ Ok p)
+planned w t (Ok p) e h = (p, e)
+planned w t (Err f) e h = absurd (cc)
+
+-- an accepted step begins at a cell
+at-cell : (w : WorldState) (p : Plan) → IsWorld w → plan_of w Step ≡ Ok p → w.loc < 4000
+unfolding plan_of
+at-cell w p h e =
+    let all = passed (applies (decode_at w) w (arguments_at w)) (step_plan (operation_or_nop (decode_at w)) w (arguments_at w)) p e in
+    let there = all.0.location in
     let most = h.loc in
-    let p = instruction w in (
-      λ next. says-hlt p.code p.f a.operation named (grind (arith, nat_tests)),
-      λ hlt. let said = said-hlt p.code p.f (named ∙ ap Named hlt) in grind (arith, nat_tests),
+    grind (arith, nat_tests)
+
+-- an accepted step is one of HLT exactly where C is 5 and F is 2
+pub halting : (w t : WorldState) → ((decode_at w ≡ Named Hlt) ↔ IsNamedBy Hlt (instruction w).code (instruction w).f) → IsWorld w →
+    does w Step ≡ Ok t → IsTrue (is_halt_next w) ↔ (decode_at w ≡ Named Hlt)
+unfolding does
+halting w t law h e =
+    let plan = planned w t (plan_of w Step) refl e in
+    let there = at-cell w plan.0 h plan.1 in
+    let c = (instruction w).code in
+    let f = (instruction w).f in (
+      λ next. law.1 (hlt-named c f (grind (arith, nat_tests))),
+      λ hlt. let named = named-hlt c f (law.0 hlt) in grind (arith, nat_tests),
     )

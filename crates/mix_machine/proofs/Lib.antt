@@ -1,3 +1,6 @@
+pub mod CopyLemmas
 pub mod Counting
 pub mod Halting
 pub mod Reverting
+pub mod StageLemmas
+pub mod WriteLemmas

@@ -1,82 +1,60 @@
--- The instruction at the location: its operation and its address M, or the first fault
--- (The Art of Computer Programming, 1.3.1, "Instruction format").
-use Rattle.std.specs.Prelude.{ℕ, ℤ, pos, negsuc, ◌+ℤ◌, unsigned_abs, Bool, true, false, not, ◌&&◌, ◌==◌, nat_le, nat_lt, if◌then◌else◌, List, [], ◌∷◌, ◌+◌, Result, Ok, Err}
-use Rattle.mix_word.specs.Word.{number_of, parts_of, signed}
-use Rattle.mix_word.specs.Operation.{time_of}
-use Rattle.mix_word.specs.Needs.{needs_address, needs_operand}
-use Rattle.mix_word.specs.Table.{decode_of as operation_of}
+-- The instruction at the location and what it gives to its operation: I, M and F (1.3.1, "Instruction format").
+use Rattle.std.specs.Prelude.{ℕ, Bool, ◌==◌, ◌||◌, ◌&&◌, nat_lt, unwrap_or, if◌then◌else◌}
+use Rattle.std.specs.Option.{is_some}
+use Rattle.mix_word.specs.Word.{WordValue, word, zero_word, parts_of}
+use Rattle.mix_word.specs.Arithmetic.{sum_of}
+use Rattle.mix_word.specs.Field.{FieldValue, field, field_of, field_value_of}
+use Rattle.mix_word.specs.Table.{decode_of}
 use Rattle.mix_word.specs.declared.word.Parts.{Parts}
-use Rattle.mix_word.specs.declared.register.DataReg.TheVariants.{A}
 use Rattle.mix_word.specs.declared.decoding.Decoded.{Decoded}
-use Rattle.mix_word.specs.declared.decoding.Decoded.TheVariants.{Named, Floating, Unknown}
-use Rattle.mix_word.specs.declared.operation.Operation.{Operation}
-use Rattle.mix_word.specs.declared.operation.Operation.TheVariants.{Nop, Hlt, Enter, Increase, Store}
-use Rattle.mix_machine.specs.World.{WorldState, cell_of, last_clock}
-use Rattle.mix_machine.specs.declared.fault.MixFault.{MixFault}
-use Rattle.mix_machine.specs.declared.fault.MixFault.TheVariants.{NoOperation, IndexOverSix, LargeAddress, NoCell, ClockFull, NoCellAtLocation}
-use Rattle.mix_machine.specs.declared.decode.Action.{Action}
+use Rattle.mix_machine.specs.Registers.{is_plus}
+use Rattle.mix_machine.specs.World.{WorldState, cell_of}
+use Rattle.mix_machine.specs.declared.decode.Arguments.{Arguments}
 
--- the number in the index register rIi; 0 where i is 0
-abbrev pub index_number : WorldState → ℕ → ℤ
-index_number w i =
-    if i == 1 then number_of w.i1 else
-    if i == 2 then number_of w.i2 else
-    if i == 3 then number_of w.i3 else
-    if i == 4 then number_of w.i4 else
-    if i == 5 then number_of w.i5 else
-    if i == 6 then number_of w.i6 else pos 0
-
--- M: the sign and the bytes 1 and 2 as a number, and the index register's; a whole number of any size
-abbrev pub effective : WorldState → Parts → ℤ
-effective w p = signed p.sign p.address +ℤ index_number w p.index
-
--- whether this machine has an operation, at its field
-abbrev pub is_served : Operation → ℕ → Bool
-is_served Nop f = true
-is_served Hlt f = true
-is_served (Enter A) f = true
-is_served (Increase A) f = true
-is_served (Store A) f = f == 5
-is_served _ f = false
-
--- whether a number is that of a cell
-abbrev pub is_cell : ℤ → Bool
-is_cell (pos n) = nat_lt n 4000
-is_cell (negsuc n) = false
-
--- the first fault whose test applies, or else the value
-abbrev pub first_fault : {X : Type 0} → List (Bool × MixFault) → X → Result X MixFault
-first_fault [] x = Ok x
-first_fault (t ∷ ts) x = if t.0 then Err t.1 else first_fault ts x
-
--- what can refuse an operation, first to last: the index, M, the cell, the clock
-abbrev pub tests : WorldState → Parts → Action → List (Bool × MixFault)
-tests w p a =
-    (needs_address a.operation && nat_lt 6 p.index, IndexOverSix)
-    ∷ (needs_address a.operation && nat_le 4096 (unsigned_abs a.m), LargeAddress)
-    ∷ (needs_operand a.operation && not (is_cell a.m), NoCell)
-    ∷ (nat_lt last_clock (w.clock + time_of a.operation a.f), ClockFull)
-    ∷ []
-
--- the action of an operation, by the instruction that names it
-abbrev pub action_of : WorldState → Parts → Operation → Action
-action_of w p op = record { operation = op; sign = p.sign; m = effective w p; f = p.f }
-
-abbrev pub checked : WorldState → Parts → Decoded → Result Action MixFault
-checked w p (Named op) =
-    if is_served op p.f
-    then first_fault (tests w p (action_of w p op)) (action_of w p op)
-    else Err NoOperation
-checked w p Floating = Err NoOperation
-checked w p Unknown = Err NoOperation
-
--- the instruction at the location
+-- the instruction at the location, in its parts
 abbrev pub instruction : WorldState → Parts
 instruction w = parts_of (cell_of w w.loc)
 
-abbrev pub decoded_by : WorldState → Parts → Result Action MixFault
-decoded_by w p = checked w p (operation_of p.code p.f)
+-- what its code and its F name
+abbrev pub decode_at : WorldState → Decoded
+decode_at w = decode_of (instruction w).code (instruction w).f
 
--- what a step is about to do, or why it can't
-unfoldable pub decoded : WorldState → Result Action MixFault
-decoded w = if w.loc == 4000 then Err NoCellAtLocation else decoded_by w (instruction w)
+-- the index register rIi, and +0 where i is 0
+abbrev pub index_of : WorldState → ℕ → WordValue
+index_of w i =
+    if i == 1 then w.registers.i1 else
+    if i == 2 then w.registers.i2 else
+    if i == 3 then w.registers.i3 else
+    if i == 4 then w.registers.i4 else
+    if i == 5 then w.registers.i5 else
+    if i == 6 then w.registers.i6 else zero_word
+
+-- M: the sum of the address and the index register, of which a zero has the sign of the instruction
+abbrev pub address_of : WorldState → Parts → WordValue
+address_of w p = (sum_of (word p.sign p.address) (index_of w p.index)).0
+
+abbrev pub arguments_of : WorldState → Parts → Arguments
+arguments_of w p = record { index = p.index; m = address_of w p; f = p.f }
+
+abbrev pub arguments_at : WorldState → Arguments
+arguments_at w = arguments_of w (instruction w)
+
+-- whether a word's number is 0 or more, as that of -0 is
+abbrev pub is_natural : WordValue → Bool
+is_natural m = is_plus m.sign || m.magnitude == 0
+
+-- whether a word's number is that of a cell, 0 to 3999
+abbrev pub is_cell : WordValue → Bool
+is_cell m = is_natural m && nat_lt m.magnitude 4000
+
+-- whether F is a field
+abbrev pub is_field : ℕ → Bool
+is_field f = is_some (field_of f)
+
+-- the field F (the whole word where it is none, which is refused)
+abbrev pub field_at : ℕ → FieldValue
+field_at f = unwrap_or (field_of f) (field 0 5)
+
+-- V: the field F of the cell M
+abbrev pub operand : WorldState → Arguments → WordValue
+operand w a = field_value_of (cell_of w a.m.magnitude) (field_at a.f)

@@ -1,59 +1,72 @@
--- What a change does: the new state, or the first fault (The Art of Computer Programming, 1.3.1, "MIX operators").
-use Rattle.std.specs.Prelude.{ℤ, unsigned_abs, Bool, ◌&&◌, ◌||◌, ◌==◌, nat_lt, List, [], ◌∷◌, ◌+◌, Result, Ok, Err}
-use Rattle.mix_word.specs.Word.{WordValue, word}
-use Rattle.mix_word.specs.Arithmetic.{sign_of_number, sum_of}
+-- What a change does: the new state, or the first fault, which leaves the state as it was.
+use Rattle.std.specs.Prelude.{ℕ, Bool, ◌&&◌, ◌==◌, ◌<◌, nat_lt, if◌then◌else◌, List, [], ◌+◌, Result, Ok, Err}
 use Rattle.mix_word.specs.Operation.{time_of}
-use Rattle.mix_word.specs.declared.register.DataReg.TheVariants.{A}
-use Rattle.mix_word.specs.declared.register.Reg.TheVariants as reg
-use Rattle.mix_word.specs.declared.word.Sign.{Sign}
+use Rattle.mix_word.specs.declared.decoding.Decoded.{Decoded}
 use Rattle.mix_word.specs.declared.operation.Operation.{Operation}
-use Rattle.mix_word.specs.declared.operation.Operation.TheVariants.{Enter, Increase, Store}
+use Rattle.mix_machine.specs.Registers.{fits_register}
 use Rattle.mix_machine.specs.World.{WorldState}
-use Rattle.mix_machine.specs.Write.{Write, set, write_all, kept_by}
-use Rattle.mix_machine.specs.Decode.{decoded, instruction}
-use Rattle.mix_machine.specs.declared.decode.Action.{Action}
+use Rattle.mix_machine.specs.Write.{write_all, kept_by, writes_of}
+use Rattle.mix_machine.specs.Decode.{instruction, decode_at, arguments_at}
+use Rattle.mix_machine.specs.Effects.{effects}
+use Rattle.mix_machine.specs.Order.{applies, order, first_fault, operation_or_nop}
+use Rattle.mix_machine.specs.declared.decode.Arguments.{Arguments}
+use Rattle.mix_machine.specs.declared.plan.Plan.{Plan}
+use Rattle.mix_machine.specs.declared.plan.Plan.TheVariants as plan
 use Rattle.mix_machine.specs.declared.fault.MixFault.{MixFault}
+use Rattle.mix_machine.specs.declared.fault.MixFault.TheVariants.{IndexOverflow}
 use Rattle.mix_machine.specs.declared.old.Change.{Change}
-use Rattle.mix_machine.specs.declared.old.Change.TheVariants.{Step}
+use Rattle.mix_machine.specs.declared.old.Change.TheVariants.{Step, SetReg, SetCell, SetLoc, SetOver, SetCmp}
 use Rattle.mix_machine.specs.declared.old.Old.{Old}
-use Rattle.mix_machine.specs.declared.old.Old.TheVariants.{Loc, Clock, Reg as Register, Cell, Over}
+use Rattle.mix_machine.specs.declared.old.Old.TheVariants as old
 
--- a number as a word; zero has the sign that is given
-abbrev pub word_of : Sign → ℤ → WordValue
-word_of s n = word (sign_of_number s n) (unsigned_abs n)
+-- the location after a step
+abbrev pub next_location : Bool → WorldState → Arguments → ℕ
+next_location jumps w a = if jumps then a.m.magnitude else w.loc + 1
 
--- What an operation writes beside the location and the clock. ENTA loads M, for M = 0 with the sign of the
--- instruction; INCA adds M to rA, and turns the toggle on where that overflows; STA puts rA into cell M.
-abbrev pub effects : Operation → WorldState → Action → List Write
-effects (Enter A) w a = set (Register reg.A (word_of a.sign a.m)) ∷ []
-effects (Increase A) w a =
-    set (Register reg.A (sum_of w.a (word_of a.sign a.m)).0)
-    ∷ set (Over (w.over || (sum_of w.a (word_of a.sign a.m)).1))
-    ∷ []
-effects (Store A) w a = set (Cell (unsigned_abs a.m) w.a) ∷ []
-effects _ w a = []
+-- what an operation writes, the next location, and the clock with the operation's time
+abbrev pub step_plan : Operation → WorldState → Arguments → Plan
+step_plan op w a =
+    plan.Step (effects op w a).writes (next_location (effects op w a).jumps w a) (w.clock + time_of op a.f)
 
--- all that an accepted step writes: the next location, the time that it takes, and what its operation does
-abbrev pub writes : WorldState → Action → List Write
-writes w a = set (Loc (w.loc + 1)) ∷ set (Clock (w.clock + time_of a.operation a.f)) ∷ effects a.operation w a
+-- what a step of what is decoded writes, or its first fault
+abbrev pub step_or_fault : Decoded → WorldState → Arguments → Result Plan MixFault
+step_or_fault d w a = first_fault (applies d w a) order (step_plan (operation_or_nop d) w a)
 
-abbrev pub acted : WorldState → Result Action MixFault → Result WorldState MixFault
-acted w (Ok a) = Ok (write_all w (writes w a))
-acted w (Err f) = Err f
+-- what a change writes, read from the state before it, or its first fault
+unfoldable pub plan_of : WorldState → Change → Result Plan MixFault
+plan_of w Step = step_or_fault (decode_at w) w (arguments_at w)
+plan_of w (SetReg r v) = if fits_register r v then Ok (plan.Value (old.Reg r v)) else Err IndexOverflow
+plan_of w (SetCell p v) = Ok (plan.Value (old.Cell p v))
+plan_of w (SetLoc p) = Ok (plan.Value (old.Loc p))
+plan_of w (SetOver b) = Ok (plan.Value (old.Over b))
+plan_of w (SetCmp c) = Ok (plan.Value (old.Cmp c))
+
+abbrev pub state_after : WorldState → Result Plan MixFault → Result WorldState MixFault
+state_after w (Ok p) = Ok (write_all w (writes_of w p))
+state_after w (Err f) = Err f
+
+abbrev pub values_kept : WorldState → Result Plan MixFault → List Old
+values_kept w (Ok p) = kept_by w (writes_of w p)
+values_kept w (Err f) = []
 
 -- the state after a change, or the fault that refuses it and leaves the state as it was
 unfoldable pub does : WorldState → Change → Result WorldState MixFault
-does w Step = acted w (decoded w)
-
-abbrev pub kept_by_action : WorldState → Result Action MixFault → List Old
-kept_by_action w (Ok a) = kept_by w (writes w a)
-kept_by_action w (Err f) = []
+does w c = state_after w (plan_of w c)
 
 -- the old values that an accepted change keeps, in the order of its writes
 unfoldable pub kept_values : WorldState → Change → List Old
-kept_values w Step = kept_by_action w (decoded w)
+kept_values w c = values_kept w (plan_of w c)
 
 -- whether the next step would be a halt: the location is a cell, and the cell has C = 5 and F = 2
 abbrev pub is_halt_next : WorldState → Bool
 is_halt_next w =
     nat_lt w.loc 4000 && (instruction w).code == 5 && (instruction w).f == 2
+
+-- what is true of the values in a change, as the places that they name are those of cells
+abbrev pub IsReal : Change → Type 0
+IsReal Step = Unit {0}
+IsReal (SetReg r v) = Unit {0}
+IsReal (SetCell p v) = p < 4000
+IsReal (SetLoc p) = p < 4000
+IsReal (SetOver b) = Unit {0}
+IsReal (SetCmp c) = Unit {0}

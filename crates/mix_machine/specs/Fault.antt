@@ -4,40 +4,40 @@ use Rattle.std.specs.Fmt.{decimal}
 use Rattle.mix_machine.specs.declared.fault.MixFault.{MixFault}
 use Rattle.mix_machine.specs.declared.fault.MixFault.TheVariants.{NoOperation, FloatingOperation, IndexOverSix, LargeAddress, NoCell, NoField, IndexOverflow, NegativeShift, NoUnit, WrongDirection, NoBlock, BadControl, UnitFull, ClockFull, NoCellAtLocation}
 
-abbrev pub number_of : MixFault → ℕ
-number_of NoOperation = 1
-number_of FloatingOperation = 2
-number_of IndexOverSix = 3
-number_of LargeAddress = 4
-number_of NoCell = 5
-number_of NoField = 6
-number_of IndexOverflow = 7
-number_of NegativeShift = 8
-number_of NoUnit = 9
-number_of WrongDirection = 10
-number_of NoBlock = 11
-number_of BadControl = 12
-number_of UnitFull = 13
-number_of ClockFull = 14
-number_of NoCellAtLocation = 15
+abbrev pub fault_number : MixFault → ℕ
+fault_number NoOperation = 1
+fault_number FloatingOperation = 2
+fault_number IndexOverSix = 3
+fault_number LargeAddress = 4
+fault_number NoCell = 5
+fault_number NoField = 6
+fault_number IndexOverflow = 7
+fault_number NegativeShift = 8
+fault_number NoUnit = 9
+fault_number WrongDirection = 10
+fault_number NoBlock = 11
+fault_number BadControl = 12
+fault_number UnitFull = 13
+fault_number ClockFull = 14
+fault_number NoCellAtLocation = 15
 
-abbrev pub text_of : MixFault → List ℕ
-text_of NoOperation = codes "no such operation"
-text_of FloatingOperation = codes "floating operation"
-text_of IndexOverSix = codes "index over 6"
-text_of LargeAddress = codes "address beyond two bytes"
-text_of NoCell = codes "no such cell"
-text_of NoField = codes "no such field"
-text_of IndexOverflow = codes "index overflow"
-text_of NegativeShift = codes "negative shift"
-text_of NoUnit = codes "no such unit"
-text_of WrongDirection = codes "wrong direction"
-text_of NoBlock = codes "no block"
-text_of BadControl = codes "bad control"
-text_of UnitFull = codes "unit full"
-text_of ClockFull = codes "clock full"
-text_of NoCellAtLocation = codes "no cell at the location"
+abbrev pub fault_text : MixFault → List ℕ
+fault_text NoOperation = codes "no such operation"
+fault_text FloatingOperation = codes "floating operation"
+fault_text IndexOverSix = codes "index over 6"
+fault_text LargeAddress = codes "address beyond two bytes"
+fault_text NoCell = codes "no such cell"
+fault_text NoField = codes "no such field"
+fault_text IndexOverflow = codes "index overflow"
+fault_text NegativeShift = codes "negative shift"
+fault_text NoUnit = codes "no such unit"
+fault_text WrongDirection = codes "wrong direction"
+fault_text NoBlock = codes "no block"
+fault_text BadControl = codes "bad control"
+fault_text UnitFull = codes "unit full"
+fault_text ClockFull = codes "clock full"
+fault_text NoCellAtLocation = codes "no cell at the location"
 
--- a fault as it is told: `M5 no such cell`
-abbrev pub shown : MixFault → List ℕ
-shown f = codes "M" ++ decimal (number_of f) ++ codes " " ++ text_of f
+-- number and text: `M5 no such cell`
+abbrev pub fault_line : MixFault → List ℕ
+fault_line f = codes "M" ++ decimal (fault_number f) ++ codes " " ++ fault_text f

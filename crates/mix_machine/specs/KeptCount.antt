@@ -1,27 +1,97 @@
--- How many old values an accepted change keeps.
-use Rattle.std.specs.Prelude.{ℕ, ◌+◌, Result, Ok, Err}
-use Rattle.mix_word.specs.declared.register.DataReg.TheVariants.{A}
+-- How many old values an accepted change keeps: a table of its own.
+use Rattle.std.specs.Prelude.{ℕ, ◌+◌, ◌==◌, if◌then◌else◌}
+use Rattle.std.specs.Result.{is_ok}
+use Rattle.mix_word.specs.declared.register.DataReg.{DataReg}
+use Rattle.mix_word.specs.declared.register.DataReg.TheVariants.{A, I1, I2, I3, I4, I5, I6, X}
+use Rattle.mix_word.specs.declared.operation.ShiftKind.{ShiftKind}
+use Rattle.mix_word.specs.declared.operation.ShiftKind.TheVariants.{Sla, Sra, Slax, Srax, Slc, Src}
+use Rattle.mix_word.specs.declared.operation.JumpKind.{JumpKind}
+use Rattle.mix_word.specs.declared.operation.JumpKind.TheVariants.{Jmp, Jsj, Jov, Jnov, Less, Equal, Greater, GreaterEqual, NotEqual, LessEqual}
 use Rattle.mix_word.specs.declared.operation.Operation.{Operation}
-use Rattle.mix_word.specs.declared.operation.Operation.TheVariants.{Enter, Increase, Store}
+use Rattle.mix_word.specs.declared.operation.Operation.TheVariants.{Nop, Add, Sub, Mul, Div, Num, Char, Hlt, Shift, Move, Load, LoadNegated, Store, StoreJ, StoreZero, Jbus, Ioc, In, Out, Jred, Jump, RegisterJump, Increase, Decrease, Enter, EnterNegated, Compare}
 use Rattle.mix_machine.specs.World.{WorldState}
-use Rattle.mix_machine.specs.Decode.{decoded}
-use Rattle.mix_machine.specs.declared.decode.Action.{Action}
-use Rattle.mix_machine.specs.declared.fault.MixFault.{MixFault}
+use Rattle.mix_machine.specs.Decode.{decode_at, arguments_at}
+use Rattle.mix_machine.specs.Order.{operation_or_nop}
+use Rattle.mix_machine.specs.Do.{plan_of}
+use Rattle.mix_machine.specs.declared.decode.Arguments.{Arguments}
 use Rattle.mix_machine.specs.declared.old.Change.{Change}
-use Rattle.mix_machine.specs.declared.old.Change.TheVariants.{Step}
+use Rattle.mix_machine.specs.declared.old.Change.TheVariants.{Step, SetReg, SetCell, SetLoc, SetOver, SetCmp}
 
--- beside the location and the clock: NOP and HLT nothing, ENTA and STA one value, and INCA two, the register
--- and the toggle, whether or not they alter
-abbrev pub beside : Operation → ℕ
-beside (Enter A) = 1
-beside (Store A) = 1
-beside (Increase A) = 2
-beside _ = 0
+-- the most that one change keeps, that of a block of 100 words and its place among them
+abbrev pub most_kept : ℕ
+most_kept = 103
 
-abbrev pub count_of : Result Action MixFault → ℕ
-count_of (Ok a) = 2 + beside a.operation
-count_of (Err f) = 0
+-- INC and DEC: rA and rX with the toggle, an index register alone
+abbrev pub beside_sum : DataReg → ℕ
+beside_sum A = 2
+beside_sum X = 2
+beside_sum I1 = 1
+beside_sum I2 = 1
+beside_sum I3 = 1
+beside_sum I4 = 1
+beside_sum I5 = 1
+beside_sum I6 = 1
+
+abbrev pub beside_shift : ShiftKind → ℕ
+beside_shift Sla = 1
+beside_shift Sra = 1
+beside_shift Slax = 2
+beside_shift Srax = 2
+beside_shift Slc = 2
+beside_shift Src = 2
+
+-- rJ, and of two of them the toggle
+abbrev pub beside_jump : JumpKind → ℕ
+beside_jump Jmp = 1
+beside_jump Jsj = 0
+beside_jump Jov = 2
+beside_jump Jnov = 2
+beside_jump Less = 1
+beside_jump Equal = 1
+beside_jump Greater = 1
+beside_jump GreaterEqual = 1
+beside_jump NotEqual = 1
+beside_jump LessEqual = 1
+
+-- what a step keeps beside the location and the clock, whether or not the values alter
+abbrev pub beside : Operation → WorldState → Arguments → ℕ
+beside Nop w a = 0
+beside Add w a = 2
+beside Sub w a = 2
+beside Mul w a = 2
+beside Div w a = 3
+beside Num w a = 2
+beside Char w a = 2
+beside Hlt w a = 0
+beside (Shift kind) w a = beside_shift kind
+beside Move w a = if a.f == 0 then 0 else a.f + 1
+beside (Load r) w a = 1
+beside (LoadNegated r) w a = 1
+beside (Store r) w a = 1
+beside StoreJ w a = 1
+beside StoreZero w a = 1
+beside Jbus w a = 0
+beside Ioc w a = 0
+beside In w a = 0
+beside Out w a = 0
+beside Jred w a = 0
+beside (Jump kind) w a = beside_jump kind
+beside (RegisterJump r condition) w a = 1
+beside (Increase r) w a = beside_sum r
+beside (Decrease r) w a = beside_sum r
+beside (Enter r) w a = 1
+beside (EnterNegated r) w a = 1
+beside (Compare r) w a = 1
+
+-- what a change keeps if it is accepted
+abbrev pub count_of : WorldState → Change → ℕ
+count_of w Step = 2 + beside (operation_or_nop (decode_at w)) w (arguments_at w)
+count_of w (SetReg r v) = 1
+count_of w (SetCell p v) = 1
+count_of w (SetLoc p) = 1
+count_of w (SetOver b) = 1
+count_of w (SetCmp c) = 1
 
 -- the number of values that a change keeps; a refused one keeps none
 unfoldable pub kept_count : WorldState → Change → ℕ
-kept_count w Step = count_of (decoded w)
+kept_count w c = if is_ok (plan_of w c) then count_of w c else 0

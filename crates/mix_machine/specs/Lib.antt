@@ -1,10 +1,13 @@
-pub mod Accepted
 pub mod Decode
 pub mod Do
+pub mod Effects
 pub mod Fault
-pub mod Fits
+pub mod Jump
 pub mod KeptCount
 pub mod Loaded
+pub mod Order
+pub mod Registers
 pub mod View
 pub mod World
 pub mod Write
+pub mod law

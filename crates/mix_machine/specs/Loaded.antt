@@ -2,6 +2,7 @@
 use Rattle.std.specs.Prelude.{ℕ, List, [], ◌∷◌, false, replicate, slice_set}
 use Rattle.mix_word.specs.Word.{WordValue, zero_word}
 use Rattle.mix_word.specs.declared.word.Cmp.TheVariants.{Equal}
+use Rattle.mix_machine.specs.Registers.{blank_registers}
 use Rattle.mix_machine.specs.World.{WorldState}
 
 -- the cells with words put at their places in order, so that a later one wins
@@ -13,15 +14,7 @@ placed cells (w ∷ ws) = placed (slice_set cells w.0 w.1) ws
 abbrev pub blank : List WordValue → ℕ → WorldState
 blank cells start =
     record {
-      a = zero_word;
-      x = zero_word;
-      i1 = zero_word;
-      i2 = zero_word;
-      i3 = zero_word;
-      i4 = zero_word;
-      i5 = zero_word;
-      i6 = zero_word;
-      j = zero_word;
+      registers = blank_registers;
       over = false;
       cmp = Equal;
       cells = cells;

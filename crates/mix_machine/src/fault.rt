@@ -1,6 +1,6 @@
 //! The faults of the machine, in the order of their numbers.
 ghost use Rattle.std.specs.Prelude.{◌≡◌, Some};
-ghost use Rattle.mix_machine.specs.Fault.{number_of, text_of, shown};
+ghost use Rattle.mix_machine.specs.Fault.{fault_number, fault_text, fault_line};
 
 use std::fmt;
 
@@ -27,7 +27,7 @@ pub enum MixFault {
 impl MixFault {
     /// The number of the fault, 1 to 15.
     pub fn number(self) -> u8
-        ensures { result ≡ number_of self }
+        ensures { result ≡ fault_number self }
     {
         match self {
             MixFault::NoOperation => 1,
@@ -50,7 +50,7 @@ impl MixFault {
 
     /// The text of the fault.
     pub fn text(self) -> &'static str
-        ensures { result.now ≡ text_of self }
+        ensures { result.now ≡ fault_text self }
     {
         match self {
             MixFault::NoOperation => "no such operation",
@@ -73,7 +73,7 @@ impl MixFault {
 }
 
 impl fmt::Display for MixFault {
-    ghost output = { λ fault. Some (shown fault) };
+    ghost output = { λ fault. Some (fault_line fault) };
 
     fn fmt<W: fmt::Write>(&self, f: &mut fmt::Formatter<W>) -> fmt::Result {
         let number = self.number();

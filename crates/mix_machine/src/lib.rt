@@ -1,11 +1,15 @@
 //! The MIX computer: its state, its steps, and how each step is taken back (The Art of Computer Programming, 1.3.1).
 #![tactic(auto)]
 
+mod address;
 mod decode;
 mod fault;
 mod laws;
 mod load;
 mod old;
+mod perform;
+mod plan;
+mod registers;
 mod step;
 mod undo;
 mod world;

@@ -3,6 +3,7 @@ ghost use Rattle.std.specs.Prelude.{◌≡◌, length, replicate, IfOk};
 ghost use Rattle.mix_machine.specs.Loaded.{placed, blank, loaded};
 ghost use Rattle.mix_word.specs.Word.{zero_word};
 
+use crate::registers::Registers;
 use crate::world::World;
 use mix_word::{Cmp, Place, Sign, Word};
 use std::alloc::Global;
@@ -26,17 +27,8 @@ impl World {
         requires { length cells.items ≡ 4000 }
         ensures { result ≡ blank cells.items start }
     {
-        let zero = Word::of(Sign::Plus, 0);
         World {
-            a: zero,
-            x: zero,
-            i1: zero,
-            i2: zero,
-            i3: zero,
-            i4: zero,
-            i5: zero,
-            i6: zero,
-            j: zero,
+            registers: Registers::blank(),
             over: false,
             cmp: Cmp::Equal,
             cells,
@@ -52,7 +44,7 @@ fn cells_with(alloc: Global, count: usize, words: &[(Place, Word)]) -> Result<Ve
     ensures cells { IfOk result (λ v. v.items ≡ placed (replicate count zero_word) words.now) }
     ensures len { IfOk result (λ v. length v.items ≡ count) }
 {
-    let mut cells = vec![in alloc; Word::of(Sign::Plus, 0); count]?;
+    let mut cells = vec![in alloc; Word::ZERO; count]?;
     for &(place, word) in words {
         cells[usize::from(place.number())] = word;
     }

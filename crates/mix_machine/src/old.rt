@@ -1,13 +1,19 @@
 //! The changes of a state, and the old values that take them back.
-use mix_word::{Place, Reg, Word};
+use mix_word::{Cmp, Place, Reg, Word};
 
-/// What is asked of the machine: one step (1.3.1).
+/// What is asked of the machine (1.3.1): one step, or a value put into a register, a cell, the location, the overflow toggle, the
+/// comparison indicator.
 #[derive(Clone, Copy, Debug, PartialEq, Eq)]
 pub enum Change {
     Step,
+    SetReg(Reg, Word),
+    SetCell(Place, Word),
+    SetLoc(Place),
+    SetOver(bool),
+    SetCmp(Cmp),
 }
 
-/// One place of the state and a value of it: the location, the clock, a register, a cell, the overflow toggle.
+/// One place of the state and a value of it: the location, the clock, a register, a cell, the overflow toggle, the comparison indicator.
 #[derive(Clone, Copy, Debug, PartialEq, Eq)]
 pub enum Old {
     Loc(u16),
@@ -15,4 +21,5 @@ pub enum Old {
     Reg(Reg, Word),
     Cell(Place, Word),
     Over(bool),
+    Cmp(Cmp),
 }

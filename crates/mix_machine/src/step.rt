@@ -1,95 +1,187 @@
-//! A step: what an action writes (1.3.1, "MIX operators").
-ghost use Rattle.std.specs.Prelude.{◌≡◌, ◌<◌, ◌≤◌, ◌^◌, ◌++◌, ◌+◌, unsigned_abs, vec_len, vec_capacity};
-ghost use Rattle.mix_machine.specs.Write.{write_all, kept_by};
-ghost use Rattle.mix_machine.specs.Fits.{AllFit};
-ghost use Rattle.mix_machine.specs.Do.{word_of, effects, writes};
+//! A step: the tests of its instruction, what its operation does, and the clock (1.3.1, "MIX operators").
+ghost use Rattle.std.specs.Prelude.{◌≡◌, ◌<◌};
+ghost use Rattle.mix_word.specs.Table.{decode_of};
+ghost use Rattle.mix_machine.specs.Decode.{arguments_of};
+ghost use Rattle.mix_machine.specs.Order.{applies, is_served};
+ghost use Rattle.mix_machine.specs.Do.{plan_of, step_or_fault, IsReal};
+ghost use Rattle.mix_machine.specs.law.Stages.{of_instruction, fault_among, outcome_of, timed_or_fault};
 
-use crate::decode::Action;
-use crate::old::Old;
+mod arithmetic;
+mod jump;
+mod move_words;
+mod operand;
+mod transfer;
+
+use crate::decode::{Arguments, instruction};
+use crate::fault::MixFault;
+use crate::old::{Change, Old};
+use crate::plan::{Effects, Outcome, Plan, Writes};
+use crate::registers::fits_register;
+use crate::step::transfer::goes_on;
 use crate::world::World;
-use mix_word::{DataReg, Operation, Place, Reg, Sign, Word, add};
+use mix_word::{Decoded, Operation, Parts, Place, decode};
+
+const LAST_CLOCK: u64 = 1_000_000_000_000_000_000;
 
 impl World {
-    /// Does an action that was found to fit: the next location, the time, and what its operation does.
-    pub(crate) fn perform(&mut self, action: Action, kept: &mut Vec<Old>)
-        requires fits { AllFit (writes self.old action) }
-        requires bound { unsigned_abs action.m < 2 ^ 20 }
-        requires room { vec_len kept.old + 103 ≤ vec_capacity kept.old }
-        ensures state { self.new ≡ write_all self.old (writes self.old action) }
-        ensures kept { kept.new.items ≡ kept.old.items ++ kept_by self.old (writes self.old action) }
+    /// What a change writes, or its first fault.
+    #[tactic(auto, unfolding(crate::specs::Do::plan_of))]
+    pub(crate) fn plan(&self, change: Change) -> Result<Plan, MixFault>
+        ensures is { result ≡ plan_of self.now change }
+        ensures real { IsReal change }
     {
-        let loc = self.loc + 1;
-        let clock = self.clock + u64::from(action.operation.time(action.f));
-        self.write(Old::Loc(loc), kept);
-        self.write(Old::Clock(clock), kept);
-        self.act(action, kept);
-    }
-
-    // What the operation writes beside the location and the clock.
-    fn act(&mut self, action: Action, kept: &mut Vec<Old>)
-        requires fits { AllFit (effects action.operation self.old action) }
-        requires bound { unsigned_abs action.m < 2 ^ 20 }
-        requires room { vec_len kept.old + 101 ≤ vec_capacity kept.old }
-        ensures state { self.new ≡ write_all self.old (effects action.operation self.old action) }
-        ensures kept { kept.new.items ≡ kept.old.items ++ kept_by self.old (effects action.operation self.old action) }
-    {
-        match action.operation {
-            Operation::Enter(DataReg::A) => self.enter(action, kept),
-            Operation::Increase(DataReg::A) => self.increase(action, kept),
-            Operation::Store(DataReg::A) => self.store(action, kept),
-            _ => {}
+        match change {
+            Change::Step => self.step_plan(),
+            Change::SetReg(r, word) => {
+                if fits_register(r, word) {
+                    Ok(Plan::Value(Old::Reg(r, word)))
+                } else {
+                    Err(MixFault::IndexOverflow)
+                }
+            }
+            Change::SetCell(place, word) => {
+                // (the proof knows the range of a place where its number is read)
+                let _number = place.number();
+                Ok(Plan::Value(Old::Cell(place, word)))
+            }
+            Change::SetLoc(place) => Ok(Plan::Value(Old::Loc(place.number()))),
+            Change::SetOver(over) => Ok(Plan::Value(Old::Over(over))),
+            Change::SetCmp(cmp) => Ok(Plan::Value(Old::Cmp(cmp))),
         }
     }
 
-    // ENTA: M into rA.
-    fn enter(&mut self, action: Action, kept: &mut Vec<Old>)
-        requires bound { unsigned_abs action.m < 2 ^ 20 }
-        requires room { vec_len kept.old + 101 ≤ vec_capacity kept.old }
-        ensures state { self.new ≡ write_all self.old (effects (Operation.Enter DataReg.A) self.old action) }
-        ensures kept { kept.new.items ≡ kept.old.items ++ kept_by self.old (effects (Operation.Enter DataReg.A) self.old action) }
+    #[tactic(auto, unfolding(crate::specs::Do::plan_of))]
+    fn step_plan(&self) -> Result<Plan, MixFault>
+        ensures { result ≡ plan_of self.now Change.Step }
     {
-        let word = word_of(action.sign, action.m);
-        self.write(Old::Reg(Reg::A, word), kept);
+        match Place::of(self.loc) {
+            None => Err(MixFault::NoCellAtLocation),
+            Some(place) => self.plan_of_parts(instruction(self.cell(place))),
+        }
     }
 
-    // INCA: the sum of rA and M into rA; an overflow turns the toggle on.
-    fn increase(&mut self, action: Action, kept: &mut Vec<Old>)
-        requires bound { unsigned_abs action.m < 2 ^ 20 }
-        requires room { vec_len kept.old + 101 ≤ vec_capacity kept.old }
-        ensures state { self.new ≡ write_all self.old (effects (Operation.Increase DataReg.A) self.old action) }
-        ensures kept { kept.new.items ≡ kept.old.items ++ kept_by self.old (effects (Operation.Increase DataReg.A) self.old action) }
+    // The plan of an instruction at a cell.
+    fn plan_of_parts(&self, parts: Parts) -> Result<Plan, MixFault>
+        requires cell { self.now.loc < 4000 }
+        requires address { parts.address < 4096 }
+        ensures { result ≡ step_or_fault (decode_of parts.code parts.f) self.now (arguments_of self.now parts) }
     {
-        let (sum, overflow) = add(self.a, word_of(action.sign, action.m));
-        let over = self.over || overflow;
-        self.write(Old::Reg(Reg::A, sum), kept);
-        self.write(Old::Over(over), kept);
+        match decode(parts.code, parts.f) {
+            Decoded::Named(operation) => {
+                let arguments = self.arguments(parts);
+                self.plan_of_operation(operation, arguments)
+            }
+            Decoded::Floating => Err(MixFault::FloatingOperation),
+            Decoded::Unknown => Err(MixFault::NoOperation),
+        }
     }
 
-    // STA: rA into cell M.
-    fn store(&mut self, action: Action, kept: &mut Vec<Old>)
-        requires cell { unsigned_abs action.m < 4000 }
-        requires room { vec_len kept.old + 101 ≤ vec_capacity kept.old }
-        ensures state { self.new ≡ write_all self.old (effects (Operation.Store DataReg.A) self.old action) }
-        ensures kept { kept.new.items ≡ kept.old.items ++ kept_by self.old (effects (Operation.Store DataReg.A) self.old action) }
+    fn plan_of_operation(&self, operation: Operation, a: Arguments) -> Result<Plan, MixFault>
+        requires cell { self.now.loc < 4000 }
+        ensures { result ≡ step_or_fault (Decoded.Named operation) self.now a }
     {
-        let word = self.a;
-        match Place::of(action.m.unsigned_abs() as u16) {
-            None => unreachable!(),
-            Some(place) => self.write(Old::Cell(place, word), kept),
+        let given = a;
+        match self.fault_of_instruction(operation, given) {
+            Some(fault) => Err(fault),
+            None => self.plan_of_served(operation, a),
+        }
+    }
+
+    // What the instruction alone says against the step.
+    fn fault_of_instruction(&self, operation: Operation, a: Arguments) -> Option<MixFault>
+        ensures { result ≡ fault_among (applies (Decoded.Named operation) self.now a) of_instruction }
+    {
+        if !is_served(operation) {
+            Some(MixFault::NoOperation)
+        } else if !operation.needs_address() {
+            None
+        } else if a.index > 6 {
+            Some(MixFault::IndexOverSix)
+        } else if a.m.magnitude() >= 4096 {
+            Some(MixFault::LargeAddress)
+        } else {
+            None
+        }
+    }
+
+    // The plan of an operation that its instruction allows: its own faults, and then the clock.
+    fn plan_of_served(&self, operation: Operation, a: Arguments) -> Result<Plan, MixFault>
+        requires cell { self.now.loc < 4000 }
+        requires served { fault_among (applies (Decoded.Named operation) self.now a) of_instruction ≡ None }
+        ensures { result ≡ step_or_fault (Decoded.Named operation) self.now a }
+    {
+        let given = a;
+        match self.outcome(operation, given) {
+            Err(fault) => Err(fault),
+            Ok(effects) => self.timed(operation, a, effects),
+        }
+    }
+
+    // The plan of what an operation does, if the clock can show its time.
+    fn timed(&self, operation: Operation, a: Arguments, effects: Effects) -> Result<Plan, MixFault>
+        requires cell { self.now.loc < 4000 }
+        ensures { result ≡ timed_or_fault operation self.now a effects }
+    {
+        let clock = self.clock + u64::from(operation.time(a.f));
+        if clock > LAST_CLOCK {
+            return Err(MixFault::ClockFull);
+        }
+        let loc = if effects.jumps {
+            a.m.magnitude()
+        } else {
+            self.loc + 1
+        };
+        Ok(Plan::Step(effects.writes, loc, clock))
+    }
+
+    // What an operation does, or the first of its own faults.
+    fn outcome(&self, operation: Operation, a: Arguments) -> Outcome
+        ensures { result ≡ outcome_of operation self.now a }
+    {
+        match operation {
+            Operation::Nop | Operation::Hlt => Ok(goes_on(Writes::Nothing)),
+            Operation::Add => self.add_operand(a),
+            Operation::Sub => self.subtract(a),
+            Operation::Mul => self.multiply(a),
+            Operation::Div => self.divide(a),
+            Operation::Num => self.to_number(a),
+            Operation::Char => self.to_characters(a),
+            Operation::Shift(kind) => self.shift_registers(kind, a),
+            Operation::Move => self.move_words(a),
+            Operation::Load(r) => self.load_register(r, a),
+            Operation::LoadNegated(r) => self.load_negated(r, a),
+            Operation::Store(r) => self.store_register(r, a),
+            Operation::StoreJ => self.store_j(a),
+            Operation::StoreZero => self.store_zero(a),
+            Operation::Jbus | Operation::Ioc | Operation::In | Operation::Out | Operation::Jred => {
+                Ok(goes_on(Writes::Nothing))
+            }
+            Operation::Jump(kind) => self.jump(kind, a),
+            Operation::RegisterJump(r, condition) => self.register_jump(r, condition, a),
+            Operation::Increase(r) => self.increase(r, a),
+            Operation::Decrease(r) => self.decrease(r, a),
+            Operation::Enter(r) => self.enter(r, a),
+            Operation::EnterNegated(r) => self.enter_negated(r, a),
+            Operation::Compare(r) => self.compare_register(r, a),
         }
     }
 }
 
-// A number as a word; zero has the sign that is given.
-fn word_of(sign: Sign, n: i32) -> Word
-    requires { unsigned_abs n < 2 ^ 20 }
-    ensures { result ≡ word_of sign n }
+// Whether this machine has an operation: it has no units yet.
+fn is_served(operation: Operation) -> bool
+    ensures { result ≡ is_served operation }
 {
-    if n < 0 {
-        Word::of(Sign::Minus, n.unsigned_abs())
-    } else if n > 0 {
-        Word::of(Sign::Plus, n.unsigned_abs())
-    } else {
-        Word::of(sign, 0)
+    match operation {
+        Operation::Jbus | Operation::Ioc | Operation::In | Operation::Out | Operation::Jred =>
+            false,
+        Operation::Nop | Operation::Num | Operation::Char | Operation::Hlt | Operation::Move =>
+            true,
+        Operation::Add | Operation::Sub | Operation::Mul | Operation::Div | Operation::Shift(_) =>
+            true,
+        Operation::Load(_) | Operation::LoadNegated(_) | Operation::Store(_) => true,
+        Operation::StoreJ | Operation::StoreZero | Operation::Compare(_) => true,
+        Operation::Jump(_) | Operation::RegisterJump(_, _) => true,
+        Operation::Increase(_) | Operation::Decrease(_) => true,
+        Operation::Enter(_) | Operation::EnterNegated(_) => true,
     }
 }

@@ -1,10 +1,8 @@
-// Programs stepped and taken back, by the machine alone and by a journal of it.
+// Steps, changes and programs, done and taken back: by the machine alone, and by a journal of it.
 ghost use Rattle.std.specs.Prelude.{◌≡◌};
 
-use self::rows::{CLOCKS, Code, HLT, LAST_CLOCK, Number, PROGRAMS, STEPS};
-use crate::{Change, MixFault, Old, World, halt_law, kept_count_law};
-use mix_word::Sign::{Minus, Plus};
-use mix_word::{Cmp, Place, Reg, Word};
+use self::rows::{Code, Row, Then, Value, Written};
+use crate::{Change, Cmp, MixFault, Old, Place, Reg, Sign, Word, World, halt_law, kept_count_law};
 use std::alloc::Global;
 use std::string::ToString;
 use std::test::Fail;
@@ -12,8 +10,22 @@ use undo_core::{Journal, Refused, Undo};
 
 mod rows;
 
-fn number((sign, magnitude): Number) -> Word {
-    Word::of(sign, magnitude % 0x4000_0000)
+const LAST_CLOCK: u64 = 1_000_000_000_000_000_000;
+
+fn word(written: Written) -> Word {
+    match written {
+        Written::N(sign, number) => Word::of(sign, number % 0x4000_0000),
+        Written::B(sign, bytes) => word_of_bytes(sign, bytes),
+    }
+}
+
+fn word_of_bytes(sign: Sign, bytes: [u8; 5]) -> Word {
+    let [a, b, c, d, e] = bytes;
+    let upper = (u32::from(a % 64) * 64 + u32::from(b % 64)) * 64 + u32::from(c % 64);
+    Word::of(
+        sign,
+        (upper * 64 + u32::from(d % 64)) * 64 + u32::from(e % 64),
+    )
 }
 
 fn instruction(code: Code) -> Word {
@@ -23,128 +35,246 @@ fn instruction(code: Code) -> Word {
     Word::of(sign, upper * 4096 + lower)
 }
 
-// A program in the places from one on.
-fn machine(alloc: Global, start: Place, program: &[Code]) -> Result<World, Fail> {
-    let mut words = Vec::new(alloc);
-    let mut next = Some(start);
-    for code in program {
-        if let Some(place) = next {
-            words.push((place, instruction(*code)))?;
-            next = Place::of(place.number() + 1);
-        }
+// Puts a value into its place.
+fn set(world: &mut World, value: Value, kept: &mut Vec<Old>) {
+    match value {
+        Value::Reg(r, written) => do_change(world, Change::SetReg(r, word(written)), kept),
+        Value::Cell(place, written) => set_cell(world, place, word(written), kept),
+        Value::Over(over) => do_change(world, Change::SetOver(over), kept),
+        Value::Cmp(cmp) => do_change(world, Change::SetCmp(cmp), kept),
+        Value::Loc(loc) => world.loc = loc.min(4000),
+        Value::Clock(clock) => world.clock = clock.min(LAST_CLOCK),
     }
-    let world = World::load(alloc, words.as_slice(), start)?;
+}
+
+fn set_all(world: &mut World, values: &[Value], kept: &mut Vec<Old>) {
+    for value in values {
+        set(world, *value, kept);
+    }
+}
+
+fn set_cell(world: &mut World, place: u16, word: Word, kept: &mut Vec<Old>) {
+    if let Some(place) = Place::of(place) {
+        do_change(world, Change::SetCell(place, word), kept);
+    }
+}
+
+fn do_change(world: &mut World, change: Change, kept: &mut Vec<Old>) {
+    let _done = world.apply(&change, kept);
+}
+
+// The blank machine with these values, and the instruction at its location.
+fn prepared(alloc: Global, code: Code, before: &[Value]) -> Result<World, Fail> {
+    let mut kept = Vec::new(alloc);
+    let mut world = blank(alloc)?;
+    set_all(&mut world, before, &mut kept);
+    let loc = world.loc();
+    set_cell(&mut world, loc, instruction(code), &mut kept);
     Ok(world)
 }
 
-// rA and rI1 set.
-fn prepare(world: &mut World, a: Number, index: Number) {
-    world.a = number(a);
-    world.i1 = Word::of(index.0, index.1 % 4096);
+fn blank(alloc: Global) -> Result<World, Fail> {
+    match Place::of(0) {
+        Some(start) => {
+            let world = World::load(alloc, &[], start)?;
+            Ok(world)
+        }
+        None => unreachable!(),
+    }
 }
 
-// The fault of a step, where `Some(None)` is want of memory.
-fn fault_of(told: Result<(), Refused<MixFault>>) -> Option<Option<MixFault>> {
-    match told {
+// The fault of a change, where `Some(None)` is out of memory.
+fn fault_of(outcome: Result<(), Refused<MixFault>>) -> Option<Option<MixFault>> {
+    match outcome {
         Ok(()) => None,
         Err(Refused::Fault(fault)) => Some(Some(fault)),
         Err(Refused::Memory) => Some(None),
     }
 }
 
-// So many steps, and the fault of the last.
-fn step(journal: &mut Journal<World>, steps: usize) -> Option<Option<MixFault>> {
-    let mut fault = None;
-    for _ in 0..steps {
-        fault = fault_of(journal.go(Change::Step));
+// The first kind of place at which two machines differ.
+fn difference(a: &World, b: &World) -> Option<&'static str> {
+    for r in Reg::ALL {
+        if a.register(r) != b.register(r) {
+            return Some(r.name());
+        }
     }
-    fault
+    if a.over() != b.over() {
+        return Some("the toggle");
+    }
+    if a.cmp() != b.cmp() {
+        return Some("the indicator");
+    }
+    if a.loc() != b.loc() {
+        return Some("the location");
+    }
+    if a.clock() != b.clock() {
+        return Some("the clock");
+    }
+    for n in 0..4000 {
+        if let Some(place) = Place::of(n) {
+            if a.cell(place) != b.cell(place) {
+                return Some("a cell");
+            }
+        }
+    }
+    None
 }
 
-// What is compared of a machine: rA, the toggle, the location and the clock.
-fn seen(journal: &Journal<World>) -> (Word, bool, u16, u64) {
-    let state = journal.state();
-    (
-        state.register(Reg::A),
-        state.over(),
-        state.loc(),
-        state.clock(),
-    )
+// What is wrong with a row, if anything is.
+fn wrong(
+    alloc: Global,
+    code: Code,
+    before: &[Value],
+    then: Then,
+) -> Result<Option<&'static str>, Fail> {
+    let first = prepared(alloc, code, before)?;
+    let mut after = prepared(alloc, code, before)?;
+    let mut journal = Journal::new(alloc, prepared(alloc, code, before)?);
+    let fault = fault_of(journal.go(Change::Step));
+    let mut kept = 0;
+    match then {
+        Then::Fault(expected) => {
+            if fault != Some(Some(expected)) {
+                return Ok(Some("the fault"));
+            }
+        }
+        Then::Writes(values, loc, clock) => {
+            if fault.is_some() {
+                return Ok(Some("a fault"));
+            }
+            let mut scratch = Vec::new(alloc);
+            set_all(&mut after, values, &mut scratch);
+            set(&mut after, Value::Loc(loc), &mut scratch);
+            set(&mut after, Value::Clock(clock), &mut scratch);
+            kept = values.len() + 2;
+        }
+    }
+    if let Some(place) = difference(journal.state(), &after) {
+        return Ok(Some(place));
+    }
+    if journal.kept_len() != kept {
+        return Ok(Some("how many values are kept"));
+    }
+    journal.back();
+    if journal.kept_len() != 0 {
+        return Ok(Some("how many values are kept after it is taken back"));
+    }
+    Ok(difference(journal.state(), &first))
+}
+
+// The first row with which something is wrong, and what.
+fn first_wrong(alloc: Global, rows: &[Row]) -> Result<Option<(&'static str, &'static str)>, Fail> {
+    for (name, code, before, then) in rows {
+        if let Some(what) = wrong(alloc, *code, before, *then)? {
+            return Ok(Some((*name, what)));
+        }
+    }
+    Ok(None)
 }
 
 #[test]
-fn a_step_is_done_and_taken_back(rt: HostRuntime) -> Result<(), Fail> {
-    let start = Place::of(0).expect(&rt, "a place");
-    for (name, code, (a, index), after) in STEPS {
-        let (fault, a_after, over, time, kept) = after;
-        let mut world = machine(rt.alloc(), start, &[code])?;
-        prepare(&mut world, a, index);
-        let mut journal = Journal::new(rt.alloc(), world);
-        let loc = if fault.is_some() { 0 } else { 1 };
-        assert_eq!(rt; step(&mut journal, 1), fault.map(Some), "{name}");
+fn steps(rt: HostRuntime) -> Result<(), Fail> {
+    for rows in rows::families() {
+        assert_eq!(rt; first_wrong(rt.alloc(), rows)?, None);
+    }
+    Ok(())
+}
+
+// The value that stands at the place that another one names.
+fn stands(world: &World, value: Value) -> bool {
+    match value {
+        Value::Reg(r, written) => world.register(r) == word(written),
+        Value::Cell(place, written) => match Place::of(place) {
+            Some(place) => world.cell(place) == word(written),
+            None => false,
+        },
+        Value::Over(over) => world.over() == over,
+        Value::Cmp(cmp) => world.cmp() == cmp,
+        Value::Loc(loc) => world.loc() == loc,
+        Value::Clock(clock) => world.clock() == clock,
+    }
+}
+
+// The change that puts a value into its place, if there is one.
+fn change_of(value: Value) -> Option<Change> {
+    match value {
+        Value::Reg(r, written) => Some(Change::SetReg(r, word(written))),
+        Value::Cell(place, written) => match Place::of(place) {
+            Some(place) => Some(Change::SetCell(place, word(written))),
+            None => None,
+        },
+        Value::Over(over) => Some(Change::SetOver(over)),
+        Value::Cmp(cmp) => Some(Change::SetCmp(cmp)),
+        Value::Loc(loc) => match Place::of(loc) {
+            Some(place) => Some(Change::SetLoc(place)),
+            None => None,
+        },
+        Value::Clock(_) => None,
+    }
+}
+
+#[test]
+fn changes(rt: HostRuntime) -> Result<(), Fail> {
+    for (name, value, fault) in rows::change::ROWS {
+        let change = change_of(value).expect(&rt, "a change");
+        let first = prepared(rt.alloc(), rows::program::HLT, &[])?;
+        let mut journal = Journal::new(rt.alloc(), prepared(rt.alloc(), rows::program::HLT, &[])?);
+        assert_eq!(rt; fault_of(journal.go(change)), fault.map(Some), "{name}");
+        assert_eq!(rt; stands(journal.state(), value), fault.is_none(), "{name}");
         assert_eq!(rt;
-            seen(&journal),
-            (number(a_after), over, loc, time),
+            journal.kept_len(),
+            if fault.is_none() { 1 } else { 0 },
             "{name}"
         );
-        assert_eq!(rt; journal.kept_len(), kept, "{name}");
         assert_eq!(rt; journal.back(), fault.is_none(), "{name}");
-        assert_eq!(rt;
-            seen(&journal),
-            (number(a), false, 0, 0),
-            "{name}, taken back"
-        );
+        assert_eq!(rt; difference(journal.state(), &first), None, "{name}");
     }
     Ok(())
 }
 
-#[test]
-fn a_stored_word_is_read_and_taken_back(rt: HostRuntime) -> Result<(), Fail> {
-    let start = Place::of(0).expect(&rt, "a place");
-    let cell = Place::of(100).expect(&rt, "a place");
-    // ENTA -5, STA 100
-    let program = [(Minus, 5, 0, 2, 48), (Plus, 100, 0, 5, 24)];
-    let world = machine(rt.alloc(), start, &program)?;
-    let mut journal = Journal::new(rt.alloc(), world);
-    assert_eq!(rt; step(&mut journal, 2), None);
-    assert_eq!(rt; journal.state().cell(cell), number((Minus, 5)));
-    assert!(rt; journal.back());
-    assert_eq!(rt; journal.state().cell(cell), number((Plus, 0)));
-    Ok(())
-}
-
-#[test]
-fn the_clock_ends(rt: HostRuntime) -> Result<(), Fail> {
-    let start = Place::of(0).expect(&rt, "a place");
-    for (name, code, clock, fault, after) in CLOCKS {
-        let mut world = machine(rt.alloc(), start, &[code])?;
-        world.clock = clock.min(LAST_CLOCK);
-        let mut journal = Journal::new(rt.alloc(), world);
-        assert_eq!(rt; step(&mut journal, 1), fault.map(Some), "{name}");
-        assert_eq!(rt; journal.state().clock(), after, "{name}");
-        journal.back();
-        assert_eq!(rt; journal.state().clock(), clock, "{name}, taken back");
+// A program in the cells from one on, with these values.
+fn loaded(alloc: Global, start: u16, codes: &[Code], before: &[Value]) -> Result<World, Fail> {
+    let mut words = Vec::new(alloc);
+    let mut next = start;
+    for code in codes {
+        if let Some(place) = Place::of(next) {
+            words.push((place, instruction(*code)))?;
+            next = place.number() + 1;
+        }
     }
-    Ok(())
+    let mut kept = Vec::new(alloc);
+    let mut world = match Place::of(start) {
+        Some(place) => World::load(alloc, words.as_slice(), place)?,
+        None => blank(alloc)?,
+    };
+    set_all(&mut world, before, &mut kept);
+    Ok(world)
 }
 
 #[test]
-fn a_program_runs_and_is_taken_back(rt: HostRuntime) -> Result<(), Fail> {
-    for (name, program, ran) in PROGRAMS {
-        let (start, codes, steps) = program;
-        let (fault, a, loc, clock, kept) = ran;
-        let place = Place::of(start).expect(&rt, "a place");
-        let world = machine(rt.alloc(), place, codes)?;
-        let mut journal = Journal::new(rt.alloc(), world);
-        assert_eq!(rt; step(&mut journal, steps), fault.map(Some), "{name}");
-        assert_eq!(rt; seen(&journal), (number(a), false, loc, clock), "{name}");
+fn programs(rt: HostRuntime) -> Result<(), Fail> {
+    for (name, program, ran) in rows::program::ROWS {
+        let (start, codes, before, steps) = program;
+        let (fault, values, kept) = ran;
+        let first = loaded(rt.alloc(), start, codes, before)?;
+        let mut after = loaded(rt.alloc(), start, codes, before)?;
+        let mut scratch = Vec::new(rt.alloc());
+        set_all(&mut after, values, &mut scratch);
+        let mut journal = Journal::new(rt.alloc(), loaded(rt.alloc(), start, codes, before)?);
+        let mut last = None;
+        for _ in 0..steps {
+            last = fault_of(journal.go(Change::Step));
+        }
+        assert_eq!(rt; last, fault.map(Some), "{name}");
+        assert_eq!(rt; difference(journal.state(), &after), None, "{name}");
         assert_eq!(rt; journal.kept_len(), kept, "{name}");
         for _ in 0..steps {
             journal.back();
         }
         assert_eq!(rt;
-            seen(&journal),
-            (number((Plus, 0)), false, start, 0),
+            difference(journal.state(), &first),
+            None,
             "{name}, taken back"
         );
         assert_eq!(rt; journal.kept_len(), 0, "{name}, taken back");
@@ -152,28 +282,53 @@ fn a_program_runs_and_is_taken_back(rt: HostRuntime) -> Result<(), Fail> {
     Ok(())
 }
 
+// ENT1 101, MOVE 100(63), where cell 100 holds 7.
+#[test]
+fn a_move_over_itself(rt: HostRuntime) -> Result<(), Fail> {
+    let codes = [(Sign::Plus, 101, 0, 2, 49), (Sign::Plus, 100, 0, 63, 7)];
+    let mut journal = Journal::new(rt.alloc(), loaded(rt.alloc(), 0, &codes, &[])?);
+    let seven = Word::of(Sign::Plus, 7);
+    let first = Place::of(100).expect(&rt, "a place");
+    assert_eq!(rt; fault_of(journal.go(Change::SetCell(first, seven))), None);
+    assert_eq!(rt; fault_of(journal.go(Change::Step)), None);
+    assert_eq!(rt; fault_of(journal.go(Change::Step)), None);
+    assert_eq!(rt; count_of(journal.state(), 100, seven), 64);
+    assert_eq!(rt;
+        journal.state().register(Reg::I1),
+        Word::of(Sign::Plus, 164)
+    );
+    assert_eq!(rt; (journal.state().loc(), journal.state().clock()), (2, 128));
+    assert_eq!(rt; journal.kept_len(), 70);
+    assert!(rt; journal.back());
+    assert_eq!(rt; count_of(journal.state(), 100, seven), 1);
+    assert_eq!(rt; (journal.state().loc(), journal.state().clock()), (1, 1));
+    Ok(())
+}
+
+// How many cells from one on hold this word.
+fn count_of(world: &World, from: u16, word: Word) -> u16 {
+    let mut count = 0;
+    for n in from..4000 {
+        match Place::of(n) {
+            Some(place) if world.cell(place) == word => count = n + 1 - from,
+            _ => return count,
+        }
+    }
+    count
+}
+
 #[test]
 fn a_loaded_machine_is_read(rt: HostRuntime) -> Result<(), Fail> {
     let start = Place::of(3998).expect(&rt, "a place");
-    let words = [(start, number((Plus, 1))), (start, instruction(HLT))];
+    let halt = instruction(rows::program::HLT);
+    let words = [(start, Word::of(Sign::Plus, 1)), (start, halt)];
     let world = World::load(rt.alloc(), &words, start)?;
-    let registers = [
-        Reg::A,
-        Reg::X,
-        Reg::I1,
-        Reg::I2,
-        Reg::I3,
-        Reg::I4,
-        Reg::I5,
-        Reg::I6,
-        Reg::J,
-    ];
-    for r in registers {
-        assert_eq!(rt; world.register(r), number((Plus, 0)), "{r:?}");
+    for r in Reg::ALL {
+        assert_eq!(rt; world.register(r), Word::ZERO, "{r:?}");
     }
     let first = Place::of(0).expect(&rt, "a place");
-    assert_eq!(rt; world.cell(first), number((Plus, 0)));
-    assert_eq!(rt; world.cell(start), instruction(HLT), "the later word wins");
+    assert_eq!(rt; world.cell(first), Word::ZERO);
+    assert_eq!(rt; world.cell(start), halt, "the later word wins");
     assert_eq!(rt; world.loc(), 3998);
     assert_eq!(rt; world.over(), false);
     assert_eq!(rt; world.cmp(), Cmp::Equal);
@@ -184,12 +339,12 @@ fn a_loaded_machine_is_read(rt: HostRuntime) -> Result<(), Fail> {
     Ok(())
 }
 
-// A step done and taken back at once: how many values it kept, or none where it was refused.
-fn try_out(alloc: Global, world: &mut World) -> Option<usize>
+// A change done and taken back at once: how many values it kept, or none where it was refused.
+fn try_out(alloc: Global, world: &mut World, change: Change) -> Option<usize>
     ensures { world.new ≡ world.old }
 {
     let mut kept = Vec::new(alloc);
-    match world.apply(&Change::Step, &mut kept) {
+    match world.apply(&change, &mut kept) {
         Err(_) => None,
         Ok(()) => {
             let count = kept.len();
@@ -200,18 +355,22 @@ fn try_out(alloc: Global, world: &mut World) -> Option<usize>
 }
 
 #[test]
-fn a_step_is_reverted(rt: HostRuntime) -> Result<(), Fail> {
-    let start = Place::of(0).expect(&rt, "a place");
-    let words = [(start, instruction((Minus, 9, 0, 2, 48)))];
-    let mut world = World::load(rt.alloc(), &words, start)?;
+fn a_change_is_reverted(rt: HostRuntime) -> Result<(), Fail> {
+    let mut world = loaded(rt.alloc(), 0, &[(Sign::Minus, 9, 0, 2, 48)], &[])?;
     assert!(rt; !world.next_is_halt());
-    assert_eq!(rt; try_out(rt.alloc(), &mut world), Some(3));
-    assert_eq!(rt; world.register(Reg::A), number((Plus, 0)));
+    assert_eq!(rt; try_out(rt.alloc(), &mut world, Change::Step), Some(3));
+    assert_eq!(rt;
+        try_out(rt.alloc(), &mut world, Change::SetOver(true)),
+        Some(1)
+    );
+    let large = Change::SetReg(Reg::I1, Word::of(Sign::Plus, 4096));
+    assert_eq!(rt; try_out(rt.alloc(), &mut world, large), None);
+    assert_eq!(rt; world.register(Reg::A), Word::ZERO);
     assert_eq!(rt; world.clock(), 0);
     let mut kept = Vec::new(rt.alloc());
     assert_eq!(rt; fault_of(world.apply(&Change::Step, &mut kept)), None);
     assert_eq!(rt; kept.len(), 3);
-    assert_eq!(rt; world.register(Reg::A), number((Minus, 9)));
+    assert_eq!(rt; world.register(Reg::A), Word::of(Sign::Minus, 9));
     Ok(())
 }
 
@@ -269,12 +428,12 @@ const FAULTS: [(MixFault, u8, &str, &str); 15] = [
 ];
 
 #[test]
-fn faults_are_told(rt: HostRuntime) -> Result<(), Fail> {
-    for (fault, number, text, shown) in FAULTS {
+fn faults_are_written(rt: HostRuntime) -> Result<(), Fail> {
+    for (fault, number, text, expected) in FAULTS {
         assert_eq!(rt; fault.number(), number, "{fault:?}");
         assert_eq!(rt; fault.text(), text, "{fault:?}");
-        let told = fault.to_string(rt.alloc())?;
-        assert_eq!(rt; told.as_str(), shown, "{fault:?}");
+        let line = fault.to_string(rt.alloc())?;
+        assert_eq!(rt; line.as_str(), expected, "{fault:?}");
     }
     Ok(())
 }

@@ -1,10 +1,9 @@
 //! The machine as a state whose changes can be taken back by the values that they replaced.
-ghost use Rattle.std.specs.Prelude.{◌≡◌, ◌≤◌, ◌++◌, Ok, Err, IsOk, OnOk, OnErr};
-ghost use Rattle.undo_core.specs.Refused.{IfFault, IfMemory};
+ghost use Rattle.std.specs.Prelude.{◌≡◌};
 ghost use Rattle.mix_machine.specs.World.{IsWorld};
 ghost use Rattle.mix_machine.specs.Write.{put_value};
-ghost use Rattle.mix_machine.specs.Do.{does, kept_values};
-ghost use Rattle.mix_machine.specs.Accepted.{undone-does};
+ghost use Rattle.mix_machine.specs.Do.{does, kept_values, IsReal};
+ghost use Rattle.mix_machine.specs.law.Undone.{undone-does};
 
 use crate::fault::MixFault;
 use crate::old::{Change, Old};
@@ -21,7 +20,7 @@ impl Undo for World {
 
     type Fault = MixFault;
 
-    ghost is_real = { λ w _. IsWorld w };
+    ghost is_real = { λ w c. IsWorld w × IsReal c };
 
     ghost gives = { does };
 
@@ -31,8 +30,15 @@ impl Undo for World {
 
     /// Does a change (1.3.1), or tells its fault. A fault, or want of memory for what it keeps, alters nothing.
     fn apply(&mut self, change: &Change, kept: &mut Vec<Old>) -> Result<(), Refused<MixFault>> {
-        match *change {
-            Change::Step => self.step(kept),
+        // (the proof knows the ranges of the machine where a field of it is named)
+        let _ = &self.loc;
+        match self.plan(*change) {
+            Err(fault) => Err(Refused::Fault(fault)),
+            Ok(plan) => {
+                kept.reserve(MOST_KEPT)?;
+                self.perform(plan, kept);
+                Ok(())
+            }
         }
     }
 
@@ -47,28 +53,4 @@ impl Undo for World {
     }
 
     ghost undoes = { undone-does };
-}
-
-impl World {
-    // One step. The room for what it keeps is made before anything is altered.
-    fn step(&mut self, kept: &mut Vec<Old>) -> Result<(), Refused<MixFault>>
-        ensures real { IsWorld self.old }
-        ensures given { OnOk result (does self.old Change.Step ≡ Ok self.new) }
-        ensures kept { OnOk result (kept.new.items ≡ kept.old.items ++ kept_values self.old Change.Step) }
-        ensures fault { IfFault result (λ f. does self.old Change.Step ≡ Err f) }
-        ensures last { IfMemory result (IsOk (does self.old Change.Step)) }
-        ensures same { OnErr result (self.new ≡ self.old) }
-        ensures same_kept { OnErr result (kept.new.items ≡ kept.old.items) }
-    {
-        // (the proof knows the ranges of the machine where a field of it is named)
-        let _ = &self.loc;
-        match self.decoded() {
-            Err(fault) => Err(Refused::Fault(fault)),
-            Ok(action) => {
-                kept.reserve(MOST_KEPT)?;
-                self.perform(action, kept);
-                Ok(())
-            }
-        }
-    }
 }

@@ -1,23 +1,16 @@
 //! The state of the machine, and what can be read of it (1.3.1).
-ghost use Rattle.std.specs.Prelude.{◌≡◌, ◌<◌, ◌≤◌};
+ghost use Rattle.std.specs.Prelude.{◌≡◌, ◌<◌, ◌≤◌, ◌==◌, ◌&&◌, ◌↔◌, IsTrue};
 ghost use Rattle.mix_machine.specs.World.{register_of, cell_of, last_clock};
 ghost use Rattle.mix_machine.specs.Do.{is_halt_next};
 
-use mix_word::{Cmp, Place, Reg, Word};
+use crate::registers::Registers;
+use mix_word::{Cmp, Decoded, Operation, Place, Reg, Word, decode};
 use std::marker::Model;
 
 /// The machine (1.3.1): registers, overflow toggle, comparison indicator, 4,000 cells, location and clock.
 #[derive(Drop)]
 pub struct World {
-    pub(crate) a: Word,
-    pub(crate) x: Word,
-    pub(crate) i1: Word,
-    pub(crate) i2: Word,
-    pub(crate) i3: Word,
-    pub(crate) i4: Word,
-    pub(crate) i5: Word,
-    pub(crate) i6: Word,
-    pub(crate) j: Word,
+    pub(crate) registers: Registers,
     pub(crate) over: bool,
     pub(crate) cmp: Cmp,
     pub(crate) cells: Vec<Word>,
@@ -42,17 +35,7 @@ impl World {
     pub fn register(&self, r: Reg) -> Word
         ensures { result ≡ register_of self.now r }
     {
-        match r {
-            Reg::A => self.a,
-            Reg::X => self.x,
-            Reg::I1 => self.i1,
-            Reg::I2 => self.i2,
-            Reg::I3 => self.i3,
-            Reg::I4 => self.i4,
-            Reg::I5 => self.i5,
-            Reg::I6 => self.i6,
-            Reg::J => self.j,
-        }
+        self.registers.get(r)
     }
 
     /// What the cell at a place holds.
@@ -100,8 +83,25 @@ impl World {
             None => false,
             Some(place) => {
                 let parts = self.cell(place).parts();
-                parts.code == 5 && parts.f == 2
+                is_halt(parts.code, parts.f)
             }
         }
     }
+}
+
+// Whether C and F name HLT.
+fn is_halt(code: u8, f: u8) -> bool
+    ensures { result ≡ (code == 5 && f == 2) }
+{
+    match decode(code, f) {
+        Decoded::Named(operation) => is_hlt(operation),
+        Decoded::Floating => false,
+        Decoded::Unknown => false,
+    }
+}
+
+fn is_hlt(operation: Operation) -> bool
+    ensures { IsTrue result ↔ (operation ≡ Operation.Hlt) }
+{
+    matches!(operation, Operation::Hlt)
 }

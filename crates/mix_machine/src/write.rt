@@ -1,14 +1,13 @@
 //! One value of the state set, and the one that it replaces kept.
 ghost use Rattle.std.specs.Prelude.{◌≡◌, ◌<◌, ◌++◌, ◌∷◌, [], ◌+◌, IsTrue, vec_len, vec_capacity};
-ghost use Rattle.mix_machine.specs.World.{with_register};
-ghost use Rattle.mix_machine.specs.Write.{set_value, value_at, fits, fits_register};
+ghost use Rattle.mix_machine.specs.Write.{set_value, value_at, fits};
 
 use crate::old::Old;
 use crate::world::World;
-use mix_word::{Reg, Word};
 
 impl World {
     /// Sets a value, and keeps the one that it replaces.
+    #[inline(always)]
     pub(crate) fn write(&mut self, value: Old, kept: &mut Vec<Old>)
         requires fits { IsTrue (fits value) }
         requires room { vec_len kept.old < vec_capacity kept.old }
@@ -30,9 +29,10 @@ impl World {
         match value {
             Old::Loc(loc) => self.loc = loc,
             Old::Clock(clock) => self.clock = clock,
-            Old::Reg(r, word) => self.set_register(r, word),
+            Old::Reg(r, word) => self.registers.set(r, word),
             Old::Cell(place, word) => self.cells[usize::from(place.number())] = word,
             Old::Over(over) => self.over = over,
+            Old::Cmp(cmp) => self.cmp = cmp,
         }
     }
 
@@ -46,23 +46,7 @@ impl World {
             Old::Reg(r, _) => Old::Reg(r, self.register(r)),
             Old::Cell(place, _) => Old::Cell(place, self.cell(place)),
             Old::Over(_) => Old::Over(self.over),
-        }
-    }
-
-    fn set_register(&mut self, r: Reg, word: Word)
-        requires { IsTrue (fits_register r word) }
-        ensures { self.new ≡ with_register self.old r word }
-    {
-        match r {
-            Reg::A => self.a = word,
-            Reg::X => self.x = word,
-            Reg::I1 => self.i1 = word,
-            Reg::I2 => self.i2 = word,
-            Reg::I3 => self.i3 = word,
-            Reg::I4 => self.i4 = word,
-            Reg::I5 => self.i5 = word,
-            Reg::I6 => self.i6 = word,
-            Reg::J => self.j = word,
+            Old::Cmp(_) => Old::Cmp(self.cmp),
         }
     }
 }

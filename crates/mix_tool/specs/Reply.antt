@@ -9,7 +9,7 @@ use Rattle.mix_word.specs.Register.{all_registers, name_of_register}
 use Rattle.mix_word.specs.declared.register.Reg.{Reg}
 use Rattle.mix_word.specs.declared.register.Reg.TheVariants as reg
 use Rattle.mix_machine.specs.World.{WorldState, register_of}
-use Rattle.mix_machine.specs.Fault.{shown as machine_fault_text}
+use Rattle.mix_machine.specs.Fault.{fault_line as machine_fault_text}
 use Rattle.mix_tool.specs.Fault.{refusal_text}
 use Rattle.mix_tool.specs.declared.fault.Refusal.{Refusal}
 use Rattle.mix_tool.specs.declared.reply.End.{End}

@@ -1,245 +1,60 @@
-// Steps and programs, with what stands before and after them.
-use crate::MixFault;
-use crate::MixFault::{
-    ClockFull, IndexOverSix, LargeAddress, NoCell, NoCellAtLocation, NoOperation,
-};
-use mix_word::Sign;
-use mix_word::Sign::{Minus, Plus};
+//! Steps as rows: an instruction, the values that stand before it, and its fault or the values that it writes. All else is to be as before.
+use crate::{Cmp, MixFault, Reg, Sign};
+
+pub mod address;
+pub mod arithmetic;
+pub mod change;
+pub mod compare;
+pub mod fault;
+pub mod jump;
+pub mod load;
+pub mod move_words;
+pub mod program;
+pub mod register_jump;
+pub mod shift;
+pub mod store;
 
 // The sign, the address, the index, F and C of an instruction.
 pub type Code = (Sign, u16, u8, u8, u8);
 
-// A sign and a magnitude.
-pub type Number = (Sign, u32);
+// A word by its number, or by its five bytes.
+#[derive(Clone, Copy)]
+pub enum Written {
+    N(Sign, u32),
+    B(Sign, [u8; 5]),
+}
 
-pub const HLT: Code = (Plus, 0, 0, 2, 5);
+// One place of the machine, and a value of it.
+#[derive(Clone, Copy)]
+pub enum Value {
+    Reg(Reg, Written),
+    Cell(u16, Written),
+    Over(bool),
+    Cmp(Cmp),
+    Loc(u16),
+    Clock(u64),
+}
 
-pub const LAST_CLOCK: u64 = 1_000_000_000_000_000_000;
+// What a step comes to: its fault; or each value that it writes, altered or not, and the location and the clock after it.
+#[derive(Clone, Copy)]
+pub enum Then {
+    Fault(MixFault),
+    Writes(&'static [Value], u16, u64),
+}
 
-// What stands before a step from the location 0 at the clock 0: rA and rI1.
-pub type Before = (Number, Number);
+pub type Row = (&'static str, Code, &'static [Value], Then);
 
-// What stands after it: its fault, rA, the toggle, the clock, and how many values it kept.
-pub type After = (Option<MixFault>, Number, bool, u64, usize);
-
-pub const STEPS: [(&str, Code, Before, After); 24] = [
-    (
-        "NOP with any I and M",
-        (Minus, 4095, 63, 63, 0),
-        ((Plus, 3), (Plus, 0)),
-        (None, (Plus, 3), false, 1, 2),
-    ),
-    (
-        "HLT with any I and M",
-        (Plus, 4095, 7, 2, 5),
-        ((Plus, 3), (Plus, 0)),
-        (None, (Plus, 3), false, 10, 2),
-    ),
-    (
-        "ENTA -5",
-        (Minus, 5, 0, 2, 48),
-        ((Plus, 0), (Plus, 0)),
-        (None, (Minus, 5), false, 1, 3),
-    ),
-    (
-        "ENTA -0",
-        (Minus, 0, 0, 2, 48),
-        ((Plus, 7), (Plus, 0)),
-        (None, (Minus, 0), false, 1, 3),
-    ),
-    (
-        "ENTA 0",
-        (Plus, 0, 0, 2, 48),
-        ((Minus, 7), (Plus, 0)),
-        (None, (Plus, 0), false, 1, 3),
-    ),
-    (
-        "ENTA 10,1",
-        (Plus, 10, 1, 2, 48),
-        ((Plus, 0), (Minus, 3)),
-        (None, (Plus, 7), false, 1, 3),
-    ),
-    (
-        "ENTA -3,1",
-        (Minus, 3, 1, 2, 48),
-        ((Plus, 0), (Plus, 3)),
-        (None, (Minus, 0), false, 1, 3),
-    ),
-    (
-        "ENTA 3,1",
-        (Plus, 3, 1, 2, 48),
-        ((Plus, 9), (Minus, 3)),
-        (None, (Plus, 0), false, 1, 3),
-    ),
-    (
-        "INCA 1 at the most",
-        (Plus, 1, 0, 0, 48),
-        ((Plus, 1073741823), (Plus, 0)),
-        (None, (Plus, 0), true, 1, 4),
-    ),
-    (
-        "INCA -2 at the least",
-        (Minus, 2, 0, 0, 48),
-        ((Minus, 1073741823), (Plus, 0)),
-        (None, (Minus, 1), true, 1, 4),
-    ),
-    (
-        "INCA -5 at 5",
-        (Minus, 5, 0, 0, 48),
-        ((Plus, 5), (Plus, 0)),
-        (None, (Plus, 0), false, 1, 4),
-    ),
-    (
-        "INCA 5 at -5",
-        (Plus, 5, 0, 0, 48),
-        ((Minus, 5), (Plus, 0)),
-        (None, (Minus, 0), false, 1, 4),
-    ),
-    (
-        "STA 3999",
-        (Plus, 3999, 0, 5, 24),
-        ((Plus, 3), (Plus, 0)),
-        (None, (Plus, 3), false, 2, 3),
-    ),
-    (
-        "STA -0",
-        (Minus, 0, 0, 5, 24),
-        ((Plus, 3), (Plus, 0)),
-        (None, (Plus, 3), false, 2, 3),
-    ),
-    (
-        "STA -1",
-        (Minus, 1, 0, 5, 24),
-        ((Plus, 3), (Plus, 0)),
-        (Some(NoCell), (Plus, 3), false, 0, 0),
-    ),
-    (
-        "STA 4000",
-        (Plus, 4000, 0, 5, 24),
-        ((Plus, 3), (Plus, 0)),
-        (Some(NoCell), (Plus, 3), false, 0, 0),
-    ),
-    (
-        "STA -4095,1",
-        (Minus, 4095, 1, 5, 24),
-        ((Plus, 3), (Minus, 1)),
-        (Some(LargeAddress), (Plus, 3), false, 0, 0),
-    ),
-    (
-        "ENTA 4095,1",
-        (Plus, 4095, 1, 2, 48),
-        ((Plus, 3), (Plus, 1)),
-        (Some(LargeAddress), (Plus, 3), false, 0, 0),
-    ),
-    (
-        "ENTA 0,7",
-        (Plus, 0, 7, 2, 48),
-        ((Plus, 3), (Plus, 0)),
-        (Some(IndexOverSix), (Plus, 3), false, 0, 0),
-    ),
-    (
-        "STA 4000,7",
-        (Plus, 4000, 7, 5, 24),
-        ((Plus, 3), (Plus, 0)),
-        (Some(IndexOverSix), (Plus, 3), false, 0, 0),
-    ),
-    (
-        "C is 5 and F is 9",
-        (Plus, 0, 7, 9, 5),
-        ((Plus, 3), (Plus, 0)),
-        (Some(NoOperation), (Plus, 3), false, 0, 0),
-    ),
-    (
-        "C is 48 and F is 4",
-        (Plus, 0, 7, 4, 48),
-        ((Plus, 3), (Plus, 0)),
-        (Some(NoOperation), (Plus, 3), false, 0, 0),
-    ),
-    (
-        "STA 100(1:4)",
-        (Plus, 100, 0, 12, 24),
-        ((Plus, 3), (Plus, 0)),
-        (Some(NoOperation), (Plus, 3), false, 0, 0),
-    ),
-    (
-        "FADD 0",
-        (Plus, 0, 0, 6, 1),
-        ((Plus, 3), (Plus, 0)),
-        (Some(NoOperation), (Plus, 3), false, 0, 0),
-    ),
-];
-
-// One step at a clock: its fault, and the clock after it.
-pub const CLOCKS: [(&str, Code, u64, Option<MixFault>, u64); 5] = [
-    ("the last u", HLT, LAST_CLOCK - 10, None, LAST_CLOCK),
-    (
-        "one u too few",
-        HLT,
-        LAST_CLOCK - 9,
-        Some(ClockFull),
-        LAST_CLOCK - 9,
-    ),
-    (
-        "no u left",
-        (Plus, 0, 0, 0, 0),
-        LAST_CLOCK,
-        Some(ClockFull),
-        LAST_CLOCK,
-    ),
-    (
-        "no cell, before the clock",
-        (Plus, 4000, 0, 5, 24),
-        LAST_CLOCK,
-        Some(NoCell),
-        LAST_CLOCK,
-    ),
-    (
-        "no operation, before the clock",
-        (Plus, 0, 0, 9, 5),
-        LAST_CLOCK,
-        Some(NoOperation),
-        LAST_CLOCK,
-    ),
-];
-
-// A program from its place on, and so many steps.
-pub type Program = (u16, &'static [Code], usize);
-
-// What stands after them: the last one's fault, rA, the location, the clock, and how many values were kept.
-pub type Ran = (Option<MixFault>, Number, u16, u64, usize);
-
-pub const PROGRAMS: [(&str, Program, Ran); 4] = [
-    (
-        "ENTA 5, INCA 7, STA 100, HLT",
-        (0, &FIRST, 4),
-        (None, (Plus, 12), 4, 14, 12),
-    ),
-    (
-        "ENTA 4095, INCA 1",
-        (0, &LARGE, 2),
-        (None, (Plus, 4096), 2, 2, 7),
-    ),
-    (
-        "STA 1 over ENTA 5",
-        (0, &STORED, 2),
-        (None, (Plus, 0), 2, 3, 5),
-    ),
-    (
-        "NOP in the last cell",
-        (3999, &LAST, 2),
-        (Some(NoCellAtLocation), (Plus, 0), 4000, 1, 2),
-    ),
-];
-
-const FIRST: [Code; 4] = [
-    (Plus, 5, 0, 2, 48),
-    (Plus, 7, 0, 0, 48),
-    (Plus, 100, 0, 5, 24),
-    HLT,
-];
-
-const LARGE: [Code; 2] = [(Plus, 4095, 0, 2, 48), (Plus, 1, 0, 0, 48)];
-
-const STORED: [Code; 2] = [(Plus, 1, 0, 5, 24), (Plus, 5, 0, 2, 48)];
-
-const LAST: [Code; 1] = [(Plus, 0, 0, 0, 0)];
+pub fn families() -> [&'static [Row]; 10] {
+    [
+        load::rows(),
+        store::rows(),
+        arithmetic::rows(),
+        shift::rows(),
+        address::rows(),
+        compare::rows(),
+        jump::rows(),
+        register_jump::rows(),
+        move_words::rows(),
+        fault::rows(),
+    ]
+}

@@ -1,0 +1,19 @@
+use Rattle.std.proofs.Common.{◌≡◌, ◌+◌, ◌∙◌, arith}
+use Rattle.mix_machine.proofs.CopyLemmas.{copied-state, copied-values}
+use Rattle.mix_machine.proofs.world.World.copy.Goals as goal
+
+pub loop-i-preserved : goal.loop-i-preserved
+loop-i-preserved c =
+    let i = c.loop-i.i in
+    let w = c.loop-i.self in
+    let h = c.loop-i-test.true in
+    let p : c.place-in-loop-i.result ≡ c.args.to + i = cc in
+    let q : c.place.result ≡ c.args.from + i = cc in
+    let v = c.cell-word.ensures in
+    record {
+      state = copied-state c.args.count i c.args.from c.args.to _ _ w _ c.cell-word.result h p q v c.write.ensures.state ∙ c.loop-i.invariant.state;
+      kept = copied-values c.args.count i c.args.from c.args.to _ _ w _ c.cell-word.result _ _ h p q v c.write.ensures.state c.write.ensures.kept
+          ∙ c.loop-i.invariant.kept;
+      len = omega arith;
+      capacity = c.write.ensures.capacity ∙ c.loop-i.invariant.capacity;
+    }

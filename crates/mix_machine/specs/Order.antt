@@ -1,0 +1,133 @@
+-- When each fault applies to a step, and in which order they are told.
+use Rattle.std.specs.Prelude.{Bool, true, false, not, ◌&&◌, ◌==◌, nat_le, nat_lt, if◌then◌else◌, List, [], ◌∷◌, ◌+◌, Result, Ok, Err}
+use Rattle.mix_word.specs.Operation.{time_of}
+use Rattle.mix_word.specs.Needs.{needs_address, needs_operand}
+use Rattle.mix_word.specs.declared.decoding.Decoded.{Decoded}
+use Rattle.mix_word.specs.declared.decoding.Decoded.TheVariants.{Named, Floating, Unknown}
+use Rattle.mix_word.specs.declared.operation.Operation.{Operation}
+use Rattle.mix_word.specs.declared.operation.Operation.TheVariants.{Nop, Add, Sub, Mul, Div, Num, Char, Hlt, Shift, Move, Load, LoadNegated, Store, StoreJ, StoreZero, Jbus, Ioc, In, Out, Jred, Jump, RegisterJump, Increase, Decrease, Enter, EnterNegated, Compare}
+use Rattle.mix_machine.specs.Registers.{fits_register}
+use Rattle.mix_machine.specs.World.{WorldState, last_clock}
+use Rattle.mix_machine.specs.Decode.{is_field}
+use Rattle.mix_machine.specs.Jump.{is_negative}
+use Rattle.mix_machine.specs.Effects.{effects, reaches}
+use Rattle.mix_machine.specs.declared.decode.Arguments.{Arguments}
+use Rattle.mix_machine.specs.declared.plan.Writes.{Writes}
+use Rattle.mix_machine.specs.declared.plan.Writes.TheVariants.{Nothing, Register, RegisterAndToggle, Pair, PairAndToggle, Cell, Indicator, Copy}
+use Rattle.mix_machine.specs.declared.fault.MixFault.{MixFault}
+use Rattle.mix_machine.specs.declared.fault.MixFault.TheVariants.{NoOperation, FloatingOperation, IndexOverSix, LargeAddress, NoCell, NoField, IndexOverflow, NegativeShift, NoUnit, WrongDirection, NoBlock, BadControl, UnitFull, ClockFull, NoCellAtLocation}
+
+-- Whether this machine has an operation: it has no units yet.
+abbrev pub is_served : Operation → Bool
+is_served Nop = true
+is_served Add = true
+is_served Sub = true
+is_served Mul = true
+is_served Div = true
+is_served Num = true
+is_served Char = true
+is_served Hlt = true
+is_served (Shift kind) = true
+is_served Move = true
+is_served (Load r) = true
+is_served (LoadNegated r) = true
+is_served (Store r) = true
+is_served StoreJ = true
+is_served StoreZero = true
+is_served Jbus = false
+is_served Ioc = false
+is_served In = false
+is_served Out = false
+is_served Jred = false
+is_served (Jump kind) = true
+is_served (RegisterJump r condition) = true
+is_served (Increase r) = true
+is_served (Decrease r) = true
+is_served (Enter r) = true
+is_served (EnterNegated r) = true
+is_served (Compare r) = true
+
+abbrev pub is_shift : Operation → Bool
+is_shift Nop = false
+is_shift Add = false
+is_shift Sub = false
+is_shift Mul = false
+is_shift Div = false
+is_shift Num = false
+is_shift Char = false
+is_shift Hlt = false
+is_shift (Shift kind) = true
+is_shift Move = false
+is_shift (Load r) = false
+is_shift (LoadNegated r) = false
+is_shift (Store r) = false
+is_shift StoreJ = false
+is_shift StoreZero = false
+is_shift Jbus = false
+is_shift Ioc = false
+is_shift In = false
+is_shift Out = false
+is_shift Jred = false
+is_shift (Jump kind) = false
+is_shift (RegisterJump r condition) = false
+is_shift (Increase r) = false
+is_shift (Decrease r) = false
+is_shift (Enter r) = false
+is_shift (EnterNegated r) = false
+is_shift (Compare r) = false
+
+-- the operation that is named; where none is, the first faults refuse the step
+abbrev pub operation_or_nop : Decoded → Operation
+operation_or_nop (Named op) = op
+operation_or_nop Floating = Nop
+operation_or_nop Unknown = Nop
+
+abbrev pub has_operation : Decoded → Bool
+has_operation (Named op) = is_served op
+has_operation Floating = true
+has_operation Unknown = false
+
+abbrev pub is_floating : Decoded → Bool
+is_floating (Named op) = false
+is_floating Floating = true
+is_floating Unknown = false
+
+-- whether there is each cell that is read or written, and each value fits its register
+abbrev pub all_fit : Writes → Bool
+all_fit Nothing = true
+all_fit (Register r v) = fits_register r v
+all_fit (RegisterAndToggle r v b) = fits_register r v
+all_fit (Pair a x) = true
+all_fit (PairAndToggle a x b) = true
+all_fit (Cell p v) = nat_lt p 4000
+all_fit (Indicator c) = true
+all_fit (Copy c) = nat_le (c.from + c.count) 4000 && nat_le (c.to + c.count) 4000 && nat_lt c.index.magnitude 4096
+
+-- Whether a fault applies to what is decoded, with these arguments. A unit is not there yet.
+abbrev pub applies : Decoded → WorldState → Arguments → MixFault → Bool
+applies d w a NoOperation = not (has_operation d)
+applies d w a FloatingOperation = is_floating d
+applies d w a IndexOverSix = needs_address (operation_or_nop d) && nat_lt 6 a.index
+applies d w a LargeAddress = needs_address (operation_or_nop d) && nat_le 4096 a.m.magnitude
+applies d w a NoCell = not (reaches (operation_or_nop d) w a)
+applies d w a NoField = needs_operand (operation_or_nop d) && not (is_field a.f)
+applies d w a IndexOverflow = not (all_fit (effects (operation_or_nop d) w a).writes)
+applies d w a NegativeShift = is_shift (operation_or_nop d) && is_negative a.m
+applies d w a NoUnit = false
+applies d w a WrongDirection = false
+applies d w a NoBlock = false
+applies d w a BadControl = false
+applies d w a UnitFull = false
+applies d w a ClockFull = nat_lt last_clock (w.clock + time_of (operation_or_nop d) a.f)
+applies d w a NoCellAtLocation = w.loc == 4000
+
+-- first to last
+abbrev pub order : List MixFault
+order =
+    NoCellAtLocation ∷ NoOperation ∷ FloatingOperation ∷ IndexOverSix ∷ LargeAddress ∷ NoField ∷ NegativeShift
+    ∷ NoUnit ∷ WrongDirection ∷ BadControl ∷ NoCell ∷ IndexOverflow ∷ NoBlock ∷ UnitFull ∷ ClockFull ∷ []
+
+-- the first fault of a list that applies, or else the value
+abbrev pub first_fault : {X : Type 0} → (MixFault → Bool) → List MixFault → X → Result X MixFault
+first_fault test [] x = Ok x
+first_fault test (f ∷ fs) x = if test f then Err f else first_fault test fs x

@@ -1,0 +1,54 @@
+-- What an accepted step has passed: each fault, by its name.
+use Rattle.std.specs.Prelude.{Bool, true, false, ◌≡◌, cond, List, [], ◌∷◌, Result, Ok, Err, refl}
+use Rattle.mix_machine.specs.Order.{first_fault, order}
+use Rattle.mix_machine.specs.declared.fault.MixFault.{MixFault}
+use Rattle.mix_machine.specs.declared.fault.MixFault.TheVariants.{NoOperation, FloatingOperation, IndexOverSix, LargeAddress, NoCell, NoField, IndexOverflow, NegativeShift, ClockFull, NoCellAtLocation}
+
+abbrev PassesAll : (MixFault → Bool) → List MixFault → Type 0
+PassesAll test [] = Unit {0}
+PassesAll test (f ∷ fs) = (test f ≡ false) × PassesAll test fs
+
+not_refused : {X : Type 0} (applies : Bool) (f : MixFault) (r : Result X MixFault) (x : X) → cond applies (Err f) r ≡ Ok x →
+    (applies ≡ false) × (r ≡ Ok x)
+not_refused true f r x h = cc
+not_refused false f r x h = (refl, h)
+
+passes_all : {X : Type 0} (test : MixFault → Bool) (fs : List MixFault) (x y : X) → first_fault test fs x ≡ Ok y →
+    PassesAll test fs × (x ≡ y)
+passes_all test [] x y h = (tt, cc)
+passes_all test (f ∷ fs) x y h =
+    let first = not_refused (test f) f (first_fault test fs x) y h in
+    let rest = passes_all test fs x y first.1 in
+    ((first.0, rest.0), rest.1)
+
+-- the faults that don't apply to an accepted step
+pub record Passed (test : MixFault → Bool) : Type 0 where
+  pub location : test NoCellAtLocation ≡ false
+  pub operation : test NoOperation ≡ false
+  pub floating : test FloatingOperation ≡ false
+  pub index : test IndexOverSix ≡ false
+  pub address : test LargeAddress ≡ false
+  pub field : test NoField ≡ false
+  pub shift : test NegativeShift ≡ false
+  pub cell : test NoCell ≡ false
+  pub overflow : test IndexOverflow ≡ false
+  pub clock : test ClockFull ≡ false
+
+pub passed : {X : Type 0} (test : MixFault → Bool) (x y : X) → first_fault test order x ≡ Ok y → Passed test × (x ≡ y)
+passed test x y h =
+    let all = passes_all test order x y h in
+    let p = all.0 in (
+      record {
+        location = p.0;
+        operation = p.1.0;
+        floating = p.1.1.0;
+        index = p.1.1.1.0;
+        address = p.1.1.1.1.0;
+        field = p.1.1.1.1.1.0;
+        shift = p.1.1.1.1.1.1.0;
+        cell = p.1.1.1.1.1.1.1.1.1.1.0;
+        overflow = p.1.1.1.1.1.1.1.1.1.1.1.0;
+        clock = p.1.1.1.1.1.1.1.1.1.1.1.1.1.1.0;
+      },
+      all.1,
+    )

@@ -1,0 +1,44 @@
+//! What a change is about to write.
+use crate::fault::MixFault;
+use crate::old::Old;
+use mix_word::{Cmp, Place, Reg, Word};
+
+/// What an operation writes, in this order.
+#[derive(Clone, Copy)]
+pub(crate) enum Writes {
+    Nothing,
+    Register(Reg, Word),
+    RegisterAndToggle(Reg, Word, bool),
+    // rA and rX
+    Pair(Word, Word),
+    PairAndToggle(Word, Word, bool),
+    Cell(Place, Word),
+    Indicator(Cmp),
+    Copy(Copies),
+}
+
+/// What MOVE copies: so many words, from a cell on, to a cell on; and what rI1 is then.
+#[derive(Clone, Copy)]
+pub(crate) struct Copies {
+    pub(crate) count: u8,
+    pub(crate) from: u16,
+    pub(crate) to: u16,
+    pub(crate) index: Word,
+}
+
+/// What an operation does: its writes, and whether it jumps to M.
+#[derive(Clone, Copy)]
+pub(crate) struct Effects {
+    pub(crate) writes: Writes,
+    pub(crate) jumps: bool,
+}
+
+/// What an operation does, or the first fault.
+pub(crate) type Outcome = Result<Effects, MixFault>;
+
+/// What a change writes: one value, or what an operation writes and then the location and the clock.
+#[derive(Clone, Copy)]
+pub(crate) enum Plan {
+    Value(Old),
+    Step(Writes, u16, u64),
+}
