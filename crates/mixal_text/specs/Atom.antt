@@ -1,5 +1,5 @@
 -- Atomic expressions (1.3.2): a number, a symbol, or an asterisk, which is the location of the line.
-use Rattle.std.specs.Prelude.{ℕ, ◌^◌, ◌==◌, nat_lt, List, [], ◌∷◌, Option, Some, None, Result, Ok, Err, if◌then◌else◌, not, Bool}
+use Rattle.std.specs.Prelude.{ℕ, ◌^◌, ◌==◌, nat_lt, List, [], ◌∷◌, Option, Some, None, ok_or, Result, Ok, Err, if◌then◌else◌, not, Bool}
 use Rattle.std.specs.List.{before_first}
 use Rattle.std.specs.Char.{is_ascii_alphanumeric}
 use Rattle.std.specs.Str.{bytes_eq}
@@ -23,11 +23,6 @@ unfoldable pub atom_in : List ℕ → List ℕ
 atom_in [] = []
 atom_in (byte ∷ rest) = if byte == 42 then 42 ∷ [] else before_first is_other (byte ∷ rest)
 
--- a value that is there, or else a fault
-abbrev pub value_or : TextFault → Option WordValue → Result WordValue TextFault
-value_or fault None = Err fault
-value_or fault (Some value) = Ok value
-
 -- a number that a word holds; of more than ten digits there is none
 abbrev pub number_or_fault : Option ℕ → Result WordValue TextFault
 number_or_fault None = Err NumberTooLarge
@@ -36,13 +31,13 @@ number_or_fault (Some number) = if nat_lt number (64 ^ 5) then Ok (plus number) 
 -- a local symbol in an expression: dH stands for no value, dB for that of the closest earlier dH, and dF has none yet
 abbrev pub local_value : NamesValue → ℕ → Direction → Result WordValue TextFault
 local_value names d Here = Err BadSymbol
-local_value names d Backward = value_or NoSuchLocalSymbol (names.back d)
+local_value names d Backward = ok_or (names.back d) NoSuchLocalSymbol
 local_value names d Forward = Err UndefinedSymbol
 
 -- a symbol, local or ordinary; a run that is neither is too long
 abbrev pub symbol_value : NamesValue → Option Local → Option (List ℕ) → Result WordValue TextFault
 symbol_value names (Some l) symbol = local_value names l.digit l.direction
-symbol_value names None (Some name) = value_or UndefinedSymbol (names.value name)
+symbol_value names None (Some name) = ok_or (names.value name) UndefinedSymbol
 symbol_value names None None = Err BadSymbol
 
 -- the value of an atom, where the asterisk stands for `here`; a missing atom is a bad expression

@@ -5,6 +5,7 @@ use Rattle.mix_word.specs.declared.word.Sign.{Sign}
 use Rattle.mix_word.specs.declared.word.Sign.TheVariants.{Plus, Minus}
 use Rattle.mix_word.specs.Word.{WordValue, negation_of}
 use Rattle.mixal_text.specs.declared.fault.TextFault.{TextFault}
+use Rattle.mixal_text.specs.declared.fault.TextFault.TheVariants.{BadExpression}
 use Rattle.mixal_text.specs.declared.operator.Operator.{Operator}
 use Rattle.mixal_text.specs.Steps.{◌>>=◌}
 use Rattle.mixal_text.specs.Names.{NamesValue}
@@ -96,3 +97,9 @@ unfoldable pub expression_of : NamesValue → WordValue → List ℕ → Result 
 expression_of names here text = do
   value ← value_of_expression names here (expression_in text)
   Ok (value, expression_length (expression_in text))
+
+-- the value of a text that is one expression and nothing else; what is left over is a bad expression
+unfoldable pub whole_expression : NamesValue → WordValue → List ℕ → Result WordValue TextFault
+whole_expression names here text = do
+  value ← expression_of names here text
+  if value.1 == length text then Ok value.0 else Err BadExpression

@@ -3,7 +3,7 @@ ghost use Rattle.std.specs.Prelude.{◌≡◌, ◌≤◌, drop, length, position
 ghost use Rattle.std.specs.List.{position_or_len};
 ghost use Rattle.mixal_text.specs.Local.{local_of};
 ghost use Rattle.mixal_text.specs.Symbol.{symbol_of};
-ghost use Rattle.mixal_text.specs.Atom.{is_other, atom_in, atom_value, number_or_fault, local_value, symbol_value, value_or};
+ghost use Rattle.mixal_text.specs.Atom.{is_other, atom_in, atom_value, number_or_fault, local_value, symbol_value};
 ghost use Rattle.mix_lines.specs.Number.{decimal_number};
 
 use crate::fault::TextFault;

@@ -1,6 +1,6 @@
 //! Expressions (1.3.2): atoms and operators, worked out strictly from left to right.
-ghost use Rattle.std.specs.Prelude.{◌≡◌, drop, length};
-ghost use Rattle.mixal_text.specs.Expression.{expression_of, sign_at, sign_length, signed_by};
+ghost use Rattle.std.specs.Prelude.{◌≡◌, ◌≤◌, IfOk, drop, length};
+ghost use Rattle.mixal_text.specs.Expression.{expression_of, whole_expression, sign_at, sign_length, signed_by};
 
 use crate::atom::{atom_value, split_atom};
 use crate::fault::TextFault;
@@ -13,7 +13,8 @@ use mix_word::{Sign, Word};
 /// characters or dH A3, a number that no word holds A6, a symbol that is not defined or dF A7, dB with no earlier dH A14,
 /// and an operation that overflows or has no quotient A8.
 pub fn expression<N: Names>(text: &[u8], names: &N, here: Word) -> Result<(Word, usize), TextFault>
-    ensures { result ≡ expression_of (N.names names.now) here text.now }
+    ensures value { result ≡ expression_of (N.names names.now) here text.now }
+    ensures within { IfOk result (λ r. r.1 ≤ length text.now) }
 {
     let (sign, unsigned) = split_sign(text);
     let (atom, mut rest) = split_atom(unsigned);
@@ -48,5 +49,22 @@ fn signed_by(sign: Option<Sign>, value: Word) -> Word
         Some(Sign::Minus) => value.negated(),
         Some(Sign::Plus) => value,
         None => value,
+    }
+}
+
+/// The value of a text that is one expression and nothing else; what is left over is A5.
+#[tactic(auto, unfolding(crate::specs::Expression::whole_expression))]
+pub(crate) fn whole_expression<N: Names>(
+    text: &[u8],
+    names: &N,
+    here: Word,
+) -> Result<Word, TextFault>
+    ensures { result ≡ whole_expression (N.names names.now) here text.now }
+{
+    let (value, used) = expression(text, names, here)?;
+    if used == text.len() {
+        Ok(value)
+    } else {
+        Err(TextFault::BadExpression)
     }
 }

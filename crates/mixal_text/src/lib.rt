@@ -2,15 +2,28 @@
 //! Each is read from borrowed bytes, and no call takes memory.
 #![tactic(auto)]
 
+mod addresses;
+mod alf;
 mod atom;
 mod expressions;
 mod fault;
+mod label;
+mod line;
 mod local;
 mod names;
+mod op;
 mod operator;
+mod part;
 mod symbol;
+mod w_values;
+mod words;
 
+pub use addresses::{APart, Operand, address};
 pub use expressions::expression;
 pub use fault::TextFault;
+pub use label::Label;
+pub use line::{Line, read_line};
 pub use names::Names;
+pub use op::Op;
 pub use symbol::Symbol;
+pub use w_values::w_value;

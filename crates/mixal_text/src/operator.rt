@@ -44,7 +44,7 @@ impl Operator {
             Operator::Subtract => sum_or_fault(sub(a, b)),
             Operator::Multiply => Ok(mul(a, b).1),
             Operator::Divide => quotient_or_fault(div(Word::of(a.sign(), 0), a, b)),
-            Operator::Fraction => quotient_or_fault(div(a, Word::of(Sign::Plus, 0), b)),
+            Operator::Fraction => quotient_or_fault(div(a, Word::ZERO, b)),
             Operator::Field => sum_or_fault(add(mul(a, Word::of(Sign::Plus, 8)).1, b)),
         }
     }
