@@ -1,5 +1,5 @@
 -- The first five characters of a text, padded with blanks.
-use Rattle.std.proofs.Common.{◌≡◌, ℕ, zero, suc, ◌+◌, ◌≤◌, min, List, [], ◌∷◌, ◌++◌, length, take, drop, refl, arith}
+use Rattle.std.proofs.Common.{◌≡◌, ℕ, min, List, [], ◌∷◌, ◌++◌, length, take, drop, refl, arith}
 use Rattle.mixal_text.specs.Alf.{five_of}
 
 pub five-of : (text : List ℕ) (count : ℕ) → count ≡ min (length text) 5

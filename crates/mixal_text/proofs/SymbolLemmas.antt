@@ -1,5 +1,5 @@
 -- A text of over ten bytes is no symbol.
-use Rattle.std.proofs.Common.{◌≡◌, ℕ, ◌<◌, false, None, List, length, refl, arith}
+use Rattle.std.proofs.Common.{◌≡◌, ℕ, ◌<◌, false, None, List, length, refl}
 use Rattle.std.specs.Prelude.{nat_le}
 use Rattle.std.specs.Str.{str_to_ascii_uppercase}
 use Rattle.std.proofs.lemmas.Bool.{lt-leb}

@@ -19,7 +19,7 @@ use Rattle.mixal_text.specs.Names.{NamesValue}
 use Rattle.mixal_text.specs.Operator.{operator_at}
 use Rattle.mixal_text.specs.Atom.{atom_in}
 use Rattle.mixal_text.specs.Expression.{expression_of, whole_expression}
-use Rattle.mixal_text.specs.Part.{is_open, is_comma, from_first, up_to, part_or_fault, nothing_left, bracketed}
+use Rattle.mixal_text.specs.Part.{is_open, is_comma, from_first, up_to, part_or_fault, nothing_left, part_in_brackets}
 
 -- an A-part: a value, or a future reference to a symbol or to dF, or a literal
 pub data APartValue : Type 0 where
@@ -91,7 +91,7 @@ index_of names here (byte ∷ text) =
 unfoldable pub operand_of : NamesValue → WordValue → ℕ → APartValue → List ℕ → Result OperandValue TextFault
 operand_of names here normal_f a rest = do
   index ← index_of names here (before_first is_open rest)
-  f ← bracketed (up_to 63) names here (from_first is_open rest)
+  f ← part_in_brackets (up_to 63) names here (from_first is_open rest)
   Ok record { a = a; index = index; f = unwrap_or f normal_f }
 
 -- a literal =W-value=, which goes up to the next equals sign, by what stands after the first

@@ -1,9 +1,9 @@
 -- ALF (1.3.2): a word of five characters, between quotation marks or at their place in the line.
-use Rattle.std.specs.Prelude.{ℕ, ◌+◌, ◌*◌, ◌==◌, nat_le, Bool, List, [], ◌∷◌, ◌++◌, length, take, Option, Some, codes, ok_or, Result, Ok, Err, if◌then◌else◌}
+use Rattle.std.specs.Prelude.{ℕ, ◌+◌, ◌*◌, ◌==◌, nat_le, Bool, List, [], ◌∷◌, ◌++◌, length, take, Some, codes, ok_or, Result, Ok, Err, if◌then◌else◌}
 use Rattle.std.specs.List.{list_any, before_first}
 use Rattle.mix_word.specs.Word.{WordValue, plus}
 use Rattle.mix_word.specs.Characters.{character_code}
-use Rattle.mix_lines.specs.Lines.{is_blank, begins_with}
+use Rattle.mix_lines.specs.Lines.{is_blank}
 use Rattle.mixal_text.specs.declared.fault.TextFault.{TextFault}
 use Rattle.mixal_text.specs.declared.fault.TextFault.TheVariants.{BadByte, BadAlf}
 use Rattle.mixal_text.specs.Steps.{◌>>=◌}

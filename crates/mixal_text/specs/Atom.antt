@@ -2,7 +2,6 @@
 use Rattle.std.specs.Prelude.{ℕ, ◌^◌, ◌==◌, nat_lt, List, [], ◌∷◌, Option, Some, None, ok_or, Result, Ok, Err, if◌then◌else◌, not, Bool}
 use Rattle.std.specs.List.{before_first}
 use Rattle.std.specs.Char.{is_ascii_alphanumeric}
-use Rattle.std.specs.Str.{bytes_eq}
 use Rattle.mix_word.specs.Word.{WordValue, plus}
 use Rattle.mix_lines.specs.Number.{is_digits, decimal_number}
 use Rattle.mixal_text.specs.declared.fault.TextFault.{TextFault}

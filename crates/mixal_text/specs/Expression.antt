@@ -74,10 +74,10 @@ expression_length e = sign_length e.sign + length e.first + terms_length e.terms
 -- ---- its value
 
 -- a leading minus sign negates the word
-abbrev pub signed_by : Option Sign → WordValue → WordValue
-signed_by None value = value
-signed_by (Some Plus) value = value
-signed_by (Some Minus) value = negation_of value
+abbrev pub with_sign : Option Sign → WordValue → WordValue
+with_sign None value = value
+with_sign (Some Plus) value = value
+with_sign (Some Minus) value = negation_of value
 
 -- the operations of the terms on a value, from left to right
 unfoldable pub value_of_terms : NamesValue → WordValue → WordValue → List Term → Result WordValue TextFault
@@ -90,7 +90,7 @@ value_of_terms names here value (term ∷ more) = do
 unfoldable pub value_of_expression : NamesValue → WordValue → Expression → Result WordValue TextFault
 value_of_expression names here e = do
   first ← atom_value names here e.first
-  value_of_terms names here (signed_by e.sign first) e.terms
+  value_of_terms names here (with_sign e.sign first) e.terms
 
 -- the value of the expression that begins a text, where the asterisk stands for `here`, and how many bytes it has
 unfoldable pub expression_of : NamesValue → WordValue → List ℕ → Result (WordValue × ℕ) TextFault

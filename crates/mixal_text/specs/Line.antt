@@ -1,5 +1,5 @@
 -- A line (1.3.2): a remark, or LOC, OP and ADDRESS, parted by blanks. Its first fault from the left is the answer.
-use Rattle.std.specs.Prelude.{ℕ, Bool, ◌||◌, ◌&&◌, List, [], ◌∷◌, is_some, Option, Some, None, option_map, ok_or, Result, Ok, Err, if◌then◌else◌}
+use Rattle.std.specs.Prelude.{ℕ, ◌<◌, Bool, ◌||◌, ◌&&◌, List, [], ◌∷◌, is_some, Option, Some, None, option_map, ok_or, Result, Ok, Err, if◌then◌else◌}
 use Rattle.std.specs.List.{list_all, before_first, after_first}
 use Rattle.std.specs.Char.{is_ascii_alphabetic}
 use Rattle.std.specs.Str.{str_to_ascii_uppercase}
@@ -76,3 +76,16 @@ line_of text =
 abbrev pub value_of_line : Line → LineValue
 value_of_line line.Remark = Remark
 value_of_line (line.Code loc code address) = Code loc code address.now
+
+-- the code and the normal F of a symbolic operation are bytes of a word
+abbrev pub IsOfBytes : Op → Type 0
+IsOfBytes (op.Machine code f) = (code < 64) × (f < 64)
+IsOfBytes op.Equ = Unit {0}
+IsOfBytes op.Orig = Unit {0}
+IsOfBytes op.Con = Unit {0}
+IsOfBytes (op.Alf word) = Unit {0}
+IsOfBytes op.End = Unit {0}
+
+abbrev pub HasBytes : Line → Type 0
+HasBytes line.Remark = Unit {0}
+HasBytes (line.Code loc code address) = IsOfBytes code

@@ -42,19 +42,19 @@ nothing_left [] part = Ok part
 nothing_left (byte ∷ rest) part = Err BadExpression
 
 -- a closing bracket that is due
-abbrev pub closing : List ℕ → WordValue → Result WordValue TextFault
-closing text value = if list_any is_close text then Ok value else Err BadExpression
+abbrev pub value_if_closed : List ℕ → WordValue → Result WordValue TextFault
+value_if_closed text value = if list_any is_close text then Ok value else Err BadExpression
 
 -- the value of an expression that a closing bracket ends
-unfoldable pub closed_value : NamesValue → WordValue → List ℕ → Result WordValue TextFault
-closed_value names here text = do
+unfoldable pub value_before_close : NamesValue → WordValue → List ℕ → Result WordValue TextFault
+value_before_close names here text = do
   value ← whole_expression names here (before_first is_close text)
-  closing text value
+  value_if_closed text value
 
 -- the part in brackets with which a text ends: (E), tested after its bracket has closed. It may be left out
-unfoldable pub bracketed : {A : Type 0} → (ℕ → Option A) → NamesValue → WordValue → List ℕ → Result (Option A) TextFault
-bracketed takes names here [] = Ok None
-bracketed takes names here (bracket ∷ text) = do
-  value ← closed_value names here text
+unfoldable pub part_in_brackets : {A : Type 0} → (ℕ → Option A) → NamesValue → WordValue → List ℕ → Result (Option A) TextFault
+part_in_brackets takes names here [] = Ok None
+part_in_brackets takes names here (bracket ∷ text) = do
+  value ← value_before_close names here text
   part ← part_or_fault takes value
   nothing_left (after_first is_close text) (Some part)

@@ -1,5 +1,5 @@
 -- An ordinary symbol (1.3.2): one to ten letters and digits, at least one of them a letter, and no local symbol.
-use Rattle.std.specs.Prelude.{ℕ, Bool, not, ◌&&◌, ◌||◌, nat_le, List, length, Option, Some, None, is_none, if◌then◌else◌}
+use Rattle.std.specs.Prelude.{ℕ, Bool, ◌&&◌, ◌||◌, nat_le, List, length, Option, Some, None, is_none, if◌then◌else◌}
 use Rattle.std.specs.List.{list_all, list_any}
 use Rattle.std.specs.Char.{is_ascii_digit, is_ascii_uppercase}
 use Rattle.std.specs.Str.{str_to_ascii_uppercase}

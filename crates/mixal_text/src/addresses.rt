@@ -1,9 +1,9 @@
 //! The ADDRESS of a symbolic operation (1.3.2): A-part, index and F.
-ghost use Rattle.std.specs.Prelude.{◌≡◌, MatchOption, MatchResult, Ok, Err, Some, None, position};
+ghost use Rattle.std.specs.Prelude.{◌≡◌, ◌<◌, ◌≤◌, IfOk, IfSome, MatchOption, MatchResult, Ok, Err, Some, None, position};
 ghost use Rattle.std.specs.List.{after_first, before_first, list_any};
 ghost use Rattle.mixal_text.specs.Local.{local_of};
 ghost use Rattle.mixal_text.specs.Symbol.{symbol_of};
-ghost use Rattle.mixal_text.specs.Part.{bracketed, from_first, up_to};
+ghost use Rattle.mixal_text.specs.Part.{part_in_brackets, from_first, up_to};
 ghost use Rattle.mixal_text.specs.Address.{IsMachine, a_part_of, address_of, f_of, index_of, is_delimiter, is_equals, literal_operand_of, operand_of, plain_operand_of, reference_with, undefined_name, local_ahead, value_of_a_part, value_of_operand};
 
 use crate::atom::split_atom;
@@ -13,7 +13,7 @@ use crate::local::{Direction, Local};
 use crate::names::Names;
 use crate::op::Op;
 use crate::operator::split_operator;
-use crate::part::{after_close, closed_value, nothing_left, number_up_to, split_at_bracket};
+use crate::part::{after_close, nothing_left, number_up_to, split_at_bracket, value_before_close};
 use crate::symbol::Symbol;
 use mix_word::Word;
 
@@ -46,9 +46,11 @@ pub fn address<'a, N: Names>(
     here: Word,
 ) -> Result<Operand<'a>, TextFault>
     requires { IsMachine op }
-    ensures { MatchResult result
+    ensures operand { MatchResult result
         (λ operand. address_of (N.names names.now) here (f_of op) text.now ≡ Ok (value_of_operand operand))
         (λ fault. address_of (N.names names.now) here (f_of op) text.now ≡ Err fault) }
+    ensures index { IfOk result (λ operand. operand.index ≤ 6) }
+    ensures f { f_of op < 64 → IfOk result (λ operand. operand.f < 64) }
 {
     let normal_f = normal_f(op);
     match text {
@@ -74,9 +76,11 @@ fn literal_operand<'a, N: Names>(
     names: &N,
     here: Word,
 ) -> Result<Operand<'a>, TextFault>
-    ensures { MatchResult result
+    ensures operand { MatchResult result
         (λ operand. literal_operand_of (N.names names.now) here normal_f text.now ≡ Ok (value_of_operand operand))
         (λ fault. literal_operand_of (N.names names.now) here normal_f text.now ≡ Err fault) }
+    ensures index { IfOk result (λ operand. operand.index ≤ 6) }
+    ensures f { normal_f < 64 → IfOk result (λ operand. operand.f < 64) }
 {
     match equals_in(text) {
         Some(end) => operand_with(
@@ -103,9 +107,11 @@ fn plain_operand<'a, N: Names>(
     names: &N,
     here: Word,
 ) -> Result<Operand<'a>, TextFault>
-    ensures { MatchResult result
+    ensures operand { MatchResult result
         (λ operand. plain_operand_of (N.names names.now) here normal_f text.now ≡ Ok (value_of_operand operand))
         (λ fault. plain_operand_of (N.names names.now) here normal_f text.now ≡ Err fault) }
+    ensures index { IfOk result (λ operand. operand.index ≤ 6) }
+    ensures f { normal_f < 64 → IfOk result (λ operand. operand.f < 64) }
 {
     let (text, rest) = split_at_delimiter(text);
     let a = a_part(text, names, here)?;
@@ -138,9 +144,11 @@ fn operand_with<'a, N: Names>(
     names: &N,
     here: Word,
 ) -> Result<Operand<'a>, TextFault>
-    ensures { MatchResult result
+    ensures operand { MatchResult result
         (λ operand. operand_of (N.names names.now) here normal_f (value_of_a_part a.entry) rest.now ≡ Ok (value_of_operand operand))
         (λ fault. operand_of (N.names names.now) here normal_f (value_of_a_part a.entry) rest.now ≡ Err fault) }
+    ensures index { IfOk result (λ operand. operand.index ≤ 6) }
+    ensures f { normal_f < 64 → IfOk result (λ operand. operand.f < 64) }
 {
     let (text, brackets) = split_at_bracket(rest);
     let index = index(text, names, here)?;
@@ -150,7 +158,8 @@ fn operand_with<'a, N: Names>(
 
 #[tactic(auto, using(crate::proofs::PartLemmas::cuts), unfolding(crate::specs::Address::index_of))]
 fn index<N: Names>(text: &[u8], names: &N, here: Word) -> Result<u8, TextFault>
-    ensures { result ≡ index_of (N.names names.now) here text.now }
+    ensures value { result ≡ index_of (N.names names.now) here text.now }
+    ensures bound { IfOk result (λ index. index ≤ 6) }
 {
     match text {
         [] => Ok(0),
@@ -164,14 +173,15 @@ fn index<N: Names>(text: &[u8], names: &N, here: Word) -> Result<u8, TextFault>
     }
 }
 
-#[tactic(auto, unfolding(crate::specs::Part::bracketed))]
+#[tactic(auto, unfolding(crate::specs::Part::part_in_brackets))]
 fn f_in_brackets<N: Names>(text: &[u8], names: &N, here: Word) -> Result<Option<u8>, TextFault>
-    ensures { result ≡ bracketed (up_to 63) (N.names names.now) here text.now }
+    ensures value { result ≡ part_in_brackets (up_to 63) (N.names names.now) here text.now }
+    ensures bound { IfOk result (λ f. IfSome f (λ n. n < 64)) }
 {
     match text {
         [] => Ok(None),
         [_, text @ ..] => {
-            let value = closed_value(text, names, here)?;
+            let value = value_before_close(text, names, here)?;
             let f = number_up_to(63, value)?;
             nothing_left(after_close(text))?;
             Ok(Some(f))

@@ -15,6 +15,8 @@ mod op;
 mod operator;
 mod part;
 mod symbol;
+#[cfg(test)]
+mod tests;
 mod w_values;
 mod words;
 

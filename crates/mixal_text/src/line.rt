@@ -1,10 +1,10 @@
 //! Lines (1.3.2): LOC, OP and ADDRESS, parted by blanks.
-ghost use Rattle.std.specs.Prelude.{◌≡◌, MatchResult, Ok, Err, is_some};
+ghost use Rattle.std.specs.Prelude.{◌≡◌, IfOk, MatchResult, Ok, Err, is_some};
 ghost use Rattle.std.specs.List.{list_all};
 ghost use Rattle.std.specs.Char.{is_ascii_alphabetic};
 ghost use Rattle.mix_lines.specs.Lines.{begins_with};
 ghost use Rattle.mixal_text.specs.Words.{first_word};
-ghost use Rattle.mixal_text.specs.Line.{are_characters, loc_of, op_of, address_after, with_address, line_from, line_of, value_of_line};
+ghost use Rattle.mixal_text.specs.Line.{HasBytes, IsOfBytes, are_characters, loc_of, op_of, address_after, with_address, line_from, line_of, value_of_line};
 
 use crate::alf::alf_word;
 use crate::fault::TextFault;
@@ -31,7 +31,10 @@ pub enum Line<'a> {
 /// where ALF has A12 before it.
 #[tactic(auto, unfolding(crate::specs::Line::line_of))]
 pub fn read_line(text: &[u8]) -> Result<Line<'_>, TextFault>
-    ensures { MatchResult result (λ line. line_of text.now ≡ Ok (value_of_line line)) (λ fault. line_of text.now ≡ Err fault) }
+    ensures line { MatchResult result
+        (λ line. line_of text.now ≡ Ok (value_of_line line))
+        (λ fault. line_of text.now ≡ Err fault) }
+    ensures bytes { IfOk result HasBytes }
 {
     if is_comment(text) || are_blanks(text) {
         return Ok(Line::Remark);
@@ -72,9 +75,10 @@ fn read_op(name: &[u8]) -> Result<Mnemonic, TextFault>
 
 #[tactic(auto, unfolding(crate::specs::Line::line_from))]
 fn code_line(loc: Option<Label>, mnemonic: Mnemonic, rest: &[u8]) -> Result<Line<'_>, TextFault>
-    ensures { MatchResult result
+    ensures line { MatchResult result
         (λ line. line_from loc mnemonic rest.now ≡ Ok (value_of_line line))
         (λ fault. line_from loc mnemonic rest.now ≡ Err fault) }
+    ensures bytes { IfOk result HasBytes }
 {
     match mnemonic {
         Mnemonic::Machine(operation) => {
@@ -100,9 +104,11 @@ fn code_line(loc: Option<Label>, mnemonic: Mnemonic, rest: &[u8]) -> Result<Line
 }
 
 fn with_address(loc: Option<Label>, op: Op, address: &[u8]) -> Result<Line<'_>, TextFault>
-    ensures { MatchResult result
+    requires { IsOfBytes op }
+    ensures line { MatchResult result
         (λ line. with_address loc op address.now ≡ Ok (value_of_line line))
         (λ fault. with_address loc op address.now ≡ Err fault) }
+    ensures bytes { IfOk result HasBytes }
 {
     if are_characters(address) {
         Ok(Line::Code { loc, op, address })

@@ -3,7 +3,7 @@ ghost use Rattle.std.specs.Prelude.{◌≡◌, ◌≤◌, IfOk, MatchOption, Mat
 ghost use Rattle.std.specs.List.{after_first, before_first, list_any, position_or_len};
 ghost use Rattle.mix_word.specs.Word.{number_of};
 ghost use Rattle.mix_word.specs.Field.{field_of};
-ghost use Rattle.mixal_text.specs.Part.{is_open, is_close, natural_of, up_to, part_or_fault, from_first, closed_value, nothing_left};
+ghost use Rattle.mixal_text.specs.Part.{is_open, is_close, natural_of, up_to, part_or_fault, from_first, value_before_close, nothing_left};
 
 use crate::expressions::whole_expression;
 use crate::fault::TextFault;
@@ -11,9 +11,13 @@ use crate::names::Names;
 use mix_word::{Field, Sign, Word};
 
 /// The value of an expression that a closing bracket ends. No bracket is A5.
-#[tactic(auto, using(crate::proofs::PartLemmas::cuts), unfolding(crate::specs::Part::closed_value))]
-pub(crate) fn closed_value<N: Names>(text: &[u8], names: &N, here: Word) -> Result<Word, TextFault>
-    ensures { result ≡ closed_value (N.names names.now) here text.now }
+#[tactic(auto, using(crate::proofs::PartLemmas::cuts), unfolding(crate::specs::Part::value_before_close))]
+pub(crate) fn value_before_close<N: Names>(
+    text: &[u8],
+    names: &N,
+    here: Word,
+) -> Result<Word, TextFault>
+    ensures { result ≡ value_before_close (N.names names.now) here text.now }
 {
     match close_in(text) {
         Some(end) => whole_expression(&text[..end], names, here),
@@ -71,7 +75,8 @@ pub(crate) fn field_of_value(value: Word) -> Result<Field, TextFault>
 
 /// A value as a number from 0 to a limit, where -0 counts as 0, or A10.
 pub(crate) fn number_up_to(limit: u8, value: Word) -> Result<u8, TextFault>
-    ensures { result ≡ part_or_fault (up_to limit) value }
+    ensures value { result ≡ part_or_fault (up_to limit) value }
+    ensures bound { IfOk result (λ n. n ≤ limit) }
 {
     match natural(value) {
         Some(n) if n <= u32::from(limit) => Ok(n as u8),

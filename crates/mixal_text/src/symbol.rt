@@ -60,7 +60,7 @@ impl Symbol {
         ensures is { result.now ≡ self.now }
         ensures ordinary { IsTrue (is_ordinary result.now) }
     {
-        self.characters.as_slice()
+        &self.characters[..]
     }
 }
 
@@ -93,7 +93,7 @@ impl PartialEq for Symbol {
     ghost laws = { partial_equiv_from_equiv nat_list_eq_equiv };
 
     fn eq(&self, other: &Self) -> bool {
-        self.characters.as_slice() == other.characters.as_slice()
+        self.name() == other.name()
     }
 }
 
@@ -110,6 +110,6 @@ impl Hash for Symbol {
     ghost respects_eq = { Prim.search (hashing, rules) };
 
     fn hash<H: Hasher>(&self, state: &mut H) {
-        self.characters.as_slice().hash(state);
+        self.name().hash(state);
     }
 }

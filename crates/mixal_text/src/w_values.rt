@@ -2,13 +2,15 @@
 ghost use Rattle.std.specs.Prelude.{◌≡◌, ◌∷◌, option_copied, position};
 ghost use Rattle.std.specs.List.{slice_split};
 ghost use Rattle.mix_word.specs.Field.{field_of};
-ghost use Rattle.mixal_text.specs.Part.{is_comma, bracketed};
+ghost use Rattle.mixal_text.specs.Part.{is_comma, part_in_brackets};
 ghost use Rattle.mixal_text.specs.WValue.{put_piece, w_value_of, pieces_of};
 
 use crate::expressions::whole_expression;
 use crate::fault::TextFault;
 use crate::names::Names;
-use crate::part::{after_close, closed_value, field_of_value, nothing_left, split_at_bracket};
+use crate::part::{
+    after_close, field_of_value, nothing_left, split_at_bracket, value_before_close,
+};
 use mix_word::{Field, Word};
 
 /// The word of a W-value (1.3.2), `E1(F1),E2(F2),..`: each expression is put into its field of a word that is +0 at
@@ -56,18 +58,18 @@ fn put_piece<N: Names>(word: Word, piece: &[u8], names: &N, here: Word) -> Resul
     Ok(word.put_field(field, value))
 }
 
-#[tactic(auto, unfolding(crate::specs::Part::bracketed))]
+#[tactic(auto, unfolding(crate::specs::Part::part_in_brackets))]
 fn field_in_brackets<N: Names>(
     text: &[u8],
     names: &N,
     here: Word,
 ) -> Result<Option<Field>, TextFault>
-    ensures { result ≡ bracketed field_of (N.names names.now) here text.now }
+    ensures { result ≡ part_in_brackets field_of (N.names names.now) here text.now }
 {
     match text {
         [] => Ok(None),
         [_, text @ ..] => {
-            let value = closed_value(text, names, here)?;
+            let value = value_before_close(text, names, here)?;
             let field = field_of_value(value)?;
             nothing_left(after_close(text))?;
             Ok(Some(field))
