@@ -1,0 +1,6 @@
+pub mod Positions
+pub mod SymbolLemmas
+pub mod ExpressionLemmas
+pub mod PartLemmas
+pub mod OpLemmas
+pub mod AlfLemmas

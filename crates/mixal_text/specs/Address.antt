@@ -1,0 +1,143 @@
+-- The ADDRESS of a symbolic operation (1.3.2): A-part, index and F, each of which may be left out.
+use Rattle.std.specs.Prelude.{ℕ, ◌==◌, Bool, List, [], ◌∷◌, length, drop, is_none, Option, Some, None, unwrap_or, Result, Ok, Err, ◌||◌, if◌then◌else◌}
+use Rattle.std.specs.List.{list_any, before_first, after_first}
+use Rattle.mix_word.specs.Word.{WordValue, zero_word}
+use Rattle.mixal_text.specs.declared.fault.TextFault.{TextFault}
+use Rattle.mixal_text.specs.declared.fault.TextFault.TheVariants.{BadExpression}
+use Rattle.mixal_text.specs.declared.local.Direction.{Direction}
+use Rattle.mixal_text.specs.declared.local.Direction.TheVariants.{Here, Backward, Forward}
+use Rattle.mixal_text.specs.declared.local.Local.{Local}
+use Rattle.mixal_text.specs.declared.op.Op.{Op}
+use Rattle.mixal_text.specs.declared.op.Op.TheVariants.{Machine, Equ, Orig, Con, Alf, End}
+use Rattle.mixal_text.specs.declared.addresses.APart.{APart}
+use Rattle.mixal_text.specs.declared.addresses.APart.TheVariants as part
+use Rattle.mixal_text.specs.declared.addresses.Operand.{Operand}
+use Rattle.mixal_text.specs.Steps.{◌>>=◌}
+use Rattle.mixal_text.specs.Local.{local_of}
+use Rattle.mixal_text.specs.Symbol.{symbol_of}
+use Rattle.mixal_text.specs.Names.{NamesValue}
+use Rattle.mixal_text.specs.Operator.{operator_at}
+use Rattle.mixal_text.specs.Atom.{atom_in}
+use Rattle.mixal_text.specs.Expression.{expression_of, whole_expression}
+use Rattle.mixal_text.specs.Part.{is_open, is_comma, from_first, up_to, part_or_fault, nothing_left, part_in_brackets}
+
+-- an A-part: a value, or a future reference to a symbol or to dF, or a literal
+pub data APartValue : Type 0 where
+  Value : WordValue → APartValue
+  Name : List ℕ → APartValue
+  Ahead : ℕ → APartValue
+  Literal : List ℕ → APartValue
+
+pub record OperandValue : Type 0 where
+  a : APartValue
+  pub index : ℕ
+  pub f : ℕ
+
+abbrev pub is_equals : ℕ → Bool
+is_equals byte = byte == 61
+
+-- what ends an A-part
+abbrev pub is_delimiter : ℕ → Bool
+is_delimiter byte = byte == 44 || byte == 40
+
+-- ---- the A-part
+
+abbrev pub local_ahead : ℕ → Direction → Option APartValue
+local_ahead d Here = None
+local_ahead d Backward = None
+local_ahead d Forward = Some (Ahead d)
+
+-- a symbol that is not defined yet
+abbrev pub undefined_name : NamesValue → List ℕ → Option APartValue
+undefined_name names name = if is_none (names.value name) then Some (Name name) else None
+
+-- a future reference: dF, or a symbol that is not defined yet
+abbrev pub reference_of : NamesValue → Option Local → Option (List ℕ) → Option APartValue
+reference_of names (Some l) symbol = local_ahead l.digit l.direction
+reference_of names None (Some name) = undefined_name names name
+reference_of names None None = None
+
+-- the future reference that an atom is. It stands alone: no operator begins what follows it
+abbrev pub reference_with : NamesValue → List ℕ → List ℕ → Option APartValue
+reference_with names atom rest =
+    if is_none (operator_at rest) then reference_of names (local_of atom) (symbol_of atom) else None
+
+abbrev pub reference_or_value : NamesValue → WordValue → List ℕ → Option APartValue → Result APartValue TextFault
+reference_or_value names here text (Some reference) = nothing_left (drop (length (atom_in text)) text) reference
+reference_or_value names here text None = do
+  value ← whole_expression names here text
+  Ok (Value value)
+
+-- an A-part that is no literal; where it is left out it is +0
+unfoldable pub a_part_of : NamesValue → WordValue → List ℕ → Result APartValue TextFault
+a_part_of names here [] = Ok (Value zero_word)
+a_part_of names here (byte ∷ rest) = (
+    let text : List ℕ = byte ∷ rest in
+    reference_or_value names here text (reference_with names (atom_in text) (drop (length (atom_in text)) text)))
+
+-- ---- the index and the whole ADDRESS
+
+-- an index: a comma and an expression, from 0 to 6; where it is left out it is 0
+unfoldable pub index_of : NamesValue → WordValue → List ℕ → Result ℕ TextFault
+index_of names here [] = Ok 0
+index_of names here (byte ∷ text) =
+    if is_comma byte then (do
+      value ← expression_of names here text
+      index ← part_or_fault (up_to 6) value.0
+      nothing_left (drop value.1 text) index)
+    else Err BadExpression
+
+-- an A-part, and after it the index up to the opening bracket, and F from 0 to 63; where F is left out it is the normal one
+unfoldable pub operand_of : NamesValue → WordValue → ℕ → APartValue → List ℕ → Result OperandValue TextFault
+operand_of names here normal_f a rest = do
+  index ← index_of names here (before_first is_open rest)
+  f ← part_in_brackets (up_to 63) names here (from_first is_open rest)
+  Ok record { a = a; index = index; f = unwrap_or f normal_f }
+
+-- a literal =W-value=, which goes up to the next equals sign, by what stands after the first
+unfoldable pub literal_operand_of : NamesValue → WordValue → ℕ → List ℕ → Result OperandValue TextFault
+literal_operand_of names here normal_f text =
+    if list_any is_equals text
+    then operand_of names here normal_f (Literal (before_first is_equals text)) (after_first is_equals text)
+    else Err BadExpression
+
+unfoldable pub plain_operand_of : NamesValue → WordValue → ℕ → List ℕ → Result OperandValue TextFault
+plain_operand_of names here normal_f text = do
+  a ← a_part_of names here (before_first is_delimiter text)
+  operand_of names here normal_f a (from_first is_delimiter text)
+
+-- the operand that an ADDRESS says, where F is `normal_f` if it is left out
+unfoldable pub address_of : NamesValue → WordValue → ℕ → List ℕ → Result OperandValue TextFault
+address_of names here normal_f [] = plain_operand_of names here normal_f []
+address_of names here normal_f (byte ∷ rest) =
+    if is_equals byte then literal_operand_of names here normal_f rest
+    else plain_operand_of names here normal_f (byte ∷ rest)
+
+-- ---- as the code has them
+
+-- the normal F of a symbolic operation
+abbrev pub f_of : Op → ℕ
+f_of (Machine code f) = f
+f_of Equ = 0
+f_of Orig = 0
+f_of Con = 0
+f_of (Alf word) = 0
+f_of End = 0
+
+abbrev pub IsMachine : Op → Type 0
+IsMachine (Machine code f) = Unit {0}
+IsMachine Equ = ⊥
+IsMachine Orig = ⊥
+IsMachine Con = ⊥
+IsMachine (Alf word) = ⊥
+IsMachine End = ⊥
+
+-- an A-part that was read, without where a literal lies
+abbrev pub value_of_a_part : APart → APartValue
+value_of_a_part (part.Value word) = Value word
+value_of_a_part (part.Name symbol) = Name symbol
+value_of_a_part (part.Ahead d) = Ahead d
+value_of_a_part (part.Literal text) = Literal text.now
+
+abbrev pub value_of_operand : Operand → OperandValue
+value_of_operand operand = record { a = value_of_a_part operand.a; index = operand.index; f = operand.f }

@@ -1,0 +1,16 @@
+pub mod Steps
+pub mod Fault
+pub mod Local
+pub mod Symbol
+pub mod Names
+pub mod Operator
+pub mod Atom
+pub mod Expression
+pub mod Part
+pub mod WValue
+pub mod Op
+pub mod Label
+pub mod Words
+pub mod Alf
+pub mod Line
+pub mod Address

@@ -1,0 +1,91 @@
+-- A line (1.3.2): a remark, or LOC, OP and ADDRESS, parted by blanks. Its first fault from the left is the answer.
+use Rattle.std.specs.Prelude.{ℕ, ◌<◌, Bool, ◌||◌, ◌&&◌, List, [], ◌∷◌, is_some, Option, Some, None, option_map, ok_or, Result, Ok, Err, if◌then◌else◌}
+use Rattle.std.specs.List.{list_all, before_first, after_first}
+use Rattle.std.specs.Char.{is_ascii_alphabetic}
+use Rattle.std.specs.Str.{str_to_ascii_uppercase}
+use Rattle.mix_word.specs.declared.operation.Operation.{Operation}
+use Rattle.mix_word.specs.Operation.{operation_code, normal_f_of}
+use Rattle.mix_word.specs.Characters.{character_code}
+use Rattle.mix_lines.specs.Lines.{is_blank, is_comment, begins_with}
+use Rattle.mixal_text.specs.declared.fault.TextFault.{TextFault}
+use Rattle.mixal_text.specs.declared.fault.TextFault.TheVariants.{BadByte, NoSuchOperation, BadSymbol}
+use Rattle.mixal_text.specs.declared.label.Label.{Label}
+use Rattle.mixal_text.specs.declared.op.Mnemonic.{Mnemonic}
+use Rattle.mixal_text.specs.declared.op.Mnemonic.TheVariants.{Machine, Equ, Orig, Con, Alf, End}
+use Rattle.mixal_text.specs.declared.op.Op.{Op}
+use Rattle.mixal_text.specs.declared.op.Op.TheVariants as op
+use Rattle.mixal_text.specs.declared.line.Line.{Line}
+use Rattle.mixal_text.specs.declared.line.Line.TheVariants as line
+use Rattle.mixal_text.specs.Steps.{◌>>=◌}
+use Rattle.mixal_text.specs.Words.{first_word, after_word}
+use Rattle.mixal_text.specs.Label.{label_of}
+use Rattle.mixal_text.specs.Op.{mnemonic_of, is_without_operand}
+use Rattle.mixal_text.specs.Alf.{alf_word}
+
+-- what a line says
+pub data LineValue : Type 0 where
+  Remark : LineValue
+  Code : Option Label → Op → List ℕ → LineValue
+
+-- whether each byte is a MIX character
+abbrev pub are_characters : List ℕ → Bool
+are_characters text = list_all (λ byte. is_some (character_code byte)) text
+
+-- LOC, which may be left out
+unfoldable pub loc_of : List ℕ → Result (Option Label) TextFault
+loc_of [] = Ok None
+loc_of (byte ∷ rest) =
+    if are_characters (byte ∷ rest) then ok_or (option_map (λ (label : Label). Some label) (label_of (byte ∷ rest))) BadSymbol
+    else Err BadByte
+
+-- OP, in either case of letters
+unfoldable pub op_of : List ℕ → Result Mnemonic TextFault
+op_of name =
+    if are_characters name then ok_or (mnemonic_of (str_to_ascii_uppercase name)) NoSuchOperation else Err BadByte
+
+-- the ADDRESS of a symbolic operation, by what stands after OP; a remark is none
+abbrev pub address_after : Operation → List ℕ → List ℕ
+address_after operation rest =
+    if is_without_operand operation && begins_with is_ascii_alphabetic (first_word rest) then [] else first_word rest
+
+abbrev pub with_address : Option Label → Op → List ℕ → Result LineValue TextFault
+with_address loc code address = if are_characters address then Ok (Code loc code address) else Err BadByte
+
+-- a line by its LOC, its OP and what stands after that
+unfoldable pub line_from : Option Label → Mnemonic → List ℕ → Result LineValue TextFault
+line_from loc (Machine operation) rest =
+    with_address loc (op.Machine (operation_code operation) (normal_f_of operation)) (address_after operation rest)
+line_from loc Equ rest = with_address loc op.Equ (first_word rest)
+line_from loc Orig rest = with_address loc op.Orig (first_word rest)
+line_from loc Con rest = with_address loc op.Con (first_word rest)
+line_from loc End rest = with_address loc op.End (first_word rest)
+line_from loc Alf rest = do
+  word ← alf_word rest
+  Ok (Code loc (op.Alf word) [])
+
+-- a line without its line end. A comment begins with an asterisk, and a blank line is a remark too
+unfoldable pub line_of : List ℕ → Result LineValue TextFault
+line_of text =
+    if is_comment text || list_all is_blank text then Ok Remark
+    else (do
+      loc ← loc_of (before_first is_blank text)
+      code ← op_of (first_word (after_first is_blank text))
+      line_from loc code (after_word (after_first is_blank text)))
+
+-- a line that was read, without where its ADDRESS lies
+abbrev pub value_of_line : Line → LineValue
+value_of_line line.Remark = Remark
+value_of_line (line.Code loc code address) = Code loc code address.now
+
+-- the code and the normal F of a symbolic operation are bytes of a word
+abbrev pub IsOfBytes : Op → Type 0
+IsOfBytes (op.Machine code f) = (code < 64) × (f < 64)
+IsOfBytes op.Equ = Unit {0}
+IsOfBytes op.Orig = Unit {0}
+IsOfBytes op.Con = Unit {0}
+IsOfBytes (op.Alf word) = Unit {0}
+IsOfBytes op.End = Unit {0}
+
+abbrev pub HasBytes : Line → Type 0
+HasBytes line.Remark = Unit {0}
+HasBytes (line.Code loc code address) = IsOfBytes code

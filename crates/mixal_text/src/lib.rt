@@ -1,0 +1,31 @@
+//! The text of MIXAL (The Art of Computer Programming, 1.3.2): lines, symbols, expressions, W-values and addresses.
+//! Each is read from borrowed bytes, and no call takes memory.
+#![tactic(auto)]
+
+mod addresses;
+mod alf;
+mod atom;
+mod expressions;
+mod fault;
+mod label;
+mod line;
+mod local;
+mod names;
+mod op;
+mod operator;
+mod part;
+mod symbol;
+#[cfg(test)]
+mod tests;
+mod w_values;
+mod words;
+
+pub use addresses::{APart, Operand, address};
+pub use expressions::expression;
+pub use fault::TextFault;
+pub use label::Label;
+pub use line::{Line, read_line};
+pub use names::Names;
+pub use op::Op;
+pub use symbol::Symbol;
+pub use w_values::w_value;

@@ -1,0 +1,150 @@
+//! Lines (1.3.2): LOC, OP and ADDRESS, parted by blanks.
+ghost use Rattle.std.specs.Prelude.{◌≡◌, IfOk, MatchResult, Ok, Err, is_some};
+ghost use Rattle.std.specs.List.{list_all};
+ghost use Rattle.std.specs.Char.{is_ascii_alphabetic};
+ghost use Rattle.mix_lines.specs.Lines.{begins_with};
+ghost use Rattle.mixal_text.specs.Words.{first_word};
+ghost use Rattle.mixal_text.specs.Line.{HasBytes, IsOfBytes, are_characters, loc_of, op_of, address_after, with_address, line_from, line_of, value_of_line};
+
+use crate::alf::alf_word;
+use crate::fault::TextFault;
+use crate::label::Label;
+use crate::op::{Mnemonic, Op, is_without_operand};
+use crate::words::{are_blanks, skip_blanks, split_word};
+use mix_lines::is_comment;
+use mix_word::{Operation, code_of};
+
+/// What a line says (1.3.2): nothing, or LOC, OP and ADDRESS. ADDRESS is a slice of the line, and empty after ALF.
+#[derive(Debug, Drop)]
+pub enum Line<'a> {
+    Remark,
+    Code {
+        loc: Option<Label>,
+        op: Op,
+        address: &'a [u8],
+    },
+}
+
+/// Reads a line without its line end (1.3.2). Spaces and tabs are blanks; a line that begins with an asterisk or has
+/// nothing but blanks is a remark, and so is what stands after ADDRESS. The first fault is the answer: of LOC A1 for a
+/// byte that is no MIX character, and A3 for what is no label; of OP A1, and A2 for a name of no operation; of ADDRESS A1,
+/// where ALF has A12 before it.
+#[tactic(auto, unfolding(crate::specs::Line::line_of))]
+pub fn read_line(text: &[u8]) -> Result<Line<'_>, TextFault>
+    ensures line { MatchResult result
+        (λ line. line_of text.now ≡ Ok (value_of_line line))
+        (λ fault. line_of text.now ≡ Err fault) }
+    ensures bytes { IfOk result HasBytes }
+{
+    if is_comment(text) || are_blanks(text) {
+        return Ok(Line::Remark);
+    }
+    let (label, rest) = split_word(text);
+    let loc = read_loc(label)?;
+    let (name, rest) = split_word(skip_blanks(rest));
+    let mnemonic = read_op(name)?;
+    code_line(loc, mnemonic, rest)
+}
+
+#[tactic(auto, unfolding(crate::specs::Line::loc_of))]
+fn read_loc(text: &[u8]) -> Result<Option<Label>, TextFault>
+    ensures { result ≡ loc_of text.now }
+{
+    if text.is_empty() {
+        return Ok(None);
+    }
+    if !are_characters(text) {
+        return Err(TextFault::BadByte);
+    }
+    match Label::of(text) {
+        Some(label) => Ok(Some(label)),
+        None => Err(TextFault::BadSymbol),
+    }
+}
+
+#[tactic(auto, unfolding(crate::specs::Line::op_of))]
+fn read_op(name: &[u8]) -> Result<Mnemonic, TextFault>
+    ensures { result ≡ op_of name.now }
+{
+    if are_characters(name) {
+        Mnemonic::of(name).ok_or(TextFault::NoSuchOperation)
+    } else {
+        Err(TextFault::BadByte)
+    }
+}
+
+#[tactic(auto, unfolding(crate::specs::Line::line_from))]
+fn code_line(loc: Option<Label>, mnemonic: Mnemonic, rest: &[u8]) -> Result<Line<'_>, TextFault>
+    ensures line { MatchResult result
+        (λ line. line_from loc mnemonic rest.now ≡ Ok (value_of_line line))
+        (λ fault. line_from loc mnemonic rest.now ≡ Err fault) }
+    ensures bytes { IfOk result HasBytes }
+{
+    match mnemonic {
+        Mnemonic::Machine(operation) => {
+            let op = Op::Machine {
+                code: operation.code(),
+                f: operation.normal_f(),
+            };
+            with_address(loc, op, address_after(operation, rest))
+        }
+        Mnemonic::Equ => with_address(loc, Op::Equ, first_word(rest)),
+        Mnemonic::Orig => with_address(loc, Op::Orig, first_word(rest)),
+        Mnemonic::Con => with_address(loc, Op::Con, first_word(rest)),
+        Mnemonic::End => with_address(loc, Op::End, first_word(rest)),
+        Mnemonic::Alf => {
+            let word = alf_word(rest)?;
+            Ok(Line::Code {
+                loc,
+                op: Op::Alf(word),
+                address: &[],
+            })
+        }
+    }
+}
+
+fn with_address(loc: Option<Label>, op: Op, address: &[u8]) -> Result<Line<'_>, TextFault>
+    requires { IsOfBytes op }
+    ensures line { MatchResult result
+        (λ line. with_address loc op address.now ≡ Ok (value_of_line line))
+        (λ fault. with_address loc op address.now ≡ Err fault) }
+    ensures bytes { IfOk result HasBytes }
+{
+    if are_characters(address) {
+        Ok(Line::Code { loc, op, address })
+    } else {
+        Err(TextFault::BadByte)
+    }
+}
+
+fn address_after(operation: Operation, rest: &[u8]) -> &[u8]
+    ensures { result.now ≡ address_after operation rest.now }
+{
+    let address = first_word(rest);
+    if is_without_operand(operation) && begins_with_letter(address) {
+        &[]
+    } else {
+        address
+    }
+}
+
+fn begins_with_letter(text: &[u8]) -> bool
+    ensures { result ≡ begins_with is_ascii_alphabetic text.now }
+{
+    match text {
+        [] => false,
+        [byte, ..] => byte.is_ascii_alphabetic(),
+    }
+}
+
+fn first_word(text: &[u8]) -> &[u8]
+    ensures { result.now ≡ first_word text.now }
+{
+    split_word(skip_blanks(text)).0
+}
+
+fn are_characters(text: &[u8]) -> bool
+    ensures { result ≡ are_characters text.now }
+{
+    text.iter().all(|byte| code_of(*byte).is_some())
+}

@@ -1,0 +1,48 @@
+//! Local symbols (1.3.2): a digit and H, B or F.
+ghost use Rattle.std.specs.Prelude.{◌≡◌, ◌<◌, IfSome};
+ghost use Rattle.mixal_text.specs.Local.{local_of, direction_of};
+
+/// Where a local symbol points: to its own line, or to the closest one before or after it.
+#[derive(Clone, Copy, Debug, PartialEq, Eq)]
+pub(crate) enum Direction {
+    Here,
+    Backward,
+    Forward,
+}
+
+/// A local symbol: `2H`, `2B` or `2F`, of which the digit is 2.
+#[derive(Clone, Copy, Debug, PartialEq, Eq)]
+pub(crate) struct Local {
+    pub digit: u8,
+    pub direction: Direction,
+}
+
+impl Local {
+    /// The local symbol that a text is, in either case of letters, or none where it is no such symbol.
+    #[tactic(auto, unfolding(crate::specs::Local::local_of))]
+    pub(crate) fn of(text: &[u8]) -> Option<Local>
+        ensures { result ≡ local_of text.now }
+    {
+        match text {
+            [digit, letter] if digit.is_ascii_digit() => {
+                let direction = direction_of_letter(letter.to_ascii_uppercase())?;
+                Some(Local {
+                    digit: *digit - b'0',
+                    direction,
+                })
+            }
+            _ => None,
+        }
+    }
+}
+
+fn direction_of_letter(letter: u8) -> Option<Direction>
+    ensures { result ≡ direction_of letter }
+{
+    match letter {
+        b'H' => Some(Direction::Here),
+        b'B' => Some(Direction::Backward),
+        b'F' => Some(Direction::Forward),
+        _ => None,
+    }
+}
