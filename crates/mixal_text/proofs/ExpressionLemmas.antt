@@ -13,7 +13,7 @@ use Rattle.mixal_text.specs.Steps.{◌>>=◌}
 use Rattle.mixal_text.specs.Names.{NamesValue}
 use Rattle.mixal_text.specs.Operator.{operator_at, operator_length, outcome_of}
 use Rattle.mixal_text.specs.Atom.{is_other, atom_in, atom_value}
-use Rattle.mixal_text.specs.Expression.{Term, sign_at, sign_length, term_length, terms_length, terms_from, terms_in, terms_of, expression_in, with_sign, value_of_terms, value_of_expression, expression_of}
+use Rattle.mixal_text.specs.Expression.{Term, sign_at, sign_length, term_length, terms_length, terms_from, terms_in, terms_of, expression_in, value_after_sign, value_of_terms, value_of_expression, expression_of}
 
 -- ---- lengths
 
@@ -154,7 +154,7 @@ pub ending-first : (names : NamesValue) (here : WordValue) (text : List ℕ)
     let rest = drop (length (atom_in body)) body in
     (first : Result WordValue TextFault) → atom_value names here (atom_in body) ≡ first
     → expression_of names here text
-    ≡ through names here rest (sign_length (sign_at text) + length (atom_in body)) (first >>= λ value. Ok (with_sign (sign_at text) value)))
+    ≡ through names here rest (sign_length (sign_at text) + length (atom_in body)) (first >>= λ value. Ok (value_after_sign (sign_at text) value)))
 unfolding ending expression_of value_of_expression expression_in
 ending-first names here text (Ok value) e = rw e refl
 ending-first names here text (Err fault) e = rw e refl
@@ -171,7 +171,7 @@ first-refused names here text unsigned atom fault u a e =
 pub first-taken : (names : NamesValue) (here : WordValue) (text : List ℕ) (sign : Option Sign) (unsigned atom rest : List ℕ) (value signed : WordValue)
     → sign ≡ sign_at text → unsigned ≡ drop (sign_length (sign_at text)) text → atom ≡ atom_in unsigned
     → rest ≡ drop (length (atom_in unsigned)) unsigned
-    → Ok value ≡ atom_value names here atom → signed ≡ with_sign sign value
+    → Ok value ≡ atom_value names here atom → signed ≡ value_after_sign sign value
     → (expression_of names here text ≡ ending names here signed rest (length text - length rest)) × (length rest ≤ length text)
 first-taken names here text sign unsigned atom rest value signed s u a r e w =
     let body = drop (sign_length (sign_at text)) text in

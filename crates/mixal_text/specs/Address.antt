@@ -29,7 +29,7 @@ pub data APartValue : Type 0 where
   Literal : List ℕ → APartValue
 
 pub record OperandValue : Type 0 where
-  a : APartValue
+  pub a : APartValue
   pub index : ℕ
   pub f : ℕ
 
@@ -42,6 +42,7 @@ is_delimiter byte = byte == 44 || byte == 40
 
 -- ---- the A-part
 
+-- of the local symbols only dF is a future reference
 abbrev pub local_ahead : ℕ → Direction → Option APartValue
 local_ahead d Here = None
 local_ahead d Backward = None
@@ -62,6 +63,7 @@ abbrev pub reference_with : NamesValue → List ℕ → List ℕ → Option APar
 reference_with names atom rest =
     if is_none (operator_at rest) then reference_of names (local_of atom) (symbol_of atom) else None
 
+-- a future reference, after which nothing may be left, or else a value
 abbrev pub reference_or_value : NamesValue → WordValue → List ℕ → Option APartValue → Result APartValue TextFault
 reference_or_value names here text (Some reference) = nothing_left (drop (length (atom_in text)) text) reference
 reference_or_value names here text None = do
@@ -71,9 +73,9 @@ reference_or_value names here text None = do
 -- an A-part that is no literal; where it is left out it is +0
 unfoldable pub a_part_of : NamesValue → WordValue → List ℕ → Result APartValue TextFault
 a_part_of names here [] = Ok (Value zero_word)
-a_part_of names here (byte ∷ rest) = (
+a_part_of names here (byte ∷ rest) =
     let text : List ℕ = byte ∷ rest in
-    reference_or_value names here text (reference_with names (atom_in text) (drop (length (atom_in text)) text)))
+    reference_or_value names here text (reference_with names (atom_in text) (drop (length (atom_in text)) text))
 
 -- ---- the index and the whole ADDRESS
 
@@ -87,7 +89,7 @@ index_of names here (byte ∷ text) =
       nothing_left (drop value.1 text) index)
     else Err BadExpression
 
--- an A-part, and after it the index up to the opening bracket, and F from 0 to 63; where F is left out it is the normal one
+-- an A-part, and after it the index up to the opening bracket and F from 0 to 63; where F is left out it is the normal one
 unfoldable pub operand_of : NamesValue → WordValue → ℕ → APartValue → List ℕ → Result OperandValue TextFault
 operand_of names here normal_f a rest = do
   index ← index_of names here (before_first is_open rest)
@@ -101,6 +103,7 @@ literal_operand_of names here normal_f text =
     then operand_of names here normal_f (Literal (before_first is_equals text)) (after_first is_equals text)
     else Err BadExpression
 
+-- an operand whose A-part is no literal, and goes up to the first comma or opening bracket
 unfoldable pub plain_operand_of : NamesValue → WordValue → ℕ → List ℕ → Result OperandValue TextFault
 plain_operand_of names here normal_f text = do
   a ← a_part_of names here (before_first is_delimiter text)
@@ -113,9 +116,9 @@ address_of names here normal_f (byte ∷ rest) =
     if is_equals byte then literal_operand_of names here normal_f rest
     else plain_operand_of names here normal_f (byte ∷ rest)
 
--- ---- as the code has them
+-- ---- what was read
 
--- the normal F of a symbolic operation
+-- the F that a symbolic operation has where none is written
 abbrev pub f_of : Op → ℕ
 f_of (Machine code f) = f
 f_of Equ = 0

@@ -46,6 +46,7 @@ abbrev pub alf_start : List ℕ → List ℕ
 alf_start [] = []
 alf_start (byte ∷ rest) = if is_blank byte then rest else byte ∷ rest
 
+-- the word by the first nonblank byte, which may be a quotation mark
 abbrev pub alf_from : List ℕ → List ℕ → Result WordValue TextFault
 alf_from [] rest = word_of_five (five_of (alf_start rest))
 alf_from (first ∷ text) rest =

@@ -74,10 +74,10 @@ expression_length e = sign_length e.sign + length e.first + terms_length e.terms
 -- ---- its value
 
 -- a leading minus sign negates the word
-abbrev pub with_sign : Option Sign → WordValue → WordValue
-with_sign None value = value
-with_sign (Some Plus) value = value
-with_sign (Some Minus) value = negation_of value
+abbrev pub value_after_sign : Option Sign → WordValue → WordValue
+value_after_sign None value = value
+value_after_sign (Some Plus) value = value
+value_after_sign (Some Minus) value = negation_of value
 
 -- the operations of the terms on a value, from left to right
 unfoldable pub value_of_terms : NamesValue → WordValue → WordValue → List Term → Result WordValue TextFault
@@ -87,10 +87,11 @@ value_of_terms names here value (term ∷ more) = do
   next ← outcome_of term.operator value operand
   value_of_terms names here next more
 
+-- the value of an expression, where the asterisk stands for `here`
 unfoldable pub value_of_expression : NamesValue → WordValue → Expression → Result WordValue TextFault
 value_of_expression names here e = do
   first ← atom_value names here e.first
-  value_of_terms names here (with_sign e.sign first) e.terms
+  value_of_terms names here (value_after_sign e.sign first) e.terms
 
 -- the value of the expression that begins a text, where the asterisk stands for `here`, and how many bytes it has
 unfoldable pub expression_of : NamesValue → WordValue → List ℕ → Result (WordValue × ℕ) TextFault

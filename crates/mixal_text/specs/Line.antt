@@ -48,6 +48,7 @@ abbrev pub address_after : Operation → List ℕ → List ℕ
 address_after operation rest =
     if is_without_operand operation && begins_with is_ascii_alphabetic (first_word rest) then [] else first_word rest
 
+-- a line whose ADDRESS has nothing but MIX characters
 abbrev pub with_address : Option Label → Op → List ℕ → Result LineValue TextFault
 with_address loc code address = if are_characters address then Ok (Code loc code address) else Err BadByte
 

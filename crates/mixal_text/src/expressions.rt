@@ -1,6 +1,6 @@
 //! Expressions (1.3.2): atoms and operators, worked out strictly from left to right.
 ghost use Rattle.std.specs.Prelude.{◌≡◌, ◌≤◌, IfOk, drop, length};
-ghost use Rattle.mixal_text.specs.Expression.{expression_of, whole_expression, sign_at, sign_length, with_sign};
+ghost use Rattle.mixal_text.specs.Expression.{expression_of, whole_expression, sign_at, sign_length, value_after_sign};
 
 use crate::atom::{atom_value, split_atom};
 use crate::fault::TextFault;
@@ -19,7 +19,7 @@ pub fn expression<N: Names>(text: &[u8], names: &N, here: Word) -> Result<(Word,
     let (sign, unsigned) = split_sign(text);
     let (atom, mut rest) = split_atom(unsigned);
     let first = atom_value(atom, names, here)?;
-    let mut value = with_sign(sign, first);
+    let mut value = value_after_sign(sign, first);
     while let Some((operator, second)) = split_operator(rest) {
         let (atom, after) = split_atom(second);
         let operand = atom_value(atom, names, here)?;
@@ -42,8 +42,8 @@ fn split_sign(text: &[u8]) -> (Option<Sign>, &[u8])
     }
 }
 
-fn with_sign(sign: Option<Sign>, value: Word) -> Word
-    ensures { result ≡ with_sign sign value }
+fn value_after_sign(sign: Option<Sign>, value: Word) -> Word
+    ensures { result ≡ value_after_sign sign value }
 {
     match sign {
         Some(Sign::Minus) => value.negated(),

@@ -9,7 +9,7 @@ returns-in_err-first-clause-value g c =
 
 pub loop-operator-init : goal.loop-operator-init
 loop-operator-init g c =
-    first-taken _ _ _ _ _ _ _ _ _ c.split_sign-sign.ensures.sign c.split_sign-sign.ensures.rest c.split_atom.ensures.atom c.split_atom.ensures.rest c.in_ok-first.ensures c.with_sign-value.ensures
+    first-taken _ _ _ _ _ _ _ _ _ c.split_sign-sign.ensures.sign c.split_sign-sign.ensures.rest c.split_atom.ensures.atom c.split_atom.ensures.rest c.in_ok-first.ensures c.value_after_sign-value.ensures
 
 pub returns-in_err-operand-clause-value : goal.returns-in_err-operand-clause-value
 returns-in_err-operand-clause-value g c =
