@@ -1,16 +1,20 @@
 -- Facts of the definitions of commands, over plain variables.
-use Rattle.std.proofs.Common.{◌≡◌, ℕ, zero, suc, ◌+◌, ◌-◌, ◌<◌, ◌≤◌, List, [], ◌∷◌, ◌++◌, length, take, replicate, Bool, true, false, None, Some, Ok, refl, ap, sym, ◌∙◌, arith, append_assoc, eqb, ltb, below_more, is_some}
+use Rattle.std.proofs.Common.{◌≡◌, ℕ, zero, suc, ◌+◌, ◌-◌, ◌<◌, ◌≤◌, List, [], ◌∷◌, ◌++◌, length, take, replicate, Bool, true, false, None, Some, Ok, refl, ap, sym, ◌∙◌, arith, append_assoc, eqb, ltb, below_more, is_some, IsSome, Err, unwrap_or}
 use Rattle.std.proofs.lemmas.Grind.{replicate_next}
 use Rattle.std.proofs.lemmas.List.{take-replicate}
-use Rattle.std.proofs.Math.Seq.{take-append-add}
+use Rattle.std.proofs.Math.Seq.{take-append-add, take-length}
 use Rattle.std.proofs.lemmas.Bool.Decides.{nat_tests}
+use Rattle.undo_core.specs.History.{History, HoldsOfState}
 use Rattle.undo_core.specs.Replay.{replay}
 use Rattle.mix_machine.specs.World.{WorldState}
 use Rattle.mix_machine.specs.Do.{does, is_halt_next}
 use Rattle.mix_machine.specs.declared.old.Change.{Change}
 use Rattle.mix_machine.specs.declared.old.Change.TheVariants.{Step}
-use Rattle.mix_tool.specs.Reply.{ran_text, told_of_end}
-use Rattle.mix_tool.specs.Command.{effect_of_step, count_of_steps, world_after, least_below, with_steps, is_halt_last, end_at, fault_end, Begun}
+use Rattle.mix_tool.specs.Reply.{ran_text, ok_text, told_of_end}
+use Rattle.mix_tool.specs.Command.{effect_of_step, effect_of_change, refusal_effect, count_of_steps, world_after, least_below, with_steps, is_halt_last, end_at, fault_end, Begun}
+use Rattle.mix_machine.specs.declared.fault.MixFault.{MixFault}
+use Rattle.mix_tool.specs.declared.fault.Refusal.TheVariants.{RefusedByMachine}
+use Rattle.mix_tool.specs.declared.reply.Told.TheVariants.{Accepted}
 use Rattle.mix_tool.specs.declared.reply.End.{End}
 use Rattle.mix_tool.specs.declared.reply.End.TheVariants.{Halt, Limit}
 
@@ -95,3 +99,29 @@ Begun-steps base changes now n k e within before =
     let front : take (length changes + k) (with_steps changes d) ≡ with_steps changes k =
     take-append-add _ _ _ ∙ ap (λ steps. changes ++ steps) (take-replicate _ _ _ more) in
     (length changes + k, omega arith, e ∙ sym front)
+
+-- what holds of the state that a journal stands in holds of the machine after its changes
+pub holds_after : {P : WorldState → Type 0} (h : History WorldState Change) → IsSome (replay does h.first h.changes) → HoldsOfState does h P →
+    P (world_after h.first h.changes)
+unfolding world_after
+holds_after {P} h stands holds =
+    elim (replay does h.first h.changes) as (λ o. replay does h.first h.changes ≡ o → IsSome o → P (unwrap_or o h.first)) [
+      | None ↦ λ e some. absurd (cc)
+      | Some world ↦ λ e some. holds world e
+    ] refl stands
+
+-- a change that the machine makes
+pub effect_of_change-done : (base next : WorldState) (changes now : List Change) (change : Change) → does (world_after base changes) change ≡ Ok next →
+    now ≡ changes ++ change ∷ [] → effect_of_change base changes change ≡ record { changes = now; reply = ok_text; told = Accepted }
+unfolding effect_of_change
+effect_of_change-done base next changes now change given more = rw (given, more) refl
+
+-- a change that the machine refuses
+pub effect_of_change-refused : (base : WorldState) (changes : List Change) (change : Change) (fault : MixFault) →
+    does (world_after base changes) change ≡ Err fault → effect_of_change base changes change ≡ refusal_effect changes (RefusedByMachine fault)
+unfolding effect_of_change
+effect_of_change-refused base changes change fault given = rw given refl
+
+-- all that a command leaves is a beginning of it
+pub Begun-all : (old whole : List Change) → length old ≤ length whole → Begun old whole whole
+Begun-all old whole more = (length whole, more, sym (take-length whole))

@@ -2,8 +2,8 @@ mod AssemblyLemmas
 mod CommandLemmas
 mod CutLemmas
 mod EmptyLines
-mod ReplyLemmas
 mod RunLemmas
 mod ShortNames
+mod ShowLemmas
 mod Truncation
 mod Written

@@ -1,6 +1,6 @@
 -- What a command does: to the list of changes, and what it answers. The machine is run anew, from its first state on the changes of
 -- the list, wherever something of it is asked; no value from before a `back` is left to be shown.
-use Rattle.std.specs.Prelude.{◌≡◌, ◌≤◌, ◌==◌, ◌&&◌, ℕ, zero, suc, ◌-◌, List, [], ◌++◌, length, take, replicate, Bool, Option, None, Some, Result, Ok, Err, is_some, unwrap_or, nat_lt, if◌then◌else◌, string_bytes}
+use Rattle.std.specs.Prelude.{◌≡◌, ◌≤◌, ◌==◌, ◌&&◌, ℕ, zero, suc, ◌-◌, List, [], ◌∷◌, ◌++◌, length, take, replicate, Bool, Option, None, Some, Result, Ok, Err, is_some, unwrap_or, nat_lt, if◌then◌else◌, string_bytes}
 use Rattle.undo_core.specs.History.{History}
 use Rattle.undo_core.specs.Replay.{replay}
 use Rattle.undo_core.specs.declared.refused.Memory.{Memory}
@@ -10,9 +10,10 @@ use Rattle.mix_machine.specs.declared.old.Change.{Change}
 use Rattle.mix_machine.specs.declared.old.Change.TheVariants.{Step}
 use Rattle.mix_machine.specs.declared.fault.MixFault.{MixFault}
 use Rattle.mix_tool.specs.Request.{request_of}
-use Rattle.mix_tool.specs.Reply.{ran_text, back_text, refused_text, topic_text, told_of_end}
+use Rattle.mix_tool.specs.Reply.{ran_text, back_text, ok_text, refused_text, told_of_end}
+use Rattle.mix_tool.specs.Show.{topic_text}
 use Rattle.mix_tool.specs.declared.fault.Refusal.{Refusal}
-use Rattle.mix_tool.specs.declared.fault.Refusal.TheVariants.{TooFewChanges}
+use Rattle.mix_tool.specs.declared.fault.Refusal.TheVariants.{TooFewChanges, RefusedByMachine}
 use Rattle.mix_tool.specs.declared.request.Request.{Request}
 use Rattle.mix_tool.specs.declared.request.Request.TheVariants as ask
 use Rattle.mix_tool.specs.declared.reply.Told.{Told}
@@ -91,6 +92,15 @@ abbrev pub effect_of_back_within : WorldState → List Change → ℕ → Effect
 effect_of_back_within base changes n =
     if nat_lt (length changes) n then refusal_effect changes TooFewChanges else effect_of_back base changes n
 
+-- a change that the machine makes is one more on the list; one that it refuses is none
+abbrev pub effect_of_result : List Change → Change → Result WorldState MixFault → Effect
+effect_of_result changes change (Ok world) = record { changes = changes ++ change ∷ []; reply = ok_text; told = Accepted }
+effect_of_result changes change (Err fault) = refusal_effect changes (RefusedByMachine fault)
+
+-- a change of the machine, as `set` asks for it
+unfoldable pub effect_of_change : WorldState → List Change → Change → Effect
+effect_of_change base changes change = effect_of_result changes change (does (world_after base changes) change)
+
 -- what is asked for
 unfoldable pub effect_of : WorldState → List Change → Result Request Refusal → Effect
 effect_of base changes (Err refusal) = refusal_effect changes refusal
@@ -98,14 +108,15 @@ effect_of base changes (Ok ask.Nothing) = reply_effect changes []
 effect_of base changes (Ok (ask.Step n)) = effect_of_step base changes n
 effect_of base changes (Ok (ask.Back n)) = effect_of_back_within base changes n
 effect_of base changes (Ok ask.BackAll) = effect_of_back base changes (length changes)
-effect_of base changes (Ok (ask.Show topic)) = reply_effect changes (topic_text topic (world_after base changes))
+effect_of base changes (Ok (ask.Change change)) = effect_of_change base changes change
+effect_of base changes (Ok (ask.Show topic)) = reply_effect changes (topic_text topic (world_after base changes) (length changes))
 
 -- what a line of the script does
 unfoldable pub command : WorldState → List Change → List ℕ → Effect
 command base changes line = effect_of base changes (request_of line)
 
--- What stands where memory is refused: a beginning of the changes that the command would leave, at least as long as the list that there
--- was, or all. So of a `step` some of its steps stand, and any other command is done or not.
+-- What stands where memory is refused: a beginning of the changes that the command would leave, at least as long as the list before it,
+-- or all of them. So of a `step` some of its steps stand, and any other command is done or not.
 abbrev pub Begun : List Change → List Change → List Change → Type 0
 Begun old whole new = (m : ℕ) × (length old ≤ m) × (new ≡ take m whole)
 

@@ -1,6 +1,7 @@
 -- Each fault's number and text, and the line that tells it.
 use Rattle.std.specs.Prelude.{ℕ, List, []}
 use Rattle.std.specs.Prelude.{◌++◌, codes, decimal}
+use Rattle.mix_machine.specs.Fault.{fault_line}
 use Rattle.mix_tool.specs.declared.fault.AsmKind.{AsmKind}
 use Rattle.mix_tool.specs.declared.fault.AsmKind.TheVariants.{BadByte, NoSuchOperation, BadSymbol, DefinedTwice, BadExpression, NumberTooLarge, UndefinedSymbol, ExpressionOverflow, AddressTooLarge, PartOutOfRange, LocationOutOfRange, BadAlf, NoEnd, NoSuchLocalSymbol, StartOutOfRange, SourceTooLong}
 use Rattle.mix_tool.specs.declared.fault.AsmFault.{AsmFault}
@@ -10,7 +11,7 @@ use Rattle.mix_tool.specs.declared.fault.DeckFault.{DeckFault}
 use Rattle.mix_tool.specs.declared.fault.ToolFault.{ToolFault}
 use Rattle.mix_tool.specs.declared.fault.ToolFault.TheVariants.{Memory, Read, Write, Deck, Long}
 use Rattle.mix_tool.specs.declared.fault.Refusal.{Refusal}
-use Rattle.mix_tool.specs.declared.fault.Refusal.TheVariants.{NoSuchCommand, BadArgument, OutOfRange, TooFewChanges}
+use Rattle.mix_tool.specs.declared.fault.Refusal.TheVariants.{NoSuchCommand, BadArgument, OutOfRange, TooFewChanges, RefusedByMachine}
 
 -- the number of a fault of a source
 abbrev pub asm_number : AsmKind → ℕ
@@ -128,6 +129,7 @@ refusal_number NoSuchCommand = 1
 refusal_number BadArgument = 2
 refusal_number OutOfRange = 3
 refusal_number TooFewChanges = 4
+refusal_number (RefusedByMachine fault) = 5
 
 -- its words
 abbrev pub refusal_name : Refusal → List ℕ
@@ -135,7 +137,16 @@ refusal_name NoSuchCommand = codes "no such command"
 refusal_name BadArgument = codes "bad argument"
 refusal_name OutOfRange = codes "number out of range"
 refusal_name TooFewChanges = codes "fewer changes than asked"
+refusal_name (RefusedByMachine fault) = codes "refused by the machine"
 
--- `C1 no such command`
+-- what is reported after the words: of the machine its own fault
+abbrev pub refusal_detail : Refusal → List ℕ
+refusal_detail NoSuchCommand = []
+refusal_detail BadArgument = []
+refusal_detail OutOfRange = []
+refusal_detail TooFewChanges = []
+refusal_detail (RefusedByMachine fault) = codes ": " ++ fault_line fault
+
+-- `C1 no such command`, `C5 refused by the machine: M7 index overflow`
 abbrev pub refusal_text : Refusal → List ℕ
-refusal_text refusal = numbered (codes "C") (refusal_number refusal) (refusal_name refusal)
+refusal_text refusal = numbered (codes "C") (refusal_number refusal) (refusal_name refusal) ++ refusal_detail refusal

@@ -1,12 +1,17 @@
 -- The keywords of commands: the name of each, and the keyword that a word names.
-use Rattle.std.specs.Prelude.{ℕ, List, [], ◌∷◌, Option, Bool, codes, find}
+use Rattle.std.specs.Prelude.{ℕ, List, [], ◌∷◌, ◌++◌, map, Option, Bool, true, false, codes, find}
 use Rattle.std.specs.Str.{str_eq_ignore_ascii_case}
+use Rattle.mix_word.specs.Register.{all_registers, name_of_register}
+use Rattle.mix_word.specs.declared.word.Cmp.{Cmp}
+use Rattle.mix_word.specs.declared.word.Cmp.TheVariants.{Less, Equal, Greater}
 use Rattle.mix_tool.specs.declared.keyword.CommandWord.{CommandWord}
-use Rattle.mix_tool.specs.declared.keyword.CommandWord.TheVariants.{Step, Back, Show}
+use Rattle.mix_tool.specs.declared.keyword.CommandWord.TheVariants.{Step, Back, Set, Show}
 use Rattle.mix_tool.specs.declared.keyword.BackWord.{BackWord}
 use Rattle.mix_tool.specs.declared.keyword.BackWord.TheVariants.{All}
 use Rattle.mix_tool.specs.declared.keyword.ShowWord.{ShowWord}
-use Rattle.mix_tool.specs.declared.keyword.ShowWord.TheVariants.{Registers}
+use Rattle.mix_tool.specs.declared.keyword.ShowWord.TheVariants.{Registers, Cells, Clock, Changes}
+use Rattle.mix_tool.specs.declared.keyword.SetWord.{SetWord}
+use Rattle.mix_tool.specs.declared.keyword.SetWord.TheVariants.{Register, Cell, Location, Toggle, Indicator}
 
 -- whether a word is this name, in capitals or small letters
 abbrev pub is_name : List ℕ → List ℕ → Bool
@@ -20,10 +25,11 @@ keyword_named name_of all word = find (λ keyword. is_name word (name_of keyword
 abbrev pub command_name : CommandWord → List ℕ
 command_name Step = codes "step"
 command_name Back = codes "back"
+command_name Set = codes "set"
 command_name Show = codes "show"
 
 abbrev pub all_commands : List CommandWord
-all_commands = Step ∷ Back ∷ Show ∷ []
+all_commands = Step ∷ Back ∷ Set ∷ Show ∷ []
 
 -- what may stand after `back` in place of a number
 abbrev pub back_name : BackWord → List ℕ
@@ -35,6 +41,37 @@ all_backs = All ∷ []
 -- what `show` may show
 abbrev pub show_name : ShowWord → List ℕ
 show_name Registers = codes "regs"
+show_name Cells = codes "cells"
+show_name Clock = codes "clock"
+show_name Changes = codes "changes"
 
 abbrev pub all_shows : List ShowWord
-all_shows = Registers ∷ []
+all_shows = Registers ∷ Cells ∷ Clock ∷ Changes ∷ []
+
+-- what `set` may set
+abbrev pub set_name : SetWord → List ℕ
+set_name (Register r) = name_of_register r
+set_name Cell = codes "cell"
+set_name Location = codes "loc"
+set_name Toggle = codes "over"
+set_name Indicator = codes "cmp"
+
+abbrev pub all_sets : List SetWord
+all_sets = map Register all_registers ++ Cell ∷ Location ∷ Toggle ∷ Indicator ∷ []
+
+-- the overflow toggle
+abbrev pub toggle_name : Bool → List ℕ
+toggle_name true = codes "on"
+toggle_name false = codes "off"
+
+abbrev pub all_toggles : List Bool
+all_toggles = true ∷ false ∷ []
+
+-- the comparison indicator
+abbrev pub indicator_name : Cmp → List ℕ
+indicator_name Less = codes "L"
+indicator_name Equal = codes "E"
+indicator_name Greater = codes "G"
+
+abbrev pub all_indicators : List Cmp
+all_indicators = Less ∷ Equal ∷ Greater ∷ []

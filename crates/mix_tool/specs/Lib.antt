@@ -7,6 +7,8 @@ pub mod Keyword
 pub mod Output
 pub mod Reply
 pub mod Request
+pub mod Show
 pub mod Statement
 pub mod Then
 pub mod Wrapped
+pub mod law

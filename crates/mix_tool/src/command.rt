@@ -1,12 +1,13 @@
 //! What a request does to the journal, and what is answered.
 
 ghost use Rattle.std.specs.Prelude.{◌≡◌, ◌≤◌, ◌<◌, ◌-◌, ◌++◌, ℕ, Err, Ok, IfErr, IfOk, length, string_bytes, take, Some, None};
-ghost use Rattle.mix_tool.specs.Command.{command, effect_of, effect_of_step, effect_of_back, effect_of_back_within, refusal_effect, reply_effect, end_at, with_steps, world_after, Begun, HasEffect, Gives};
-ghost use Rattle.mix_tool.specs.Reply.{refused_text, topic_text};
+ghost use Rattle.mix_tool.specs.Command.{command, effect_of, effect_of_step, effect_of_back, effect_of_back_within, effect_of_change, refusal_effect, reply_effect, end_at, with_steps, world_after, Begun, HasEffect, Gives};
+ghost use Rattle.mix_tool.specs.Show.{topic_text};
 
 use crate::fault::Refusal;
-use crate::reply::{End, Reply, Told, back_line, ran_line, refused_line, topic_lines};
+use crate::reply::{End, Reply, Told, back_line, ok_line, ran_line, refused_line};
 use crate::request::{Request, Topic, read_request};
+use crate::show::topic_lines;
 use mix_machine::{Change, World};
 use std::alloc::Global;
 use undo_core::{Journal, Memory, Refused};
@@ -29,6 +30,7 @@ pub(crate) fn obey(
             let count = journal.changes().len();
             take_back(alloc, journal, count)
         }
+        Ok(Request::Change(change)) => change_by(alloc, journal, change),
         Ok(Request::Show(topic)) => show(alloc, journal, topic),
     }
 }
@@ -115,9 +117,22 @@ fn go_back(journal: &mut Journal<World>, count: usize)
     }
 }
 
+// Makes one change of the machine.
+#[tactic(auto, unfolding(crate::specs::Command::effect_of_change, crate::specs::Command::world_after))]
+fn change_by(alloc: Global, journal: &mut Journal<World>, change: Change) -> Result<Reply, Memory>
+    ensures { HasEffect (effect_of_change journal.old.first journal.old.changes change) journal.old journal.new result }
+{
+    match journal.go(change) {
+        Ok(()) => Ok(accepted(ok_line(alloc)?)),
+        Err(Refused::Fault(fault)) => refuse(alloc, journal, Refusal::RefusedByMachine(fault)),
+        Err(Refused::Memory) => Err(Memory),
+    }
+}
+
 #[tactic(auto, unfolding(crate::specs::Command::world_after))]
 fn show(alloc: Global, journal: &Journal<World>, topic: Topic) -> Result<Reply, Memory>
-    ensures { HasEffect (reply_effect journal.now.changes (topic_text topic (world_after journal.now.first journal.now.changes))) journal.now journal.now result }
+    ensures { HasEffect (reply_effect journal.now.changes (topic_text topic (world_after journal.now.first journal.now.changes) (length journal.now.changes))) journal.now journal.now result }
 {
-    Ok(accepted(topic_lines(alloc, topic, journal.state())?))
+    let changes = journal.changes().len();
+    Ok(accepted(topic_lines(alloc, topic, journal.state(), changes)?))
 }

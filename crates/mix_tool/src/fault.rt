@@ -5,6 +5,7 @@ ghost use Rattle.mix_tool.specs.Fault.{deck_number, deck_text, deck_kind_text, d
 ghost use Rattle.mix_tool.specs.Fault.{tool_number, tool_text, tool_fault_text};
 ghost use Rattle.mix_tool.specs.Fault.{refusal_number, refusal_name, refusal_text};
 
+use mix_machine::MixFault;
 use std::fmt;
 
 mod wrapped;
@@ -201,24 +202,31 @@ impl fmt::Display for ToolFault {
     }
 }
 
-/// Why a command is refused: C1 to C4, in the order of their numbers.
+/// Why a command is refused: C1 to C5, in the order of their numbers.
 #[derive(Clone, Copy, Debug, PartialEq, Eq)]
 pub enum Refusal {
     NoSuchCommand,
     BadArgument,
     OutOfRange,
     TooFewChanges,
+    RefusedByMachine(MixFault),
 }
 
 impl Refusal {
-    /// The number after the letter C, 1 to 4.
+    /// The number after the letter C, 1 to 5.
     pub fn number(self) -> u8
         ensures { result ≡ refusal_number self }
     {
-        self as u8 + 1
+        match self {
+            Refusal::NoSuchCommand => 1,
+            Refusal::BadArgument => 2,
+            Refusal::OutOfRange => 3,
+            Refusal::TooFewChanges => 4,
+            Refusal::RefusedByMachine(_) => 5,
+        }
     }
 
-    /// The words after the number.
+    /// The words after the number; then comes the fault of the machine, if it is one.
     pub fn text(self) -> &'static str
         ensures { result.now ≡ refusal_name self }
     {
@@ -227,6 +235,7 @@ impl Refusal {
             Refusal::BadArgument => "bad argument",
             Refusal::OutOfRange => "number out of range",
             Refusal::TooFewChanges => "fewer changes than asked",
+            Refusal::RefusedByMachine(_) => "refused by the machine",
         }
     }
 }
@@ -235,7 +244,14 @@ impl fmt::Display for Refusal {
     ghost output = { λ refusal. Some (refusal_text refusal) };
 
     fn fmt<W: fmt::Write>(&self, f: &mut fmt::Formatter<W>) -> fmt::Result {
-        write!(f, "C{} {}", self.number(), self.text())
+        write!(f, "C{} {}", self.number(), self.text())?;
+        match self {
+            Refusal::RefusedByMachine(fault) => write!(f, ": {fault}"),
+            Refusal::NoSuchCommand
+            | Refusal::BadArgument
+            | Refusal::OutOfRange
+            | Refusal::TooFewChanges => Ok(()),
+        }
     }
 }
 

@@ -1,10 +1,15 @@
 //! The keywords of commands, each with its name.
 
-ghost use Rattle.std.specs.Prelude.{◌≡◌, ℕ, List, Some, refl};
+ghost use Rattle.std.specs.Prelude.{◌≡◌, ℕ, List, Some, refl, true, false};
 ghost use Rattle.mix_tool.specs.Keyword.{keyword_named, is_name, command_name, all_commands, back_name, all_backs, show_name, all_shows};
+ghost use Rattle.mix_tool.specs.Keyword.{set_name, all_sets, toggle_name, all_toggles, indicator_name, all_indicators};
+ghost use Rattle.mix_tool.specs.law.Named.{set_named};
 ghost use Rattle.mix_tool.specs.declared.keyword.CommandWord.TheVariants as command;
 ghost use Rattle.mix_tool.specs.declared.keyword.BackWord.TheVariants as back;
 ghost use Rattle.mix_tool.specs.declared.keyword.ShowWord.TheVariants as show;
+ghost use Rattle.mix_word.specs.declared.word.Cmp.TheVariants as cmp;
+
+use mix_machine::{Cmp, Reg};
 
 /// The keywords that may stand at one place of a command.
 pub(crate) trait Keyword: Copy + 'static {
@@ -12,7 +17,7 @@ pub(crate) trait Keyword: Copy + 'static {
 
     ghost all_of: { List Self };
 
-    /// The name, in small letters.
+    /// The name.
     fn name(self) -> &'static str
         ensures { result.now ≡ name_of self };
 
@@ -44,6 +49,7 @@ fn has_name<K: Keyword>(keyword: K, word: &[u8]) -> bool
 pub(crate) enum CommandWord {
     Step,
     Back,
+    Set,
     Show,
 }
 
@@ -56,15 +62,21 @@ impl Keyword for CommandWord {
         match self {
             CommandWord::Step => "step",
             CommandWord::Back => "back",
+            CommandWord::Set => "set",
             CommandWord::Show => "show",
         }
     }
 
     fn all() -> &'static [CommandWord] {
-        &[CommandWord::Step, CommandWord::Back, CommandWord::Show]
+        &[
+            CommandWord::Step,
+            CommandWord::Back,
+            CommandWord::Set,
+            CommandWord::Show,
+        ]
     }
 
-    ghost named = { elim [ command.Step ↦ refl | command.Back ↦ refl | command.Show ↦ refl ] };
+    ghost named = { elim [ command.Step ↦ refl | command.Back ↦ refl | command.Set ↦ refl | command.Show ↦ refl ] };
 }
 
 /// What may stand after `back` in place of a number.
@@ -95,6 +107,9 @@ impl Keyword for BackWord {
 #[derive(Clone, Copy)]
 pub(crate) enum ShowWord {
     Registers,
+    Cells,
+    Clock,
+    Changes,
 }
 
 impl Keyword for ShowWord {
@@ -105,12 +120,104 @@ impl Keyword for ShowWord {
     fn name(self) -> &'static str {
         match self {
             ShowWord::Registers => "regs",
+            ShowWord::Cells => "cells",
+            ShowWord::Clock => "clock",
+            ShowWord::Changes => "changes",
         }
     }
 
     fn all() -> &'static [ShowWord] {
-        &[ShowWord::Registers]
+        &[
+            ShowWord::Registers,
+            ShowWord::Cells,
+            ShowWord::Clock,
+            ShowWord::Changes,
+        ]
     }
 
-    ghost named = { elim [ show.Registers ↦ refl ] };
+    ghost named = { elim [ show.Registers ↦ refl | show.Cells ↦ refl | show.Clock ↦ refl | show.Changes ↦ refl ] };
+}
+
+/// What `set` may set.
+#[derive(Clone, Copy)]
+pub(crate) enum SetWord {
+    Register(Reg),
+    Cell,
+    Location,
+    Toggle,
+    Indicator,
+}
+
+impl Keyword for SetWord {
+    ghost name_of = { set_name };
+
+    ghost all_of = { all_sets };
+
+    fn name(self) -> &'static str {
+        match self {
+            SetWord::Register(register) => register.name(),
+            SetWord::Cell => "cell",
+            SetWord::Location => "loc",
+            SetWord::Toggle => "over",
+            SetWord::Indicator => "cmp",
+        }
+    }
+
+    fn all() -> &'static [SetWord] {
+        &[
+            SetWord::Register(Reg::A),
+            SetWord::Register(Reg::X),
+            SetWord::Register(Reg::I1),
+            SetWord::Register(Reg::I2),
+            SetWord::Register(Reg::I3),
+            SetWord::Register(Reg::I4),
+            SetWord::Register(Reg::I5),
+            SetWord::Register(Reg::I6),
+            SetWord::Register(Reg::J),
+            SetWord::Cell,
+            SetWord::Location,
+            SetWord::Toggle,
+            SetWord::Indicator,
+        ]
+    }
+
+    ghost named = { set_named };
+}
+
+/// The overflow toggle.
+impl Keyword for bool {
+    ghost name_of = { toggle_name };
+
+    ghost all_of = { all_toggles };
+
+    fn name(self) -> &'static str {
+        if self { "on" } else { "off" }
+    }
+
+    fn all() -> &'static [bool] {
+        &[true, false]
+    }
+
+    ghost named = { elim [ true ↦ refl | false ↦ refl ] };
+}
+
+/// The comparison indicator.
+impl Keyword for Cmp {
+    ghost name_of = { indicator_name };
+
+    ghost all_of = { all_indicators };
+
+    fn name(self) -> &'static str {
+        match self {
+            Cmp::Less => "L",
+            Cmp::Equal => "E",
+            Cmp::Greater => "G",
+        }
+    }
+
+    fn all() -> &'static [Cmp] {
+        &[Cmp::Less, Cmp::Equal, Cmp::Greater]
+    }
+
+    ghost named = { elim [ cmp.Less ↦ refl | cmp.Equal ↦ refl | cmp.Greater ↦ refl ] };
 }

@@ -10,6 +10,7 @@ mod reply;
 mod request;
 mod run;
 mod session;
+mod show;
 mod small;
 
 pub use fault::{AsmFault, AsmKind, DeckFault, DeckKind, ToolFault};

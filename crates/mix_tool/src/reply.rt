@@ -1,13 +1,10 @@
 //! The replies: what is written, and whether the command is accepted.
 
-ghost use Rattle.std.specs.Prelude.{◌≡◌, ◌++◌, ◌∷◌, [], Some, IfOk, string_bytes, flat_map};
-ghost use Rattle.mix_word.specs.Register.{all_registers};
-ghost use Rattle.mix_tool.specs.Reply.{location_text, stand_text, end_text, ran_text, back_text, refused_text, over_text, cmp_text, flags_text, value_text, register_line, registers_text, topic_text, told_of_end, told_of_both};
+ghost use Rattle.std.specs.Prelude.{◌≡◌, Some, IfOk, string_bytes};
+ghost use Rattle.mix_tool.specs.Reply.{told_of_end, told_of_both, location_text, stand_text, end_text, ran_text, back_text, ok_text, refused_text};
 
 use crate::fault::Refusal;
-use crate::request::Topic;
-use mix_machine::{Cmp, MixFault, Reg, World};
-use mix_word::{Short, Word};
+use mix_machine::{MixFault, World};
 use std::alloc::{AllocError, Global};
 use std::fmt;
 
@@ -71,7 +68,7 @@ impl fmt::Display for End {
 
 /// A location, in four digits.
 #[derive(Clone, Copy)]
-struct Location(u16);
+pub(crate) struct Location(pub u16);
 
 impl fmt::Display for Location {
     ghost output = { λ l. Some (location_text l.0) };
@@ -86,7 +83,7 @@ impl fmt::Display for Location {
 
 /// Where the machine stands: its location and its clock.
 #[derive(Clone, Copy)]
-struct Stand {
+pub(crate) struct Stand {
     loc: u16,
     clock: u64,
 }
@@ -102,7 +99,7 @@ impl fmt::Display for Stand {
     }
 }
 
-fn stand_of(world: &World) -> Stand
+pub(crate) fn stand_of(world: &World) -> Stand
     ensures { (result.loc ≡ world.now.loc) × (result.clock ≡ world.now.clock) }
 {
     Stand {
@@ -145,106 +142,11 @@ pub(crate) fn refused_line(alloc: Global, refusal: Refusal) -> Result<String, Al
     Ok(text)
 }
 
-/// The text of the overflow toggle.
-fn over_text(over: bool) -> &'static str
-    ensures { result.now ≡ over_text over }
+/// The line of a change that is done.
+pub(crate) fn ok_line(alloc: Global) -> Result<String, AllocError>
+    ensures { IfOk result (λ s. string_bytes s ≡ ok_text) }
 {
-    if over { "on" } else { "off" }
-}
-
-/// The letter of the comparison indicator.
-fn cmp_text(cmp: Cmp) -> &'static str
-    ensures { result.now ≡ cmp_text cmp }
-{
-    match cmp {
-        Cmp::Less => "L",
-        Cmp::Equal => "E",
-        Cmp::Greater => "G",
-    }
-}
-
-/// The toggle, the indicator, the location and the clock of a machine.
-#[derive(Clone, Copy)]
-struct Flags<'a>(&'a World);
-
-impl fmt::Display for Flags<'_> {
-    ghost output = { λ f. Some (flags_text f.0.now) };
-
-    #[tactic(auto, unfolding(crate::specs::Reply::flags_text))]
-    fn fmt<W: fmt::Write>(&self, f: &mut fmt::Formatter<W>) -> fmt::Result {
-        let world = self.0;
-        let (over, cmp, stand) = (
-            over_text(world.over()),
-            cmp_text(world.cmp()),
-            stand_of(world),
-        );
-        write!(f, "over {over} cmp {cmp} loc {stand}\n")
-    }
-}
-
-/// A register and what it holds.
-#[derive(Clone, Copy)]
-struct Register(Reg, Word);
-
-impl fmt::Display for Register {
-    ghost output = { λ r. Some (value_text r.0 r.1) };
-
-    fn fmt<W: fmt::Write>(&self, f: &mut fmt::Formatter<W>) -> fmt::Result {
-        let word = self.1;
-        match self.0 {
-            Reg::A | Reg::X => write!(f, "{word}"),
-            Reg::I1 | Reg::I2 | Reg::I3 | Reg::I4 | Reg::I5 | Reg::I6 | Reg::J => {
-                write!(f, "{}", Short(word))
-            }
-        }
-    }
-}
-
-/// The line of a register.
-#[derive(Clone, Copy)]
-struct RegisterLine<'a>(&'a World, Reg);
-
-impl fmt::Display for RegisterLine<'_> {
-    ghost output = { λ l. Some (register_line l.0.now l.1) };
-
-    fn fmt<W: fmt::Write>(&self, f: &mut fmt::Formatter<W>) -> fmt::Result {
-        let name = self.1.name();
-        let value = Register(self.1, self.0.register(self.1));
-        write!(f, "{name:<2} {value}\n")
-    }
-}
-
-/// The lines of the registers.
-#[derive(Clone, Copy)]
-struct Registers<'a>(&'a World);
-
-impl fmt::Display for Registers<'_> {
-    ghost output = { λ s. Some (flat_map (register_line s.0.now) all_registers) };
-
-    fn fmt<W: fmt::Write>(&self, f: &mut fmt::Formatter<W>) -> fmt::Result {
-        for register in Reg::ALL {
-            let line = RegisterLine(self.0, register);
-            write!(f, "{line}")?;
-        }
-        Ok(())
-    }
-}
-
-/// The lines of `show`.
-pub(crate) fn topic_lines(alloc: Global, topic: Topic, world: &World) -> Result<String, AllocError>
-    ensures { IfOk result (λ s. string_bytes s ≡ topic_text topic world.now) }
-{
-    match topic {
-        Topic::Registers => registers_lines(alloc, world),
-    }
-}
-
-#[tactic(auto, unfolding(crate::specs::Reply::registers_text))]
-fn registers_lines(alloc: Global, world: &World) -> Result<String, AllocError>
-    ensures { IfOk result (λ s. string_bytes s ≡ registers_text world.now) }
-{
-    let (registers, flags) = (Registers(world), Flags(world));
-    let text = format!(in alloc; "{registers}{flags}")?;
+    let text = format!(in alloc; "ok\n")?;
     Ok(text)
 }
 

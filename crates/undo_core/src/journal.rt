@@ -1,5 +1,5 @@
 //! The changes done on a state, each of which can be taken back and done again.
-ghost use Rattle.std.specs.Prelude.{◌≡◌, ◌+◌, ◌-◌, ◌<◌, ◌↔◌, ◌++◌, [], ◌∷◌, length, take, drop, vec_len, vec_capacity, Some, Ok, Err, IsTrue, OnOk, OnErr, IfOk};
+ghost use Rattle.std.specs.Prelude.{◌≡◌, ◌+◌, ◌-◌, ◌<◌, ◌↔◌, ◌++◌, [], ◌∷◌, length, take, drop, vec_len, vec_capacity, Some, Ok, Err, IsSome, IsTrue, OnOk, OnErr, IfOk};
 ghost use Rattle.std.specs.Bool.{OnFalse};
 ghost use Rattle.undo_core.specs.Refused.{IfFault};
 ghost use Rattle.undo_core.specs.Replay.{replay, count_kept};
@@ -64,6 +64,7 @@ impl<S: Undo> Journal<S> {
     /// Does one change more and forgets those ahead. A fault of the state, or want of memory, alters nothing.
     pub fn go(&mut self, change: S::Change) -> Result<(), Refused<S::Fault>>
         ensures first { self.new.first ≡ self.old.first }
+        ensures stands { IsSome (replay S.gives self.old.first self.old.changes) }
         ensures changes { OnOk result (self.new.changes ≡ self.old.changes ++ change ∷ []) }
         ensures ahead { OnOk result (self.new.ahead ≡ []) }
 

@@ -1,5 +1,6 @@
 //! Each fault as it is printed.
 use crate::fault::{AsmFault, AsmKind, DeckFault, DeckKind, Refusal, ToolFault};
+use mix_machine::MixFault;
 use std::test::Fail;
 
 const SOURCE_FAULTS: [(AsmKind, &str); 16] = [
@@ -53,11 +54,19 @@ const TOOL_FAULTS: [(ToolFault, &str); 5] = [
     (ToolFault::Long, "T6 input too long"),
 ];
 
-const REFUSALS: [(Refusal, &str); 4] = [
+const REFUSALS: [(Refusal, &str); 6] = [
     (Refusal::NoSuchCommand, "C1 no such command"),
     (Refusal::BadArgument, "C2 bad argument"),
     (Refusal::OutOfRange, "C3 number out of range"),
     (Refusal::TooFewChanges, "C4 fewer changes than asked"),
+    (
+        Refusal::RefusedByMachine(MixFault::IndexOverflow),
+        "C5 refused by the machine: M7 index overflow",
+    ),
+    (
+        Refusal::RefusedByMachine(MixFault::NoCellAtLocation),
+        "C5 refused by the machine: M15 no cell at the location",
+    ),
 ];
 
 #[test]
@@ -103,7 +112,7 @@ fn prints_the_refusals_of_a_command(rt: HostRuntime) -> Result<(), Fail> {
         assert_eq!(rt; printed.as_str(), text);
         let (number, words) = (refusal.number(), refusal.text());
         let parts = format!(in rt.alloc(); "C{number} {words}")?;
-        assert_eq!(rt; parts.as_str(), text);
+        assert!(rt; text.starts_with(parts.as_str()), "{text}");
     }
     Ok(())
 }

@@ -1,5 +1,5 @@
 -- A new change leaves a sound journal with the same first state, and the state before it gives what `apply` gave.
-use Rattle.std.proofs.Common.{◌∙◌}
+use Rattle.std.proofs.Common.{◌∙◌, ap, is_some}
 use Rattle.undo_core.proofs.Sound.{go_sound, go_given, done_first, sound_replay, fault_of}
 use Rattle.undo_core.proofs.journal.Journal.go.Goals as goal
 
@@ -37,3 +37,15 @@ returns-clause-given g c =
       from_is = c.len-from.ensures ∙ c.self.inside.kept.ok.0;
     })
     _ (rw c.reserve.ensures.items at c.put_last.ensures) _ (c.len-self-inside.ensures ∙ c.put_last.new.items.ok.0))
+
+pub returns-in_err-reserve-clause-stands : goal.returns-in_err-reserve-clause-stands
+returns-in_err-reserve-clause-stands g c = rw (← c.self.view_is) (ap is_some (sound_replay c.self.invariant))
+
+pub returns-in_err-reserve-2-clause-stands : goal.returns-in_err-reserve-2-clause-stands
+returns-in_err-reserve-2-clause-stands g c = rw (← c.self.view_is) (ap is_some (sound_replay c.self.invariant))
+
+pub returns-in_err-apply-clause-stands : goal.returns-in_err-apply-clause-stands
+returns-in_err-apply-clause-stands g c = rw (← c.self.view_is) (ap is_some (sound_replay c.self.invariant))
+
+pub returns-clause-stands : goal.returns-clause-stands
+returns-clause-stands g c = rw (← c.self.view_is) (ap is_some (sound_replay c.self.invariant))

@@ -1,8 +1,8 @@
 use Rattle.std.proofs.Common.{flat_map, take}
 use Rattle.std.specs.Fmt.{HasWritten, IsPlainFormatter}
 use Rattle.mix_word.specs.Register.{all_registers}
-use Rattle.mix_tool.specs.Reply.{register_line}
-use Rattle.mix_tool.proofs.reply.RegistersDisplay.fmt.Given as goal
+use Rattle.mix_tool.specs.Show.{register_line}
+use Rattle.mix_tool.proofs.show.RegistersDisplay.fmt.Given as goal
 
 abbrev pub invariant-loop-register : goal.invariant-loop-register
 invariant-loop-register g l =

@@ -1,14 +1,15 @@
--- Facts of the texts of replies.
-use Rattle.std.proofs.Common.{◌≡◌, ℕ, ◌+◌, ◌-◌, ◌<◌, List, [], ◌∷◌, ◌++◌, length, take, replicate, get_or, flat_map, refl, sym, ap, append_assoc}
+-- Facts of what `show` writes.
+use Rattle.std.proofs.Common.{◌≡◌, ℕ, zero, suc, ◌+◌, ◌-◌, ◌<◌, ◌≤◌, List, [], ◌∷◌, ◌++◌, length, take, replicate, get_or, flat_map, refl, sym, ap, ◌∙◌, append_assoc, add-zero, arith}
 use Rattle.std.proofs.lemmas.List.{append-nil, take_more}
 use Rattle.std.proofs.lemmas.Grind.{flat_map-append}
+use Rattle.std.specs.List.{range_with_len}
 use Rattle.std.specs.Fmt.{format_spec, styled_text, padded, char_count, take_chars}
 use Rattle.mix_word.specs.declared.register.Reg.{Reg}
 use Rattle.mix_word.specs.declared.register.Reg.TheVariants as reg
 use Rattle.mix_word.specs.Word.{WordValue}
 use Rattle.mix_word.specs.Register.{name_of_register}
 use Rattle.mix_machine.specs.World.{WorldState, register_of}
-use Rattle.mix_tool.specs.Reply.{value_text, register_line}
+use Rattle.mix_tool.specs.Show.{value_text, register_line}
 
 -- a name that is written left in two places
 pub name-padded : (r : Reg) → styled_text (format_spec 32 1 0 2 18446744073709551615) (name_of_register r) ≡ name_of_register r ++ replicate (2 - length (name_of_register r)) 32
@@ -33,3 +34,18 @@ pub flat_map-next : {X : Type 0} (f : X → List ℕ) (xs : List X) (i : ℕ) (d
     flat_map f (take i xs) ++ f (get_or xs i d) ≡ flat_map f (take (i + 1) xs)
 flat_map-next f xs i d below =
     rw (take_more xs i d below) (rw flat_map-append (ap (λ t. flat_map f (take i xs) ++ t) (sym (append-nil (f (get_or xs i d))))))
+
+range-suc : (a n : ℕ) → range_with_len a (suc n) ≡ range_with_len a n ++ (a + n) ∷ []
+range-suc a zero = rw (add-zero a) refl
+range-suc a (suc n) = let next : (a + 1) + n ≡ a + suc n = omega arith in ap (λ t. a ∷ t) (range-suc (a + 1) n ∙ rw next refl)
+
+-- the texts of one more of the numbers from a first one on
+pub flat_map-range_next : (f : ℕ → List ℕ) (a k at : ℕ) → a ≤ k → at ≡ k →
+    flat_map f (range_with_len a (k - a)) ++ f at ≡ flat_map f (range_with_len a (k + 1 - a))
+flat_map-range_next f a k at from same =
+    let n = k - a in
+    let more : k + 1 - a ≡ suc n = omega arith in
+    let here : at ≡ a + n = omega arith in
+    let whole : flat_map f (range_with_len a (suc n)) ≡ flat_map f (range_with_len a n) ++ f (a + n) =
+    ap (flat_map f) (range-suc a n) ∙ flat_map-append f (range_with_len a n) ((a + n) ∷ []) ∙ ap (λ t. flat_map f (range_with_len a n) ++ t) (append-nil (f (a + n))) in
+    rw (more, here) (sym whole)

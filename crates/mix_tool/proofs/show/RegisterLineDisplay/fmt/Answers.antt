@@ -1,6 +1,6 @@
 use Rattle.std.proofs.Output.{has_written_of_eq}
-use Rattle.mix_tool.proofs.ReplyLemmas.{register_line-is}
-use Rattle.mix_tool.proofs.reply.RegisterLineDisplay.fmt.Goals as goal
+use Rattle.mix_tool.proofs.ShowLemmas.{register_line-is}
+use Rattle.mix_tool.proofs.show.RegisterLineDisplay.fmt.Goals as goal
 
 pub returns-clause-writes : goal.returns-clause-writes
 returns-clause-writes g c p ok =

@@ -1,0 +1,67 @@
+-- What `show` writes of the machine: lines of bytes, in a form of this project's own.
+use Rattle.std.specs.Prelude.{ℕ, ◌+◌, ◌-◌, List, [], ◌∷◌, ◌++◌, codes, replicate, length, flat_map}
+use Rattle.std.specs.Fmt.{decimal}
+use Rattle.std.specs.List.{range_with_len}
+use Rattle.mix_word.specs.Word.{WordValue}
+use Rattle.mix_word.specs.Text.{word_text, short_text}
+use Rattle.mix_word.specs.Register.{all_registers, name_of_register}
+use Rattle.mix_word.specs.declared.register.Reg.{Reg}
+use Rattle.mix_word.specs.declared.register.Reg.TheVariants as reg
+use Rattle.mix_machine.specs.World.{WorldState, register_of, cell_of}
+use Rattle.mix_tool.specs.Keyword.{toggle_name, indicator_name}
+use Rattle.mix_tool.specs.Reply.{location_text, stand_text}
+use Rattle.mix_tool.specs.declared.request.Topic.{Topic}
+use Rattle.mix_tool.specs.declared.request.Topic.TheVariants.{Registers, Cells, Clock, Changes}
+
+-- the toggle, the indicator, the location and the clock
+unfoldable pub flags_text : WorldState → List ℕ
+flags_text w = codes "over " ++ toggle_name w.over ++ codes " cmp " ++ indicator_name w.cmp ++ codes " loc " ++ stand_text w.loc w.clock ++ 10 ∷ []
+
+-- what a register holds: five bytes of rA and rX, two of the others
+abbrev pub value_text : Reg → WordValue → List ℕ
+value_text reg.A word = word_text word
+value_text reg.X word = word_text word
+value_text reg.I1 word = short_text word
+value_text reg.I2 word = short_text word
+value_text reg.I3 word = short_text word
+value_text reg.I4 word = short_text word
+value_text reg.I5 word = short_text word
+value_text reg.I6 word = short_text word
+value_text reg.J word = short_text word
+
+-- a register: its name, left in two places, a blank, and what it holds
+abbrev pub register_line : WorldState → Reg → List ℕ
+register_line w r =
+    let name = name_of_register r in
+    name ++ replicate (2 - length name) 32 ++ codes " " ++ value_text r (register_of w r) ++ 10 ∷ []
+
+-- the reply of `show regs`
+unfoldable pub registers_text : WorldState → List ℕ
+registers_text w = flat_map (register_line w) all_registers ++ flags_text w
+
+-- a cell: its location, and its word
+abbrev pub cell_line : WorldState → ℕ → List ℕ
+cell_line w p = location_text p ++ codes " " ++ word_text (cell_of w p) ++ 10 ∷ []
+
+-- the numbers from a first to a last one
+abbrev pub numbers_between : ℕ → ℕ → List ℕ
+numbers_between first last = range_with_len first (last + 1 - first)
+
+-- the reply of `show cells`
+abbrev pub cells_text : WorldState → ℕ → ℕ → List ℕ
+cells_text w first last = flat_map (cell_line w) (numbers_between first last)
+
+-- the reply of `show clock`
+abbrev pub clock_text : WorldState → List ℕ
+clock_text w = codes "clock " ++ decimal w.clock ++ 10 ∷ []
+
+-- the reply of `show changes`: how many are done
+abbrev pub changes_text : ℕ → List ℕ
+changes_text changes = codes "changes " ++ decimal changes ++ 10 ∷ []
+
+-- the reply of `show`, of the machine after so many changes
+abbrev pub topic_text : Topic → WorldState → ℕ → List ℕ
+topic_text Registers w changes = registers_text w
+topic_text (Cells first last) w changes = cells_text w first last
+topic_text Clock w changes = clock_text w
+topic_text Changes w changes = changes_text changes
