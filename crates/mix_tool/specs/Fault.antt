@@ -1,4 +1,4 @@
--- Each fault's number and text, and the line that tells it.
+-- Each fault's number and text, and the line that reports it.
 use Rattle.std.specs.Prelude.{ℕ, List, []}
 use Rattle.std.specs.Prelude.{◌++◌, codes, decimal}
 use Rattle.mix_machine.specs.Fault.{fault_line}

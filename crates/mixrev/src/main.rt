@@ -14,27 +14,27 @@ fn main(rt: HostRuntime) -> ExitCode {
         Err(error) => return unread(&rt, error),
     };
     if words > 1 {
-        return tell(&rt, "it takes no words; a bundle comes from standard input");
+        return report(&rt, "it takes no words; a bundle comes from standard input");
     }
     let mut input = Counted::of(rt.reader());
     let mut output = Counted::of(io::writer(&rt));
     match run_bundle(rt.alloc(), &mut input, &mut output) {
         Ok(status) => ExitCode::from(status),
-        Err(fault) => tell(&rt, fault),
+        Err(fault) => report(&rt, fault),
     }
 }
 
-// The words could not be read: for want of memory, or because one of them is no text.
+// The words could not be read: out of memory, or one of them is no text.
 fn unread(rt: &impl Eprint, error: io::Error) -> ExitCode {
     if error.kind() == io::ErrorKind::OutOfMemory {
-        tell(rt, ToolFault::Memory)
+        report(rt, ToolFault::Memory)
     } else {
-        tell(rt, error)
+        report(rt, error)
     }
 }
 
-// What went wrong is told on standard error; where that fails too, the status alone tells it.
-fn tell(rt: &impl Eprint, fault: impl fmt::Display + Drop) -> ExitCode {
+// What went wrong is written on standard error; where that fails too, the status alone says so.
+fn report(rt: &impl Eprint, fault: impl fmt::Display + Drop) -> ExitCode {
     let _ = eprintln!(rt; "mixrev: {fault}");
     ExitCode::from(FAILED)
 }

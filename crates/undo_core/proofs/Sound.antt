@@ -47,7 +47,7 @@ fault_of gives state c first cs e (Err Memory) passed fault before = tt
 fault_of gives state c first cs (Fault f) (Err (Fault g)) passed fault before = λ s now. cc
 fault_of gives state c first cs Memory (Err (Fault g)) passed fault before = absurd (cc)
 
--- a change that was done: the state after it, and its values behind the others, from a place on
+-- a change that was done: the state after it, and its values after the others, from a place on
 pub record IsDone {S C O F : Type 0} (gives : S → C → Result S F) (keeps : S → C → List O) (put : S → O → Option S)
     (s t : S) (c : C) (kept kept_then : List O) (from : ℕ) : Type 0 where
   pub given : gives s c ≡ Ok t

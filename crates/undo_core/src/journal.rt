@@ -61,7 +61,7 @@ impl<S: Undo> Journal<S> {
         }
     }
 
-    /// Does one change more and forgets those ahead. A fault of the state, or want of memory, alters nothing.
+    /// Does one change more and forgets those ahead. A fault of the state, or out of memory, alters nothing.
     pub fn go(&mut self, change: S::Change) -> Result<(), Refused<S::Fault>>
         ensures first { self.new.first ≡ self.old.first }
         ensures stands { IsSome (replay S.gives self.old.first self.old.changes) }
@@ -101,7 +101,7 @@ impl<S: Undo> Journal<S> {
         true
     }
 
-    /// Does the next change ahead again. It is false where none is ahead; want of memory alters nothing.
+    /// Does the next change ahead again. It is false where none is ahead; out of memory alters nothing.
     pub fn forth(&mut self) -> Result<bool, Memory>
         ensures more { IfOk result (λ b. IsTrue b ↔ (0 < length self.old.ahead)) }
         ensures first { self.new.first ≡ self.old.first }

@@ -1,4 +1,4 @@
-//! Why a change is refused: a fault of its own, or want of memory.
+//! Why a change is refused: a fault of its own, or out of memory.
 ghost use Rattle.std.specs.Prelude.{◌≡◌};
 ghost use Rattle.undo_core.specs.declared.refused.Refused.TheVariants.{Memory as memory};
 
@@ -8,7 +8,7 @@ use std::alloc::{AllocError, AllocFailed};
 #[derive(Clone, Copy, Debug, PartialEq, Eq)]
 pub struct Memory;
 
-/// A change that was not done: for a fault of its own, or for want of memory.
+/// A change that was not done: for a fault of its own, or out of memory.
 #[derive(Clone, Copy, Debug, Drop, PartialEq, Eq)]
 pub enum Refused<F> {
     /// The state refuses the change.

@@ -28,8 +28,8 @@ pub trait Undo: Drop {
     /// The state with one value put back, or none where the value doesn't fit.
     ghost put: { Self → Self.Old → Option Self };
 
-    /// Does the change and appends the values that it overwrites to `kept`. A fault, or want of memory, alters nothing;
-    /// want of memory is told of no change that has a fault.
+    /// Does the change and appends the values that it overwrites to `kept`. A fault, or out of memory, alters nothing;
+    /// out of memory is the answer to no change that has a fault.
     fn apply(
         &mut self,
         change: &Self::Change,

@@ -12,7 +12,7 @@ pub(crate) enum Op {
     End,
 }
 
-/// What a name says in the place of OP, in either case of letters, or `None` where it says nothing.
+/// What a name stands for in the place of OP, in either case of letters, or `None` where it is no name.
 #[tactic(auto, using(crate::proofs::ShortNames::long_name))]
 pub(crate) fn read_op(name: &[u8]) -> Option<Op>
     ensures { result ≡ op_named (str_to_ascii_uppercase name.now) }
@@ -57,7 +57,7 @@ fn is_of_profile(operation: Operation) -> bool
 }
 
 impl Op {
-    /// Whether a text behind it that begins with a letter is a remark, as it is behind HLT.
+    /// Whether a text after it that begins with a letter is a remark, as it is after HLT.
     pub(crate) fn takes_remark(self) -> bool
         ensures { result ≡ takes_remark self }
     {
