@@ -1,0 +1,75 @@
+"""A request for one text, and its answer, each on one line as README.md says."""
+
+from collections import namedtuple
+
+from expressions import address, expression, w_value
+from lines import read_line
+from texts import Fault
+
+# Kind L, E, W or A; here a word; op (C, normal F) for A, else None; names with a word each; text bytes.
+Request = namedtuple("Request", "kind here op names text")
+
+
+def written_word(word):
+    sign, magnitude = word
+    return "%s%d" % ("-" if sign == "-" else "", magnitude)
+
+
+def word_in(text):
+    return ("-", int(text[1:])) if text.startswith("-") else ("+", int(text))
+
+
+def written_bytes(text):
+    return text.hex() or "-"
+
+
+def written_request(request):
+    op = "%d:%d" % request.op if request.op else "-"
+    names = ",".join(name.decode() + "=" + written_word(word) for name, word in request.names.items()) or "-"
+    return "%s %s %s %s %s" % (request.kind, written_word(request.here), op, names, written_bytes(request.text))
+
+
+def request_in(line):
+    kind, here, op, names, text = line.split(" ")
+    pairs = [name.split("=") for name in names.split(",")] if names != "-" else []
+    return Request(kind, word_in(here), tuple(int(part) for part in op.split(":")) if op != "-" else None,
+                   {name.encode(): word_in(word) for name, word in pairs}, bytes.fromhex(text.replace("-", "")))
+
+
+def of_line(line):
+    if line is None:
+        return "remark"
+    loc = "%s:%s" % (line.loc[0], shown(line.loc[1])) if line.loc else "-"
+    if line.op[0] == "machine":
+        op = "machine:%d:%d" % line.op[1:]
+    else:
+        op = line.op[0] + (":" + written_word(line.op[1]) if line.op[1:] else "")
+    return "code %s %s %s" % (loc, op, written_bytes(line.address))
+
+
+def shown(name):
+    return name.decode() if isinstance(name, bytes) else str(name)
+
+
+def of_operand(operand):
+    kind, what = operand.a
+    if kind == "value":
+        what = written_word(what)
+    elif kind == "literal":
+        what = written_bytes(what)
+    return "%s:%s %d %d" % (kind, shown(what), operand.index, operand.f)
+
+
+def answer(request):
+    kind, here, op, names, text = request
+    try:
+        if kind == "L":
+            return of_line(read_line(text))
+        if kind == "E":
+            word, used = expression(text, 0, names, here)
+            return "%s %d" % (written_word(word), used)
+        if kind == "W":
+            return written_word(w_value(text, names, here))
+        return of_operand(address(text, op[1], names, here))
+    except Fault as fault:
+        return fault.number
