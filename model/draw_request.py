@@ -13,9 +13,9 @@ EDGES = [0, 0, 1, 1, 2, 3, 5, 6, 7, 8, 9, 63, 64, 65, 100, 4095, 4096, 262143, 2
          TOP // 8 + 1, TOP - 1, TOP, TOP]
 NUMBERS = b"""0 0 0 1 1 2 3 5 6 7 8 9 10 19 20 63 64 65 100 1000 2000 3999 4000 4095 4096 5000 8191 134217727 134217728
     536870911 536870912 1073741822 1073741823 1073741824 1073741825 4294967296 9999999999 0000000000 0000000005 1073741823
-    00000000005 00000000000 10000000000 12345678901 123456789012345678901234567890 18446744073709551616""".split()
+    00000000005 00000000000 10000000000 12345678901 123456789012345678901234567890 18446744073709551616""".split() + [b"0" * 260 + b"5"]
 SYMBOLS = b"X Y A Q START MSG B F H 2X X2 22B B2 0BB 12H HF ABCDEFGHIJ 123456789A A123456789 0000000000X".split()
-STRANGE_SYMBOLS = b"ABCDEFGHIJK 1234567890A A1234567890 2HH 2H 2H 0H 9h 2BX ABCDEFGHIJKLMNOPQRSTUVWXYZ ~ [ # 1E5 0x10".split()
+STRANGE_SYMBOLS = b"ABCDEFGHIJK 1234567890A A1234567890 2HH 2H 2H 0H 9h 2BX ABCDEFGHIJKLMNOPQRSTUVWXYZ ~ [ # 1E5 0x10".split() + [b"A" * 261]
 OPERATORS = [b"+", b"-", b"*", b"/", b"//", b":"]
 CHARACTERS = b' ABCDEFGHI~JKLMNOPQR[#STUVWXYZ0123456789.,()+-*/=$<>@;:\''
 NO_CHARACTERS = [b'"', b"?", b"!", b"%", b"&", b"\\", b"]", b"^", b"_", b"`", b"{", b"|", b"}", b"\x00", b"\r", b"\x0b", b"\x0c",
@@ -26,8 +26,8 @@ PSEUDO = [b"EQU", b"ORIG", b"CON", b"ALF", b"END"]
 WRONG_OPERATIONS = b"""* ** 5 LD LDB LD0 LD7 LDAA LD1X LDN LD0N LD7N ST ST0 ST7 STJN STZN J J0N J7N JN J1E JBUSS IOCC INA OUT1 INC
     INC0 INC7 INCJ ENT ENTJ CMP CMP0 CMP7 CMPJ FADD FSUB FMUL FDIV FLOT FIX FCMP JANE JAE JXO SLB SRB AND OR XOR ALFA EN
     ENDS HLTS NUMS CHA CONS OR ORI EQ 2H LDA, LDA? ALF" ? \xff L\xe9A END\r ~ NOP. "LDA" LDA(1:3) EQU, =""".split()
-INDICES = b"0 1 2 5 6 6 7 7 8 -0 -1 +6 2+4 3*2 4+3 * X 2B 2F Q".split()
-FS = b"0:5 1:5 0:3 63 63 63 64 64 0 -0 -1 65 7:7 8:0 X Q 2B 2F *".split()
+INDICES = b"0 1 2 5 6 6 7 7 8 -0 -1 +6 256 262 65536 2+4 3*2 4+3 * X 2B 2F Q".split()
+FS = b"0:5 1:5 0:3 63 63 63 64 64 0 -0 -1 65 256 261 65541 7:7 8:0 X Q 2B 2F *".split()
 NO_LINES = [b"", b" ", b"\t", b" \t ", b"*", b"* any \xff?", b"*\t", b" * x", b"\r", b" \r", b"X", b"X ", b"2H", b"\x0b", b"\x00"]
 WRONG_LABELS = b"X? +X X+ X, X.Y - ~X X* =X= X\xff \" ? ABCDEFGHIJ? ABCDEFGHIJK? 2H? 5? **".split()
 BEHIND_HLT = b"halt h\xff? Z? a\x00 ?x [ ~ \xe9 @ `a { 5 5? 5x *".split()
@@ -84,7 +84,7 @@ def edge_expression(r):
     if r.randrange(3):
         numbers = [r.choice(EDGES) for _ in range(3)]
     else:
-        first = r.randrange(1, TOP)
+        first = r.randrange(1, r.choice((9, TOP)))
         numbers = [first, r.choice((FULL - first, TOP - first, first, first + 1, first - 1)), r.choice((0, 1, TOP))]
     text = sign + b"%d" % numbers[0] + r.choice(OPERATORS) + b"%d" % numbers[1]
     if r.randrange(2):
@@ -102,7 +102,7 @@ def code(r):
         return b"%d" % r.choice(list(FIELDS))
     if kind < 8:
         return b"%d" % r.randrange(66)
-    return r.choice(b"-0 -1 -5 0:6 4:3 5:5 6:6 5:6 64 8 63 +5 * X".split() + [b"", expression(r, 2)])
+    return r.choice(b"-0 -1 -5 0:6 4:3 5:5 6:6 5:6 64 8 63 +5 256 261 65541 1073741823 * X".split() + [b"", expression(r, 2)])
 
 
 def in_brackets(r, text):
@@ -170,7 +170,7 @@ def spoiled(r, text):
 
 def alf(r):
     """What stands behind an ALF."""
-    size = r.choice((0, 1, 2, 3, 4, 5, 5, 5, 6, 6, 7))
+    size = r.choice((0, 1, 2, 3, 4, 5, 5, 5, 6, 6, 7)) if r.randrange(100) else 256 + r.randrange(7)
     text = b"".join(r.choice((b"A", b"z", b" ", b"\t", b"9", bytes([r.choice(CHARACTERS)]))) for _ in range(size))
     if r.randrange(8) == 0:
         at = r.randrange(len(text) + 1)
@@ -224,6 +224,8 @@ def numbered(seed, k):
     kind = "LEWA"[k % 4]
     draw = r.choice((expression, edge_expression)) if kind == "E" else DRAWN[kind]
     text = draw(r)
+    if kind == "E" and r.randrange(10) == 0:
+        text += r.choice(b", ( ) = $ . ? (1:3) ,1 ; ' \"".split() + [b" ", b"\t1", b"\xff"])
     if r.randrange(8) == 0:
         text = spoiled(r, text)
     elif r.randrange(40) == 0:
