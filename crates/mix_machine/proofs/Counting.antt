@@ -32,7 +32,7 @@ use Rattle.mix_machine.specs.declared.old.Old.TheVariants as old
 use Rattle.mix_machine.specs.declared.fault.MixFault.{MixFault}
 use Rattle.mix_machine.specs.declared.fault.MixFault.TheVariants.{IndexOverflow}
 use Rattle.mix_machine.specs.declared.old.Change.{Change}
-use Rattle.mix_machine.specs.declared.old.Change.TheVariants.{Step, SetReg, SetCell, SetLoc, SetOver, SetCmp}
+use Rattle.mix_machine.specs.declared.old.Change.TheVariants.{Step, SetReg, SetCell, SetLoc, SetOver, SetCmp, Break, Clear}
 use Rattle.mix_machine.proofs.WriteLemmas.{length-copies, length-kept_by}
 
 -- how many values an operation's writes keep
@@ -114,6 +114,10 @@ number-written w (SetOver b) p e =
     let same : plan.Value (old.Over b) ≡ p = cc in subst (λ q. length (writes_of w q) ≡ 1) same refl
 number-written w (SetCmp c) p e =
     let same : plan.Value (old.Cmp c) ≡ p = cc in subst (λ q. length (writes_of w q) ≡ 1) same refl
+number-written w (Break at) p e =
+    let same : plan.Value (old.Break at true) ≡ p = cc in subst (λ q. length (writes_of w q) ≡ 1) same refl
+number-written w (Clear at) p e =
+    let same : plan.Value (old.Break at false) ≡ p = cc in subst (λ q. length (writes_of w q) ≡ 1) same refl
 
 counted-plan : (w : WorldState) (c : Change) (r : Result Plan MixFault) → plan_of w c ≡ r → length (values_kept w r) ≡ cond (is_ok r) (count_of w c) 0
 counted-plan w c (Ok p) e = length-kept_by w (writes_of w p) ∙ number-written w c p e
@@ -165,6 +169,8 @@ few w (SetCell p v) = omega arith
 few w (SetLoc p) = omega arith
 few w (SetOver b) = omega arith
 few w (SetCmp c) = omega arith
+few w (Break p) = omega arith
+few w (Clear p) = omega arith
 
 pub few_kept : (w : WorldState) (c : Change) → kept_count w c ≤ most_kept
 unfolding kept_count

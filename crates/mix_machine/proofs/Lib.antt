@@ -1,3 +1,4 @@
+pub mod BreakLemmas
 pub mod CopyLemmas
 pub mod Counting
 pub mod Halting

@@ -1,5 +1,5 @@
 -- What a change does: the new state, or the first fault, which leaves the state as it was.
-use Rattle.std.specs.Prelude.{ℕ, Bool, ◌&&◌, ◌==◌, ◌<◌, nat_lt, if◌then◌else◌, List, [], ◌+◌, Result, Ok, Err}
+use Rattle.std.specs.Prelude.{true, false, ℕ, Bool, ◌&&◌, ◌==◌, ◌<◌, nat_lt, if◌then◌else◌, List, [], ◌+◌, Result, Ok, Err}
 use Rattle.mix_word.specs.Operation.{time_of}
 use Rattle.mix_word.specs.declared.decoding.Decoded.{Decoded}
 use Rattle.mix_word.specs.declared.operation.Operation.{Operation}
@@ -15,7 +15,7 @@ use Rattle.mix_machine.specs.declared.plan.Plan.TheVariants as plan
 use Rattle.mix_machine.specs.declared.fault.MixFault.{MixFault}
 use Rattle.mix_machine.specs.declared.fault.MixFault.TheVariants.{IndexOverflow}
 use Rattle.mix_machine.specs.declared.old.Change.{Change}
-use Rattle.mix_machine.specs.declared.old.Change.TheVariants.{Step, SetReg, SetCell, SetLoc, SetOver, SetCmp}
+use Rattle.mix_machine.specs.declared.old.Change.TheVariants.{Step, SetReg, SetCell, SetLoc, SetOver, SetCmp, Break, Clear}
 use Rattle.mix_machine.specs.declared.old.Old.{Old}
 use Rattle.mix_machine.specs.declared.old.Old.TheVariants as old
 
@@ -40,6 +40,8 @@ plan_of w (SetCell p v) = Ok (plan.Value (old.Cell p v))
 plan_of w (SetLoc p) = Ok (plan.Value (old.Loc p))
 plan_of w (SetOver b) = Ok (plan.Value (old.Over b))
 plan_of w (SetCmp c) = Ok (plan.Value (old.Cmp c))
+plan_of w (Break p) = Ok (plan.Value (old.Break p true))
+plan_of w (Clear p) = Ok (plan.Value (old.Break p false))
 
 abbrev pub state_after : WorldState → Result Plan MixFault → Result WorldState MixFault
 state_after w (Ok p) = Ok (write_all w (writes_of w p))
@@ -70,3 +72,5 @@ IsReal (SetCell p v) = p < 4000
 IsReal (SetLoc p) = p < 4000
 IsReal (SetOver b) = Unit {0}
 IsReal (SetCmp c) = Unit {0}
+IsReal (Break p) = p < 4000
+IsReal (Clear p) = p < 4000

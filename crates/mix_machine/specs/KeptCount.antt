@@ -15,7 +15,7 @@ use Rattle.mix_machine.specs.Order.{operation_or_nop}
 use Rattle.mix_machine.specs.Do.{plan_of}
 use Rattle.mix_machine.specs.declared.decode.Arguments.{Arguments}
 use Rattle.mix_machine.specs.declared.old.Change.{Change}
-use Rattle.mix_machine.specs.declared.old.Change.TheVariants.{Step, SetReg, SetCell, SetLoc, SetOver, SetCmp}
+use Rattle.mix_machine.specs.declared.old.Change.TheVariants.{Step, SetReg, SetCell, SetLoc, SetOver, SetCmp, Break, Clear}
 
 -- the most that one change keeps, that of a block of 100 words and its place among them
 abbrev pub most_kept : ℕ
@@ -91,6 +91,8 @@ count_of w (SetCell p v) = 1
 count_of w (SetLoc p) = 1
 count_of w (SetOver b) = 1
 count_of w (SetCmp c) = 1
+count_of w (Break p) = 1
+count_of w (Clear p) = 1
 
 -- the number of values that a change keeps; a refused one keeps none
 unfoldable pub kept_count : WorldState → Change → ℕ

@@ -1,3 +1,4 @@
+pub mod Breakpoints
 pub mod Decode
 pub mod Do
 pub mod Effects

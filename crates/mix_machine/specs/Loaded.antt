@@ -10,7 +10,7 @@ abbrev pub placed : List WordValue → List (ℕ × WordValue) → List WordValu
 placed cells [] = cells
 placed cells (w ∷ ws) = placed (slice_set cells w.0 w.1) ws
 
--- registers +0, toggle off, indicator EQUAL, clock 0, these cells, and this location
+-- registers +0, toggle off, indicator EQUAL, clock 0, no breakpoint, these cells, and this location
 abbrev pub blank : List WordValue → ℕ → WorldState
 blank cells start =
     record {
@@ -20,6 +20,7 @@ blank cells start =
       cells = cells;
       loc = start;
       clock = 0;
+      breaks = replicate 4000 false;
     }
 
 -- the blank machine with the words of a program in cells that were +0, at the program's start

@@ -11,4 +11,5 @@ view_of w =
       cells = w.cells.items;
       loc = w.loc;
       clock = w.clock;
+      breaks = w.breaks;
     }

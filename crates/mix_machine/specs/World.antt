@@ -1,12 +1,12 @@
 -- The state of the machine (The Art of Computer Programming, 1.3.1, "Description of MIX").
-use Rattle.std.specs.Prelude.{ℕ, Bool, List, ◌≡◌, ◌≤◌, ◌^◌, length, slice_index_or, slice_set}
+use Rattle.std.specs.Prelude.{ℕ, Bool, false, List, ◌≡◌, ◌≤◌, ◌^◌, length, slice_index_or, slice_set}
 use Rattle.mix_word.specs.Word.{WordValue, zero_word}
 use Rattle.mix_word.specs.declared.word.Cmp.{Cmp}
 use Rattle.mix_word.specs.declared.register.Reg.{Reg}
 use Rattle.mix_machine.specs.Registers.{RegistersState, AreRegisters, held_in}
 
 -- The registers, the overflow toggle, the comparison indicator, 4,000 cells, the location of the next
--- instruction, and the clock in u.
+-- instruction, the clock in u, and of each cell whether it has a breakpoint.
 pub record WorldState : Type 0 where
   pub registers : RegistersState
   pub over : Bool
@@ -14,6 +14,7 @@ pub record WorldState : Type 0 where
   pub cells : List WordValue
   pub loc : ℕ
   pub clock : ℕ
+  pub breaks : List Bool
 
 -- what a register holds
 abbrev pub register_of : WorldState → Reg → WordValue
@@ -27,6 +28,14 @@ cell_of w p = slice_index_or w.cells p zero_word
 abbrev pub with_cell : WorldState → ℕ → WordValue → WorldState
 with_cell w p v = record w { cells = slice_set w.cells p v }
 
+-- whether the cell at a place has a breakpoint
+abbrev pub has_break : WorldState → ℕ → Bool
+has_break w p = slice_index_or w.breaks p false
+
+-- the same state but for one breakpoint
+abbrev pub with_break : WorldState → ℕ → Bool → WorldState
+with_break w p b = record w { breaks = slice_set w.breaks p b }
+
 -- the most that the clock may show
 abbrev pub last_clock : ℕ
 last_clock = 10 ^ 18
@@ -38,3 +47,4 @@ pub record IsWorld (w : WorldState) : Type 0 where
   pub cells : length w.cells ≡ 4000
   pub loc : w.loc ≤ 4000
   pub clock : w.clock ≤ last_clock
+  pub breaks : length w.breaks ≡ 4000

@@ -4,13 +4,13 @@ use Rattle.std.specs.Prelude.{ℕ, zero, suc, ◌+◌, Bool, true, List, [], ◌
 use Rattle.std.specs.Bool.{then_some}
 use Rattle.mix_word.specs.declared.register.Reg.TheVariants as reg
 use Rattle.mix_machine.specs.Registers.{with_register, fits_register}
-use Rattle.mix_machine.specs.World.{WorldState, register_of, cell_of, with_cell, last_clock}
+use Rattle.mix_machine.specs.World.{WorldState, register_of, cell_of, with_cell, has_break, with_break, last_clock}
 use Rattle.mix_machine.specs.declared.plan.Plan.{Plan}
 use Rattle.mix_machine.specs.declared.plan.Plan.TheVariants.{Value, Step}
 use Rattle.mix_machine.specs.declared.plan.Writes.{Writes}
 use Rattle.mix_machine.specs.declared.plan.Writes.TheVariants.{Nothing, Register, RegisterAndToggle, Pair, PairAndToggle, Cell as CellOf, Indicator, Copy}
 use Rattle.mix_machine.specs.declared.old.Old.{Old}
-use Rattle.mix_machine.specs.declared.old.Old.TheVariants.{Loc, Clock, Reg as OldRegister, Cell, Over, Cmp as OldCmp}
+use Rattle.mix_machine.specs.declared.old.Old.TheVariants.{Loc, Clock, Reg as OldRegister, Cell, Over, Cmp as OldCmp, Break}
 
 -- the state with a value at the place that it names
 abbrev pub set_value : WorldState → Old → WorldState
@@ -20,6 +20,7 @@ set_value w (OldRegister r v) = record w { registers = with_register w.registers
 set_value w (Cell p v) = with_cell w p v
 set_value w (Over b) = record w { over = b }
 set_value w (OldCmp c) = record w { cmp = c }
+set_value w (Break p b) = with_break w p b
 
 -- the value that stands now at the place that another one names
 abbrev pub value_at : WorldState → Old → Old
@@ -29,6 +30,7 @@ value_at w (OldRegister r v) = OldRegister r (register_of w r)
 value_at w (Cell p v) = Cell p (cell_of w p)
 value_at w (Over b) = Over w.over
 value_at w (OldCmp c) = OldCmp w.cmp
+value_at w (Break p b) = Break p (has_break w p)
 
 -- whether a value is in the range of its place
 abbrev pub fits : Old → Bool
@@ -38,6 +40,7 @@ fits (OldRegister r v) = fits_register r v
 fits (Cell p v) = nat_lt p 4000
 fits (Over b) = true
 fits (OldCmp c) = true
+fits (Break p b) = nat_lt p 4000
 
 -- the state that putting one value back gives, or none where it doesn't fit
 abbrev pub put_value : WorldState → Old → Option WorldState

@@ -2,6 +2,7 @@
 #![tactic(auto)]
 
 mod address;
+mod breakpoints;
 mod decode;
 mod fault;
 mod laws;

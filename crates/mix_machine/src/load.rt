@@ -3,6 +3,7 @@ ghost use Rattle.std.specs.Prelude.{◌≡◌, length, replicate, IfOk};
 ghost use Rattle.mix_machine.specs.Loaded.{placed, blank, loaded};
 ghost use Rattle.mix_word.specs.Word.{zero_word};
 
+use crate::breakpoints::Breakpoints;
 use crate::registers::Registers;
 use crate::world::World;
 use mix_word::{Cmp, Place, Sign, Word};
@@ -13,7 +14,7 @@ const CELLS: usize = 4000;
 
 impl World {
     /// The machine before its first step (1.3.2), with words put at their places in order, so that a later one wins, and the location at
-    /// `start`: all else is +0, off, EQUAL and 0. `Memory` where there is no room for the cells.
+    /// `start`: all else is +0, off, EQUAL and 0, with no breakpoint. `Memory` where there is no room for the cells.
     #[tactic(auto, unfolding(crate::specs::Loaded::loaded))]
     pub fn load(alloc: Global, words: &[(Place, Word)], start: Place) -> Result<World, Memory>
         ensures { IfOk result (λ w. w ≡ loaded words.now start) }
@@ -34,6 +35,7 @@ impl World {
             cells,
             loc: start.number(),
             clock: 0,
+            breaks: Breakpoints::none(),
         }
     }
 }

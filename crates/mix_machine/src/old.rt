@@ -1,8 +1,8 @@
 //! The changes of a state, and the old values that take them back.
 use mix_word::{Cmp, Place, Reg, Word};
 
-/// What is asked of the machine (1.3.1): one step, or a value put into a register, a cell, the location, the overflow toggle, the
-/// comparison indicator.
+/// What is asked of the machine (1.3.1): one step; a value put into a register, a cell, the location, the overflow toggle or the
+/// comparison indicator; or a breakpoint given to a cell or taken away.
 #[derive(Clone, Copy, Debug, PartialEq, Eq)]
 pub enum Change {
     Step,
@@ -11,9 +11,12 @@ pub enum Change {
     SetLoc(Place),
     SetOver(bool),
     SetCmp(Cmp),
+    Break(Place),
+    Clear(Place),
 }
 
-/// One place of the state and a value of it: the location, the clock, a register, a cell, the overflow toggle, the comparison indicator.
+/// One place of the state and a value of it: the location, the clock, a register, a cell, the overflow toggle, the comparison indicator,
+/// or whether a cell has a breakpoint.
 #[derive(Clone, Copy, Debug, PartialEq, Eq)]
 pub enum Old {
     Loc(u16),
@@ -22,4 +25,5 @@ pub enum Old {
     Cell(Place, Word),
     Over(bool),
     Cmp(Cmp),
+    Break(Place, bool),
 }

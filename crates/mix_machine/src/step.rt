@@ -19,7 +19,7 @@ use crate::plan::{Effects, Outcome, Plan, Writes};
 use crate::registers::fits_register;
 use crate::step::transfer::goes_on;
 use crate::world::World;
-use mix_word::{Decoded, Operation, Parts, Place, decode};
+use mix_word::{Decoded, Operation, Parts, Place, Word, decode};
 
 const LAST_CLOCK: u64 = 1_000_000_000_000_000_000;
 
@@ -39,14 +39,12 @@ impl World {
                     Err(MixFault::IndexOverflow)
                 }
             }
-            Change::SetCell(place, word) => {
-                // (the proof knows the range of a place where its number is read)
-                let _number = place.number();
-                Ok(Plan::Value(Old::Cell(place, word)))
-            }
+            Change::SetCell(place, word) => Ok(Plan::Value(cell_at(place, word))),
             Change::SetLoc(place) => Ok(Plan::Value(Old::Loc(place.number()))),
             Change::SetOver(over) => Ok(Plan::Value(Old::Over(over))),
             Change::SetCmp(cmp) => Ok(Plan::Value(Old::Cmp(cmp))),
+            Change::Break(place) => Ok(Plan::Value(break_at(place, true))),
+            Change::Clear(place) => Ok(Plan::Value(break_at(place, false))),
         }
     }
 
@@ -184,4 +182,22 @@ fn is_served(operation: Operation) -> bool
         Operation::Increase(_) | Operation::Decrease(_) => true,
         Operation::Enter(_) | Operation::EnterNegated(_) => true,
     }
+}
+
+// A word of the cell at a place (the proof knows the range of a place where its number is read).
+fn cell_at(place: Place, word: Word) -> Old
+    ensures is { result ≡ Old.Cell place word }
+    ensures bound { place < 4000 }
+{
+    let _number = place.number();
+    Old::Cell(place, word)
+}
+
+// Whether the cell at a place has a breakpoint.
+fn break_at(place: Place, on: bool) -> Old
+    ensures is { result ≡ Old.Break place on }
+    ensures bound { place < 4000 }
+{
+    let _number = place.number();
+    Old::Break(place, on)
 }

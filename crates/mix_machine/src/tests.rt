@@ -44,6 +44,7 @@ fn set(world: &mut World, value: Value, kept: &mut Vec<Old>) {
         Value::Cmp(cmp) => do_change(world, Change::SetCmp(cmp), kept),
         Value::Loc(loc) => world.loc = loc.min(4000),
         Value::Clock(clock) => world.clock = clock.min(LAST_CLOCK),
+        Value::Break(place, on) => set_break(world, place, on, kept),
     }
 }
 
@@ -56,6 +57,20 @@ fn set_all(world: &mut World, values: &[Value], kept: &mut Vec<Old>) {
 fn set_cell(world: &mut World, place: u16, word: Word, kept: &mut Vec<Old>) {
     if let Some(place) = Place::of(place) {
         do_change(world, Change::SetCell(place, word), kept);
+    }
+}
+
+fn set_break(world: &mut World, place: u16, on: bool, kept: &mut Vec<Old>) {
+    if let Some(place) = Place::of(place) {
+        do_change(world, break_change(place, on), kept);
+    }
+}
+
+fn break_change(place: Place, on: bool) -> Change {
+    if on {
+        Change::Break(place)
+    } else {
+        Change::Clear(place)
     }
 }
 
@@ -115,6 +130,9 @@ fn difference(a: &World, b: &World) -> Option<&'static str> {
         if let Some(place) = Place::of(n) {
             if a.cell(place) != b.cell(place) {
                 return Some("a cell");
+            }
+            if a.is_break(place) != b.is_break(place) {
+                return Some("a breakpoint");
             }
         }
     }
@@ -193,6 +211,10 @@ fn stands(world: &World, value: Value) -> bool {
         Value::Cmp(cmp) => world.cmp() == cmp,
         Value::Loc(loc) => world.loc() == loc,
         Value::Clock(clock) => world.clock() == clock,
+        Value::Break(place, on) => match Place::of(place) {
+            Some(place) => world.is_break(place) == on,
+            None => false,
+        },
     }
 }
 
@@ -211,6 +233,10 @@ fn change_of(value: Value) -> Option<Change> {
             None => None,
         },
         Value::Clock(_) => None,
+        Value::Break(place, on) => match Place::of(place) {
+            Some(place) => Some(break_change(place, on)),
+            None => None,
+        },
     }
 }
 
@@ -317,6 +343,42 @@ fn count_of(world: &World, from: u16, word: Word) -> u16 {
     count
 }
 
+// Breakpoints at cells of one number and of the next; one of them is cleared, and that is taken back.
+#[test]
+fn breakpoints(rt: HostRuntime) -> Result<(), Fail> {
+    let mut journal = Journal::new(rt.alloc(), blank(rt.alloc())?);
+    for n in BREAKS {
+        let place = Place::of(n).expect(&rt, "a place");
+        assert_eq!(rt; fault_of(journal.go(Change::Break(place))), None);
+    }
+    assert_eq!(rt; breaks_of(journal.state()), (5, 0 + 62 + 63 + 64 + 3999));
+    let cleared = Place::of(63).expect(&rt, "a place");
+    assert_eq!(rt; fault_of(journal.go(Change::Clear(cleared))), None);
+    assert_eq!(rt; breaks_of(journal.state()), (4, 0 + 62 + 64 + 3999));
+    assert_eq!(rt; journal.kept_len(), 6);
+    assert!(rt; journal.back());
+    assert_eq!(rt; breaks_of(journal.state()), (5, 0 + 62 + 63 + 64 + 3999));
+    Ok(())
+}
+
+const BREAKS: [u16; 5] = [0, 62, 63, 64, 3999];
+
+// How many breakpoints there are, and the sum of their cells' numbers.
+fn breaks_of(world: &World) -> (u16, u32) {
+    let mut count: u16 = 0;
+    let mut sum: u32 = 0;
+    for n in 0..4000 {
+        match Place::of(n) {
+            Some(place) if world.is_break(place) => {
+                count = count.saturating_add(1);
+                sum = sum.saturating_add(u32::from(n));
+            }
+            _ => {}
+        }
+    }
+    (count, sum)
+}
+
 #[test]
 fn a_loaded_machine_is_read(rt: HostRuntime) -> Result<(), Fail> {
     let start = Place::of(3998).expect(&rt, "a place");
@@ -333,6 +395,7 @@ fn a_loaded_machine_is_read(rt: HostRuntime) -> Result<(), Fail> {
     assert_eq!(rt; world.over(), false);
     assert_eq!(rt; world.cmp(), Cmp::Equal);
     assert_eq!(rt; world.clock(), 0);
+    assert!(rt; !world.is_break(start));
     assert!(rt; world.next_is_halt());
     halt_law();
     kept_count_law();

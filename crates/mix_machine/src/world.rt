@@ -1,13 +1,14 @@
 //! The state of the machine, and what can be read of it (1.3.1).
 ghost use Rattle.std.specs.Prelude.{◌≡◌, ◌<◌, ◌≤◌, ◌==◌, ◌&&◌, ◌↔◌, IsTrue};
-ghost use Rattle.mix_machine.specs.World.{register_of, cell_of, last_clock};
+ghost use Rattle.mix_machine.specs.World.{register_of, cell_of, has_break, last_clock};
 ghost use Rattle.mix_machine.specs.Do.{is_halt_next};
 
+use crate::breakpoints::Breakpoints;
 use crate::registers::Registers;
 use mix_word::{Cmp, Decoded, Operation, Place, Reg, Word, decode};
 use std::marker::Model;
 
-/// The machine (1.3.1): registers, overflow toggle, comparison indicator, 4,000 cells, location and clock.
+/// The machine (1.3.1): registers, overflow toggle, comparison indicator, 4,000 cells, location, clock and breakpoints.
 #[derive(Drop)]
 pub struct World {
     pub(crate) registers: Registers,
@@ -16,6 +17,7 @@ pub struct World {
     pub(crate) cells: Vec<Word>,
     pub(crate) loc: u16,
     pub(crate) clock: u64,
+    pub(crate) breaks: Breakpoints,
 }
 
 impl Model for World {
@@ -73,6 +75,13 @@ impl World {
         ensures bound { result ≤ last_clock }
     {
         self.clock
+    }
+
+    /// Whether the cell at a place has a breakpoint, where a run stops.
+    pub fn is_break(&self, p: Place) -> bool
+        ensures { result ≡ has_break self.now p }
+    {
+        self.breaks.get(p)
     }
 
     /// Whether the next instruction is HLT: the location is a cell, whose C is 5 and whose F is 2.

@@ -33,6 +33,7 @@ impl World {
             Old::Cell(place, word) => self.cells[usize::from(place.number())] = word,
             Old::Over(over) => self.over = over,
             Old::Cmp(cmp) => self.cmp = cmp,
+            Old::Break(place, on) => self.breaks.set(place, on),
         }
     }
 
@@ -47,6 +48,7 @@ impl World {
             Old::Cell(place, _) => Old::Cell(place, self.cell(place)),
             Old::Over(_) => Old::Over(self.over),
             Old::Cmp(_) => Old::Cmp(self.cmp),
+            Old::Break(place, _) => Old::Break(place, self.breaks.get(place)),
         }
     }
 }

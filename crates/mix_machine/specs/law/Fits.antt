@@ -1,5 +1,5 @@
 -- Which lists of writes keep the state in its ranges, and that the old values of such a list undo it.
-use Rattle.std.specs.Prelude.{ℕ, zero, suc, ◌+◌, slice_set, Bool, ◌&&◌, nat_le, List, [], ◌∷◌, ◌++◌, ◌≡◌, ◌<◌, ◌≤◌, IsTrue, Some, refl}
+use Rattle.std.specs.Prelude.{ℕ, zero, suc, ◌+◌, slice_set, false, Bool, ◌&&◌, nat_le, List, [], ◌∷◌, ◌++◌, ◌≡◌, ◌<◌, ◌≤◌, IsTrue, Some, refl}
 use Rattle.std.specs.Option.{option_and_then}
 use Rattle.std.proofs.Common.{ap, ◌∙◌, arith, rules}
 use Rattle.std.proofs.lemmas.Bool.Decides.{nat_tests}
@@ -9,7 +9,7 @@ use Rattle.mix_word.specs.Word.{WordValue, zero_word}
 use Rattle.mix_word.specs.declared.register.Reg.{Reg}
 use Rattle.mix_word.specs.declared.register.Reg.TheVariants.{A, X, I1, I2, I3, I4, I5, I6, J}
 use Rattle.mix_machine.specs.Registers.{RegistersState, AreRegisters, held_in, with_register, fits_register}
-use Rattle.mix_machine.specs.World.{WorldState, IsWorld, cell_of, last_clock}
+use Rattle.mix_machine.specs.World.{WorldState, IsWorld, cell_of, has_break, last_clock}
 use Rattle.mix_machine.specs.Write.{set_value, value_at, fits, put_value, Write, set, written, write_all, kept_by, copies, writes_in, writes_of}
 use Rattle.mix_machine.specs.Order.{all_fit}
 use Rattle.mix_machine.specs.declared.plan.Plan.{Plan}
@@ -17,7 +17,7 @@ use Rattle.mix_machine.specs.declared.plan.Plan.TheVariants.{Value, Step}
 use Rattle.mix_machine.specs.declared.plan.Writes.{Writes}
 use Rattle.mix_machine.specs.declared.plan.Writes.TheVariants.{Nothing, Register, RegisterAndToggle, Pair, PairAndToggle, Cell as CellOf, Indicator, Copy}
 use Rattle.mix_machine.specs.declared.old.Old.{Old}
-use Rattle.mix_machine.specs.declared.old.Old.TheVariants.{Loc, Clock, Reg as OldRegister, Cell, Over, Cmp as OldCmp}
+use Rattle.mix_machine.specs.declared.old.Old.TheVariants.{Loc, Clock, Reg as OldRegister, Cell, Over, Cmp as OldCmp, Break}
 
 -- whether a write's value is in the range of its place
 abbrev pub write_fits : Write → Bool
@@ -49,10 +49,11 @@ pub world-set_value : (w : WorldState) (o : Old) → IsWorld w → IsTrue (fits 
 world-set_value w (Loc n) h f = search (rules, nat_tests)
 world-set_value w (Clock t) h f = search (rules, nat_tests)
 world-set_value w (OldRegister r v) h f =
-    record { registers = registers-with w.registers r v h.registers f; cells = h.cells; loc = h.loc; clock = h.clock }
+    record { registers = registers-with w.registers r v h.registers f; cells = h.cells; loc = h.loc; clock = h.clock; breaks = h.breaks }
 world-set_value w (Cell p v) h f = search (rules, nat_tests)
 world-set_value w (Over b) h f = search rules
 world-set_value w (OldCmp c) h f = search rules
+world-set_value w (Break p b) h f = search (rules, nat_tests)
 
 pub fits-held_in : (r : RegistersState) (at : Reg) → AreRegisters r → IsTrue (fits_register at (held_in r at))
 fits-held_in r A h = refl
@@ -87,6 +88,7 @@ fits-value_at w (OldRegister r v) h f = fits-held_in w.registers r h.registers
 fits-value_at w (Cell p v) h f = f
 fits-value_at w (Over b) h f = refl
 fits-value_at w (OldCmp c) h f = refl
+fits-value_at w (Break p b) h f = f
 
 set-value_at : (w : WorldState) (o : Old) → set_value (set_value w o) (value_at w o) ≡ w
 set-value_at w (Loc n) = refl
@@ -99,6 +101,10 @@ set-value_at w (Cell p v) =
     ap (λ (cells : List WordValue). record w { cells = cells }) same
 set-value_at w (Over b) = refl
 set-value_at w (OldCmp c) = refl
+set-value_at w (Break p b) =
+    let same : slice_set (slice_set w.breaks p b) p (has_break w p) ≡ w.breaks =
+    set-set w.breaks p b (has_break w p) ∙ set-get_or w.breaks p false in
+    ap (λ (breaks : List Bool). record w { breaks = breaks }) same
 
 -- putting back what a write replaced undoes it
 put-value_at : (w : WorldState) (o : Old) → IsWorld w → IsTrue (fits o) → put_value (set_value w o) (value_at w o) ≡ Some w

@@ -24,7 +24,7 @@ use Rattle.mix_machine.specs.declared.old.Old.TheVariants as old
 use Rattle.mix_machine.specs.declared.fault.MixFault.{MixFault}
 use Rattle.mix_machine.specs.declared.fault.MixFault.TheVariants.{IndexOverflow}
 use Rattle.mix_machine.specs.declared.old.Change.{Change}
-use Rattle.mix_machine.specs.declared.old.Change.TheVariants.{Step, SetReg, SetCell, SetLoc, SetOver, SetCmp}
+use Rattle.mix_machine.specs.declared.old.Change.TheVariants.{Step, SetReg, SetCell, SetLoc, SetOver, SetCmp, Break, Clear}
 
 -- a jump that is taken goes to a cell
 jump_to_cell : (taken : Bool) (m : WordValue) → not (not taken || is_cell m) ≡ false → taken ≡ true → is_cell m ≡ true
@@ -78,6 +78,10 @@ plan-fits w (SetOver b) p h r e =
     let same : plan.Value (old.Over b) ≡ p = cc in subst (λ q. IsTrue (plan_fits q)) same refl
 plan-fits w (SetCmp c) p h r e =
     let same : plan.Value (old.Cmp c) ≡ p = cc in subst (λ q. IsTrue (plan_fits q)) same refl
+plan-fits w (Break at) p h r e =
+    let same : plan.Value (old.Break at true) ≡ p = cc in subst (λ q. IsTrue (plan_fits q)) same (grind (arith, nat_tests))
+plan-fits w (Clear at) p h r e =
+    let same : plan.Value (old.Break at false) ≡ p = cc in subst (λ q. IsTrue (plan_fits q)) same (grind (arith, nat_tests))
 
 undone-state_after : (w t : WorldState) (c : Change) (r : Result Plan MixFault) → IsWorld w → IsReal c → plan_of w c ≡ r → state_after w r ≡ Ok t →
     put_back put_value (values_kept w r) t ≡ Some w

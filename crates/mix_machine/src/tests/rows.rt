@@ -33,6 +33,7 @@ pub enum Value {
     Cmp(Cmp),
     Loc(u16),
     Clock(u64),
+    Break(u16, bool),
 }
 
 // What a step comes to: its fault; or each value that it writes, altered or not, and the location and the clock after it.

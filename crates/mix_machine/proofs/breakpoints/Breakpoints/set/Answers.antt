@@ -1,0 +1,8 @@
+use Rattle.mix_machine.proofs.BreakLemmas.{set-break}
+use Rattle.mix_machine.proofs.breakpoints.Breakpoints.set.Goals as goal
+
+pub returns : goal.returns
+returns c =
+    let number = c.number-number.ensures in
+    let bit = c.with_bit.ensures in
+    set-break c.self.inside.words c.args.self.now c.args.p c.number-number.result c.from-index.result c.with_bit.result c.args.on number.is number.bound c.from-index.ensures c.self.told c.self.view_is bit.same bit.other

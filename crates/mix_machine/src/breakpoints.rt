@@ -1,0 +1,59 @@
+//! The breakpoints, one bit to a cell.
+ghost use Rattle.std.specs.Prelude.{◌≡◌, ◌<◌, ◌≤◌, ◌^◌, ◌==◌, ◌≢◌, ℕ, false, slice_index_or, slice_set, replicate, if◌then◌else◌};
+ghost use Rattle.std.specs.Int.{bit_at};
+
+use mix_word::Place;
+use std::marker::Model;
+
+/// Of each cell whether it has a breakpoint: 64 cells to a number.
+#[derive(Drop)]
+pub(crate) struct Breakpoints {
+    words: [u64; 63],
+}
+
+impl Model for Breakpoints {
+    ghost use Rattle.std.specs.Prelude.{List, Bool};
+    ghost use Rattle.mix_machine.specs.Breakpoints.{breaks_in};
+
+    ghost Value = { List Bool };
+
+    ghost view = { λ b. breaks_in b.words };
+}
+
+impl Breakpoints {
+    /// No breakpoint.
+    pub(crate) fn none() -> Breakpoints
+        ensures { result ≡ replicate 4000 false }
+    {
+        Breakpoints { words: [0; 63] }
+    }
+
+    /// Whether a cell has a breakpoint.
+    #[tactic(auto, using(crate::proofs::BreakLemmas::reads))]
+    pub(crate) fn get(&self, p: Place) -> bool
+        ensures { result ≡ slice_index_or self.now p false }
+    {
+        let number = p.number();
+        let word = self.words[usize::from(number / 64)];
+        (word >> (number % 64)) & 1 == 1
+    }
+
+    /// Gives a cell a breakpoint, or takes it away.
+    pub(crate) fn set(&mut self, p: Place, on: bool)
+        ensures { self.new ≡ slice_set self.old p on }
+    {
+        let number = p.number();
+        let index = usize::from(number / 64);
+        self.words[index] = with_bit(self.words[index], number % 64, on);
+    }
+}
+
+// A number with one of its bits set, or cleared.
+fn with_bit(word: u64, place: u16, on: bool) -> u64
+    requires { place < 64 }
+    ensures same { bit_at result place ≡ (if on then 1 else 0) }
+    ensures other { (i : ℕ) → i < 64 → i ≢ place → bit_at result i ≡ bit_at word i }
+{
+    let bit = 1 << place;
+    if on { word | bit } else { word & !bit }
+}
