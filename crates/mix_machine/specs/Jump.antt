@@ -60,7 +60,7 @@ is_met NotNegative v = not (is_negative v)
 is_met NotZero v = not (is_zero v)
 is_met NotPositive v = not (is_positive v)
 
--- rJ after a jump: the location behind it where it is taken, and else what it was
+-- rJ after a jump: the location after it where it is taken, and else what it was
 abbrev pub return_address : WorldState → Bool → WordValue
 return_address w taken = if taken then plus (w.loc + 1) else w.registers.j
 

@@ -1,4 +1,4 @@
--- When each fault applies to a step, and in which order they are told.
+-- When each fault applies to a step, and in which order they are tested.
 use Rattle.std.specs.Prelude.{Bool, true, false, not, ◌&&◌, ◌==◌, nat_le, nat_lt, if◌then◌else◌, List, [], ◌∷◌, ◌+◌, Result, Ok, Err}
 use Rattle.mix_word.specs.Operation.{time_of}
 use Rattle.mix_word.specs.Needs.{needs_address, needs_operand}
@@ -17,7 +17,7 @@ use Rattle.mix_machine.specs.declared.plan.Writes.TheVariants.{Nothing, Register
 use Rattle.mix_machine.specs.declared.fault.MixFault.{MixFault}
 use Rattle.mix_machine.specs.declared.fault.MixFault.TheVariants.{NoOperation, FloatingOperation, IndexOverSix, LargeAddress, NoCell, NoField, IndexOverflow, NegativeShift, NoUnit, WrongDirection, NoBlock, BadControl, UnitFull, ClockFull, NoCellAtLocation}
 
--- Whether this machine has an operation: it has no units yet.
+-- Whether this machine has an operation. It has no units.
 abbrev pub is_served : Operation → Bool
 is_served Nop = true
 is_served Add = true
@@ -103,7 +103,7 @@ all_fit (Cell p v) = nat_lt p 4000
 all_fit (Indicator c) = true
 all_fit (Copy c) = nat_le (c.from + c.count) 4000 && nat_le (c.to + c.count) 4000 && nat_lt c.index.magnitude 4096
 
--- Whether a fault applies to what is decoded, with these arguments. A unit is not there yet.
+-- Whether a fault applies to what is decoded, with these arguments. The faults of units apply to nothing here.
 abbrev pub applies : Decoded → WorldState → Arguments → MixFault → Bool
 applies d w a NoOperation = not (has_operation d)
 applies d w a FloatingOperation = is_floating d

@@ -165,7 +165,7 @@ impl World {
     }
 }
 
-// Whether this machine has an operation: it has no units yet.
+// Whether this machine has an operation. It has no units.
 fn is_served(operation: Operation) -> bool
     ensures { result ≡ is_served operation }
 {

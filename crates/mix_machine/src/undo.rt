@@ -28,7 +28,7 @@ impl Undo for World {
 
     ghost put = { put_value };
 
-    /// Does a change (1.3.1), or tells its fault. A fault, or want of memory for what it keeps, alters nothing.
+    /// Does a change (1.3.1), or reports its fault. A fault, or out of memory for what it keeps, alters nothing.
     fn apply(&mut self, change: &Change, kept: &mut Vec<Old>) -> Result<(), Refused<MixFault>> {
         // (the proof knows the ranges of the machine where a field of it is named)
         let _ = &self.loc;

@@ -1,12 +1,10 @@
 -- The plan of an accepted change fits, and taking back what it replaced gives the state before it.
-use Rattle.std.specs.Prelude.{ℕ, Bool, true, false, not, ◌&&◌, ◌||◌, cond, nat_le, nat_lt, ◌≡◌, ◌<◌, ◌≤◌, IsTrue, Some, Result, Ok, Err, refl}
+use Rattle.std.specs.Prelude.{ℕ, Bool, true, false, not, ◌&&◌, cond, nat_le, nat_lt, ◌≡◌, ◌<◌, ◌≤◌, IsTrue, Some, Result, Ok, Err, refl}
 use Rattle.std.proofs.Common.{ap, sym, subst, arith}
 use Rattle.std.proofs.lemmas.Bool.Decides.{nat_tests}
 use Rattle.undo_core.specs.Replay.{put_back}
-use Rattle.mix_word.specs.Word.{WordValue}
 use Rattle.mix_word.specs.declared.decoding.Decoded.{Decoded}
 use Rattle.mix_word.specs.declared.operation.Operation.{Operation}
-use Rattle.mix_word.specs.declared.operation.Operation.TheVariants.{Jump, RegisterJump}
 use Rattle.mix_machine.specs.Registers.{fits_register}
 use Rattle.mix_machine.specs.World.{WorldState, IsWorld, last_clock}
 use Rattle.mix_machine.specs.Write.{put_value, kept_by, write_all, writes_of}
@@ -27,15 +25,9 @@ use Rattle.mix_machine.specs.declared.old.Change.{Change}
 use Rattle.mix_machine.specs.declared.old.Change.TheVariants.{Step, SetReg, SetCell, SetLoc, SetOver, SetCmp, Break, Clear}
 
 -- a jump that is taken goes to a cell
-jump_to_cell : (taken : Bool) (m : WordValue) → not (not taken || is_cell m) ≡ false → taken ≡ true → is_cell m ≡ true
-jump_to_cell true m h t = grind (arith, nat_tests)
-jump_to_cell false m h t = cc
-
 target : (op : Operation) (w : WorldState) (a : Arguments) → not (reaches op w a) ≡ false → (effects op w a).jumps ≡ true →
     is_cell a.m ≡ true
-target (Jump kind) w a h t = jump_to_cell _ a.m h t
-target (RegisterJump r condition) w a h t = jump_to_cell _ a.m h t
-target _ w a h t = cc
+target _ w a h t = grind (arith, nat_tests)
 
 within : (jumps : Bool) (w : WorldState) (a : Arguments) → w.loc < 4000 → (jumps ≡ true → is_cell a.m ≡ true) →
     next_location jumps w a ≤ 4000

@@ -1,4 +1,4 @@
-//! Faults, and which of two is told. C = 5 with F = 3, 4, 5 or 8 and more names no operation, and so on.
+//! Faults, and which of two is reported. C = 5 with F = 3, 4, 5 or 8 and more names no operation, and so on.
 use super::Row;
 use super::Then::{Fault, Writes};
 use super::Value::{Clock, Loc, Reg};
