@@ -89,7 +89,7 @@ fn prints_each_end(rt: HostRuntime) -> Result<(), Fail> {
     for (end, text, told) in ENDS {
         let printed = format!(in rt.alloc(); "{end}")?;
         assert_eq!(rt; printed.as_str(), text);
-        assert_eq!(rt; end.told(), told, "{text}");
+        assert_eq!(rt; end.told(), told);
     }
     Ok(())
 }
