@@ -211,6 +211,20 @@ fn words_written(rt: HostRuntime) -> Result<(), Fail> {
 }
 
 #[test]
+fn every_byte_written(rt: HostRuntime) -> Result<(), Fail> {
+    for byte in 0..64u8 {
+        let other = 63 - byte;
+        let value = word((Minus, [byte, other, byte, other, byte]));
+        let text = format!(in rt.alloc(); "{value}")?;
+        let (a, b) = (byte / 10, byte % 10);
+        let (c, d) = (other / 10, other % 10);
+        let want = format!(in rt.alloc(); "- {a}{b} {c}{d} {a}{b} {c}{d} {a}{b}")?;
+        assert_eq!(rt; text.as_str(), want.as_str(), "{byte}");
+    }
+    Ok(())
+}
+
+#[test]
 fn places(rt: HostRuntime) -> Result<(), Fail> {
     assert_eq!(rt; Place::of(3999).ok_or("a place")?.number(), 3999);
     assert_eq!(rt; Place::of(4000), None);
