@@ -1,12 +1,16 @@
 """A bundle: source, deck and script in one input; what the program writes for it, and its status."""
 
+import assembler
+import source as small
 from commands import Session
+from deck import read_deck
+from listing import listing
 from machine import World
-from source import assemble, is_blank, lines_of
+from pieces import lines_of
+from parts import has
 from texts import Fault
 
 BUNDLE_BYTES = 41943040
-DECK_BYTES = 33554432
 SCRIPT_BYTES = 1048576
 
 
@@ -25,31 +29,39 @@ def cut(text):
     return b"".join(parts[b"source"]), b"".join(parts[b"%DEVICES"]), b"".join(parts[b"%SCRIPT"])
 
 
-def read_deck(deck):
-    """Today a deck has blank lines alone."""
-    if len(deck) > DECK_BYTES:
-        raise Fault("K9", 1)
-    for at, line in enumerate(lines_of(deck), 1):
-        if not is_blank(line):
-            raise Fault("K1", at)
+def program_of(source):
+    """The words with their places, the start, and what the names in commands stand for."""
+    if has("assembler"):
+        program = assembler.assemble(source)
+        return program.words, program.start, program.names
+    return small.assemble(source) + ({},)
 
 
 def run(text, watch=None):
-    """Standard output, standard error and the status."""
+    """Standard output, standard error and the status of a bundle."""
     if len(text) > BUNDLE_BYTES:
         return tool_fault(Fault("T6"))
-    source, deck, script = cut(text)
+    return debug(*cut(text), watch)
+
+
+def run_list(source):
+    """The same of `list`."""
+    output, status = listing(source)
+    return output, b"", status
+
+
+def debug(source, deck, script, watch=None):
     try:
-        words, start = assemble(source)
+        words, start, names = program_of(source)
     except Fault as fault:
         return ("line %d: %s\n" % (fault.line, fault.told())).encode(), b"", 1
     try:
-        read_deck(deck)
+        units = read_deck(deck)
     except Fault as fault:
         return tool_fault(Fault("T5", more="%d: %s" % (fault.line, fault.told())))
     if len(script) > SCRIPT_BYTES:
         return tool_fault(Fault("T6"))
-    session = Session(World(words, start), watch)
+    session = Session(World(words, start, units), names, watch)
     replies, status = [], 0
     for line in lines_of(script):
         reply, accepted = session.command(line)

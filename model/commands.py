@@ -1,18 +1,23 @@
-"""The commands and their replies. The state is the loaded machine and the list of changes that stand."""
+"""The commands and their replies. The state is the loaded machine, the list of changes that stand, and those that `back` took away."""
 
+from expressions import expression, w_value
 from machine import do, replay
 from operations import REGISTERS
-from source import words_of
+from pieces import words_of
+from parts import has
 from texts import Fault
-from words import FULL, ZERO, written
+from units import UNITS, is_empty, shown
+from words import FULL, ZERO, number, written
 
 STEPS = 1000000  # the most that one command does
 
 
 class Session:
-    def __init__(self, loaded, watch=None):
+    def __init__(self, loaded, names, watch=None):
         self.loaded = self.world = loaded
+        self.names = names  # of the program, with their words
         self.changes = []
+        self.ahead = []  # what was taken back and may be done again, the next one first
         self.watch = watch  # told the machine before each step, and the operation that was done or the fault
         self.faulted = False
 
@@ -23,7 +28,7 @@ class Session:
             return b"", True
         self.faulted = False
         try:
-            if words[0] not in COMMANDS:
+            if words[0] not in COMMANDS or words[0] in LATER and not has("commands"):
                 raise Fault("C1")
             reply = COMMANDS[words[0]](self, words[1:])
         except Fault as fault:
@@ -33,10 +38,26 @@ class Session:
     def change(self, change):
         self.world, name = do(self.world, change)
         self.changes.append(change)
+        self.ahead = []
         return name
+
+    def change_or_refuse(self, change):
+        try:
+            self.change(change)
+        except Fault as fault:
+            raise Fault("C5", more=fault.told())
+        return "ok\n"
+
+    def take_back(self, count):
+        left = len(self.changes) - count
+        self.changes, self.ahead = self.changes[:left], self.changes[left:] + self.ahead
+        self.world = replay(self.loaded, self.changes)
 
     def place_and_clock(self):
         return "%04d clock %d" % (self.world.loc, self.world.clock)
+
+    def here(self):
+        return ("+", self.world.loc)
 
 
 # Words of a command. All of them are read before any is tested for its range.
@@ -48,7 +69,7 @@ def digits_of(word):
     return int(word)
 
 
-def word_in(word):
+def plain_word(word):
     """A number of one to ten digits and perhaps a sign, as a word."""
     sign = "-" if word[:1] == b"-" else "+"
     magnitude = digits_of(word[1:] if word[:1] in (b"+", b"-") else word)
@@ -57,11 +78,32 @@ def word_in(word):
     return (sign, magnitude)
 
 
+def expression_in(session, word):
+    if not has("expressions"):
+        return plain_word(word)
+    try:
+        value, at = expression(word, 0, session.names, session.here())
+    except Fault:
+        raise Fault("C2")
+    if at < len(word):
+        raise Fault("C2")
+    return value
+
+
+def w_value_in(session, word):
+    if not has("expressions"):
+        return plain_word(word)
+    try:
+        return w_value(word, session.names, session.here())
+    except Fault:
+        raise Fault("C2")
+
+
 def place_in_range(word):
-    sign, magnitude = word
-    if magnitude > 3999 or sign == "-" and magnitude > 0:
+    place = number(word)
+    if not 0 <= place <= 3999:
         raise Fault("C3")
-    return magnitude
+    return place
 
 
 def count(words, number):
@@ -75,7 +117,16 @@ def count(words, number):
 def step(session, words):
     if len(words) > 1:
         raise Fault("C2")
-    limit = digits_of(words[0]) if words else 1
+    return ran(session, digits_of(words[0]) if words else 1, False)
+
+
+def run(session, words):
+    count(words, 1)
+    return ran(session, digits_of(words[0]), True)
+
+
+def ran(session, limit, stops):
+    """Steps up to a limit, a halt, a fault, or a breakpoint where the command stops at one."""
     if not 1 <= limit <= STEPS:
         raise Fault("C3")
     done, end = 0, None
@@ -86,6 +137,8 @@ def step(session, words):
             done += 1
             if name == "HLT":
                 end = "halt"
+            elif stops and session.world.loc in session.world.breaks:
+                end = "break"
             elif done == limit:
                 end = "limit"
         except Fault as fault:
@@ -101,37 +154,68 @@ def back(session, words):
     count(words, 1)
     if words[0] == b"ALL":
         number = len(session.changes)
+    elif words[0] == b"BREAK" and has("commands"):
+        number = to_a_break(session)
     else:
         number = digits_of(words[0])
         if number < 1:
             raise Fault("C3")
         if number > len(session.changes):
             raise Fault("C4")
-    session.changes = session.changes[:len(session.changes) - number]
-    session.world = replay(session.loaded, session.changes)
+    session.take_back(number)
     return "back %d to %s\n" % (number, session.place_and_clock())
+
+
+def to_a_break(session):
+    """How many changes to take back, one at least, until the location has a breakpoint of the machine as it is then; or all."""
+    world, left = session.loaded, 0
+    for done, change in enumerate(session.changes):
+        if world.loc in world.breaks:
+            left = done
+        world, _ = do(world, change)
+    return len(session.changes) - left
+
+
+def forth(session, words):
+    count(words, 1)
+    number = digits_of(words[0])
+    if number < 1:
+        raise Fault("C3")
+    if number > len(session.ahead):
+        raise Fault("C4")
+    again, left = session.ahead[:number], session.ahead[number:]
+    for change in again:
+        session.change(change)
+    session.ahead = left
+    return "forth %d to %s\n" % (number, session.place_and_clock())
+
+
+def break_(session, words):
+    count(words, 1)
+    return session.change_or_refuse(("break", place_in_range(expression_in(session, words[0]))))
+
+
+def clear(session, words):
+    count(words, 1)
+    return session.change_or_refuse(("clear", place_in_range(expression_in(session, words[0]))))
 
 
 def set_(session, words):
     change = None
     if len(words) == 2 and words[0].decode("latin-1") in REGISTERS + ["J"]:
-        change = ("register", words[0].decode(), word_in(words[1]))
+        change = ("register", words[0].decode(), w_value_in(session, words[1]))
     elif len(words) == 3 and words[0] == b"CELL":
-        place, word = word_in(words[1]), word_in(words[2])
+        place, word = expression_in(session, words[1]), w_value_in(session, words[2])
         change = ("cell", place_in_range(place), word)
     elif len(words) == 2 and words[0] == b"LOC":
-        change = ("loc", place_in_range(word_in(words[1])))
+        change = ("loc", place_in_range(expression_in(session, words[1])))
     elif len(words) == 2 and words[0] == b"OVER" and words[1] in (b"ON", b"OFF"):
         change = ("over", words[1] == b"ON")
     elif len(words) == 2 and words[0] == b"CMP" and words[1] in (b"L", b"E", b"G"):
         change = ("cmp", words[1].decode())
     if change is None:
         raise Fault("C2")
-    try:
-        session.change(change)
-    except Fault as fault:
-        raise Fault("C5", more=fault.told())
-    return "ok\n"
+    return session.change_or_refuse(change)
 
 
 def show(session, words):
@@ -143,11 +227,20 @@ def show(session, words):
     if words == [b"CHANGES"]:
         return "changes %d\n" % len(session.changes)
     if len(words) == 3 and words[0] == b"CELLS":
-        first, last = word_in(words[1]), word_in(words[2])
+        first, last = expression_in(session, words[1]), expression_in(session, words[2])
         first, last = place_in_range(first), place_in_range(last)
         if first > last:
             raise Fault("C3")
-        return "".join("%04d %s\n" % (place, written(world.cell(place))) for place in range(first, last + 1))
+        return "".join(cell_line(world, place) for place in range(first, last + 1))
+    if len(words) == 2 and words[0] == b"UNIT" and has("units"):
+        n = digits_of(words[1])
+        if n >= UNITS:
+            raise Fault("C3")
+        return shown(n, world.units[n])
+    if words == [b"BREAKS"] and has("commands"):
+        return breakpoints(world)
+    if words == [b"ALL"] and has("show-all"):
+        return everything(world)
     raise Fault("C2")
 
 
@@ -160,4 +253,20 @@ def registers(world):
     return "".join(lines)
 
 
-COMMANDS = {b"STEP": step, b"BACK": back, b"SET": set_, b"SHOW": show}
+def cell_line(world, place):
+    return "%04d %s\n" % (place, written(world.cell(place)))
+
+
+def breakpoints(world):
+    return "breaks" + "".join(" %04d" % place for place in sorted(world.breaks)) + "\n"
+
+
+def everything(world):
+    cells = "".join(cell_line(world, place) for place in range(4000) if world.cell(place) != ZERO)
+    units = "".join(shown(n, unit) for n, unit in enumerate(world.units) if not is_empty(unit))
+    return registers(world) + cells + breakpoints(world) + units
+
+
+COMMANDS = {b"STEP": step, b"RUN": run, b"BACK": back, b"FORTH": forth, b"BREAK": break_, b"CLEAR": clear, b"SET": set_,
+            b"SHOW": show}
+LATER = (b"RUN", b"FORTH", b"BREAK", b"CLEAR")

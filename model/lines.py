@@ -16,7 +16,8 @@ LETTERS = b"ABCDEFGHIJKLMNOPQRSTUVWXYZabcdefghijklmnopqrstuvwxyz"
 MAY_HAVE_A_REMARK_ALONE = (b"HLT", b"NUM", b"CHAR")
 PSEUDO = {b"EQU": ("equ",), b"ORIG": ("orig",), b"CON": ("con",), b"END": ("end",)}
 
-NORMAL_F = {0: 0, 7: 1, 32: 2}  # of the operations that have any F; of the others it is the field (0:5)
+# Of the operations that have any F; of the others it is the field (0:5).
+NORMAL_F = {0: 0, 7: 1, 32: 2, 34: 0, 35: 0, 36: 0, 37: 0, 38: 0}
 
 
 def _table():
@@ -24,8 +25,6 @@ def _table():
     named = {}
     for (c, f), op in TABLE.items():
         named.setdefault(op.name.encode(), []).append((c, f))
-    for place, name in enumerate([b"JBUS", b"IOC", b"IN", b"OUT", b"JRED"]):
-        named[name] = [(34 + place, 0)]
     return {name: ("machine",) + (pairs[0] if len(pairs) == 1 else (pairs[0][0], NORMAL_F.get(pairs[0][0], 5)))
             for name, pairs in named.items()}
 

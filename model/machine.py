@@ -2,6 +2,7 @@
 
 from operations import NEEDS_FIELD, NEEDS_NO_ADDRESS, REGISTERS, operation
 from texts import Fault
+from units import begun, check_control, check_in, check_out, control, is_busy, kind_of, no_units, read, write
 from words import (FIELDS, ZERO, add, bytes_of, compare, div, field_value, mul, negated, num, number, put_field, shift,
                    sub, to_char, word_of)
 
@@ -10,8 +11,8 @@ CLOCK_LIMIT = 10**18
 
 
 class World:
-    def __init__(self, words, start):
-        """Loaded: all +0, then the program's words in order, so that a later one wins."""
+    def __init__(self, words, start, units=None):
+        """Loaded: all +0, then the program's words in order, so that a later one wins; the units of the deck."""
         self.registers = {register: ZERO for register in REGISTERS + ["J"]}
         self.cells = {}  # the cells that were written; the others hold +0
         for place, word in words:
@@ -20,6 +21,8 @@ class World:
         self.cmp = "E"
         self.loc = start
         self.clock = 0
+        self.units = units or no_units()
+        self.breaks = frozenset()
 
     def copy(self):
         other = object.__new__(World)
@@ -47,6 +50,10 @@ def do(world, change):
         new.set_register(change[1], change[2])
     elif change[0] == "cell":
         new.cells[change[1]] = change[2]
+    elif change[0] == "break":
+        new.breaks |= {change[1]}
+    elif change[0] == "clear":
+        new.breaks -= {change[1]}
     else:
         setattr(new, change[0], change[1])  # loc, over, cmp
     return new, None
@@ -187,6 +194,36 @@ def jump(w, m, keeps_j=False):
     w.loc = target
 
 
+def with_unit(w, f, unit):
+    w.units = w.units[:f] + (unit,) + w.units[f + 1:]
+
+
+def transfer(w, op, f, m, sign):
+    """IN, OUT and IOC. The clock stood one lower before this step."""
+    kind, unit = kind_of(f), w.units[f]
+    if op.kind == "IOC":
+        check_control(kind, unit, m)
+        unit = control(kind, unit, m)
+    else:
+        (check_in if op.kind == "IN" else check_out)(kind)
+        place_of(m)
+        place_of(m + kind.size - 1)
+        cells = range(m, m + kind.size)
+        if op.kind == "IN":
+            unit, words = read(kind, unit, w.registers["X"])
+            w.cells.update(zip(cells, words))
+        else:
+            unit = write(kind, unit, w.registers["X"], [w.cell(place) for place in cells])
+    w.clock, unit = begun(w.clock - 1, unit)
+    with_unit(w, f, unit)
+
+
+def jump_on_unit(w, op, f, m, sign):
+    kind_of(f)
+    if is_busy(w.clock - 1, w.units[f]) == (op.kind == "JBUS"):
+        jump(w, m)
+
+
 def jump_always(w, op, f, m, sign):
     jump(w, m, op.kind == "JSJ")
 
@@ -220,5 +257,6 @@ ACTIONS = {
     "JNE": jump_on_comparison, "JLE": jump_on_comparison,
     "J N": jump_on_register, "J Z": jump_on_register, "J P": jump_on_register, "J NN": jump_on_register,
     "J NZ": jump_on_register, "J NP": jump_on_register,
+    "IN": transfer, "OUT": transfer, "IOC": transfer, "JBUS": jump_on_unit, "JRED": jump_on_unit,
     "INC": increase, "DEC": increase, "ENT": enter, "ENN": enter,
 }

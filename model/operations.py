@@ -2,6 +2,7 @@
 
 from collections import namedtuple
 
+from parts import has
 from texts import Fault
 
 # The register is the one that the operation names, if it names one. The kind is what operations on several registers
@@ -19,6 +20,7 @@ SHIFTS = ["SLA", "SRA", "SLAX", "SRAX", "SLC", "SRC"]
 JUMPS = ["JMP", "JSJ", "JOV", "JNOV", "JL", "JE", "JG", "JGE", "JNE", "JLE"]
 REGISTER_JUMPS = ["N", "Z", "P", "NN", "NZ", "NP"]
 ADDRESS_TRANSFERS = ["INC", "DEC", "ENT", "ENN"]
+UNIT_OPERATIONS = ["JBUS", "IOC", "IN", "OUT", "JRED"]
 
 TABLE = {}
 
@@ -56,13 +58,14 @@ for _i, _r in enumerate(REGISTERS):
     _any_f(56 + _i, "CMP" + _short, 2, "CMP", _r)
 _any_f(32, "STJ", 2, "ST", "J")
 _any_f(33, "STZ", 2)
+for _c, _name in enumerate(UNIT_OPERATIONS, 34):
+    _any_f(_c, _name, 1)  # a transfer may have to wait, and takes longer then
 _by_f(39, JUMPS, 1)
-# 34 to 38, the operations on units, are not modelled yet: they name no operation.
 
 
 def operation(c, f):
     if (c, f) in FLOATING:
         raise Fault("M2")
-    if (c, f) not in TABLE:
+    if (c, f) not in TABLE or 34 <= c <= 38 and not has("units"):
         raise Fault("M1")
     return TABLE[c, f]

@@ -1,6 +1,7 @@
-"""The source language of today: ENTA, INCA, STA, HLT and END with plain numbers, no LOC (1.3.2)."""
+"""The small assembler: ENTA, INCA, STA, HLT and END with plain numbers, no LOC (1.3.2)."""
 
 from operations import TABLE
+from pieces import is_blank, lines_of, words_of
 from texts import Fault
 from words import FULL, code_of, joined
 
@@ -11,23 +12,6 @@ OPERATIONS = {
     op.name.encode(): (c, f) for (c, f), op in TABLE.items() if op.name in ("ENTA", "INCA", "HLT") or
     op.name == "STA" and f == 5
 }
-
-
-def lines_of(text):
-    """Pieces between line feeds; an empty last one doesn't count; one carriage return at the end of each is dropped."""
-    pieces = text.split(b"\n")
-    if pieces[-1] == b"":
-        pieces.pop()
-    return [piece[:-1] if piece.endswith(b"\r") else piece for piece in pieces]
-
-
-def words_of(line):
-    """What stands between blanks. A tab is a blank, and nothing else is."""
-    return [word for word in line.replace(b"\t", b" ").split(b" ") if word]
-
-
-def is_blank(line):
-    return not words_of(line)
 
 
 def check_characters(word):

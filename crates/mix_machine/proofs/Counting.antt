@@ -1,5 +1,5 @@
 -- The number of old values that an accepted change keeps.
-use Rattle.std.proofs.Common.{ℕ, suc, ◌+◌, ◌*◌, ◌<◌, ◌≡◌, ◌≤◌, ◌∙◌, ◌==◌, Bool, true, false, cond, List, [], ◌∷◌, Option, Some, None, Result, Ok, Err, length, refl, ap, sym, subst, arith, length-append}
+use Rattle.std.proofs.Common.{ℕ, suc, ◌+◌, ◌-◌, ◌*◌, ◌<◌, ◌≡◌, ◌≤◌, ◌∙◌, ◌==◌, Bool, true, false, not, cond, ◌++◌, List, [], ◌∷◌, Option, Some, None, Result, Ok, Err, length, refl, ap, subst, arith, length-append}
 use Rattle.std.specs.Option.{option_map_or}
 use Rattle.std.specs.Result.{result_ok, is_ok}
 use Rattle.undo_core.specs.Replay.{count_kept}
@@ -11,17 +11,24 @@ use Rattle.mix_word.specs.declared.operation.ShiftKind.{ShiftKind}
 use Rattle.mix_word.specs.declared.operation.ShiftKind.TheVariants.{Sla, Sra, Slax, Srax, Slc, Src}
 use Rattle.mix_word.specs.declared.operation.JumpKind.{JumpKind}
 use Rattle.mix_word.specs.declared.operation.JumpKind.TheVariants.{Jmp, Jsj, Jov, Jnov, Less, Equal, Greater, GreaterEqual, NotEqual, LessEqual}
+use Rattle.mix_word.specs.declared.decoding.Decoded.{Decoded}
 use Rattle.mix_word.specs.declared.operation.Operation.{Operation}
-use Rattle.mix_word.specs.declared.operation.Operation.TheVariants.{Div, Shift, Move, Jump, Increase, Decrease}
+use Rattle.mix_word.specs.declared.operation.Operation.TheVariants.{Div, Shift, Move, Ioc, In, Out, Jump, Increase, Decrease}
 use Rattle.mix_machine.specs.Registers.{fits_register}
-use Rattle.mix_machine.specs.World.{WorldState}
-use Rattle.mix_machine.specs.Write.{writes_in, writes_of, copies}
+use Rattle.mix_machine.specs.World.{WorldState, unit_at}
+use Rattle.mix_machine.specs.UnitAction.{wound}
+use Rattle.mix_machine.specs.units.Kind.{block_length, has_place, has_medium}
+use Rattle.mix_machine.specs.declared.units.kind.Kind.{Kind}
+use Rattle.mix_machine.specs.declared.units.kind.Kind.TheVariants.{Tape, Disk, CardReader, CardPunch, Printer, Typewriter, PaperTape}
+use Rattle.mix_machine.specs.declared.plan.Transfer.{Transfer}
+use Rattle.mix_machine.specs.declared.old.Old.{Old}
+use Rattle.mix_machine.specs.Write.{Write, set, grow, words_out, writes_in, writes_of, copies, each, busy, from_block, from_cell, replace_writes, append_writes, row_writes, control_writes}
 use Rattle.mix_machine.specs.Decode.{decode_at, arguments_at}
-use Rattle.mix_machine.specs.Effects.{effects, sum_into, shift_into, quotient_into, copy_of}
+use Rattle.mix_machine.specs.Effects.{effects, sum_into, shift_into, quotient_into, copy_of, transfer_of}
 use Rattle.mix_machine.specs.Jump.{jump_writes}
 use Rattle.mix_machine.specs.Order.{applies, operation_or_nop}
-use Rattle.mix_machine.specs.Do.{does, kept_values, plan_of, values_kept, step_plan}
-use Rattle.mix_machine.specs.KeptCount.{beside, beside_sum, beside_shift, beside_jump, count_of, kept_count, most_kept}
+use Rattle.mix_machine.specs.Do.{does, kept_values, plan_of, values_kept, step_plan, step_or_fault}
+use Rattle.mix_machine.specs.KeptCount.{beside, beside_sum, beside_shift, beside_jump, beside_block, beside_in, beside_out, beside_control, count_of, kept_count, most_kept}
 use Rattle.mix_machine.specs.law.Passed.{passed}
 use Rattle.mix_machine.specs.declared.decode.Arguments.{Arguments}
 use Rattle.mix_machine.specs.declared.plan.Plan.{Plan}
@@ -33,6 +40,7 @@ use Rattle.mix_machine.specs.declared.fault.MixFault.{MixFault}
 use Rattle.mix_machine.specs.declared.fault.MixFault.TheVariants.{IndexOverflow}
 use Rattle.mix_machine.specs.declared.old.Change.{Change}
 use Rattle.mix_machine.specs.declared.old.Change.TheVariants.{Step, SetReg, SetCell, SetLoc, SetOver, SetCmp, Break, Clear}
+use Rattle.mix_machine.proofs.EachLemmas.{length-each}
 use Rattle.mix_machine.proofs.WriteLemmas.{length-copies, length-kept_by}
 
 -- how many values an operation's writes keep
@@ -80,10 +88,41 @@ number-copy w a =
       | false ↦ length-append (copies a.f a.m.magnitude w.registers.i1.magnitude w) _ ∙ ap (λ n. n + 1) (length-copies a.f a.m.magnitude w.registers.i1.magnitude w)
     ]
 
+number-block : (b : Bool) (size : ℕ) (w : WorldState) (t : Transfer) (f : ℕ → Old) →
+    length (cond b (set (old.At t.unit (t.block + 1)) ∷ []) [] ++ busy w t.unit ∷ each size 0 f) ≡ size + cond b 2 1
+number-block true size w t f = ap (λ n. suc (suc n)) (length-each size 0 f) ∙ omega arith
+number-block false size w t f = ap suc (length-each size 0 f) ∙ omega arith
+
+number-append : (b : Bool) (x y : Write) (w : WorldState) (t : Transfer) →
+    length (x ∷ cond b (set (old.At t.unit (t.block + 1)) ∷ []) [] ++ y ∷ []) ≡ 1 + cond b 2 1
+number-append true x y w t = refl
+number-append false x y w t = refl
+
+number-out : (kind : Kind) (m there : Bool) (w : WorldState) (t : Transfer) →
+    length (cond (not m) (row_writes kind w t) (cond there (replace_writes kind w t) (append_writes kind w t)))
+    ≡ cond m (cond there (block_length kind) 1 + beside_block kind) 2
+number-out kind false there w t = refl
+number-out kind true true w t = number-block (has_place kind) (block_length kind) w t (from_cell w t)
+number-out kind true false w t = number-append (has_place kind) (grow t.unit (t.block - length (unit_at w t.unit).blocks) (words_out kind w t)) (busy w t.unit) w t
+
+number-control : (kind : Kind) (w : WorldState) (n k : ℕ) → length (control_writes kind w n k) ≡ beside_control kind
+number-control Tape w n k = refl
+number-control Disk w n k = refl
+number-control CardReader w n k = refl
+number-control CardPunch w n k = refl
+number-control Printer w n k = refl
+number-control Typewriter w n k = refl
+number-control PaperTape w n k = refl
+
 number-effects : (op : Operation) (w : WorldState) (a : Arguments) → number w (effects op w a).writes ≡ beside op w a
 number-effects Div w a = number-quotient w w _
 number-effects (Shift kind) w a = number-shift kind w _
 number-effects Move w a = number-copy w a
+number-effects Ioc w a = number-control (unit_at w a.f).kind w a.f (wound (unit_at w a.f) a.m)
+number-effects In w a =
+    let kind = (unit_at w a.f).kind in
+    number-block (has_place kind) (block_length kind) w (transfer_of w a) (from_block w (transfer_of w a))
+number-effects Out w a = number-out (unit_at w a.f).kind (has_medium (unit_at w a.f).kind) _ w (transfer_of w a)
 number-effects (Jump kind) w a = number-jump kind w _
 number-effects (Increase r) w a = number-sum r w w _
 number-effects (Decrease r) w a = number-sum r w w _
@@ -151,9 +190,41 @@ few-copies n h =
       | false ↦ omega arith
     ]
 
+few-in : (kind : Kind) → 2 + beside_in kind ≤ most_kept
+few-in Tape = omega arith
+few-in Disk = omega arith
+few-in CardReader = omega arith
+few-in CardPunch = omega arith
+few-in Printer = omega arith
+few-in Typewriter = omega arith
+few-in PaperTape = omega arith
+
+few-out : (kind : Kind) (there : Bool) → 2 + beside_out kind there ≤ most_kept
+few-out Tape true = omega arith
+few-out Tape false = omega arith
+few-out Disk true = omega arith
+few-out Disk false = omega arith
+few-out CardReader there = omega arith
+few-out CardPunch there = omega arith
+few-out Printer there = omega arith
+few-out Typewriter there = omega arith
+few-out PaperTape there = omega arith
+
+few-control : (kind : Kind) → 2 + beside_control kind ≤ most_kept
+few-control Tape = omega arith
+few-control Disk = omega arith
+few-control CardReader = omega arith
+few-control CardPunch = omega arith
+few-control Printer = omega arith
+few-control Typewriter = omega arith
+few-control PaperTape = omega arith
+
 few-beside : (op : Operation) (w : WorldState) (a : Arguments) → a.f < 64 → 2 + beside op w a ≤ most_kept
 few-beside (Shift kind) w a h = few-shift kind
 few-beside Move w a h = few-copies a.f h
+few-beside Ioc w a h = few-control (unit_at w a.f).kind
+few-beside In w a h = few-in (unit_at w a.f).kind
+few-beside Out w a h = few-out (unit_at w a.f).kind _
 few-beside (Jump kind) w a h = few-jump kind
 few-beside (Increase r) w a h = few-sum r
 few-beside (Decrease r) w a h = few-sum r
@@ -190,6 +261,9 @@ few_in_all w (c ∷ cs) =
       | Err f ↦ omega arith
     ]
 
--- there is room for what a change writes where there is room for the most
-pub few_written : (w : WorldState) (c : Change) (p : Plan) → Ok p ≡ plan_of w c → length (writes_of w p) ≤ most_kept
-few_written w c p e = rw (number-written w c p (sym e)) (few w c)
+-- there is room for what a step writes where there is room for the most
+pub few_in_step : (d : Decoded) (w : WorldState) (a : Arguments) (p : Plan) → a.f < 64 → step_or_fault d w a ≡ Ok p → length (writes_of w p) ≤ most_kept
+few_in_step d w a p h e =
+    let op = operation_or_nop d in
+    let same = passed (applies d w a) (step_plan op w a) p e in
+    subst (λ q. length (writes_of w q) ≤ most_kept) same.1 (rw (number-step op w a) (few-beside op w a h))

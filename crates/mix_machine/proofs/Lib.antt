@@ -1,7 +1,15 @@
+pub mod BlockLemmas
 pub mod BreakLemmas
 pub mod CopyLemmas
 pub mod Counting
+pub mod DeckLemmas
+pub mod DelayLemmas
+pub mod EachLemmas
 pub mod Halting
+pub mod RegisterLemmas
 pub mod Reverting
 pub mod StageLemmas
+pub mod TransferLemmas
+pub mod UnitLemmas
+pub mod UnitsLemmas
 pub mod WriteLemmas

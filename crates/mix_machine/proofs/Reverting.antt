@@ -27,13 +27,13 @@ fits-of false xs w h = h
 
 -- the last value fits where the whole list can be put back
 pub last-fits : (n : ℕ) (items rest : List Old) (o : Old) (w : WorldState) → items ≡ rest ++ o ∷ [] → n ≤ length rest →
-    IsSome (put_back put_value (drop n items) w) → IsTrue (fits o)
+    IsSome (put_back put_value (drop n items) w) → IsTrue (fits w o)
 last-fits n items rest o w e h some =
-    fits-of (fits o) (drop n rest) (set_value w o) (subst IsSome (put_back-drop n items rest o w e h) some)
+    fits-of (fits w o) (drop n rest) (set_value w o) (subst IsSome (put_back-drop n items rest o w e h) some)
 
 -- putting back the rest after it gives what putting back the whole list does
 pub last-put : (n : ℕ) (items rest : List Old) (o : Old) (w : WorldState) → items ≡ rest ++ o ∷ [] → n ≤ length rest →
-    IsTrue (fits o) → put_back put_value (drop n items) w ≡ put_back put_value (drop n rest) (set_value w o)
+    IsTrue (fits w o) → put_back put_value (drop n items) w ≡ put_back put_value (drop n rest) (set_value w o)
 last-put n items rest o w e h f =
     put_back-drop n items rest o w e h
     ∙ ap (λ b. option_and_then (put_back put_value (drop n rest)) (then_some b (set_value w o))) f

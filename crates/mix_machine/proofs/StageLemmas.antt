@@ -1,5 +1,5 @@
 -- The tests of a step made in groups find the same fault as the one order does.
-use Rattle.std.proofs.Common.{◌≡◌, ◌∙◌, Bool, true, false, cond, List, [], ◌∷◌, ◌++◌, Some, None, Ok, Err, refl}
+use Rattle.std.proofs.Common.{◌≡◌, ◌∙◌, Bool, true, false, cond, List, [], ◌∷◌, ◌++◌, Some, None, Result, Ok, Err, refl, ap}
 use Rattle.mix_machine.specs.Order.{first_fault, order}
 use Rattle.mix_machine.specs.law.Stages.{of_instruction, of_operation, fault_among}
 use Rattle.mix_machine.specs.declared.fault.MixFault.{MixFault}

@@ -1,6 +1,5 @@
 -- What a change does: the new state, or the first fault, which leaves the state as it was.
 use Rattle.std.specs.Prelude.{true, false, ℕ, Bool, ◌&&◌, ◌==◌, ◌<◌, nat_lt, if◌then◌else◌, List, [], ◌+◌, Result, Ok, Err}
-use Rattle.mix_word.specs.Operation.{time_of}
 use Rattle.mix_word.specs.declared.decoding.Decoded.{Decoded}
 use Rattle.mix_word.specs.declared.operation.Operation.{Operation}
 use Rattle.mix_machine.specs.Registers.{fits_register}
@@ -8,7 +7,7 @@ use Rattle.mix_machine.specs.World.{WorldState}
 use Rattle.mix_machine.specs.Write.{write_all, kept_by, writes_of}
 use Rattle.mix_machine.specs.Decode.{instruction, decode_at, arguments_at}
 use Rattle.mix_machine.specs.Effects.{effects}
-use Rattle.mix_machine.specs.Order.{applies, order, first_fault, operation_or_nop}
+use Rattle.mix_machine.specs.Order.{applies, order, first_fault, operation_or_nop, clock_after}
 use Rattle.mix_machine.specs.declared.decode.Arguments.{Arguments}
 use Rattle.mix_machine.specs.declared.plan.Plan.{Plan}
 use Rattle.mix_machine.specs.declared.plan.Plan.TheVariants as plan
@@ -23,10 +22,10 @@ use Rattle.mix_machine.specs.declared.old.Old.TheVariants as old
 abbrev pub next_location : Bool → WorldState → Arguments → ℕ
 next_location jumps w a = if jumps then a.m.magnitude else w.loc + 1
 
--- what an operation writes, the next location, and the clock with the operation's time
+-- what an operation writes, the next location, and the next clock
 abbrev pub step_plan : Operation → WorldState → Arguments → Plan
 step_plan op w a =
-    plan.Step (effects op w a).writes (next_location (effects op w a).jumps w a) (w.clock + time_of op a.f)
+    plan.Step (effects op w a).writes (next_location (effects op w a).jumps w a) (clock_after op w a)
 
 -- what a step of what is decoded writes, or its first fault
 abbrev pub step_or_fault : Decoded → WorldState → Arguments → Result Plan MixFault

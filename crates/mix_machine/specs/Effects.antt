@@ -15,13 +15,16 @@ use Rattle.mix_word.specs.declared.operation.ShiftKind.{ShiftKind}
 use Rattle.mix_word.specs.declared.operation.ShiftKind.TheVariants.{Sla, Sra, Slax, Srax, Slc, Src}
 use Rattle.mix_word.specs.declared.operation.Operation.{Operation}
 use Rattle.mix_word.specs.declared.operation.Operation.TheVariants.{Nop, Add, Sub, Mul, Div, Num, Char, Hlt, Shift, Move, Load, LoadNegated, Store, StoreJ, StoreZero, Jbus, Ioc, In, Out, Jred, Jump, RegisterJump, Increase, Decrease, Enter, EnterNegated, Compare}
-use Rattle.mix_machine.specs.World.{WorldState, register_of, cell_of}
+use Rattle.mix_machine.specs.World.{WorldState, register_of, cell_of, unit_at}
 use Rattle.mix_machine.specs.Decode.{is_natural, is_cell, field_at, operand}
 use Rattle.mix_machine.specs.Jump.{is_taken, is_met, return_address, jump_writes}
+use Rattle.mix_machine.specs.UnitAction.{is_busy, block_at, wound}
+use Rattle.mix_machine.specs.units.Kind.{block_length}
 use Rattle.mix_machine.specs.declared.decode.Arguments.{Arguments}
 use Rattle.mix_machine.specs.declared.plan.Effects.{Effects}
+use Rattle.mix_machine.specs.declared.plan.Transfer.{Transfer}
 use Rattle.mix_machine.specs.declared.plan.Writes.{Writes}
-use Rattle.mix_machine.specs.declared.plan.Writes.TheVariants.{Nothing, Register, RegisterAndToggle, Pair, PairAndToggle, Cell, Indicator, Copy}
+use Rattle.mix_machine.specs.declared.plan.Writes.TheVariants.{Nothing, Register, RegisterAndToggle, Pair, PairAndToggle, Cell, Indicator, Copy, Input, Output, Control}
 
 -- an operation that goes on to the next location
 abbrev pub goes_on : Writes → Effects
@@ -79,6 +82,14 @@ copy_of w a =
       index = (sum_of w.registers.i1 (plus a.f)).0;
     })
 
+-- a jump to M by whether the unit F is busy
+abbrev pub jumps_by : Bool → WorldState → Effects
+jumps_by taken w = jumps_where taken (Register reg.J (return_address w taken))
+
+-- a block of the unit F, and as many cells from M on
+abbrev pub transfer_of : WorldState → Arguments → Transfer
+transfer_of w a = record { unit = a.f; block = block_at w a.f; cell = a.m.magnitude }
+
 abbrev pub effects : Operation → WorldState → Arguments → Effects
 effects Nop w a = goes_on Nothing
 effects Add w a = goes_on (sum_into A w (sum_of w.registers.a (operand w a)))
@@ -95,11 +106,11 @@ effects (LoadNegated r) w a = goes_on (word_into r (negation_of (operand w a)))
 effects (Store r) w a = goes_on (word_to_cell w a (register_of w (reg_of r)))
 effects StoreJ w a = goes_on (word_to_cell w a w.registers.j)
 effects StoreZero w a = goes_on (word_to_cell w a zero_word)
-effects Jbus w a = goes_on Nothing
-effects Ioc w a = goes_on Nothing
-effects In w a = goes_on Nothing
-effects Out w a = goes_on Nothing
-effects Jred w a = goes_on Nothing
+effects Jbus w a = jumps_by (is_busy w a.f) w
+effects Ioc w a = goes_on (Control a.f (wound (unit_at w a.f) a.m))
+effects In w a = goes_on (Input (transfer_of w a))
+effects Out w a = goes_on (Output (transfer_of w a))
+effects Jred w a = jumps_by (not (is_busy w a.f)) w
 effects (Jump kind) w a = jumps_where (is_taken kind w) (jump_writes kind (return_address w (is_taken kind w)))
 effects (RegisterJump r condition) w a =
     let taken = is_met condition (register_of w (reg_of r)) in
@@ -115,7 +126,8 @@ effects (Compare r) w a =
 abbrev pub is_row : WordValue → ℕ → Bool
 is_row m f = is_natural m && nat_le (m.magnitude + f) 4000
 
--- whether there is each cell that an operation uses: the operand, the cells of MOVE, the target of a jump taken
+-- whether there is each cell that an operation uses: the operand, the cells of MOVE or of a block, the target of a
+-- jump taken
 abbrev pub reaches : Operation → WorldState → Arguments → Bool
 reaches Nop w a = true
 reaches Add w a = is_cell a.m
@@ -132,11 +144,11 @@ reaches (LoadNegated r) w a = is_cell a.m
 reaches (Store r) w a = is_cell a.m
 reaches StoreJ w a = is_cell a.m
 reaches StoreZero w a = is_cell a.m
-reaches Jbus w a = true
+reaches Jbus w a = not (is_busy w a.f) || is_cell a.m
 reaches Ioc w a = true
-reaches In w a = true
-reaches Out w a = true
-reaches Jred w a = true
+reaches In w a = is_row a.m (block_length (unit_at w a.f).kind)
+reaches Out w a = is_row a.m (block_length (unit_at w a.f).kind)
+reaches Jred w a = is_busy w a.f || is_cell a.m
 reaches (Jump kind) w a = not (is_taken kind w) || is_cell a.m
 reaches (RegisterJump r condition) w a = not (is_met condition (register_of w (reg_of r))) || is_cell a.m
 reaches (Increase r) w a = true

@@ -1,5 +1,5 @@
 -- How many old values an accepted change keeps: a table of its own.
-use Rattle.std.specs.Prelude.{ℕ, ◌+◌, ◌==◌, if◌then◌else◌}
+use Rattle.std.specs.Prelude.{ℕ, ◌+◌, Bool, ◌==◌, nat_lt, length, if◌then◌else◌}
 use Rattle.std.specs.Result.{is_ok}
 use Rattle.mix_word.specs.declared.register.DataReg.{DataReg}
 use Rattle.mix_word.specs.declared.register.DataReg.TheVariants.{A, I1, I2, I3, I4, I5, I6, X}
@@ -9,7 +9,11 @@ use Rattle.mix_word.specs.declared.operation.JumpKind.{JumpKind}
 use Rattle.mix_word.specs.declared.operation.JumpKind.TheVariants.{Jmp, Jsj, Jov, Jnov, Less, Equal, Greater, GreaterEqual, NotEqual, LessEqual}
 use Rattle.mix_word.specs.declared.operation.Operation.{Operation}
 use Rattle.mix_word.specs.declared.operation.Operation.TheVariants.{Nop, Add, Sub, Mul, Div, Num, Char, Hlt, Shift, Move, Load, LoadNegated, Store, StoreJ, StoreZero, Jbus, Ioc, In, Out, Jred, Jump, RegisterJump, Increase, Decrease, Enter, EnterNegated, Compare}
-use Rattle.mix_machine.specs.World.{WorldState}
+use Rattle.mix_machine.specs.World.{WorldState, unit_at}
+use Rattle.mix_machine.specs.UnitAction.{block_at}
+use Rattle.mix_machine.specs.units.Kind.{block_length, has_place, has_medium}
+use Rattle.mix_machine.specs.declared.units.kind.Kind.{Kind}
+use Rattle.mix_machine.specs.declared.units.kind.Kind.TheVariants.{Tape, Disk, CardReader, CardPunch, Printer, Typewriter, PaperTape}
 use Rattle.mix_machine.specs.Decode.{decode_at, arguments_at}
 use Rattle.mix_machine.specs.Order.{operation_or_nop}
 use Rattle.mix_machine.specs.Do.{plan_of}
@@ -17,9 +21,9 @@ use Rattle.mix_machine.specs.declared.decode.Arguments.{Arguments}
 use Rattle.mix_machine.specs.declared.old.Change.{Change}
 use Rattle.mix_machine.specs.declared.old.Change.TheVariants.{Step, SetReg, SetCell, SetLoc, SetOver, SetCmp, Break, Clear}
 
--- the most that one change keeps, that of a block of 100 words and its place among them
+-- the most that one change keeps, that of a tape's block of 100 words, its place and its time
 abbrev pub most_kept : ℕ
-most_kept = 103
+most_kept = 104
 
 -- INC and DEC: rA and rX with the toggle, an index register alone
 abbrev pub beside_sum : DataReg → ℕ
@@ -53,6 +57,29 @@ beside_jump GreaterEqual = 1
 beside_jump NotEqual = 1
 beside_jump LessEqual = 1
 
+-- a transfer of a block: the time of the unit, and its place where it has one
+abbrev pub beside_block : Kind → ℕ
+beside_block kind = if has_place kind then 2 else 1
+
+-- IN: the cells too
+abbrev pub beside_in : Kind → ℕ
+beside_in kind = block_length kind + beside_block kind
+
+-- OUT: the words that are replaced too, or the length of what grows
+abbrev pub beside_out : Kind → Bool → ℕ
+beside_out kind is_there =
+    if has_medium kind then (if is_there then block_length kind else 1) + beside_block kind else 2
+
+-- IOC: the time, and the place of a tape or the length of what the printer has written
+abbrev pub beside_control : Kind → ℕ
+beside_control Tape = 2
+beside_control Disk = 1
+beside_control CardReader = 0
+beside_control CardPunch = 0
+beside_control Printer = 2
+beside_control Typewriter = 0
+beside_control PaperTape = 2
+
 -- what a step keeps beside the location and the clock, whether or not the values alter
 abbrev pub beside : Operation → WorldState → Arguments → ℕ
 beside Nop w a = 0
@@ -70,11 +97,11 @@ beside (LoadNegated r) w a = 1
 beside (Store r) w a = 1
 beside StoreJ w a = 1
 beside StoreZero w a = 1
-beside Jbus w a = 0
-beside Ioc w a = 0
-beside In w a = 0
-beside Out w a = 0
-beside Jred w a = 0
+beside Jbus w a = 1
+beside Ioc w a = beside_control (unit_at w a.f).kind
+beside In w a = beside_in (unit_at w a.f).kind
+beside Out w a = beside_out (unit_at w a.f).kind (nat_lt (block_at w a.f) (length (unit_at w a.f).blocks))
+beside Jred w a = 1
 beside (Jump kind) w a = beside_jump kind
 beside (RegisterJump r condition) w a = 1
 beside (Increase r) w a = beside_sum r

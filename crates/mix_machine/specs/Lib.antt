@@ -8,7 +8,9 @@ pub mod KeptCount
 pub mod Loaded
 pub mod Order
 pub mod Registers
+pub mod UnitAction
 pub mod View
 pub mod World
 pub mod Write
 pub mod law
+pub mod units

@@ -4,15 +4,16 @@ use Rattle.mix_word.specs.Word.{WordValue, zero_word}
 use Rattle.mix_word.specs.declared.word.Cmp.TheVariants.{Equal}
 use Rattle.mix_machine.specs.Registers.{blank_registers}
 use Rattle.mix_machine.specs.World.{WorldState}
+use Rattle.mix_machine.specs.units.Units.{UnitsState}
 
 -- the cells with words put at their places in order, so that a later one wins
 abbrev pub placed : List WordValue → List (ℕ × WordValue) → List WordValue
 placed cells [] = cells
 placed cells (w ∷ ws) = placed (slice_set cells w.0 w.1) ws
 
--- registers +0, toggle off, indicator EQUAL, clock 0, no breakpoint, these cells, and this location
-abbrev pub blank : List WordValue → ℕ → WorldState
-blank cells start =
+-- registers +0, toggle off, indicator EQUAL, clock 0, no breakpoint, these cells, this location, and these units
+abbrev pub blank : List WordValue → ℕ → UnitsState → WorldState
+blank cells start units =
     record {
       registers = blank_registers;
       over = false;
@@ -20,9 +21,10 @@ blank cells start =
       cells = cells;
       loc = start;
       clock = 0;
+      units = units;
       breaks = replicate 4000 false;
     }
 
--- the blank machine with the words of a program in cells that were +0, at the program's start
-unfoldable pub loaded : List (ℕ × WordValue) → ℕ → WorldState
-loaded words start = blank (placed (replicate 4000 zero_word) words) start
+-- the blank machine with the words of a program in cells that were +0, at the program's start, and with the units of a deck
+unfoldable pub loaded : List (ℕ × WordValue) → ℕ → UnitsState → WorldState
+loaded words start units = blank (placed (replicate 4000 zero_word) words) start units

@@ -1,51 +1,22 @@
 -- When each fault applies to a step, and in which order they are tested.
-use Rattle.std.specs.Prelude.{Bool, true, false, not, ◌&&◌, ◌==◌, nat_le, nat_lt, if◌then◌else◌, List, [], ◌∷◌, ◌+◌, Result, Ok, Err}
+use Rattle.std.specs.Prelude.{ℕ, Bool, true, false, not, ◌&&◌, ◌==◌, nat_le, nat_lt, if◌then◌else◌, List, [], ◌∷◌, ◌+◌, Result, Ok, Err}
 use Rattle.mix_word.specs.Operation.{time_of}
-use Rattle.mix_word.specs.Needs.{needs_address, needs_operand}
+use Rattle.mix_word.specs.Needs.{needs_address, needs_operand, needs_unit}
 use Rattle.mix_word.specs.declared.decoding.Decoded.{Decoded}
 use Rattle.mix_word.specs.declared.decoding.Decoded.TheVariants.{Named, Floating, Unknown}
 use Rattle.mix_word.specs.declared.operation.Operation.{Operation}
 use Rattle.mix_word.specs.declared.operation.Operation.TheVariants.{Nop, Add, Sub, Mul, Div, Num, Char, Hlt, Shift, Move, Load, LoadNegated, Store, StoreJ, StoreZero, Jbus, Ioc, In, Out, Jred, Jump, RegisterJump, Increase, Decrease, Enter, EnterNegated, Compare}
 use Rattle.mix_machine.specs.Registers.{fits_register}
-use Rattle.mix_machine.specs.World.{WorldState, last_clock}
+use Rattle.mix_machine.specs.World.{WorldState, unit_at, last_clock}
 use Rattle.mix_machine.specs.Decode.{is_field}
 use Rattle.mix_machine.specs.Jump.{is_negative}
 use Rattle.mix_machine.specs.Effects.{effects, reaches}
+use Rattle.mix_machine.specs.UnitAction.{use_of, start_of, wrong_direction, bad_control, no_block, unit_full}
 use Rattle.mix_machine.specs.declared.decode.Arguments.{Arguments}
 use Rattle.mix_machine.specs.declared.plan.Writes.{Writes}
-use Rattle.mix_machine.specs.declared.plan.Writes.TheVariants.{Nothing, Register, RegisterAndToggle, Pair, PairAndToggle, Cell, Indicator, Copy}
+use Rattle.mix_machine.specs.declared.plan.Writes.TheVariants.{Nothing, Register, RegisterAndToggle, Pair, PairAndToggle, Cell, Indicator, Copy, Input, Output, Control}
 use Rattle.mix_machine.specs.declared.fault.MixFault.{MixFault}
 use Rattle.mix_machine.specs.declared.fault.MixFault.TheVariants.{NoOperation, FloatingOperation, IndexOverSix, LargeAddress, NoCell, NoField, IndexOverflow, NegativeShift, NoUnit, WrongDirection, NoBlock, BadControl, UnitFull, ClockFull, NoCellAtLocation}
-
--- Whether this machine has an operation. It has no units.
-abbrev pub is_served : Operation → Bool
-is_served Nop = true
-is_served Add = true
-is_served Sub = true
-is_served Mul = true
-is_served Div = true
-is_served Num = true
-is_served Char = true
-is_served Hlt = true
-is_served (Shift kind) = true
-is_served Move = true
-is_served (Load r) = true
-is_served (LoadNegated r) = true
-is_served (Store r) = true
-is_served StoreJ = true
-is_served StoreZero = true
-is_served Jbus = false
-is_served Ioc = false
-is_served In = false
-is_served Out = false
-is_served Jred = false
-is_served (Jump kind) = true
-is_served (RegisterJump r condition) = true
-is_served (Increase r) = true
-is_served (Decrease r) = true
-is_served (Enter r) = true
-is_served (EnterNegated r) = true
-is_served (Compare r) = true
 
 abbrev pub is_shift : Operation → Bool
 is_shift Nop = false
@@ -83,7 +54,7 @@ operation_or_nop Floating = Nop
 operation_or_nop Unknown = Nop
 
 abbrev pub has_operation : Decoded → Bool
-has_operation (Named op) = is_served op
+has_operation (Named op) = true
 has_operation Floating = true
 has_operation Unknown = false
 
@@ -92,7 +63,8 @@ is_floating (Named op) = false
 is_floating Floating = true
 is_floating Unknown = false
 
--- whether there is each cell that is read or written, and each value fits its register
+-- whether there is each cell that is read or written, and each value fits its register; a block and its cells have
+-- faults of their own
 abbrev pub all_fit : Writes → Bool
 all_fit Nothing = true
 all_fit (Register r v) = fits_register r v
@@ -102,8 +74,15 @@ all_fit (PairAndToggle a x b) = true
 all_fit (Cell p v) = nat_lt p 4000
 all_fit (Indicator c) = true
 all_fit (Copy c) = nat_le (c.from + c.count) 4000 && nat_le (c.to + c.count) 4000 && nat_lt c.index.magnitude 4096
+all_fit (Input t) = true
+all_fit (Output t) = true
+all_fit (Control n k) = true
 
--- Whether a fault applies to what is decoded, with these arguments. The faults of units apply to nothing here.
+-- the clock after a step: the time of the operation is added to the clock at which it begins
+abbrev pub clock_after : Operation → WorldState → Arguments → ℕ
+clock_after op w a = start_of (use_of op) w a.f + time_of op a.f
+
+-- whether a fault applies to what is decoded, with these arguments
 abbrev pub applies : Decoded → WorldState → Arguments → MixFault → Bool
 applies d w a NoOperation = not (has_operation d)
 applies d w a FloatingOperation = is_floating d
@@ -113,12 +92,12 @@ applies d w a NoCell = not (reaches (operation_or_nop d) w a)
 applies d w a NoField = needs_operand (operation_or_nop d) && not (is_field a.f)
 applies d w a IndexOverflow = not (all_fit (effects (operation_or_nop d) w a).writes)
 applies d w a NegativeShift = is_shift (operation_or_nop d) && is_negative a.m
-applies d w a NoUnit = false
-applies d w a WrongDirection = false
-applies d w a NoBlock = false
-applies d w a BadControl = false
-applies d w a UnitFull = false
-applies d w a ClockFull = nat_lt last_clock (w.clock + time_of (operation_or_nop d) a.f)
+applies d w a NoUnit = needs_unit (operation_or_nop d) && nat_lt 20 a.f
+applies d w a WrongDirection = wrong_direction (use_of (operation_or_nop d)) (unit_at w a.f).kind
+applies d w a NoBlock = no_block (use_of (operation_or_nop d)) w a.f
+applies d w a BadControl = bad_control (use_of (operation_or_nop d)) (unit_at w a.f) a.m
+applies d w a UnitFull = unit_full (use_of (operation_or_nop d)) w a.f
+applies d w a ClockFull = nat_lt last_clock (clock_after (operation_or_nop d) w a)
 applies d w a NoCellAtLocation = w.loc == 4000
 
 -- first to last

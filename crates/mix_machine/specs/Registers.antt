@@ -1,14 +1,37 @@
 -- The nine registers (1.3.1): what each holds, and what it can hold.
-use Rattle.std.specs.Prelude.{◌≡◌, ◌<◌, Bool, true, false, ◌&&◌, nat_lt}
+use Rattle.std.specs.Prelude.{◌≡◌, ◌<◌, Bool, true, false, ◌&&◌, nat_lt, List, slice_index_or}
 use Rattle.mix_word.specs.Word.{WordValue, zero_word}
 use Rattle.mix_word.specs.declared.register.Reg.{Reg}
 use Rattle.mix_word.specs.declared.register.Reg.TheVariants.{A, X, I1, I2, I3, I4, I5, I6, J}
 use Rattle.mix_word.specs.declared.word.Sign.{Sign}
 use Rattle.mix_word.specs.declared.word.Sign.TheVariants.{Plus, Minus}
-use Rattle.mix_machine.specs.declared.registers.Registers.{Registers}
 
-abbrev pub RegistersState : Type 0
-RegistersState = Registers
+-- what each of them holds
+pub record RegistersState : Type 0 where
+  pub a : WordValue
+  pub x : WordValue
+  pub i1 : WordValue
+  pub i2 : WordValue
+  pub i3 : WordValue
+  pub i4 : WordValue
+  pub i5 : WordValue
+  pub i6 : WordValue
+  pub j : WordValue
+
+-- the registers whose words stand in a list at their numbers
+abbrev pub registers_in : List WordValue → RegistersState
+registers_in words =
+    record {
+      a = slice_index_or words 0 zero_word;
+      x = slice_index_or words 1 zero_word;
+      i1 = slice_index_or words 2 zero_word;
+      i2 = slice_index_or words 3 zero_word;
+      i3 = slice_index_or words 4 zero_word;
+      i4 = slice_index_or words 5 zero_word;
+      i5 = slice_index_or words 6 zero_word;
+      i6 = slice_index_or words 7 zero_word;
+      j = slice_index_or words 8 zero_word;
+    }
 
 -- what a register holds
 abbrev pub held_in : RegistersState → Reg → WordValue

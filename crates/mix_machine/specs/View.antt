@@ -11,5 +11,6 @@ view_of w =
       cells = w.cells.items;
       loc = w.loc;
       clock = w.clock;
+      units = w.units;
       breaks = w.breaks;
     }

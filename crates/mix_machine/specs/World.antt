@@ -4,9 +4,11 @@ use Rattle.mix_word.specs.Word.{WordValue, zero_word}
 use Rattle.mix_word.specs.declared.word.Cmp.{Cmp}
 use Rattle.mix_word.specs.declared.register.Reg.{Reg}
 use Rattle.mix_machine.specs.Registers.{RegistersState, AreRegisters, held_in}
+use Rattle.mix_machine.specs.units.Unit.{UnitState}
+use Rattle.mix_machine.specs.units.Units.{UnitsState, AreUnits, unit_of}
 
 -- The registers, the overflow toggle, the comparison indicator, 4,000 cells, the location of the next
--- instruction, the clock in u, and of each cell whether it has a breakpoint.
+-- instruction, the clock in u, the units, and of each cell whether it has a breakpoint.
 pub record WorldState : Type 0 where
   pub registers : RegistersState
   pub over : Bool
@@ -14,6 +16,7 @@ pub record WorldState : Type 0 where
   pub cells : List WordValue
   pub loc : ℕ
   pub clock : ℕ
+  pub units : UnitsState
   pub breaks : List Bool
 
 -- what a register holds
@@ -27,6 +30,10 @@ cell_of w p = slice_index_or w.cells p zero_word
 -- the same state but for one cell
 abbrev pub with_cell : WorldState → ℕ → WordValue → WorldState
 with_cell w p v = record w { cells = slice_set w.cells p v }
+
+-- the unit of a number
+abbrev pub unit_at : WorldState → ℕ → UnitState
+unit_at w n = unit_of w.units n
 
 -- whether the cell at a place has a breakpoint
 abbrev pub has_break : WorldState → ℕ → Bool
@@ -47,4 +54,5 @@ pub record IsWorld (w : WorldState) : Type 0 where
   pub cells : length w.cells ≡ 4000
   pub loc : w.loc ≤ 4000
   pub clock : w.clock ≤ last_clock
+  pub units : AreUnits w.units
   pub breaks : length w.breaks ≡ 4000

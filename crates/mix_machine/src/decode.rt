@@ -6,7 +6,7 @@ ghost use Rattle.mix_machine.specs.Decode.{index_of, arguments_of};
 
 use crate::address::Address;
 use crate::world::World;
-use mix_word::{Parts, Sign, Word};
+use mix_word::{Parts, Reg, Sign, Word};
 
 /// What an instruction gives to its operation: I, the address M, and F.
 #[derive(Clone, Copy)]
@@ -20,6 +20,7 @@ pub(crate) struct Arguments {
 pub(crate) fn instruction(word: Word) -> Parts
     ensures is { result ≡ parts_of word }
     ensures bound { result.address < 4096 }
+    ensures f { result.f < 64 }
 {
     // (the proof knows the range of the word where its magnitude is read)
     let _magnitude = word.magnitude();
@@ -46,12 +47,12 @@ impl World {
         ensures bound { result.magnitude < 4096 }
     {
         match i {
-            1 => self.registers.i1,
-            2 => self.registers.i2,
-            3 => self.registers.i3,
-            4 => self.registers.i4,
-            5 => self.registers.i5,
-            6 => self.registers.i6,
+            1 => self.registers.get(Reg::I1),
+            2 => self.registers.get(Reg::I2),
+            3 => self.registers.get(Reg::I3),
+            4 => self.registers.get(Reg::I4),
+            5 => self.registers.get(Reg::I5),
+            6 => self.registers.get(Reg::I6),
             _ => Word::ZERO,
         }
     }

@@ -3,6 +3,7 @@
 
 mod address;
 mod breakpoints;
+mod change;
 mod decode;
 mod fault;
 mod laws;
@@ -12,7 +13,9 @@ mod perform;
 mod plan;
 mod registers;
 mod step;
+mod transfer;
 mod undo;
+mod units;
 mod world;
 mod write;
 
@@ -20,6 +23,7 @@ pub use fault::MixFault;
 pub use laws::{halt_law, kept_count_law};
 pub use mix_word::{Cmp, Place, Reg, Sign, Word};
 pub use old::{Change, Old};
+pub use units::{DeckFault, DeckKind, Kind, MAX_DECK_BYTES, Row, Unit, UnitNo, Units};
 pub use world::World;
 
 #[cfg(test)]

@@ -5,6 +5,7 @@ ghost use Rattle.mix_word.specs.Word.{zero_word};
 
 use crate::breakpoints::Breakpoints;
 use crate::registers::Registers;
+use crate::units::Units;
 use crate::world::World;
 use mix_word::{Cmp, Place, Sign, Word};
 use std::alloc::Global;
@@ -14,19 +15,24 @@ const CELLS: usize = 4000;
 
 impl World {
     /// The machine before its first step (1.3.2), with words put at their places in order, so that a later one wins, and the location at
-    /// `start`: all else is +0, off, EQUAL and 0, with no breakpoint. `Memory` where there is no room for the cells.
+    /// `start`, and with the units of a deck: all else is +0, off, EQUAL and 0, with no breakpoint. `Memory` where there is no room for the cells.
     #[tactic(auto, unfolding(crate::specs::Loaded::loaded))]
-    pub fn load(alloc: Global, words: &[(Place, Word)], start: Place) -> Result<World, Memory>
-        ensures { IfOk result (λ w. w ≡ loaded words.now start) }
+    pub fn load(
+        alloc: Global,
+        words: &[(Place, Word)],
+        start: Place,
+        units: Units,
+    ) -> Result<World, Memory>
+        ensures { IfOk result (λ w. w ≡ loaded words.now start units) }
     {
         let cells = cells_with(alloc, CELLS, words)?;
-        Ok(World::blank(cells, start))
+        Ok(World::blank(cells, start, units))
     }
 
-    // The machine with these cells and all else +0, off, EQUAL and 0.
-    fn blank(cells: Vec<Word>, start: Place) -> World
+    // The machine with these cells and units and all else +0, off, EQUAL and 0.
+    fn blank(cells: Vec<Word>, start: Place, units: Units) -> World
         requires { length cells.items ≡ 4000 }
-        ensures { result ≡ blank cells.items start }
+        ensures { result ≡ blank cells.items start units }
     {
         World {
             registers: Registers::blank(),
@@ -35,6 +41,7 @@ impl World {
             cells,
             loc: start.number(),
             clock: 0,
+            units,
             breaks: Breakpoints::none(),
         }
     }

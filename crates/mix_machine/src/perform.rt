@@ -1,44 +1,52 @@
 //! A plan carried out: its values written in their order, and those that they replace kept.
-ghost use Rattle.std.specs.Prelude.{◌≡◌, ◌<◌, ◌≤◌, ◌++◌, ◌+◌, vec_len, vec_capacity, length, IsTrue};
+ghost use Rattle.std.specs.Prelude.{◌≡◌, ◌<◌, ◌≤◌, ◌++◌, ◌+◌, vec_len, vec_capacity, length, IsTrue, OnOk, OnErr};
 ghost use Rattle.mix_machine.specs.Order.{all_fit};
 ghost use Rattle.mix_machine.specs.Write.{write_all, kept_by, copies, writes_in, writes_of};
-ghost use Rattle.mix_machine.specs.law.Fits.{plan_fits};
+ghost use Rattle.mix_machine.specs.law.Plans.{plan_fits, PlanFits, UnitFits};
 
 use crate::old::Old;
 use crate::plan::{Plan, Writes};
 use crate::world::World;
 use mix_word::{Place, Reg, Word};
+use undo_core::Memory;
 
 impl World {
-    /// Carries out a plan whose values fit their places.
+    /// Carries out a plan whose values fit their places. Out of memory for what a unit holds more, nothing is altered.
     #[tactic(auto, using(crate::proofs::WriteLemmas::one_after_another))]
     #[inline(always)]
-    pub(crate) fn perform(&mut self, plan: Plan, kept: &mut Vec<Old>)
-        requires fits { IsTrue (plan_fits plan) }
+    pub(crate) fn perform(&mut self, plan: Plan, kept: &mut Vec<Old>) -> Result<(), Memory>
+        requires fits { IsTrue (plan_fits self.old plan) }
+        requires units { PlanFits self.old plan }
         requires room { vec_len kept.old + length (writes_of self.old plan) ≤ vec_capacity kept.old }
-        ensures state { self.new ≡ write_all self.old (writes_of self.old plan) }
-        ensures kept { kept.new.items ≡ kept.old.items ++ kept_by self.old (writes_of self.old plan) }
+        ensures state { OnOk result (self.new ≡ write_all self.old (writes_of self.old plan)) }
+        ensures kept { OnOk result (kept.new.items ≡ kept.old.items ++ kept_by self.old (writes_of self.old plan)) }
+        ensures same { OnErr result (self.new ≡ self.old) }
+        ensures same_kept { OnErr result (kept.new.items ≡ kept.old.items) }
     {
         match plan {
             Plan::Value(value) => self.write(value, kept),
             Plan::Step(writes, loc, clock) => {
-                self.write_in(writes, kept);
+                self.write_in(writes, kept)?;
                 self.write(Old::Loc(loc), kept);
                 self.write(Old::Clock(clock), kept);
             }
         }
+        Ok(())
     }
 
-    // What an operation writes.
+    // What an operation writes. What a unit holds more comes first, so that nothing is altered where there is no memory for it.
     #[tactic(auto, using(crate::proofs::WriteLemmas::one_after_another))]
     #[inline(always)]
-    fn write_in(&mut self, writes: Writes, kept: &mut Vec<Old>)
+    fn write_in(&mut self, writes: Writes, kept: &mut Vec<Old>) -> Result<(), Memory>
         requires fits { IsTrue (all_fit writes) }
+        requires units { UnitFits self.old writes }
         requires room { vec_len kept.old + length (writes_in self.old writes) ≤ vec_capacity kept.old }
-        ensures state { self.new ≡ write_all self.old (writes_in self.old writes) }
-        ensures kept { kept.new.items ≡ kept.old.items ++ kept_by self.old (writes_in self.old writes) }
-        ensures len { vec_len kept.new ≡ vec_len kept.old + length (writes_in self.old writes) }
-        ensures capacity { vec_capacity kept.new ≡ vec_capacity kept.old }
+        ensures state { OnOk result (self.new ≡ write_all self.old (writes_in self.old writes)) }
+        ensures kept { OnOk result (kept.new.items ≡ kept.old.items ++ kept_by self.old (writes_in self.old writes)) }
+        ensures len { OnOk result (vec_len kept.new ≡ vec_len kept.old + length (writes_in self.old writes)) }
+        ensures capacity { OnOk result (vec_capacity kept.new ≡ vec_capacity kept.old) }
+        ensures same { OnErr result (self.new ≡ self.old) }
+        ensures same_kept { OnErr result (kept.new.items ≡ kept.old.items) }
     {
         match writes {
             Writes::Nothing => {}
@@ -58,7 +66,11 @@ impl World {
                 self.copy(words.count, words.from, words.to, kept);
                 self.write(Old::Reg(Reg::I1, words.index), kept);
             }
+            Writes::Input(transfer) => self.input(transfer, kept),
+            Writes::Output(transfer) => return self.output(transfer, kept),
+            Writes::Control(unit, place) => return self.control(unit, place, kept),
         }
+        Ok(())
     }
 
     // Words into rA and rX.
@@ -91,8 +103,8 @@ impl World {
     }
 }
 
-// The place of a cell's number.
-fn place(number: u16) -> Place
+/// The place of a cell's number.
+pub(crate) fn place(number: u16) -> Place
     requires { number < 4000 }
     ensures { result ≡ number }
 {

@@ -2,13 +2,16 @@
 ghost use Rattle.std.specs.Prelude.{◌≡◌};
 
 use self::rows::{Code, Row, Then, Value, Written};
-use crate::{Change, Cmp, MixFault, Old, Place, Reg, Sign, Word, World, halt_law, kept_count_law};
+use crate::{
+    Change, Cmp, MixFault, Old, Place, Reg, Sign, Units, Word, World, halt_law, kept_count_law,
+};
 use std::alloc::Global;
 use std::string::ToString;
 use std::test::Fail;
 use undo_core::{Journal, Refused, Undo};
 
 mod rows;
+mod units;
 
 const LAST_CLOCK: u64 = 1_000_000_000_000_000_000;
 
@@ -91,7 +94,8 @@ fn prepared(alloc: Global, code: Code, before: &[Value]) -> Result<World, Fail> 
 fn blank(alloc: Global) -> Result<World, Fail> {
     match Place::of(0) {
         Some(start) => {
-            let world = World::load(alloc, &[], start)?;
+            let units = Units::empty(alloc)?;
+            let world = World::load(alloc, &[], start, units)?;
             Ok(world)
         }
         None => unreachable!(),
@@ -259,8 +263,8 @@ fn changes(rt: HostRuntime) -> Result<(), Fail> {
     Ok(())
 }
 
-// A program in the cells from one on, with these values.
-fn loaded(alloc: Global, start: u16, codes: &[Code], before: &[Value]) -> Result<World, Fail> {
+// The words of a program in the cells from one on.
+fn words_of(alloc: Global, start: u16, codes: &[Code]) -> Result<Vec<(Place, Word)>, Fail> {
     let mut words = Vec::new(alloc);
     let mut next = start;
     for code in codes {
@@ -269,9 +273,16 @@ fn loaded(alloc: Global, start: u16, codes: &[Code], before: &[Value]) -> Result
             next = place.number() + 1;
         }
     }
+    Ok(words)
+}
+
+// A program in the cells from one on, with these values.
+fn loaded(alloc: Global, start: u16, codes: &[Code], before: &[Value]) -> Result<World, Fail> {
+    let words = words_of(alloc, start, codes)?;
+    let units = Units::empty(alloc)?;
     let mut kept = Vec::new(alloc);
     let mut world = match Place::of(start) {
-        Some(place) => World::load(alloc, words.as_slice(), place)?,
+        Some(place) => World::load(alloc, words.as_slice(), place, units)?,
         None => blank(alloc)?,
     };
     set_all(&mut world, before, &mut kept);
@@ -384,7 +395,8 @@ fn a_loaded_machine_is_read(rt: HostRuntime) -> Result<(), Fail> {
     let start = Place::of(3998).expect(&rt, "a place");
     let halt = instruction(rows::program::HLT);
     let words = [(start, Word::of(Sign::Plus, 1)), (start, halt)];
-    let world = World::load(rt.alloc(), &words, start)?;
+    let units = Units::empty(rt.alloc())?;
+    let world = World::load(rt.alloc(), &words, start, units)?;
     for r in Reg::ALL {
         assert_eq!(rt; world.register(r), Word::ZERO, "{r:?}");
     }

@@ -10,9 +10,6 @@ use crate::old::{Change, Old};
 use crate::world::World;
 use undo_core::{Refused, Undo};
 
-// The most that one change keeps.
-const MOST_KEPT: usize = 103;
-
 impl Undo for World {
     type Change = Change;
 
@@ -29,17 +26,11 @@ impl Undo for World {
     ghost put = { put_value };
 
     /// Does a change (1.3.1), or reports its fault. A fault, or out of memory for what it keeps, alters nothing.
+    #[tactic(auto, unfolding(crate::specs::Do::does, crate::specs::Do::kept_values))]
     fn apply(&mut self, change: &Change, kept: &mut Vec<Old>) -> Result<(), Refused<MixFault>> {
         // (the proof knows the ranges of the machine where a field of it is named)
         let _ = &self.loc;
-        match self.plan(*change) {
-            Err(fault) => Err(Refused::Fault(fault)),
-            Ok(plan) => {
-                kept.reserve(MOST_KEPT)?;
-                self.perform(plan, kept);
-                Ok(())
-            }
-        }
+        self.change(*change, kept)
     }
 
     /// Puts back the old values from `from` on, the last one first. It takes no memory.

@@ -1,14 +1,15 @@
 //! The state of the machine, and what can be read of it (1.3.1).
 ghost use Rattle.std.specs.Prelude.{◌≡◌, ◌<◌, ◌≤◌, ◌==◌, ◌&&◌, ◌↔◌, IsTrue};
-ghost use Rattle.mix_machine.specs.World.{register_of, cell_of, has_break, last_clock};
+ghost use Rattle.mix_machine.specs.World.{register_of, cell_of, unit_at, has_break, last_clock};
 ghost use Rattle.mix_machine.specs.Do.{is_halt_next};
 
 use crate::breakpoints::Breakpoints;
 use crate::registers::Registers;
+use crate::units::{Unit, UnitNo, Units};
 use mix_word::{Cmp, Decoded, Operation, Place, Reg, Word, decode};
 use std::marker::Model;
 
-/// The machine (1.3.1): registers, overflow toggle, comparison indicator, 4,000 cells, location, clock and breakpoints.
+/// The machine (1.3.1): registers, overflow toggle, comparison indicator, 4,000 cells, location, clock, units and breakpoints.
 #[derive(Drop)]
 pub struct World {
     pub(crate) registers: Registers,
@@ -17,6 +18,7 @@ pub struct World {
     pub(crate) cells: Vec<Word>,
     pub(crate) loc: u16,
     pub(crate) clock: u64,
+    pub(crate) units: Units,
     pub(crate) breaks: Breakpoints,
 }
 
@@ -75,6 +77,13 @@ impl World {
         ensures bound { result ≤ last_clock }
     {
         self.clock
+    }
+
+    /// One unit: its blocks, its rows, its place and its times.
+    pub fn unit(&self, n: UnitNo) -> &Unit
+        ensures { result.now ≡ unit_at self.now n }
+    {
+        self.units.unit(n)
     }
 
     /// Whether the cell at a place has a breakpoint, where a run stops.

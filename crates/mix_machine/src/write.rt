@@ -9,7 +9,7 @@ impl World {
     /// Sets a value, and keeps the one that it replaces.
     #[inline(always)]
     pub(crate) fn write(&mut self, value: Old, kept: &mut Vec<Old>)
-        requires fits { IsTrue (fits value) }
+        requires fits { IsTrue (fits self.old value) }
         requires room { vec_len kept.old < vec_capacity kept.old }
         ensures state { self.new ≡ set_value self.old value }
         ensures kept { kept.new.items ≡ kept.old.items ++ value_at self.old value ∷ [] }
@@ -22,8 +22,9 @@ impl World {
     }
 
     /// Sets a value that is in the range of its place.
+    #[inline(always)]
     pub(crate) fn set_value(&mut self, value: Old)
-        requires { IsTrue (fits value) }
+        requires { IsTrue (fits self.old value) }
         ensures { self.new ≡ set_value self.old value }
     {
         match value {
@@ -34,11 +35,17 @@ impl World {
             Old::Over(over) => self.over = over,
             Old::Cmp(cmp) => self.cmp = cmp,
             Old::Break(place, on) => self.breaks.set(place, on),
+            Old::At(n, place) => self.units.set_place(n, place),
+            Old::Len(n, len) => self.units.cut(n, len),
+            Old::Item(n, i, j, word) => self.units.set_item(n, i, j, word),
+            Old::Until(n, until) => self.units.set_until(n, until),
         }
     }
 
     // The value that stands at the place that another one names.
+    #[inline(always)]
     fn value_at(&self, value: Old) -> Old
+        requires { IsTrue (fits self.now value) }
         ensures { result ≡ value_at self.now value }
     {
         match value {
@@ -49,6 +56,10 @@ impl World {
             Old::Over(_) => Old::Over(self.over),
             Old::Cmp(_) => Old::Cmp(self.cmp),
             Old::Break(place, _) => Old::Break(place, self.breaks.get(place)),
+            Old::At(n, _) => Old::At(n, self.units.unit(n).place()),
+            Old::Len(n, _) => Old::Len(n, self.units.unit(n).len()),
+            Old::Item(n, i, j, _) => Old::Item(n, i, j, self.units.unit(n).word(i, j)),
+            Old::Until(n, _) => Old::Until(n, self.units.unit(n).until()),
         }
     }
 }

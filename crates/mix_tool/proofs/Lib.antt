@@ -1,9 +1,8 @@
-mod AssemblyLemmas
 mod CommandLemmas
 mod CutLemmas
-mod EmptyLines
 mod RunLemmas
-mod ShortNames
 mod ShowLemmas
+mod TimelineLemmas
 mod Truncation
+mod UnitLemmas
 mod Written

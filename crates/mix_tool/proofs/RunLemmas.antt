@@ -3,20 +3,20 @@ use Rattle.std.proofs.Common.{◌≡◌, ℕ, List, [], ◌∷◌, ◌++◌, tru
 use Rattle.std.proofs.lemmas.Bool.{eqb-true, lt-ltb, le-ltb}
 use Rattle.std.proofs.lemmas.List.{append-nil}
 use Rattle.std.specs.Io.KnownBytes.{Appends, Keeps}
-use Rattle.mix_machine.specs.Loaded.{loaded}
-use Rattle.mix_machine.specs.World.{WorldState}
-use Rattle.mix_machine.specs.declared.old.Change.{Change}
-use Rattle.mix_tool.specs.Command.{command}
+use Rattle.mix_tool.specs.Session.{SessionState, opened, effect_in}
+use Rattle.mix_tool.specs.Command.{after}
 use Rattle.mix_lines.specs.Lines.{lines, lines-nil}
-use Rattle.mix_tool.specs.Output.{Outcome, Meets, outcome_of, replies, outcome_of_script, bundle_output, output, status_of, TooLong, Ended}
+use Rattle.mix_tool.specs.Output.{Outcome, Meets, outcome_of, replies, outcome_of_script, bundle_output, output, list_output, list_outcome, status_of, TooLong, Ended}
 use Rattle.mix_stream.specs.Stream.{AppendsFront, ConsumesAtMost}
 use Rattle.mix_tool.specs.Bundle.{cut_of}
-use Rattle.mix_tool.specs.Assembly.{ProgramValue, assembly}
-use Rattle.mix_tool.specs.Deck.{deck_of}
-use Rattle.mix_tool.specs.Fault.{asm_fault_text}
+use Rattle.mixal_asm.specs.Assembly.{assembly}
+use Rattle.mixal_asm.specs.Fault.{asm_fault_line}
+use Rattle.mixal_asm.specs.Program.{ProgramValue}
+use Rattle.mixal_asm.specs.declared.fault.AsmFault.{AsmFault}
+use Rattle.mix_machine.specs.units.Units.{UnitsState}
+use Rattle.mix_machine.specs.units.deck.Deck.{deck_of}
 use Rattle.mix_tool.specs.Wrapped.{fault_of_read}
-use Rattle.mix_tool.specs.declared.fault.AsmFault.{AsmFault}
-use Rattle.mix_tool.specs.declared.fault.DeckFault.{DeckFault}
+use Rattle.mix_machine.specs.declared.units.deck_fault.DeckFault.{DeckFault}
 use Rattle.mix_tool.specs.declared.fault.ToolFault.{ToolFault}
 use Rattle.mix_tool.specs.declared.fault.ToolFault.TheVariants as faults
 use Rattle.mix_stream.specs.declared.input.ReadFault.{ReadFault}
@@ -28,30 +28,25 @@ use Rattle.mix_tool.specs.declared.reply.Told.TheVariants.{Accepted, Refused}
 use Rattle.mix_tool.proofs.Written.{Appends-then, Appends-same, Appends-nothing, AppendsFront-after}
 
 -- one line more is written
-pub written-next : (base first : WorldState) (changes next : List Change) (line rest after : List ℕ) (a b c : Option (List ℕ)) (whole : List ℕ) →
-    first ≡ base → lines rest ≡ line ∷ lines after → next ≡ (command first changes line).changes →
-    (done : List ℕ) × Appends a b done × (whole ≡ done ++ (replies base changes (lines rest)).bytes) →
-    Appends b c (command first changes line).reply →
-    (more : List ℕ) × Appends a c more × (whole ≡ more ++ (replies base next (lines after)).bytes)
-written-next base first changes next line rest after a b c whole same split changed so_far reply =
-    let said = (command base changes line).reply in
-    let reply_here : Appends b c said = rw same at reply in
-    let rest_said : (replies base changes (lines rest)).bytes ≡ said ++ (replies base next (lines after)).bytes = rw (split, changed, same) refl in (
+pub written-next : (s next : SessionState) (line rest more : List ℕ) (a b c : Option (List ℕ)) (whole : List ℕ) →
+    lines rest ≡ line ∷ lines more → next ≡ record s { timeline = after (effect_in s line) } →
+    (done : List ℕ) × Appends a b done × (whole ≡ done ++ (replies s (lines rest)).bytes) → Appends b c (effect_in s line).reply →
+    (done : List ℕ) × Appends a c done × (whole ≡ done ++ (replies next (lines more)).bytes)
+written-next s next line rest more a b c whole split changed so_far reply =
+    let said = (effect_in s line).reply in
+    let rest_said : (replies s (lines rest)).bytes ≡ said ++ (replies next (lines more)).bytes = rw (split, changed) refl in (
       so_far.0 ++ said,
-      Appends-then a b c so_far.0 said so_far.1 reply_here,
-      so_far.2 ∙ ap (λ t. so_far.0 ++ t) rest_said ∙ sym (append_assoc so_far.0 said (replies base next (lines after)).bytes),
+      Appends-then a b c so_far.0 said so_far.1 reply,
+      so_far.2 ∙ ap (λ bytes. so_far.0 ++ bytes) rest_said ∙ sym (append_assoc so_far.0 said (replies next (lines more)).bytes),
     )
 
 -- a beginning of one line more is written
-pub begun-at : (base first : WorldState) (changes : List Change) (line rest after : List ℕ) (a b c : Option (List ℕ)) (whole : List ℕ) →
-    first ≡ base → lines rest ≡ line ∷ lines after →
-    (done : List ℕ) × Appends a b done × (whole ≡ done ++ (replies base changes (lines rest)).bytes) →
-    AppendsFront b c (command first changes line).reply → AppendsFront a c whole
-begun-at base first changes line rest after a b c whole same split so_far reply =
-    let said = (command base changes line).reply in
-    let reply_here : AppendsFront b c said = rw same at reply in
-    AppendsFront-after a b c so_far.0 said (replies base (command base changes line).changes (lines after)).bytes whole so_far.1 reply_here
-    (so_far.2 ∙ ap (λ t. so_far.0 ++ t) (rw split refl))
+pub begun-at : (s : SessionState) (line rest more : List ℕ) (a b c : Option (List ℕ)) (whole : List ℕ) → lines rest ≡ line ∷ lines more →
+    (done : List ℕ) × Appends a b done × (whole ≡ done ++ (replies s (lines rest)).bytes) → AppendsFront b c (effect_in s line).reply →
+    AppendsFront a c whole
+begun-at s line rest more a b c whole split so_far reply =
+    AppendsFront-after a b c so_far.0 (effect_in s line).reply (replies (record s { timeline = after (effect_in s line) }) (lines more)).bytes whole so_far.1 reply
+    (so_far.2 ∙ ap (λ bytes. so_far.0 ++ bytes) (rw split refl))
 
 both-assoc : (a b c : Told) → told_of_both (told_of_both a b) c ≡ told_of_both a (told_of_both b c)
 both-assoc Accepted b c = refl
@@ -62,23 +57,22 @@ both-accepted Accepted = refl
 both-accepted Refused = refl
 
 -- what was reported so far, and of the lines that are left, is reported of all; so it is after one line more
-pub told-next : (base first : WorldState) (changes next : List Change) (line rest after : List ℕ) (so_far one whole : Told) →
-    first ≡ base → lines rest ≡ line ∷ lines after → next ≡ (command first changes line).changes →
-    told_of_both so_far (replies base changes (lines rest)).told ≡ whole → one ≡ (command first changes line).told →
-    told_of_both (told_of_both so_far one) (replies base next (lines after)).told ≡ whole
-told-next base first changes next line rest after so_far one whole same split changed before here =
-    let rest_told : (replies base changes (lines rest)).told ≡ told_of_both one (replies base next (lines after)).told = rw (split, changed, here, same) refl in
-    both-assoc so_far one (replies base next (lines after)).told ∙ ap (told_of_both so_far) (sym rest_told) ∙ before
+pub told-next : (s next : SessionState) (line rest more : List ℕ) (so_far one whole : Told) → lines rest ≡ line ∷ lines more →
+    next ≡ record s { timeline = after (effect_in s line) } → told_of_both so_far (replies s (lines rest)).told ≡ whole → one ≡ (effect_in s line).told →
+    told_of_both (told_of_both so_far one) (replies next (lines more)).told ≡ whole
+told-next s next line rest more so_far one whole split changed before here =
+    let rest_told : (replies s (lines rest)).told ≡ told_of_both one (replies next (lines more)).told = rw (split, changed, here) refl in
+    both-assoc so_far one (replies next (lines more)).told ∙ ap (told_of_both so_far) (sym rest_told) ∙ before
 
 -- no line is left
-pub all-said : (base : WorldState) (changes : List Change) (a b : Option (List ℕ)) (whole rest : List ℕ) → rest ≡ [] →
-    (done : List ℕ) × Appends a b done × (whole ≡ done ++ (replies base changes (lines rest)).bytes) → Appends a b whole
-all-said base changes a b whole rest none so_far =
+pub all-said : (s : SessionState) (a b : Option (List ℕ)) (whole rest : List ℕ) → rest ≡ [] →
+    (done : List ℕ) × Appends a b done × (whole ≡ done ++ (replies s (lines rest)).bytes) → Appends a b whole
+all-said s a b whole rest none so_far =
     Appends-same a b so_far.0 whole (sym (so_far.2 ∙ (rw (none, lines-nil) (append-nil so_far.0)))) so_far.1
 
-pub all-told : (base : WorldState) (changes : List Change) (so_far whole : Told) (rest : List ℕ) → rest ≡ [] →
-    told_of_both so_far (replies base changes (lines rest)).told ≡ whole → so_far ≡ whole
-all-told base changes so_far whole rest none before =
+pub all-told : (s : SessionState) (so_far whole : Told) (rest : List ℕ) → rest ≡ [] →
+    told_of_both so_far (replies s (lines rest)).told ≡ whole → so_far ≡ whole
+all-told s so_far whole rest none before =
     sym (both-accepted so_far) ∙ (rw (none, lines-nil) at before)
 
 -- a list of length 0
@@ -87,16 +81,23 @@ nil-from_length [] e = refl
 nil-from_length (x ∷ xs) e = absurd (omega (arith, eqb-true (length (x ∷ xs)) 0 (sym e)))
 
 -- a script is read from its first 1,048,577 bytes
-pub outcome_of_script-take : (base : WorldState) (script : List ℕ) → outcome_of_script base (take 1048577 script) ≡ outcome_of_script base script
+pub outcome_of_script-take : (s : SessionState) (script : List ℕ) → outcome_of_script s (take 1048577 script) ≡ outcome_of_script s script
 unfolding outcome_of_script
-outcome_of_script-take base script =
-    limited-take 1048576 TooLong (λ text. let all = replies base [] (lines text) in Ended all.bytes (status_of all.told)) script
+outcome_of_script-take s script =
+    limited-take 1048576 TooLong (λ text. let all = replies s (lines text) in Ended all.bytes (status_of all.told)) script
 
 -- a bundle is read from its first 41,943,041 bytes
 pub bundle_output-take : (bundle : List ℕ) → bundle_output (take 41943041 bundle) ≡ bundle_output bundle
 unfolding bundle_output
 bundle_output-take bundle =
     limited-take 41943040 TooLong (λ text. let parts = cut_of text in output parts.source parts.deck parts.script) bundle
+
+-- a script that was read up to one byte more than it may have
+pub Meets-script : (s : SessionState) (script read : List ℕ) (done : Result ℕ ToolFault) (old new : Option (List ℕ)) →
+    read ≡ take 1048577 script → Meets (outcome_of_script s read) done old new → Meets (outcome_of_script s script) done old new
+Meets-script s script read done old new e met =
+    let whole : outcome_of_script s read ≡ outcome_of_script s script = ap (outcome_of_script s) e ∙ outcome_of_script-take s script in
+    rw whole at met
 
 -- nothing was read
 pub ConsumesAtMost-none : (rest : Option (List ℕ)) (most : ℕ) → ConsumesAtMost rest rest most
@@ -124,15 +125,13 @@ Meets-deck program deck read script fault told e f =
     let refused : deck_of deck ≡ Err fault = sym (deck_of-read deck read e) ∙ f in
     rw refused (refl, Keeps-same told)
 
-pub Meets-executed : (program : ProgramValue) (deck read script commands : List ℕ) (done : Result ℕ ToolFault) (old new : Option (List ℕ)) →
-    read ≡ take 33554433 deck → deck_of read ≡ Ok tt → commands ≡ take 1048577 script →
-    Meets (outcome_of_script (loaded program.words program.start) commands) done old new → Meets (outcome_of (Ok program) (deck_of deck) script) done old new
+pub Meets-read : (program : ProgramValue) (units : UnitsState) (deck read script : List ℕ) (done : Result ℕ ToolFault) (old new : Option (List ℕ)) →
+    read ≡ take 33554433 deck → deck_of read ≡ Ok units →
+    Meets (outcome_of_script (opened program units) script) done old new → Meets (outcome_of (Ok program) (deck_of deck) script) done old new
 unfolding outcome_of
-Meets-executed program deck read script commands done old new e f same met =
-    let taken : deck_of deck ≡ Ok tt = sym (deck_of-read deck read e) ∙ f in
-    let whole : outcome_of_script (loaded program.words program.start) commands ≡ outcome_of_script (loaded program.words program.start) script =
-    ap (outcome_of_script (loaded program.words program.start)) same ∙ outcome_of_script-take (loaded program.words program.start) script in
-    rw taken (rw whole at met)
+Meets-read program units deck read script done old new e f met =
+    let taken : deck_of deck ≡ Ok units = sym (deck_of-read deck read e) ∙ f in
+    rw taken met
 
 -- a source that was read up to one byte more than it may have
 pub Meets-source : (source read deck script : List ℕ) (made : Result ProgramValue AsmFault) (done : Result ℕ ToolFault) (old new : Option (List ℕ)) →
@@ -142,9 +141,17 @@ Meets-source source read deck script made done old new e f met =
     let here : assembly source ≡ made = sym (ap assembly e ∙ assembly-take source) ∙ f in
     rw here met
 
+-- the same of a listing
+pub Meets-listed : (source read : List ℕ) (made : Result ProgramValue AsmFault) (done : Result ℕ ToolFault) (old new : Option (List ℕ)) →
+    read ≡ take 1048577 source → assembly read ≡ made → Meets (list_outcome made) done old new → Meets (list_output source) done old new
+unfolding list_output
+Meets-listed source read made done old new e f met =
+    let here : assembly source ≡ made = sym (ap assembly e ∙ assembly-take source) ∙ f in
+    rw here met
+
 -- a refused source
 pub Meets-refused : (source read deck script : List ℕ) (fault : AsmFault) (done : Result ℕ ToolFault) (old new : Option (List ℕ)) →
-    read ≡ take 1048577 source → assembly read ≡ Err fault → Meets (Ended (asm_fault_text fault ++ 10 ∷ []) 1) done old new →
+    read ≡ take 1048577 source → assembly read ≡ Err fault → Meets (Ended (asm_fault_line fault ++ 10 ∷ []) 1) done old new →
     Meets (output source deck script) done old new
 unfolding outcome_of
 Meets-refused source read deck script fault done old new e f met = Meets-source source read deck script (Err fault) done old new e f met

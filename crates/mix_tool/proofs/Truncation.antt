@@ -2,10 +2,13 @@
 use Rattle.std.proofs.Common.{◌≡◌, ℕ, suc, ◌<◌, ◌≤◌, Bool, true, false, cond, ltb, List, length, take, Ok, Err, refl, ap, ◌∙◌, arith}
 use Rattle.std.proofs.lemmas.Bool.{lt-ltb, ltb-true, ltb-false}
 use Rattle.std.proofs.lemmas.List.{take_all, length-take-le}
-use Rattle.mix_tool.specs.Assembly.{ProgramValue, assembly_from, assembly}
-use Rattle.mix_tool.specs.declared.fault.AsmFault.{AsmFault}
-use Rattle.mix_tool.specs.declared.fault.DeckFault.{DeckFault}
-use Rattle.mix_tool.specs.Deck.{deck_from, deck_of}
+use Rattle.mixal_asm.specs.Assembly.{assembly, program_from}
+use Rattle.mixal_asm.specs.PassOne.{at_first}
+use Rattle.mixal_asm.specs.Program.{ProgramValue}
+use Rattle.mixal_asm.specs.declared.fault.AsmFault.{AsmFault}
+use Rattle.mix_machine.specs.declared.units.deck_fault.DeckFault.{DeckFault}
+use Rattle.mix_machine.specs.units.Units.{UnitsState}
+use Rattle.mix_machine.specs.units.deck.Deck.{deck_from, deck_of, nothing_read}
 use Rattle.mix_lines.specs.Lines.{lines}
 
 by_length : {A : Type 0} (limit : ℕ) (refused : A) (read : List ℕ → A) (bytes : List ℕ) (v : Bool) → ltb limit (length bytes) ≡ v
@@ -25,16 +28,16 @@ limited-take limit refused read bytes = by_length limit refused read bytes (ltb 
 -- a deck is read from its first 33,554,433 bytes
 pub deck_of-take : (bytes : List ℕ) → deck_of (take 33554433 bytes) ≡ deck_of bytes
 unfolding deck_of
-deck_of-take bytes = limited-take 33554432 _ (λ text. deck_from 1 (lines text)) bytes
+deck_of-take bytes = limited-take 33554432 _ (λ text. deck_from 1 nothing_read (lines text)) bytes
 
 -- a source is assembled from its first 1,048,577 bytes
 pub assembly-take : (source : List ℕ) → assembly (take 1048577 source) ≡ assembly source
 unfolding assembly
-assembly-take source = limited-take 1048576 _ (λ text. assembly_from 1 0 (lines text)) source
+assembly-take source = limited-take 1048576 _ (λ text. program_from at_first (lines text)) source
 
 -- a deck whose first bytes are taken is not refused
-pub deck-taken : (deck read : List ℕ) (fault : DeckFault) → read ≡ take 33554433 deck → Ok tt ≡ deck_of read → deck_of deck ≡ Err fault → ⊥
-deck-taken deck read fault e taken refused = let same : deck_of read ≡ deck_of deck = ap deck_of e ∙ deck_of-take deck in cc
+pub deck-taken : (deck read : List ℕ) (units : UnitsState) (fault : DeckFault) → read ≡ take 33554433 deck → deck_of read ≡ Ok units → deck_of deck ≡ Err fault → ⊥
+deck-taken deck read units fault e taken refused = let same : deck_of read ≡ deck_of deck = ap deck_of e ∙ deck_of-take deck in cc
 
 -- nor is a source
 pub source-taken : (source read : List ℕ) (program : ProgramValue) (fault : AsmFault) → read ≡ take 1048577 source → assembly read ≡ Ok program

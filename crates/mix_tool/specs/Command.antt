@@ -1,16 +1,18 @@
--- What a command does: to the list of changes, and what it answers. The machine is run anew, from its first state on the changes of
--- the list, wherever something of it is asked; no value from before a `back` is left to be shown.
-use Rattle.std.specs.Prelude.{◌≡◌, ◌≤◌, ◌==◌, ◌&&◌, ℕ, zero, suc, ◌-◌, List, [], ◌∷◌, ◌++◌, length, take, replicate, Bool, Option, None, Some, Result, Ok, Err, is_some, unwrap_or, nat_lt, if◌then◌else◌, string_bytes}
-use Rattle.undo_core.specs.History.{History}
-use Rattle.undo_core.specs.Replay.{replay}
+-- What a command does to the timeline of a session, and what it answers. The machine is run anew, from its first state on the changes
+-- done, wherever something of it is asked; no value from before a `back` is left to be shown.
+use Rattle.std.specs.Prelude.{◌≡◌, ◌≤◌, ◌==◌, ◌&&◌, ℕ, zero, suc, List, [], length, Bool, true, false, Option, None, Some, Result, Ok, Err, is_some, unwrap_or, nat_lt, if◌then◌else◌, string_bytes}
+use Rattle.std.specs.Option.{option_or}
 use Rattle.undo_core.specs.declared.refused.Memory.{Memory}
+use Rattle.mix_word.specs.Word.{plus}
+use Rattle.mixal_text.specs.Names.{NamesValue}
 use Rattle.mix_machine.specs.World.{WorldState}
 use Rattle.mix_machine.specs.Do.{does, is_halt_next}
 use Rattle.mix_machine.specs.declared.old.Change.{Change}
 use Rattle.mix_machine.specs.declared.old.Change.TheVariants.{Step}
 use Rattle.mix_machine.specs.declared.fault.MixFault.{MixFault}
+use Rattle.mix_tool.specs.Timeline.{Timeline, world_of, with_change, with_steps, back_by, forth_by, is_at_break}
 use Rattle.mix_tool.specs.Request.{request_of}
-use Rattle.mix_tool.specs.Reply.{ran_text, back_text, ok_text, refused_text, told_of_end}
+use Rattle.mix_tool.specs.Reply.{ran_text, back_text, forth_text, ok_text, refused_text, told_of_end}
 use Rattle.mix_tool.specs.Show.{topic_text}
 use Rattle.mix_tool.specs.declared.fault.Refusal.{Refusal}
 use Rattle.mix_tool.specs.declared.fault.Refusal.TheVariants.{TooFewChanges, RefusedByMachine}
@@ -20,111 +22,137 @@ use Rattle.mix_tool.specs.declared.reply.Told.{Told}
 use Rattle.mix_tool.specs.declared.reply.Told.TheVariants.{Accepted, Refused}
 use Rattle.mix_tool.specs.declared.reply.Reply.{Reply}
 use Rattle.mix_tool.specs.declared.reply.End.{End}
-use Rattle.mix_tool.specs.declared.reply.End.TheVariants.{Halt, Limit, Fault}
+use Rattle.mix_tool.specs.declared.reply.End.TheVariants.{Halt, Break, Limit, Fault}
 
--- the effect of a command: the list of changes after it, its reply, and whether it is accepted
+-- The effect of a command: the stages by which it is done, numbered from 0 to the last one, its reply, and whether it is accepted. Of a
+-- command that is done at once, stage 0 is the last. Only where memory is refused may the timeline stand at another stage than the last.
 pub record Effect : Type 0 where
-  pub changes : List Change
+  pub stage : ℕ → Timeline
+  pub last : ℕ
   pub reply : List ℕ
   pub told : Told
 
--- the machine after the changes, run from its first state (where one of them were a fault: the first state)
-unfoldable pub world_after : WorldState → List Change → WorldState
-world_after base changes = unwrap_or (replay does base changes) base
+-- the timeline after a command
+abbrev pub after : Effect → Timeline
+after effect = effect.stage effect.last
 
 -- the least number that passes the test, of those below n, or n
 abbrev pub least_below : ℕ → (ℕ → Bool) → ℕ
 least_below zero passes = 0
 least_below (suc n) passes = if passes 0 then 0 else suc (least_below n (λ k. passes (suc k)))
 
--- the changes, and k steps after them
-abbrev pub with_steps : List Change → ℕ → List Change
-with_steps changes k = changes ++ replicate k Step
-
--- whether the last of k steps is a halt
-abbrev pub is_halt_last : WorldState → List Change → ℕ → Bool
-is_halt_last base changes k = nat_lt 0 k && is_halt_next (world_after base (with_steps changes (k - 1)))
-
 -- the fault of one more step, if it is one
 abbrev pub fault_end : Result WorldState MixFault → Option End
 fault_end (Ok world) = None
 fault_end (Err fault) = Some (Fault fault)
 
--- what ends n steps after k of them, if anything does: the k-th is a halt, or k is n, or one more is a fault
-unfoldable pub end_at : WorldState → List Change → ℕ → ℕ → Option End
-end_at base changes n k =
-    if is_halt_last base changes k then Some Halt
-    else (if k == n then Some Limit else fault_end (does (world_after base (with_steps changes k)) Step))
+-- what ends a command once a step is done, if that does: the step was a halt, or, where breakpoints stop, it came to one
+abbrev pub end_of_step : Bool → Bool → WorldState → Option End
+end_of_step halts at_breaks now = if halts then Some Halt else (if at_breaks && is_at_break now then Some Break else None)
+
+-- what ends a command after k steps, by the last of them
+abbrev pub end_of_last : Bool → Timeline → ℕ → Option End
+end_of_last at_breaks t zero = None
+end_of_last at_breaks t (suc k) = end_of_step (is_halt_next (world_of (with_steps t k))) at_breaks (world_of (with_steps t (suc k)))
+
+-- what ends n steps after k of them, if anything does: the last of them, or k is n, or one more is a fault
+unfoldable pub end_at : Bool → Timeline → ℕ → ℕ → Option End
+end_at at_breaks t n k =
+    option_or (end_of_last at_breaks t k) (if k == n then Some Limit else fault_end (does (world_of (with_steps t k)) Step))
 
 -- how many of n steps are done: the least number at which an end holds
-unfoldable pub count_of_steps : WorldState → List Change → ℕ → ℕ
-count_of_steps base changes n = least_below n (λ k. is_some (end_at base changes n k))
+unfoldable pub count_of_steps : Bool → Timeline → ℕ → ℕ
+count_of_steps at_breaks t n = least_below n (λ k. is_some (end_at at_breaks t n k))
 
--- k steps are done, and then this end holds
-abbrev pub effect_of_end : WorldState → List Change → ℕ → End → Effect
-effect_of_end base changes k end =
-    let world = world_after base (with_steps changes k) in
-    record { changes = with_steps changes k; reply = ran_text k world.loc world.clock end; told = told_of_end end }
+-- `step N`, and `run N`, which a breakpoint stops too: a stage is a step
+unfoldable pub effect_of_steps : Bool → Timeline → ℕ → Effect
+effect_of_steps at_breaks t n =
+    let k = count_of_steps at_breaks t n in
+    let end = unwrap_or (end_at at_breaks t n k) Limit in
+    let world = world_of (with_steps t k) in
+    record { stage = with_steps t; last = k; reply = ran_text k world.loc world.clock end; told = told_of_end end }
 
--- `step N`
-unfoldable pub effect_of_step : WorldState → List Change → ℕ → Effect
-effect_of_step base changes n =
-    let k = count_of_steps base changes n in
-    effect_of_end base changes k (unwrap_or (end_at base changes n k) Limit)
-
--- the last n changes are taken away
-unfoldable pub effect_of_back : WorldState → List Change → ℕ → Effect
-effect_of_back base changes n =
-    let left = take (length changes - n) changes in
-    let world = world_after base left in
-    record { changes = left; reply = back_text n world.loc world.clock; told = Accepted }
+-- what is done at once
+abbrev pub at_once : Timeline → List ℕ → Told → Effect
+at_once t reply told = record { stage = λ k. t; last = 0; reply = reply; told = told }
 
 -- a refusal changes nothing
-abbrev pub refusal_effect : List Change → Refusal → Effect
-refusal_effect changes refusal = record { changes = changes; reply = refused_text refusal; told = Refused }
+abbrev pub refusal_effect : Timeline → Refusal → Effect
+refusal_effect t refusal = at_once t (refused_text refusal) Refused
 
 -- an accepted reply that changes nothing
-abbrev pub reply_effect : List Change → List ℕ → Effect
-reply_effect changes reply = record { changes = changes; reply = reply; told = Accepted }
+abbrev pub reply_effect : Timeline → List ℕ → Effect
+reply_effect t reply = at_once t reply Accepted
 
--- `back N`: none is taken away where there are fewer
-abbrev pub effect_of_back_within : WorldState → List Change → ℕ → Effect
-effect_of_back_within base changes n =
-    if nat_lt (length changes) n then refusal_effect changes TooFewChanges else effect_of_back base changes n
+-- the last n changes are taken back
+unfoldable pub effect_of_back : Timeline → ℕ → Effect
+effect_of_back t n =
+    let world = world_of (back_by t n) in
+    at_once (back_by t n) (back_text n world.loc world.clock) Accepted
 
--- a change that the machine makes is one more on the list; one that it refuses is none
-abbrev pub effect_of_result : List Change → Change → Result WorldState MixFault → Effect
-effect_of_result changes change (Ok world) = record { changes = changes ++ change ∷ []; reply = ok_text; told = Accepted }
-effect_of_result changes change (Err fault) = refusal_effect changes (RefusedByMachine fault)
+-- `back N`: none is taken back where there are fewer
+abbrev pub effect_of_back_within : Timeline → ℕ → Effect
+effect_of_back_within t n = if nat_lt (length t.changes) n then refusal_effect t TooFewChanges else effect_of_back t n
 
--- a change of the machine, as `set` asks for it
-unfoldable pub effect_of_change : WorldState → List Change → Change → Effect
-effect_of_change base changes change = effect_of_result changes change (does (world_after base changes) change)
+-- whether taking k changes back, at least one, comes to a breakpoint
+abbrev pub is_break_after : Timeline → ℕ → Bool
+is_break_after t k = nat_lt 0 k && is_at_break (world_of (back_by t k))
+
+-- how many changes `back break` takes back: the least number that comes to a breakpoint, or all where none does
+unfoldable pub count_to_break : Timeline → ℕ
+count_to_break t = least_below (length t.changes) (is_break_after t)
+
+-- the next n changes ahead are done again: a stage is one of them
+unfoldable pub effect_of_forth : Timeline → ℕ → Effect
+effect_of_forth t n =
+    let world = world_of (forth_by t n) in
+    record { stage = forth_by t; last = n; reply = forth_text n world.loc world.clock; told = Accepted }
+
+-- `forth N`: none is done where fewer stand ahead
+abbrev pub effect_of_forth_within : Timeline → ℕ → Effect
+effect_of_forth_within t n = if nat_lt (length t.ahead) n then refusal_effect t TooFewChanges else effect_of_forth t n
+
+-- before a change, and after it
+abbrev pub change_stage : Timeline → Change → ℕ → Timeline
+change_stage t change zero = t
+change_stage t change (suc k) = with_change t change
+
+-- a change that the machine makes is done; one that it refuses leaves the timeline
+abbrev pub effect_of_result : Timeline → Change → Result WorldState MixFault → Effect
+effect_of_result t change (Ok world) = record { stage = change_stage t change; last = 1; reply = ok_text; told = Accepted }
+effect_of_result t change (Err fault) = refusal_effect t (RefusedByMachine fault)
+
+-- a change of the machine, as `set`, `break` and `clear` ask for it
+unfoldable pub effect_of_change : Timeline → Change → Effect
+effect_of_change t change = effect_of_result t change (does (world_of t) change)
 
 -- what is asked for
-unfoldable pub effect_of : WorldState → List Change → Result Request Refusal → Effect
-effect_of base changes (Err refusal) = refusal_effect changes refusal
-effect_of base changes (Ok ask.Nothing) = reply_effect changes []
-effect_of base changes (Ok (ask.Step n)) = effect_of_step base changes n
-effect_of base changes (Ok (ask.Back n)) = effect_of_back_within base changes n
-effect_of base changes (Ok ask.BackAll) = effect_of_back base changes (length changes)
-effect_of base changes (Ok (ask.Change change)) = effect_of_change base changes change
-effect_of base changes (Ok (ask.Show topic)) = reply_effect changes (topic_text topic (world_after base changes) (length changes))
+unfoldable pub effect_of : Timeline → Result Request Refusal → Effect
+effect_of t (Err refusal) = refusal_effect t refusal
+effect_of t (Ok ask.Nothing) = reply_effect t []
+effect_of t (Ok (ask.Step n)) = effect_of_steps false t n
+effect_of t (Ok (ask.Run n)) = effect_of_steps true t n
+effect_of t (Ok (ask.Back n)) = effect_of_back_within t n
+effect_of t (Ok ask.BackAll) = effect_of_back t (length t.changes)
+effect_of t (Ok ask.BackBreak) = effect_of_back t (count_to_break t)
+effect_of t (Ok (ask.Forth n)) = effect_of_forth_within t n
+effect_of t (Ok (ask.Change change)) = effect_of_change t change
+effect_of t (Ok (ask.Show topic)) = reply_effect t (topic_text topic (world_of t) (length t.changes))
 
--- what a line of the script does
-unfoldable pub command : WorldState → List Change → List ℕ → Effect
-command base changes line = effect_of base changes (request_of line)
+-- what a line of the script does, with the names of the program; the asterisk stands for the location
+unfoldable pub command : NamesValue → Timeline → List ℕ → Effect
+command names t line = effect_of t (request_of names (plus (world_of t).loc) line)
 
--- What stands where memory is refused: a beginning of the changes that the command would leave, at least as long as the list before it,
--- or all of them. So of a `step` some of its steps stand, and any other command is done or not.
-abbrev pub Begun : List Change → List Change → List Change → Type 0
-Begun old whole new = (m : ℕ) × (length old ≤ m) × (new ≡ take m whole)
+-- What stands where memory is refused: one of the stages of the command. So of `step` and `run` some of the steps stand, of `forth` some
+-- of the changes are done again, and any other command is done or not.
+abbrev pub Begun : Effect → Timeline → Type 0
+Begun effect t = (k : ℕ) × (k ≤ effect.last) × (t ≡ effect.stage k)
 
--- the new list and the answer are the effect; out of memory, the list is begun
-abbrev pub Gives : Effect → List Change → List Change → Result Reply Memory → Type 0
-Gives effect old new (Ok reply) = effect ≡ record { changes = new; reply = string_bytes reply.text; told = reply.told }
-Gives effect old new (Err memory) = Begun old effect.changes new
+-- the timeline after it and the answer are those of the effect; out of memory, it is begun
+abbrev pub Gives : Effect → Timeline → Result Reply Memory → Type 0
+Gives effect t (Ok reply) = (t ≡ after effect) × (string_bytes reply.text ≡ effect.reply) × (reply.told ≡ effect.told)
+Gives effect t (Err memory) = Begun effect t
 
 -- what a command does to the journal and answers: its first state stays, and the rest is the effect
-abbrev pub HasEffect : Effect → History WorldState Change → History WorldState Change → Result Reply Memory → Type 0
-HasEffect effect old new answer = (new.first ≡ old.first) × Gives effect old.changes new.changes answer
+abbrev pub HasEffect : Effect → Timeline → Timeline → Result Reply Memory → Type 0
+HasEffect effect old new answer = (new.first ≡ old.first) × Gives effect new answer

@@ -1,99 +1,15 @@
 -- Each fault's number and text, and the line that reports it.
-use Rattle.std.specs.Prelude.{ℕ, List, []}
-use Rattle.std.specs.Prelude.{◌++◌, codes, decimal}
+use Rattle.std.specs.Prelude.{ℕ, List, [], ◌++◌, codes, decimal}
 use Rattle.mix_machine.specs.Fault.{fault_line}
-use Rattle.mix_tool.specs.declared.fault.AsmKind.{AsmKind}
-use Rattle.mix_tool.specs.declared.fault.AsmKind.TheVariants.{BadByte, NoSuchOperation, BadSymbol, DefinedTwice, BadExpression, NumberTooLarge, UndefinedSymbol, ExpressionOverflow, AddressTooLarge, PartOutOfRange, LocationOutOfRange, BadAlf, NoEnd, NoSuchLocalSymbol, StartOutOfRange, SourceTooLong}
-use Rattle.mix_tool.specs.declared.fault.AsmFault.{AsmFault}
-use Rattle.mix_tool.specs.declared.fault.DeckKind.{DeckKind}
-use Rattle.mix_tool.specs.declared.fault.DeckKind.TheVariants.{BadHeader, UnitGivenTwice, LineTooLong, NoMixCharacter, BadWord, PartOfBlock, NoInput, TooManyBlocks, DeckTooLong}
-use Rattle.mix_tool.specs.declared.fault.DeckFault.{DeckFault}
+use Rattle.mix_machine.specs.units.deck.Fault.{deck_fault_text}
 use Rattle.mix_tool.specs.declared.fault.ToolFault.{ToolFault}
 use Rattle.mix_tool.specs.declared.fault.ToolFault.TheVariants.{Memory, Read, Write, Deck, Long}
 use Rattle.mix_tool.specs.declared.fault.Refusal.{Refusal}
 use Rattle.mix_tool.specs.declared.fault.Refusal.TheVariants.{NoSuchCommand, BadArgument, OutOfRange, TooFewChanges, RefusedByMachine}
 
--- the number of a fault of a source
-abbrev pub asm_number : AsmKind → ℕ
-asm_number BadByte = 1
-asm_number NoSuchOperation = 2
-asm_number BadSymbol = 3
-asm_number DefinedTwice = 4
-asm_number BadExpression = 5
-asm_number NumberTooLarge = 6
-asm_number UndefinedSymbol = 7
-asm_number ExpressionOverflow = 8
-asm_number AddressTooLarge = 9
-asm_number PartOutOfRange = 10
-asm_number LocationOutOfRange = 11
-asm_number BadAlf = 12
-asm_number NoEnd = 13
-asm_number NoSuchLocalSymbol = 14
-asm_number StartOutOfRange = 15
-asm_number SourceTooLong = 16
-
--- its words
-abbrev pub asm_text : AsmKind → List ℕ
-asm_text BadByte = codes "bad byte"
-asm_text NoSuchOperation = codes "no such operation"
-asm_text BadSymbol = codes "bad symbol"
-asm_text DefinedTwice = codes "defined twice"
-asm_text BadExpression = codes "bad expression"
-asm_text NumberTooLarge = codes "number too large"
-asm_text UndefinedSymbol = codes "undefined symbol"
-asm_text ExpressionOverflow = codes "overflow in expression"
-asm_text AddressTooLarge = codes "address beyond two bytes"
-asm_text PartOutOfRange = codes "index, field or F out of range"
-asm_text LocationOutOfRange = codes "location outside 0 to 3999"
-asm_text BadAlf = codes "bad ALF"
-asm_text NoEnd = codes "no END"
-asm_text NoSuchLocalSymbol = codes "no such local symbol"
-asm_text StartOutOfRange = codes "start outside 0 to 3999"
-asm_text SourceTooLong = codes "source too long"
-
 -- the letter and the number, a blank and the words
 abbrev pub numbered : List ℕ → ℕ → List ℕ → List ℕ
 numbered letter number text = letter ++ decimal number ++ codes " " ++ text
-
--- `A2 no such operation`
-abbrev pub asm_kind_text : AsmKind → List ℕ
-asm_kind_text kind = numbered (codes "A") (asm_number kind) (asm_text kind)
-
--- `line 2: A13 no END`
-abbrev pub asm_fault_text : AsmFault → List ℕ
-asm_fault_text fault = codes "line " ++ decimal fault.line ++ codes ": " ++ asm_kind_text fault.kind
-
--- the number of a fault of a deck
-abbrev pub deck_number : DeckKind → ℕ
-deck_number BadHeader = 1
-deck_number UnitGivenTwice = 2
-deck_number LineTooLong = 3
-deck_number NoMixCharacter = 4
-deck_number BadWord = 5
-deck_number PartOfBlock = 6
-deck_number NoInput = 7
-deck_number TooManyBlocks = 8
-deck_number DeckTooLong = 9
-
--- its words
-abbrev pub deck_text : DeckKind → List ℕ
-deck_text BadHeader = codes "bad header"
-deck_text UnitGivenTwice = codes "unit given twice"
-deck_text LineTooLong = codes "line too long"
-deck_text NoMixCharacter = codes "no MIX character"
-deck_text BadWord = codes "bad word"
-deck_text PartOfBlock = codes "part of a block"
-deck_text NoInput = codes "unit takes no input"
-deck_text TooManyBlocks = codes "too many blocks"
-deck_text DeckTooLong = codes "deck too long"
-
--- `K1 bad header`
-abbrev pub deck_kind_text : DeckKind → List ℕ
-deck_kind_text kind = numbered (codes "K") (deck_number kind) (deck_text kind)
-
--- `line 1: K1 bad header`
-abbrev pub deck_fault_text : DeckFault → List ℕ
-deck_fault_text fault = codes "line " ++ decimal fault.line ++ codes ": " ++ deck_kind_text fault.kind
 
 -- the number of a fault of the tool; T4, a file that is not opened, is none of this type
 abbrev pub tool_number : ToolFault → ℕ

@@ -5,11 +5,11 @@ use Rattle.mix_word.specs.Register.{all_registers, name_of_register}
 use Rattle.mix_word.specs.declared.word.Cmp.{Cmp}
 use Rattle.mix_word.specs.declared.word.Cmp.TheVariants.{Less, Equal, Greater}
 use Rattle.mix_tool.specs.declared.keyword.CommandWord.{CommandWord}
-use Rattle.mix_tool.specs.declared.keyword.CommandWord.TheVariants.{Step, Back, Set, Show}
+use Rattle.mix_tool.specs.declared.keyword.CommandWord.TheVariants as command
 use Rattle.mix_tool.specs.declared.keyword.BackWord.{BackWord}
-use Rattle.mix_tool.specs.declared.keyword.BackWord.TheVariants.{All}
+use Rattle.mix_tool.specs.declared.keyword.BackWord.TheVariants as back
 use Rattle.mix_tool.specs.declared.keyword.ShowWord.{ShowWord}
-use Rattle.mix_tool.specs.declared.keyword.ShowWord.TheVariants.{Registers, Cells, Clock, Changes}
+use Rattle.mix_tool.specs.declared.keyword.ShowWord.TheVariants.{Registers, Cells, Clock, Breaks, Changes, Unit}
 use Rattle.mix_tool.specs.declared.keyword.SetWord.{SetWord}
 use Rattle.mix_tool.specs.declared.keyword.SetWord.TheVariants.{Register, Cell, Location, Toggle, Indicator}
 
@@ -23,30 +23,38 @@ keyword_named name_of all word = find (λ keyword. is_name word (name_of keyword
 
 -- the first word of a command
 abbrev pub command_name : CommandWord → List ℕ
-command_name Step = codes "step"
-command_name Back = codes "back"
-command_name Set = codes "set"
-command_name Show = codes "show"
+command_name command.Step = codes "step"
+command_name command.Run = codes "run"
+command_name command.Back = codes "back"
+command_name command.Forth = codes "forth"
+command_name command.Set = codes "set"
+command_name command.Break = codes "break"
+command_name command.Clear = codes "clear"
+command_name command.Show = codes "show"
 
 abbrev pub all_commands : List CommandWord
-all_commands = Step ∷ Back ∷ Set ∷ Show ∷ []
+all_commands =
+    command.Step ∷ command.Run ∷ command.Back ∷ command.Forth ∷ command.Set ∷ command.Break ∷ command.Clear ∷ command.Show ∷ []
 
 -- what may stand after `back` in place of a number
 abbrev pub back_name : BackWord → List ℕ
-back_name All = codes "all"
+back_name back.All = codes "all"
+back_name back.Break = codes "break"
 
 abbrev pub all_backs : List BackWord
-all_backs = All ∷ []
+all_backs = back.All ∷ back.Break ∷ []
 
 -- what `show` may show
 abbrev pub show_name : ShowWord → List ℕ
 show_name Registers = codes "regs"
 show_name Cells = codes "cells"
 show_name Clock = codes "clock"
+show_name Breaks = codes "breaks"
 show_name Changes = codes "changes"
+show_name Unit = codes "unit"
 
 abbrev pub all_shows : List ShowWord
-all_shows = Registers ∷ Cells ∷ Clock ∷ Changes ∷ []
+all_shows = Registers ∷ Cells ∷ Clock ∷ Breaks ∷ Changes ∷ Unit ∷ []
 
 -- what `set` may set
 abbrev pub set_name : SetWord → List ℕ

@@ -1,14 +1,14 @@
-pub mod Assembly
 pub mod Bundle
 pub mod Command
-pub mod Deck
 pub mod Fault
 pub mod Keyword
 pub mod Output
 pub mod Reply
 pub mod Request
+pub mod Session
 pub mod Show
-pub mod Statement
+pub mod ShowUnit
 pub mod Then
+pub mod Timeline
 pub mod Wrapped
 pub mod law

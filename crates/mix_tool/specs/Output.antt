@@ -1,19 +1,20 @@
 -- What the tool writes and the status with which it ends: a function of the source, the deck and the script.
 use Rattle.std.specs.Prelude.{◌≡◌, ℕ, Option, List, [], ◌∷◌, ◌++◌, Result, Ok, Err, length, nat_lt, if◌then◌else◌}
 use Rattle.std.specs.Io.KnownBytes.{Appends, Keeps}
-use Rattle.mix_machine.specs.World.{WorldState}
-use Rattle.mix_machine.specs.Loaded.{loaded}
-use Rattle.mix_machine.specs.declared.old.Change.{Change}
-use Rattle.mix_tool.specs.Assembly.{assembly, ProgramValue}
-use Rattle.mix_tool.specs.Command.{command}
+use Rattle.mixal_asm.specs.Assembly.{assembly}
+use Rattle.mixal_asm.specs.Fault.{asm_fault_line}
+use Rattle.mixal_asm.specs.Listing.{listing}
+use Rattle.mixal_asm.specs.Program.{ProgramValue}
+use Rattle.mixal_asm.specs.declared.fault.AsmFault.{AsmFault}
+use Rattle.mix_tool.specs.Session.{SessionState, opened, effect_in}
+use Rattle.mix_tool.specs.Command.{after}
 use Rattle.mix_tool.specs.Bundle.{cut_of}
-use Rattle.mix_tool.specs.Deck.{deck_of}
-use Rattle.mix_tool.specs.Fault.{asm_fault_text}
+use Rattle.mix_machine.specs.units.Units.{UnitsState}
+use Rattle.mix_machine.specs.units.deck.Deck.{deck_of}
 use Rattle.mix_lines.specs.Lines.{lines}
 use Rattle.mix_stream.specs.Stream.{AppendsFront}
 use Rattle.mix_tool.specs.Reply.{told_of_both}
-use Rattle.mix_tool.specs.declared.fault.AsmFault.{AsmFault}
-use Rattle.mix_tool.specs.declared.fault.DeckFault.{DeckFault}
+use Rattle.mix_machine.specs.declared.units.deck_fault.DeckFault.{DeckFault}
 use Rattle.mix_tool.specs.declared.fault.ToolFault.{ToolFault}
 use Rattle.mix_tool.specs.declared.fault.ToolFault.TheVariants as faults
 use Rattle.mix_tool.specs.declared.reply.Told.{Told}
@@ -38,12 +39,12 @@ pub record Replies : Type 0 where
   pub bytes : List ℕ
   pub told : Told
 
--- the replies to the lines, one after the other, each from the changes that the ones before it left
-abbrev pub replies : WorldState → List Change → List (List ℕ) → Replies
-replies base changes [] = record { bytes = []; told = Accepted }
-replies base changes (line ∷ rest) =
-    let effect = command base changes line in
-    let more = replies base effect.changes rest in
+-- the replies to the lines, one after the other, each in the session that the ones before it left
+abbrev pub replies : SessionState → List (List ℕ) → Replies
+replies s [] = record { bytes = []; told = Accepted }
+replies s (line ∷ rest) =
+    let effect = effect_in s line in
+    let more = replies (record s { timeline = after effect }) rest in
     record { bytes = effect.reply ++ more.bytes; told = told_of_both effect.told more.told }
 
 -- the status of a script: 0 where each command is accepted, else 3
@@ -51,17 +52,17 @@ abbrev pub status_of : Told → ℕ
 status_of Accepted = 0
 status_of Refused = 3
 
--- the script, from no change on the loaded machine
-unfoldable pub outcome_of_script : WorldState → List ℕ → Outcome
-outcome_of_script base script =
+-- a script in a session
+unfoldable pub outcome_of_script : SessionState → List ℕ → Outcome
+outcome_of_script s script =
     if nat_lt max_script_bytes (length script) then TooLong
-    else (let all = replies base [] (lines script) in Ended all.bytes (status_of all.told))
+    else (let all = replies s (lines script) in Ended all.bytes (status_of all.told))
 
 -- an assembled program, with its deck and its script
-unfoldable pub outcome_of : Result ProgramValue AsmFault → Result (Unit {0}) DeckFault → List ℕ → Outcome
-outcome_of (Err fault) deck script = Ended (asm_fault_text fault ++ 10 ∷ []) 1
+unfoldable pub outcome_of : Result ProgramValue AsmFault → Result UnitsState DeckFault → List ℕ → Outcome
+outcome_of (Err fault) deck script = Ended (asm_fault_line fault ++ 10 ∷ []) 1
 outcome_of (Ok program) (Err fault) script = DeckRefused fault
-outcome_of (Ok program) (Ok _) script = outcome_of_script (loaded program.words program.start) script
+outcome_of (Ok program) (Ok units) script = outcome_of_script (opened program units) script
 
 -- source, deck and script
 unfoldable pub output : List ℕ → List ℕ → List ℕ → Outcome
@@ -72,6 +73,14 @@ unfoldable pub bundle_output : List ℕ → Outcome
 bundle_output input =
     if nat_lt max_bundle_bytes (length input) then TooLong
     else (let parts = cut_of input in output parts.source parts.deck parts.script)
+
+-- a listing, or the first fault of its source
+abbrev pub list_outcome : Result ProgramValue AsmFault → Outcome
+list_outcome (Err fault) = Ended (asm_fault_line fault ++ 10 ∷ []) 1
+list_outcome (Ok program) = Ended (listing program) 0
+
+unfoldable pub list_output : List ℕ → Outcome
+list_output source = list_outcome (assembly source)
 
 -- the bytes that an outcome writes
 abbrev pub bytes_of : Outcome → List ℕ

@@ -5,13 +5,14 @@ use Rattle.mix_machine.specs.Fault.{fault_line}
 use Rattle.mix_tool.specs.Fault.{refusal_text}
 use Rattle.mix_tool.specs.declared.fault.Refusal.{Refusal}
 use Rattle.mix_tool.specs.declared.reply.End.{End}
-use Rattle.mix_tool.specs.declared.reply.End.TheVariants.{Halt, Limit, Fault}
+use Rattle.mix_tool.specs.declared.reply.End.TheVariants.{Halt, Break, Limit, Fault}
 use Rattle.mix_tool.specs.declared.reply.Told.{Told}
 use Rattle.mix_tool.specs.declared.reply.Told.TheVariants.{Accepted, Refused}
 
--- whether `step` is accepted: only a fault refuses
+-- whether `step` or `run` is accepted: only a fault refuses
 abbrev pub told_of_end : End → Told
 told_of_end Halt = Accepted
+told_of_end Break = Accepted
 told_of_end Limit = Accepted
 told_of_end (Fault f) = Refused
 
@@ -28,13 +29,14 @@ location_text n = decimal (n / 1000) ++ decimal (n / 100 % 10) ++ decimal (n / 1
 unfoldable pub stand_text : ℕ → ℕ → List ℕ
 stand_text loc clock = location_text loc ++ codes " clock " ++ decimal clock
 
--- why `step` did no more steps
+-- why no more steps were done
 abbrev pub end_text : End → List ℕ
 end_text Halt = codes "halt"
+end_text Break = codes "break"
 end_text Limit = codes "limit"
 end_text (Fault f) = codes "fault " ++ fault_line f
 
--- the reply of `step`
+-- the reply of `step` and `run`
 unfoldable pub ran_text : ℕ → ℕ → ℕ → End → List ℕ
 ran_text done loc clock end =
     codes "ran " ++ decimal done ++ codes " to " ++ stand_text loc clock ++ codes ": " ++ end_text end ++ 10 ∷ []
@@ -42,6 +44,10 @@ ran_text done loc clock end =
 -- the reply of `back`
 unfoldable pub back_text : ℕ → ℕ → ℕ → List ℕ
 back_text count loc clock = codes "back " ++ decimal count ++ codes " to " ++ stand_text loc clock ++ 10 ∷ []
+
+-- the reply of `forth`
+unfoldable pub forth_text : ℕ → ℕ → ℕ → List ℕ
+forth_text count loc clock = codes "forth " ++ decimal count ++ codes " to " ++ stand_text loc clock ++ 10 ∷ []
 
 -- the line of a refused command
 unfoldable pub refused_text : Refusal → List ℕ

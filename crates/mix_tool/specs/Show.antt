@@ -1,5 +1,5 @@
 -- What `show` writes of the machine: lines of bytes, in a form of this project's own.
-use Rattle.std.specs.Prelude.{ℕ, ◌+◌, ◌-◌, List, [], ◌∷◌, ◌++◌, codes, replicate, length, flat_map}
+use Rattle.std.specs.Prelude.{ℕ, ◌+◌, ◌-◌, List, [], ◌∷◌, ◌++◌, codes, replicate, length, flat_map, if◌then◌else◌}
 use Rattle.std.specs.Fmt.{decimal}
 use Rattle.std.specs.List.{range_with_len}
 use Rattle.mix_word.specs.Word.{WordValue}
@@ -7,11 +7,12 @@ use Rattle.mix_word.specs.Text.{word_text, short_text}
 use Rattle.mix_word.specs.Register.{all_registers, name_of_register}
 use Rattle.mix_word.specs.declared.register.Reg.{Reg}
 use Rattle.mix_word.specs.declared.register.Reg.TheVariants as reg
-use Rattle.mix_machine.specs.World.{WorldState, register_of, cell_of}
+use Rattle.mix_machine.specs.World.{WorldState, register_of, cell_of, has_break}
 use Rattle.mix_tool.specs.Keyword.{toggle_name, indicator_name}
 use Rattle.mix_tool.specs.Reply.{location_text, stand_text}
+use Rattle.mix_tool.specs.ShowUnit.{unit_text}
 use Rattle.mix_tool.specs.declared.request.Topic.{Topic}
-use Rattle.mix_tool.specs.declared.request.Topic.TheVariants.{Registers, Cells, Clock, Changes}
+use Rattle.mix_tool.specs.declared.request.Topic.TheVariants.{Registers, Cells, Clock, Breaks, Changes, Unit}
 
 -- the toggle, the indicator, the location and the clock
 unfoldable pub flags_text : WorldState → List ℕ
@@ -55,6 +56,18 @@ cells_text w first last = flat_map (cell_line w) (numbers_between first last)
 abbrev pub clock_text : WorldState → List ℕ
 clock_text w = codes "clock " ++ decimal w.clock ++ 10 ∷ []
 
+-- a breakpoint: a blank and its location; nothing of a cell that has none
+abbrev pub break_text : WorldState → ℕ → List ℕ
+break_text w p = if has_break w p then codes " " ++ location_text p else []
+
+-- the breakpoints from a first to a last cell, in rising order
+unfoldable pub break_texts : WorldState → ℕ → ℕ → List ℕ
+break_texts w first last = flat_map (break_text w) (numbers_between first last)
+
+-- the reply of `show breaks`
+abbrev pub breaks_text : WorldState → List ℕ
+breaks_text w = codes "breaks" ++ break_texts w 0 3999 ++ 10 ∷ []
+
 -- the reply of `show changes`: how many are done
 abbrev pub changes_text : ℕ → List ℕ
 changes_text changes = codes "changes " ++ decimal changes ++ 10 ∷ []
@@ -64,4 +77,6 @@ abbrev pub topic_text : Topic → WorldState → ℕ → List ℕ
 topic_text Registers w changes = registers_text w
 topic_text (Cells first last) w changes = cells_text w first last
 topic_text Clock w changes = clock_text w
+topic_text Breaks w changes = breaks_text w
 topic_text Changes w changes = changes_text changes
+topic_text (Unit n) w changes = unit_text w n

@@ -48,8 +48,12 @@ fn has_name<K: Keyword>(keyword: K, word: &[u8]) -> bool
 #[derive(Clone, Copy)]
 pub(crate) enum CommandWord {
     Step,
+    Run,
     Back,
+    Forth,
     Set,
+    Break,
+    Clear,
     Show,
 }
 
@@ -61,8 +65,12 @@ impl Keyword for CommandWord {
     fn name(self) -> &'static str {
         match self {
             CommandWord::Step => "step",
+            CommandWord::Run => "run",
             CommandWord::Back => "back",
+            CommandWord::Forth => "forth",
             CommandWord::Set => "set",
+            CommandWord::Break => "break",
+            CommandWord::Clear => "clear",
             CommandWord::Show => "show",
         }
     }
@@ -70,19 +78,24 @@ impl Keyword for CommandWord {
     fn all() -> &'static [CommandWord] {
         &[
             CommandWord::Step,
+            CommandWord::Run,
             CommandWord::Back,
+            CommandWord::Forth,
             CommandWord::Set,
+            CommandWord::Break,
+            CommandWord::Clear,
             CommandWord::Show,
         ]
     }
 
-    ghost named = { elim [ command.Step ↦ refl | command.Back ↦ refl | command.Set ↦ refl | command.Show ↦ refl ] };
+    ghost named = { elim [ command.Step ↦ refl | command.Run ↦ refl | command.Back ↦ refl | command.Forth ↦ refl | command.Set ↦ refl | command.Break ↦ refl | command.Clear ↦ refl | command.Show ↦ refl ] };
 }
 
 /// What may stand after `back` in place of a number.
 #[derive(Clone, Copy)]
 pub(crate) enum BackWord {
     All,
+    Break,
 }
 
 impl Keyword for BackWord {
@@ -93,14 +106,15 @@ impl Keyword for BackWord {
     fn name(self) -> &'static str {
         match self {
             BackWord::All => "all",
+            BackWord::Break => "break",
         }
     }
 
     fn all() -> &'static [BackWord] {
-        &[BackWord::All]
+        &[BackWord::All, BackWord::Break]
     }
 
-    ghost named = { elim [ back.All ↦ refl ] };
+    ghost named = { elim [ back.All ↦ refl | back.Break ↦ refl ] };
 }
 
 /// What `show` may show.
@@ -109,7 +123,9 @@ pub(crate) enum ShowWord {
     Registers,
     Cells,
     Clock,
+    Breaks,
     Changes,
+    Unit,
 }
 
 impl Keyword for ShowWord {
@@ -122,7 +138,9 @@ impl Keyword for ShowWord {
             ShowWord::Registers => "regs",
             ShowWord::Cells => "cells",
             ShowWord::Clock => "clock",
+            ShowWord::Breaks => "breaks",
             ShowWord::Changes => "changes",
+            ShowWord::Unit => "unit",
         }
     }
 
@@ -131,11 +149,13 @@ impl Keyword for ShowWord {
             ShowWord::Registers,
             ShowWord::Cells,
             ShowWord::Clock,
+            ShowWord::Breaks,
             ShowWord::Changes,
+            ShowWord::Unit,
         ]
     }
 
-    ghost named = { elim [ show.Registers ↦ refl | show.Cells ↦ refl | show.Clock ↦ refl | show.Changes ↦ refl ] };
+    ghost named = { elim [ show.Registers ↦ refl | show.Cells ↦ refl | show.Clock ↦ refl | show.Breaks ↦ refl | show.Changes ↦ refl | show.Unit ↦ refl ] };
 }
 
 /// What `set` may set.

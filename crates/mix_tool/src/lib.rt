@@ -3,19 +3,24 @@
 
 mod bundle;
 mod command;
-mod deck;
 mod fault;
 mod keyword;
+mod laws;
+mod list;
 mod reply;
 mod request;
 mod run;
 mod session;
 mod show;
-mod small;
 
-pub use fault::{AsmFault, AsmKind, DeckFault, DeckKind, ToolFault};
-pub use mix_stream::{Counted, Failed, In, Out};
+pub use fault::ToolFault;
+pub use laws::back_and_forth_law;
+pub use list::run_list;
+pub use mix_machine::{DeckFault, DeckKind};
+pub use mixal_asm::{AsmFault, AsmKind, Counted, Failed, In, Out};
+pub use reply::Told;
 pub use run::{run_bundle, run_debug};
+pub use session::Session;
 
 #[cfg(test)]
 mod tests;

@@ -1,7 +1,7 @@
 //! The replies: what is written, and whether the command is accepted.
 
 ghost use Rattle.std.specs.Prelude.{◌≡◌, Some, IfOk, string_bytes};
-ghost use Rattle.mix_tool.specs.Reply.{told_of_end, told_of_both, location_text, stand_text, end_text, ran_text, back_text, ok_text, refused_text};
+ghost use Rattle.mix_tool.specs.Reply.{told_of_end, told_of_both, location_text, stand_text, end_text, ran_text, back_text, forth_text, ok_text, refused_text};
 
 use crate::fault::Refusal;
 use mix_machine::{MixFault, World};
@@ -34,10 +34,11 @@ pub(crate) struct Reply {
     pub told: Told,
 }
 
-/// Why `step` did no more steps.
+/// Why `step` or `run` did no more steps.
 #[derive(Clone, Copy, Debug, PartialEq, Eq)]
 pub(crate) enum End {
     Halt,
+    Break,
     Limit,
     Fault(MixFault),
 }
@@ -48,7 +49,7 @@ impl End {
         ensures { result ≡ told_of_end self }
     {
         match self {
-            End::Halt | End::Limit => Told::Accepted,
+            End::Halt | End::Break | End::Limit => Told::Accepted,
             End::Fault(_) => Told::Refused,
         }
     }
@@ -60,6 +61,7 @@ impl fmt::Display for End {
     fn fmt<W: fmt::Write>(&self, f: &mut fmt::Formatter<W>) -> fmt::Result {
         match self {
             End::Halt => write!(f, "halt"),
+            End::Break => write!(f, "break"),
             End::Limit => write!(f, "limit"),
             End::Fault(fault) => write!(f, "fault {fault}"),
         }
@@ -108,7 +110,7 @@ pub(crate) fn stand_of(world: &World) -> Stand
     }
 }
 
-/// The line of `step`.
+/// The line of `step` and `run`.
 #[tactic(auto, unfolding(crate::specs::Reply::ran_text))]
 pub(crate) fn ran_line(
     alloc: Global,
@@ -130,6 +132,16 @@ pub(crate) fn back_line(alloc: Global, count: usize, world: &World) -> Result<St
 {
     let stand = stand_of(world);
     let text = format!(in alloc; "back {count} to {stand}\n")?;
+    Ok(text)
+}
+
+/// The line of `forth`.
+#[tactic(auto, unfolding(crate::specs::Reply::forth_text))]
+pub(crate) fn forth_line(alloc: Global, count: usize, world: &World) -> Result<String, AllocError>
+    ensures { IfOk result (λ s. string_bytes s ≡ forth_text count world.now.loc world.now.clock) }
+{
+    let stand = stand_of(world);
+    let text = format!(in alloc; "forth {count} to {stand}\n")?;
     Ok(text)
 }
 

@@ -2,21 +2,25 @@
 
 ghost use Rattle.std.specs.Prelude.{◌≡◌, ◌≤◌, ◌∷◌, [], Ok, Err, MatchResult, IfOk, codes, option_copied};
 ghost use Rattle.mix_lines.specs.Lines.{words};
-ghost use Rattle.mix_tool.specs.Request.{no_word, one_word, two_words, keyword_in, number_in, word_in, place_of, from_one, up_to};
-ghost use Rattle.mix_tool.specs.Request.{step_request, back_request, change_of, set_request, cells_of, topic_of, show_request, request_after, request_of_words, request_of};
+ghost use Rattle.mix_tool.specs.Request.{no_word, one_word, two_words, keyword_in, number_in, word_in, expression_in, place_of, from_one, up_to, last_unit};
+ghost use Rattle.mix_tool.specs.Request.{steps_in, step_request, run_request, back_request, forth_request, one_place, break_request, clear_request, change_of, set_request, cells_of, unit_topic, topic_of, show_request, request_after, request_of_words, request_of};
 
 use crate::fault::Refusal;
 use crate::keyword::{BackWord, CommandWord, Keyword, SetWord, ShowWord, named};
-use mix_lines::{Words, is_comment, number, signed_number};
-use mix_machine::{Change, Place, Sign, Word};
+use mix_lines::{Words, is_comment, number};
+use mix_machine::{Change, Place, UnitNo, Word};
+use mixal_text::{Names, expression, w_value};
 
 /// What a line of the script asks for.
 #[derive(Clone, Copy, Debug, PartialEq, Eq)]
 pub(crate) enum Request {
     Nothing,
     Step(u32),
+    Run(u32),
     Back(u64),
     BackAll,
+    BackBreak,
+    Forth(u64),
     Change(Change),
     Show(Topic),
 }
@@ -27,47 +31,55 @@ pub(crate) enum Topic {
     Registers,
     Cells(Place, Place),
     Clock,
+    Breaks,
     Changes,
+    Unit(UnitNo),
 }
 
 /// The most steps that one command may ask for.
 const MAX_STEPS: u64 = 1_000_000;
 
-/// The largest magnitude of a word: 64^5 - 1.
-const MAX_MAGNITUDE: u64 = 1_073_741_823;
-
-/// Reads a line: what it asks for, or what is wrong with its words.
+/// Reads a line: what it asks for, or what is wrong with its words. The asterisk stands for `here`, the location.
 #[tactic(auto, unfolding(crate::specs::Request::request_of))]
-pub(crate) fn read_request(line: &[u8]) -> Result<Request, Refusal>
-    ensures { result ≡ request_of line.now }
+pub(crate) fn read_request<N: Names>(line: &[u8], names: &N, here: Word) -> Result<Request, Refusal>
+    ensures { result ≡ request_of (N.names names.now) here line.now }
 {
     if is_comment(line) {
         return Ok(Request::Nothing);
     }
-    read_words(&mut Words::of(line))
+    read_words(&mut Words::of(line), names, here)
 }
 
 #[tactic(auto, unfolding(crate::specs::Request::request_of_words))]
-fn read_words(words: &mut Words) -> Result<Request, Refusal>
-    ensures { result ≡ request_of_words words.old }
+fn read_words<N: Names>(words: &mut Words, names: &N, here: Word) -> Result<Request, Refusal>
+    ensures { result ≡ request_of_words (N.names names.now) here words.old }
 {
     let Some(word) = words.next() else {
         return Ok(Request::Nothing);
     };
     match named(word) {
         None => Err(Refusal::NoSuchCommand),
-        Some(command) => read_arguments(command, words),
+        Some(command) => read_arguments(command, words, names, here),
     }
 }
 
-fn read_arguments(command: CommandWord, words: &mut Words) -> Result<Request, Refusal>
-    ensures { result ≡ request_after command words.old }
+fn read_arguments<N: Names>(
+    command: CommandWord,
+    words: &mut Words,
+    names: &N,
+    here: Word,
+) -> Result<Request, Refusal>
+    ensures { result ≡ request_after (N.names names.now) here command words.old }
 {
     match command {
         CommandWord::Step => read_step(words),
+        CommandWord::Run => read_run(words),
         CommandWord::Back => read_back(words),
-        CommandWord::Set => read_set(words),
-        CommandWord::Show => read_show(words),
+        CommandWord::Forth => read_forth(words),
+        CommandWord::Set => read_set(words, names, here),
+        CommandWord::Break => read_break(words, names, here),
+        CommandWord::Clear => read_clear(words, names, here),
+        CommandWord::Show => read_show(words, names, here),
     }
 }
 
@@ -79,9 +91,24 @@ fn read_step(words: &mut Words) -> Result<Request, Refusal>
         return Ok(Request::Step(1));
     };
     no_word(words)?;
+    Ok(Request::Step(steps_in(word)?))
+}
+
+#[tactic(auto, unfolding(crate::specs::Request::run_request))]
+fn read_run(words: &mut Words) -> Result<Request, Refusal>
+    ensures { result ≡ run_request words.old }
+{
+    let word = one_word(words)?;
+    Ok(Request::Run(steps_in(word)?))
+}
+
+// How many steps a word asks for.
+fn steps_in(word: &[u8]) -> Result<u32, Refusal>
+    ensures { result ≡ steps_in word.now }
+{
     let count = from_one(number_in(word)?)?;
     let steps = up_to(MAX_STEPS, count)?;
-    Ok(Request::Step(steps as u32))
+    Ok(steps as u32)
 }
 
 #[tactic(auto, unfolding(crate::specs::Request::back_request))]
@@ -91,6 +118,7 @@ fn read_back(words: &mut Words) -> Result<Request, Refusal>
     let word = one_word(words)?;
     match named(word) {
         Some(BackWord::All) => Ok(Request::BackAll),
+        Some(BackWord::Break) => Ok(Request::BackBreak),
         None => {
             let count = from_one(number_in(word)?)?;
             Ok(Request::Back(count))
@@ -98,77 +126,133 @@ fn read_back(words: &mut Words) -> Result<Request, Refusal>
     }
 }
 
+#[tactic(auto, unfolding(crate::specs::Request::forth_request))]
+fn read_forth(words: &mut Words) -> Result<Request, Refusal>
+    ensures { result ≡ forth_request words.old }
+{
+    let word = one_word(words)?;
+    let count = from_one(number_in(word)?)?;
+    Ok(Request::Forth(count))
+}
+
+#[tactic(auto, unfolding(crate::specs::Request::break_request))]
+fn read_break<N: Names>(words: &mut Words, names: &N, here: Word) -> Result<Request, Refusal>
+    ensures { result ≡ break_request (N.names names.now) here words.old }
+{
+    let place = one_place(words, names, here)?;
+    Ok(Request::Change(Change::Break(place)))
+}
+
+#[tactic(auto, unfolding(crate::specs::Request::clear_request))]
+fn read_clear<N: Names>(words: &mut Words, names: &N, here: Word) -> Result<Request, Refusal>
+    ensures { result ≡ clear_request (N.names names.now) here words.old }
+{
+    let place = one_place(words, names, here)?;
+    Ok(Request::Change(Change::Clear(place)))
+}
+
 #[tactic(auto, unfolding(crate::specs::Request::set_request))]
-fn read_set(words: &mut Words) -> Result<Request, Refusal>
-    ensures { result ≡ set_request words.old }
+fn read_set<N: Names>(words: &mut Words, names: &N, here: Word) -> Result<Request, Refusal>
+    ensures { result ≡ set_request (N.names names.now) here words.old }
 {
     let word = first_word(words)?;
-    let change = read_change(keyword(word)?, words)?;
+    let change = read_change(keyword(word)?, words, names, here)?;
     Ok(Request::Change(change))
 }
 
-fn read_change(target: SetWord, words: &mut Words) -> Result<Change, Refusal>
-    ensures { result ≡ change_of target words.old }
+fn read_change<N: Names>(
+    target: SetWord,
+    words: &mut Words,
+    names: &N,
+    here: Word,
+) -> Result<Change, Refusal>
+    ensures { result ≡ change_of (N.names names.now) here target words.old }
 {
     match target {
         SetWord::Register(register) => {
-            let value = word_in(one_word(words)?)?;
+            let value = word_in(one_word(words)?, names, here)?;
             Ok(Change::SetReg(register, value))
         }
         SetWord::Cell => {
             let (at, value) = two_words(words)?;
-            let (at, value) = (word_in(at)?, word_in(value)?);
+            let at = expression_in(at, names, here)?;
+            let value = word_in(value, names, here)?;
             Ok(Change::SetCell(place_of(at)?, value))
         }
-        SetWord::Location => {
-            let at = word_in(one_word(words)?)?;
-            Ok(Change::SetLoc(place_of(at)?))
-        }
+        SetWord::Location => Ok(Change::SetLoc(one_place(words, names, here)?)),
         SetWord::Toggle => Ok(Change::SetOver(keyword(one_word(words)?)?)),
         SetWord::Indicator => Ok(Change::SetCmp(keyword(one_word(words)?)?)),
     }
 }
 
 #[tactic(auto, unfolding(crate::specs::Request::show_request))]
-fn read_show(words: &mut Words) -> Result<Request, Refusal>
-    ensures { result ≡ show_request words.old }
+fn read_show<N: Names>(words: &mut Words, names: &N, here: Word) -> Result<Request, Refusal>
+    ensures { result ≡ show_request (N.names names.now) here words.old }
 {
     let word = first_word(words)?;
-    let topic = read_topic(keyword(word)?, words)?;
+    let topic = read_topic(keyword(word)?, words, names, here)?;
     Ok(Request::Show(topic))
 }
 
-fn read_topic(topic: ShowWord, words: &mut Words) -> Result<Topic, Refusal>
-    ensures { result ≡ topic_of topic words.old }
+fn read_topic<N: Names>(
+    topic: ShowWord,
+    words: &mut Words,
+    names: &N,
+    here: Word,
+) -> Result<Topic, Refusal>
+    ensures { result ≡ topic_of (N.names names.now) here topic words.old }
 {
     match topic {
         ShowWord::Registers => {
             no_word(words)?;
             Ok(Topic::Registers)
         }
-        ShowWord::Cells => read_cells(words),
+        ShowWord::Cells => read_cells(words, names, here),
         ShowWord::Clock => {
             no_word(words)?;
             Ok(Topic::Clock)
+        }
+        ShowWord::Breaks => {
+            no_word(words)?;
+            Ok(Topic::Breaks)
         }
         ShowWord::Changes => {
             no_word(words)?;
             Ok(Topic::Changes)
         }
+        ShowWord::Unit => read_unit(words),
     }
 }
 
-fn read_cells(words: &mut Words) -> Result<Topic, Refusal>
-    ensures { result ≡ cells_of words.old }
+fn read_cells<N: Names>(words: &mut Words, names: &N, here: Word) -> Result<Topic, Refusal>
+    ensures { result ≡ cells_of (N.names names.now) here words.old }
 {
     let (from, to) = two_words(words)?;
-    let (from, to) = (word_in(from)?, word_in(to)?);
+    let from = expression_in(from, names, here)?;
+    let to = expression_in(to, names, here)?;
     let (from, to) = (place_of(from)?, place_of(to)?);
     if to.number() < from.number() {
         Err(Refusal::OutOfRange)
     } else {
         Ok(Topic::Cells(from, to))
     }
+}
+
+fn read_unit(words: &mut Words) -> Result<Topic, Refusal>
+    ensures { result ≡ unit_topic words.old }
+{
+    let number = number_in(one_word(words)?)?;
+    Ok(Topic::Unit(unit_of(number)?))
+}
+
+// The unit of this number.
+fn unit_of(number: u64) -> Result<UnitNo, Refusal>
+    ensures { result ≡ up_to last_unit number }
+{
+    u8::try_from(number)
+        .ok()
+        .and_then(UnitNo::of)
+        .ok_or(Refusal::OutOfRange)
 }
 
 // No word is left.
@@ -207,6 +291,14 @@ fn two_words<'a>(words: &mut Words<'a>) -> Result<(&'a [u8], &'a [u8]), Refusal>
     Ok((first, second))
 }
 
+// The cell that the only word left names.
+fn one_place<N: Names>(words: &mut Words, names: &N, here: Word) -> Result<Place, Refusal>
+    ensures { result ≡ one_place (N.names names.now) here words.old }
+{
+    let at = expression_in(one_word(words)?, names, here)?;
+    place_of(at)
+}
+
 fn keyword<K: Keyword>(word: &[u8]) -> Result<K, Refusal>
     ensures { result ≡ keyword_in K.name_of K.all_of word.now }
 {
@@ -219,20 +311,23 @@ fn number_in(word: &[u8]) -> Result<u64, Refusal>
     number(word).ok_or(Refusal::BadArgument)
 }
 
-// A word of MIX: a number below 64^5 with its sign.
-fn word_in(text: &[u8]) -> Result<Word, Refusal>
-    ensures { result ≡ word_in text.now }
+// A word, by a W-value.
+fn word_in<N: Names>(text: &[u8], names: &N, here: Word) -> Result<Word, Refusal>
+    ensures { result ≡ word_in (N.names names.now) here text.now }
 {
-    let number = signed_number(text).ok_or(Refusal::BadArgument)?;
-    if number.magnitude > MAX_MAGNITUDE {
-        return Err(Refusal::BadArgument);
-    }
-    let sign = if number.negative {
-        Sign::Minus
+    w_value(text, names, here).map_err(|_| Refusal::BadArgument)
+}
+
+// A number, by an expression and nothing else.
+fn expression_in<N: Names>(text: &[u8], names: &N, here: Word) -> Result<Word, Refusal>
+    ensures { result ≡ expression_in (N.names names.now) here text.now }
+{
+    let (value, used) = expression(text, names, here).map_err(|_| Refusal::BadArgument)?;
+    if used == text.len() {
+        Ok(value)
     } else {
-        Sign::Plus
-    };
-    Ok(Word::of(sign, number.magnitude as u32))
+        Err(Refusal::BadArgument)
+    }
 }
 
 // The place that a word's number names.
@@ -265,6 +360,3 @@ fn up_to(limit: u64, n: u64) -> Result<u64, Refusal>
         Ok(n)
     }
 }
-
-#[cfg(test)]
-mod tests;

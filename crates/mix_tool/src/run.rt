@@ -2,24 +2,24 @@
 
 ghost use Rattle.std.specs.Prelude.{◌≡◌, ◌⊎◌, drop, ◌≢◌, ◌<◌, ◌≤◌, ◌+◌, ◌-◌, ◌^◌, ◌++◌, [], ◌∷◌, ℕ, List, Some, Ok, Err, IfOk, IfErr, string_bytes};
 ghost use Rattle.std.specs.Io.KnownBytes.{Appends, Keeps};
-ghost use Rattle.mix_machine.specs.Loaded.{loaded};
-ghost use Rattle.mix_tool.specs.Fault.{asm_fault_text};
-ghost use Rattle.mix_tool.specs.declared.fault.AsmFault.{AsmFault};
-ghost use Rattle.mix_tool.specs.declared.fault.DeckFault.{DeckFault};
+ghost use Rattle.mixal_asm.specs.Fault.{asm_fault_line};
+ghost use Rattle.mixal_asm.specs.declared.fault.AsmFault.{AsmFault};
+ghost use Rattle.mix_machine.specs.declared.units.deck_fault.DeckFault.{DeckFault};
 ghost use Rattle.mix_lines.specs.Lines.{lines};
-ghost use Rattle.mix_tool.specs.Assembly.{assembly, max_source_bytes, program_of};
-ghost use Rattle.mix_tool.specs.Deck.{deck_of, max_deck_bytes};
+ghost use Rattle.mixal_asm.specs.Assembly.{assembly, max_source_bytes};
+ghost use Rattle.mix_machine.specs.units.deck.Deck.{deck_of, max_deck_bytes};
+ghost use Rattle.mix_tool.specs.Session.{opened};
 ghost use Rattle.mix_tool.specs.Output.{Meets, Ended, IsOwn, output, outcome_of, bundle_output, outcome_of_script, replies, status_of, max_script_bytes, max_bundle_bytes};
 ghost use Rattle.mix_stream.specs.Stream.{AppendsFront, ConsumesAtMost, CountsRead, CountsWrite};
 
 use crate::bundle::cut;
-use crate::deck::{MAX_DECK_BYTES, read_deck};
-use crate::fault::{AsmFault, ToolFault};
+use crate::fault::ToolFault;
 use crate::reply::Told;
 use crate::session::Session;
-use crate::small::{MAX_SOURCE_BYTES, Program, assemble};
 use mix_lines::split_line;
+use mix_machine::{MAX_DECK_BYTES, Units};
 use mix_stream::{In, Out, read_up_to, write_all};
+use mixal_asm::{AsmFault, MAX_SOURCE_BYTES, Program, assemble};
 use std::alloc::Global;
 use undo_core::{Memory, Refused};
 
@@ -35,10 +35,14 @@ const SOURCE_REFUSED: u8 = 1;
 /// The status where some command is refused.
 const COMMAND_REFUSED: u8 = 3;
 
-// The first fault of a source is all that is written.
-fn refuse_source<W: Out>(alloc: Global, fault: AsmFault, out: &mut W) -> Result<u8, ToolFault>
+/// The first fault of a source is all that is written.
+pub(crate) fn refuse_source<W: Out>(
+    alloc: Global,
+    fault: AsmFault,
+    out: &mut W,
+) -> Result<u8, ToolFault>
     requires { W.failed out.old < 2 ^ 64 - 1 }
-    ensures output { Meets (Ended (asm_fault_text fault ++ 10 ∷ []) 1) result (W.told out.old) (W.told out.new) }
+    ensures output { Meets (Ended (asm_fault_line fault ++ 10 ∷ []) 1) result (W.told out.old) (W.told out.new) }
     ensures write { CountsWrite (result ≡ Err ToolFault.Write) (W.failed out.old) (W.failed out.new) }
     ensures only { IfErr result IsOwn }
 {
@@ -48,7 +52,7 @@ fn refuse_source<W: Out>(alloc: Global, fault: AsmFault, out: &mut W) -> Result<
 }
 
 fn fault_line(alloc: Global, fault: AsmFault) -> Result<String, Memory>
-    ensures { IfOk result (λ s. string_bytes s ≡ asm_fault_text fault ++ 10 ∷ []) }
+    ensures { IfOk result (λ s. string_bytes s ≡ asm_fault_line fault ++ 10 ∷ []) }
 {
     let text = format!(in alloc; "{fault}\n")?;
     Ok(text)
@@ -61,9 +65,9 @@ fn execute_lines<W: Out>(
     out: &mut W,
 ) -> Result<Told, ToolFault>
     requires { W.failed out.old < 2 ^ 64 - 1 }
-    ensures replies { let all = replies session.old.journal.first session.old.journal.changes (lines script.now) in
+    ensures replies { let all = replies session.old (lines script.now) in
         IfOk result (λ told. (told ≡ all.told) × Appends (W.told out.old) (W.told out.new) all.bytes) }
-    ensures begun { AppendsFront (W.told out.old) (W.told out.new) (replies session.old.journal.first session.old.journal.changes (lines script.now)).bytes }
+    ensures begun { AppendsFront (W.told out.old) (W.told out.new) (replies session.old (lines script.now)).bytes }
     ensures write { CountsWrite (result ≡ Err ToolFault.Write) (W.failed out.old) (W.failed out.new) }
     ensures only { IfErr result IsOwn }
 {
@@ -86,16 +90,11 @@ fn status(told: Told) -> u8
     }
 }
 
-// A script on the loaded machine.
+// A script in a session.
 #[tactic(auto, unfolding(crate::specs::Output::outcome_of_script))]
-fn execute<W: Out>(
-    alloc: Global,
-    program: &Program,
-    script: &[u8],
-    out: &mut W,
-) -> Result<u8, ToolFault>
+fn execute<W: Out>(session: &mut Session, script: &[u8], out: &mut W) -> Result<u8, ToolFault>
     requires { W.failed out.old < 2 ^ 64 - 1 }
-    ensures output { Meets (outcome_of_script (loaded program.now.words.items program.now.start) script.now) result (W.told out.old) (W.told out.new) }
+    ensures output { Meets (outcome_of_script session.old script.now) result (W.told out.old) (W.told out.new) }
     ensures write { CountsWrite (result ≡ Err ToolFault.Write) (W.failed out.old) (W.failed out.new) }
     ensures unread { result ≢ Err ToolFault.Read }
     ensures status { result ≢ Ok 1 }
@@ -104,9 +103,48 @@ fn execute<W: Out>(
     if script.len() > MAX_SCRIPT_BYTES {
         return Err(ToolFault::Long);
     }
-    let mut session = Session::open(alloc, program)?;
-    let told = execute_lines(&mut session, script, out)?;
+    let told = execute_lines(session, script, out)?;
     Ok(status(told))
+}
+
+// A script on the machine that a program loads, with its units.
+fn open_and_execute<W: Out>(
+    alloc: Global,
+    program: Program,
+    units: Units,
+    script: &[u8],
+    out: &mut W,
+) -> Result<u8, ToolFault>
+    requires { W.failed out.old < 2 ^ 64 - 1 }
+    ensures output { Meets (outcome_of_script (opened program.entry units) script.now) result (W.told out.old) (W.told out.new) }
+    ensures write { CountsWrite (result ≡ Err ToolFault.Write) (W.failed out.old) (W.failed out.new) }
+    ensures unread { result ≢ Err ToolFault.Read }
+    ensures status { result ≢ Ok 1 }
+    ensures deck { (f : DeckFault) → result ≢ Err (ToolFault.Deck f) }
+{
+    let mut session = Session::open(alloc, program, units)?;
+    execute(&mut session, script, out)
+}
+
+// The deck and the script of an assembled source, read already.
+#[tactic(auto, unfolding(crate::specs::Output::outcome_of))]
+fn run_deck<W: Out>(
+    alloc: Global,
+    program: Program,
+    deck: &[u8],
+    script: &[u8],
+    out: &mut W,
+) -> Result<u8, ToolFault>
+    requires { W.failed out.old < 2 ^ 64 - 1 }
+    ensures output { Meets (outcome_of (Ok program.entry) (deck_of deck.now) script.now) result (W.told out.old) (W.told out.new) }
+    ensures write { CountsWrite (result ≡ Err ToolFault.Write) (W.failed out.old) (W.failed out.new) }
+    ensures unread { result ≢ Err ToolFault.Read }
+{
+    match Units::read(alloc, deck) {
+        Err(Refused::Memory) => Err(ToolFault::Memory),
+        Err(Refused::Fault(fault)) => Err(ToolFault::Deck(fault)),
+        Ok(units) => open_and_execute(alloc, program, units, script, out),
+    }
 }
 
 // A source, a deck and a script that are read already.
@@ -126,18 +164,38 @@ fn run_parts<W: Out>(
     match assemble(alloc, source) {
         Err(Refused::Memory) => Err(ToolFault::Memory),
         Err(Refused::Fault(fault)) => refuse_source(alloc, fault, out),
-        Ok(program) => {
-            read_deck(deck)?;
-            execute(alloc, &program, script, out)
-        }
+        Ok(program) => run_deck(alloc, program, deck, script, out),
     }
+}
+
+// The script of an assembled source, with the units of its deck.
+fn run_script<C: In, W: Out>(
+    alloc: Global,
+    program: Program,
+    units: Units,
+    script: &mut C,
+    out: &mut W,
+) -> Result<u8, ToolFault>
+    requires script_count { C.failed script.old < 2 ^ 64 - 1 }
+    requires out_count { W.failed out.old < 2 ^ 64 - 1 }
+    ensures output { (t : List ℕ) → C.rest script.old ≡ Some t
+        → Meets (outcome_of_script (opened program.entry units) t) result (W.told out.old) (W.told out.new) }
+    ensures read { CountsRead (result ≡ Err ToolFault.Read) (C.failed script.old) (C.failed script.new) }
+    ensures write { CountsWrite (result ≡ Err ToolFault.Write) (W.failed out.old) (W.failed out.new) }
+    ensures unread { result ≡ Err ToolFault.Read → Keeps (W.told out.old) (W.told out.new) }
+    ensures script { ConsumesAtMost (C.rest script.old) (C.rest script.new) (max_script_bytes + 1) }
+    ensures status { result ≢ Ok 1 }
+    ensures deck { (f : DeckFault) → result ≢ Err (ToolFault.Deck f) }
+{
+    let commands = read_up_to(alloc, script, MAX_SCRIPT_BYTES + 1)?;
+    open_and_execute(alloc, program, units, &commands, out)
 }
 
 // The deck and the script of an assembled source.
 #[tactic(auto, unfolding(crate::specs::Output::outcome_of))]
 fn run_program<D: In, C: In, W: Out>(
     alloc: Global,
-    program: &Program,
+    program: Program,
     deck: &mut D,
     script: &mut C,
     out: &mut W,
@@ -146,7 +204,7 @@ fn run_program<D: In, C: In, W: Out>(
     requires script_count { C.failed script.old < 2 ^ 64 - 1 }
     requires out_count { W.failed out.old < 2 ^ 64 - 1 }
     ensures output { (d t : List ℕ) → D.rest deck.old ≡ Some d → C.rest script.old ≡ Some t
-        → Meets (outcome_of (Ok (program_of program.now)) (deck_of d) t) result (W.told out.old) (W.told out.new) }
+        → Meets (outcome_of (Ok program.entry) (deck_of d) t) result (W.told out.old) (W.told out.new) }
     ensures read { CountsRead (result ≡ Err ToolFault.Read) (D.failed deck.old + C.failed script.old) (D.failed deck.new + C.failed script.new) }
     ensures reads { (D.failed deck.old ≤ D.failed deck.new) × (C.failed script.old ≤ C.failed script.new) }
     ensures write { CountsWrite (result ≡ Err ToolFault.Write) (W.failed out.old) (W.failed out.new) }
@@ -161,9 +219,11 @@ fn run_program<D: In, C: In, W: Out>(
         → (script.new ≡ script.old) ⊎ (D.rest deck.new ≡ Some (drop (max_deck_bytes + 1) d)) }
 {
     let devices = read_up_to(alloc, deck, MAX_DECK_BYTES + 1)?;
-    read_deck(&devices)?;
-    let commands = read_up_to(alloc, script, MAX_SCRIPT_BYTES + 1)?;
-    execute(alloc, program, &commands, out)
+    match Units::read(alloc, &devices) {
+        Err(Refused::Memory) => Err(ToolFault::Memory),
+        Err(Refused::Fault(fault)) => Err(ToolFault::Deck(fault)),
+        Ok(units) => run_script(alloc, program, units, script, out),
+    }
 }
 
 /// Assembles a source, reads a deck and a script, and executes the script on the loaded machine. The status is 0 where each command
@@ -224,7 +284,7 @@ pub fn run_debug<S: In, D: In, C: In, W: Out>(
     match assemble(alloc, &text) {
         Err(Refused::Memory) => Err(ToolFault::Memory),
         Err(Refused::Fault(fault)) => refuse_source(alloc, fault, out),
-        Ok(program) => run_program(alloc, &program, deck, script, out),
+        Ok(program) => run_program(alloc, program, deck, script, out),
     }
 }
 

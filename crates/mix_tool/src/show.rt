@@ -3,15 +3,22 @@
 ghost use Rattle.std.specs.Prelude.{◌≡◌, ◌<◌, ◌-◌, ◌+◌, Some, IfOk, string_bytes, flat_map};
 ghost use Rattle.std.specs.List.{range_with_len};
 ghost use Rattle.mix_word.specs.Register.{all_registers};
-ghost use Rattle.mix_tool.specs.Show.{value_text, register_line, flags_text, registers_text, cell_line, numbers_between, cells_text, clock_text, changes_text, topic_text};
+ghost use Rattle.mix_tool.specs.Show.{value_text, register_line, flags_text, registers_text, cell_line, numbers_between, cells_text, clock_text, break_text, break_texts, breaks_text, changes_text, topic_text};
+
+mod unit;
+mod words;
 
 use crate::keyword::Keyword;
 use crate::reply::{Location, stand_of};
 use crate::request::Topic;
+use crate::show::unit::unit_lines;
 use mix_machine::{Place, Reg, World};
 use mix_word::{Short, Word};
 use std::alloc::{AllocError, Global};
 use std::fmt;
+
+/// The number of the last cell.
+const LAST_CELL: u16 = 3999;
 
 /// The lines of a topic, of the machine after so many changes.
 pub(crate) fn topic_lines(
@@ -26,7 +33,9 @@ pub(crate) fn topic_lines(
         Topic::Registers => registers_lines(alloc, world),
         Topic::Cells(first, last) => cells_lines(alloc, world, first, last),
         Topic::Clock => clock_line(alloc, world),
+        Topic::Breaks => breaks_line(alloc, world),
         Topic::Changes => changes_line(alloc, changes),
+        Topic::Unit(number) => unit_lines(alloc, world, number),
     }
 }
 
@@ -57,6 +66,14 @@ fn clock_line(alloc: Global, world: &World) -> Result<String, AllocError>
 {
     let clock = world.clock();
     let text = format!(in alloc; "clock {clock}\n")?;
+    Ok(text)
+}
+
+fn breaks_line(alloc: Global, world: &World) -> Result<String, AllocError>
+    ensures { IfOk result (λ s. string_bytes s ≡ breaks_text world.now) }
+{
+    let breaks = Breaks(world, place_at(0), place_at(LAST_CELL));
+    let text = format!(in alloc; "breaks{breaks}\n")?;
     Ok(text)
 }
 
@@ -157,6 +174,41 @@ impl fmt::Display for Cells<'_> {
         for number in first..last + 1 {
             let line = CellLine(self.0, place_at(number));
             write!(f, "{line}")?;
+        }
+        Ok(())
+    }
+}
+
+/// A blank and the location of a cell that has a breakpoint; nothing for another cell.
+#[derive(Clone, Copy)]
+struct Breakpoint<'a>(&'a World, Place);
+
+impl fmt::Display for Breakpoint<'_> {
+    ghost output = { λ b. Some (break_text b.0.now b.1) };
+
+    fn fmt<W: fmt::Write>(&self, f: &mut fmt::Formatter<W>) -> fmt::Result {
+        if self.0.is_break(self.1) {
+            let location = Location(self.1.number());
+            write!(f, " {location}")
+        } else {
+            Ok(())
+        }
+    }
+}
+
+/// The breakpoints from a first to a last cell, in rising order.
+#[derive(Clone, Copy)]
+struct Breaks<'a>(&'a World, Place, Place);
+
+impl fmt::Display for Breaks<'_> {
+    ghost output = { λ s. Some (break_texts s.0.now s.1 s.2) };
+
+    #[tactic(auto, unfolding(crate::specs::Show::break_texts))]
+    fn fmt<W: fmt::Write>(&self, f: &mut fmt::Formatter<W>) -> fmt::Result {
+        let (first, last) = (self.1.number(), self.2.number());
+        for cell in first..last + 1 {
+            let breakpoint = Breakpoint(self.0, place_at(cell));
+            write!(f, "{breakpoint}")?;
         }
         Ok(())
     }

@@ -1,3 +1,4 @@
+pub mod RegisterRow
 pub mod Powers
 pub mod CharacterLemmas
 pub mod FindLemmas

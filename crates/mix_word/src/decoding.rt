@@ -18,6 +18,7 @@ pub enum Decoded {
 
 /// What an instruction of this code C and this F names (1.3.1): an operation of the table, a floating one, or none. C and F are
 /// below 64 in an instruction. A C of 64 or more names no operation; where an operation takes any F, it takes one of 64 or more too.
+#[inline(always)]
 pub fn decode(code: u8, f: u8) -> Decoded
     ensures is { result ≡ decode_of code f }
     ensures law { (op : Operation) → (result ≡ Decoded.Named op) ↔ IsNamedBy op code f }
@@ -25,34 +26,57 @@ pub fn decode(code: u8, f: u8) -> Decoded
     row(code, f)
 }
 
+#[inline(always)]
 fn row(code: u8, f: u8) -> Decoded
     ensures { result ≡ decode_of code f }
 {
-    match code {
-        0 => found(Operation::Nop, code, f),
-        1..=4 => arithmetic(code, f),
-        5 => special(f),
-        6 => shift(f),
-        7 => found(Operation::Move, code, f),
-        8..=15 => found(Operation::Load(DataReg::at_offset(code - 8)), code, f),
-        16..=23 => found(
+    match code / 8 {
+        0 => low(code, f),
+        1 => found(Operation::Load(DataReg::at_offset(code - 8)), code, f),
+        2 => found(
             Operation::LoadNegated(DataReg::at_offset(code - 16)),
             code,
             f,
         ),
-        24..=31 => found(Operation::Store(DataReg::at_offset(code - 24)), code, f),
-        32 => found(Operation::StoreJ, code, f),
-        33 => found(Operation::StoreZero, code, f),
-        34..=38 => found(control(code), code, f),
-        39 => jump(f),
-        40..=47 => register_jump(code, f),
-        48..=55 => address_transfer(code, f),
-        56..=63 => comparison(code, f),
+        3 => found(Operation::Store(DataReg::at_offset(code - 24)), code, f),
+        4 => middle(code, f),
+        5 => register_jump(code, f),
+        6 => address_transfer(code, f),
+        7 => comparison(code, f),
         _ => unknown(code, f),
     }
 }
 
+#[inline(always)]
+fn low(code: u8, f: u8) -> Decoded
+    requires { code < 8 }
+    ensures { result ≡ decode_of code f }
+{
+    match code {
+        0 => found(Operation::Nop, code, f),
+        5 => special(f),
+        6 => shift(f),
+        7 => found(Operation::Move, code, f),
+        _ => arithmetic(code, f),
+    }
+}
+
+#[inline(always)]
+fn middle(code: u8, f: u8) -> Decoded
+    requires low { 32 ≤ code }
+    requires high { code < 40 }
+    ensures { result ≡ decode_of code f }
+{
+    match code {
+        32 => found(Operation::StoreJ, code, f),
+        33 => found(Operation::StoreZero, code, f),
+        39 => jump(f),
+        _ => found(control(code), code, f),
+    }
+}
+
 // The pair names this operation.
+#[inline(always)]
 fn found(op: Operation, code: u8, f: u8) -> Decoded
     requires code { operation_code op ≡ code }
     requires by_f { IsTrue (is_by_f op) → normal_f_of op ≡ f }
@@ -64,6 +88,7 @@ fn found(op: Operation, code: u8, f: u8) -> Decoded
 
 // The pair names no operation.
 #[tactic(auto, using(crate::proofs::TableLemmas::names_none))]
+#[inline(always)]
 fn unknown(code: u8, f: u8) -> Decoded
     requires { (63 < code) ⊎ (40 ≤ code × code < 48 × 5 < f) ⊎ (48 ≤ code × code < 56 × 3 < f) }
     ensures { result ≡ decode_of code f }
@@ -72,6 +97,7 @@ fn unknown(code: u8, f: u8) -> Decoded
 }
 
 #[tactic(auto, using(crate::proofs::TableLemmas::floats))]
+#[inline(always)]
 fn floating(code: u8, f: u8) -> Decoded
     requires { is_floating code f ≡ true }
     ensures { result ≡ decode_of code f }
@@ -79,6 +105,7 @@ fn floating(code: u8, f: u8) -> Decoded
     Decoded::Floating
 }
 
+#[inline(always)]
 fn arithmetic(code: u8, f: u8) -> Decoded
     requires low { 0 < code }
     requires high { code < 5 }
@@ -96,6 +123,7 @@ fn arithmetic(code: u8, f: u8) -> Decoded
 }
 
 #[tactic(auto, unfolding(crate::specs::Table::decode_of, crate::specs::Table::operation_at, crate::specs::Table::operations))]
+#[inline(always)]
 fn special(f: u8) -> Decoded
     ensures { result ≡ decode_of 5 f }
 {
@@ -109,6 +137,7 @@ fn special(f: u8) -> Decoded
 }
 
 #[tactic(auto, unfolding(crate::specs::Table::decode_of, crate::specs::Table::operation_at, crate::specs::Table::operations))]
+#[inline(always)]
 fn shift(f: u8) -> Decoded
     ensures { result ≡ decode_of 6 f }
 {
@@ -124,6 +153,7 @@ fn shift(f: u8) -> Decoded
     Decoded::Named(Operation::Shift(kind))
 }
 
+#[inline(always)]
 fn control(code: u8) -> Operation
     requires low { 34 ≤ code }
     requires high { code ≤ 38 }
@@ -140,6 +170,7 @@ fn control(code: u8) -> Operation
 }
 
 #[tactic(auto, unfolding(crate::specs::Table::decode_of, crate::specs::Table::operation_at, crate::specs::Table::operations))]
+#[inline(always)]
 fn jump(f: u8) -> Decoded
     ensures { result ≡ decode_of 39 f }
 {
@@ -159,6 +190,7 @@ fn jump(f: u8) -> Decoded
     Decoded::Named(Operation::Jump(kind))
 }
 
+#[inline(always)]
 fn register_jump(code: u8, f: u8) -> Decoded
     requires low { 40 ≤ code }
     requires high { code < 48 }
@@ -180,6 +212,7 @@ fn register_jump(code: u8, f: u8) -> Decoded
     )
 }
 
+#[inline(always)]
 fn address_transfer(code: u8, f: u8) -> Decoded
     requires low { 48 ≤ code }
     requires high { code < 56 }
@@ -195,6 +228,7 @@ fn address_transfer(code: u8, f: u8) -> Decoded
     }
 }
 
+#[inline(always)]
 fn comparison(code: u8, f: u8) -> Decoded
     requires low { 56 ≤ code }
     requires high { code < 64 }

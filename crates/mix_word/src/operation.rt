@@ -187,6 +187,7 @@ impl Operation {
     }
 
     /// The time that it takes with this F, in units u (1.3.1).
+    #[inline(always)]
     pub fn time(self, f: u8) -> u16
         ensures { result ≡ time_of self f }
     {

@@ -109,6 +109,18 @@ fn first_named(name: &[u8]) -> Option<Reg>
         .find(|r| r.name().as_bytes() == name)
 }
 
+// The registers of a row of eight codes, in its order.
+static REGISTERS: [Reg; 8] = [
+    Reg::A,
+    Reg::I1,
+    Reg::I2,
+    Reg::I3,
+    Reg::I4,
+    Reg::I5,
+    Reg::I6,
+    Reg::X,
+];
+
 impl DataReg {
     // The register of this number, 0 to 7: rA, rI1 to rI6, rX.
     pub(crate) fn at_offset(n: u8) -> DataReg
@@ -145,18 +157,10 @@ impl DataReg {
     }
 
     /// The register itself (1.3.1).
+    #[tactic(auto, using(crate::proofs::RegisterRow::register_in_row))]
     pub fn reg(self) -> Reg
         ensures { result ≡ reg_of self }
     {
-        match self {
-            DataReg::A => Reg::A,
-            DataReg::I1 => Reg::I1,
-            DataReg::I2 => Reg::I2,
-            DataReg::I3 => Reg::I3,
-            DataReg::I4 => Reg::I4,
-            DataReg::I5 => Reg::I5,
-            DataReg::I6 => Reg::I6,
-            DataReg::X => Reg::X,
-        }
+        REGISTERS[usize::from(self.offset())]
     }
 }

@@ -1,5 +1,5 @@
 -- The ADDRESS of a symbolic operation (1.3.2): A-part, index and F, each of which may be left out.
-use Rattle.std.specs.Prelude.{ℕ, ◌==◌, Bool, List, [], ◌∷◌, length, drop, is_none, Option, Some, None, unwrap_or, Result, Ok, Err, ◌||◌, if◌then◌else◌}
+use Rattle.std.specs.Prelude.{◌≡◌, ℕ, ◌==◌, Bool, List, [], ◌∷◌, length, drop, is_none, Option, Some, None, unwrap_or, Result, Ok, Err, ◌||◌, if◌then◌else◌}
 use Rattle.std.specs.List.{list_any, before_first, after_first}
 use Rattle.mix_word.specs.Word.{WordValue, zero_word}
 use Rattle.mixal_text.specs.declared.fault.TextFault.{TextFault}
@@ -115,6 +115,13 @@ address_of names here normal_f [] = plain_operand_of names here normal_f []
 address_of names here normal_f (byte ∷ rest) =
     if is_equals byte then literal_operand_of names here normal_f rest
     else plain_operand_of names here normal_f (byte ∷ rest)
+
+-- a symbol as A-part is a future reference: it is not defined
+abbrev pub IsFuture : NamesValue → APartValue → Type 0
+IsFuture names (Value word) = Unit {0}
+IsFuture names (Name name) = names.value name ≡ None
+IsFuture names (Ahead d) = Unit {0}
+IsFuture names (Literal text) = Unit {0}
 
 -- ---- what was read
 

@@ -3,8 +3,9 @@ ghost use Rattle.std.specs.Prelude.{◌≡◌, ◌<◌, ◌≤◌, IfOk, IfSome,
 ghost use Rattle.std.specs.List.{after_first, before_first, list_any};
 ghost use Rattle.mixal_text.specs.Local.{local_of};
 ghost use Rattle.mixal_text.specs.Symbol.{symbol_of};
+ghost use Rattle.mixal_text.specs.Names.{NamesValue};
 ghost use Rattle.mixal_text.specs.Part.{part_in_brackets, from_first, up_to};
-ghost use Rattle.mixal_text.specs.Address.{IsMachine, a_part_of, address_of, f_of, index_of, is_delimiter, is_equals, literal_operand_of, operand_of, plain_operand_of, reference_with, undefined_name, local_ahead, value_of_a_part, value_of_operand};
+ghost use Rattle.mixal_text.specs.Address.{IsFuture, IsMachine, a_part_of, address_of, f_of, index_of, is_delimiter, is_equals, literal_operand_of, operand_of, plain_operand_of, reference_with, undefined_name, local_ahead, value_of_a_part, value_of_operand};
 
 use crate::atom::split_atom;
 use crate::expressions::{expression, whole_expression};
@@ -50,6 +51,7 @@ pub fn address<'a, N: Names>(
         (λ operand. address_of (N.names names.now) here (f_of op) text.now ≡ Ok (value_of_operand operand))
         (λ fault. address_of (N.names names.now) here (f_of op) text.now ≡ Err fault) }
     ensures index { IfOk result (λ operand. operand.index ≤ 6) }
+    ensures future { IfOk result (λ operand. IsFuture (N.names names.now) (value_of_a_part operand.a)) }
     ensures f { f_of op < 64 → IfOk result (λ operand. operand.f < 64) }
 {
     let normal_f = normal_f(op);
@@ -80,6 +82,7 @@ fn literal_operand<'a, N: Names>(
         (λ operand. literal_operand_of (N.names names.now) here normal_f text.now ≡ Ok (value_of_operand operand))
         (λ fault. literal_operand_of (N.names names.now) here normal_f text.now ≡ Err fault) }
     ensures index { IfOk result (λ operand. operand.index ≤ 6) }
+    ensures future { IfOk result (λ operand. IsFuture (N.names names.now) (value_of_a_part operand.a)) }
     ensures f { normal_f < 64 → IfOk result (λ operand. operand.f < 64) }
 {
     match equals_in(text) {
@@ -111,6 +114,7 @@ fn plain_operand<'a, N: Names>(
         (λ operand. plain_operand_of (N.names names.now) here normal_f text.now ≡ Ok (value_of_operand operand))
         (λ fault. plain_operand_of (N.names names.now) here normal_f text.now ≡ Err fault) }
     ensures index { IfOk result (λ operand. operand.index ≤ 6) }
+    ensures future { IfOk result (λ operand. IsFuture (N.names names.now) (value_of_a_part operand.a)) }
     ensures f { normal_f < 64 → IfOk result (λ operand. operand.f < 64) }
 {
     let (text, rest) = split_at_delimiter(text);
@@ -144,10 +148,12 @@ fn operand_with<'a, N: Names>(
     names: &N,
     here: Word,
 ) -> Result<Operand<'a>, TextFault>
+    requires { IsFuture (N.names names.now) (value_of_a_part a) }
     ensures operand { MatchResult result
         (λ operand. operand_of (N.names names.now) here normal_f (value_of_a_part a.entry) rest.now ≡ Ok (value_of_operand operand))
         (λ fault. operand_of (N.names names.now) here normal_f (value_of_a_part a.entry) rest.now ≡ Err fault) }
     ensures index { IfOk result (λ operand. operand.index ≤ 6) }
+    ensures future { IfOk result (λ operand. IsFuture (N.names names.now) (value_of_a_part operand.a)) }
     ensures f { normal_f < 64 → IfOk result (λ operand. operand.f < 64) }
 {
     let (text, brackets) = split_at_bracket(rest);
@@ -191,9 +197,10 @@ fn f_in_brackets<N: Names>(text: &[u8], names: &N, here: Word) -> Result<Option<
 
 #[tactic(auto, unfolding(crate::specs::Address::a_part_of))]
 fn a_part<'a, N: Names>(text: &[u8], names: &N, here: Word) -> Result<APart<'a>, TextFault>
-    ensures { MatchResult result
+    ensures is { MatchResult result
         (λ a. a_part_of (N.names names.now) here text.now ≡ Ok (value_of_a_part a))
         (λ fault. a_part_of (N.names names.now) here text.now ≡ Err fault) }
+    ensures future { IfOk result (λ a. IsFuture (N.names names.now) (value_of_a_part a)) }
 {
     if text.is_empty() {
         return Ok(APart::Value(Word::ZERO));
@@ -210,9 +217,10 @@ fn a_part<'a, N: Names>(text: &[u8], names: &N, here: Word) -> Result<APart<'a>,
 
 // The future reference that an atom is, where no operator begins what follows it.
 fn reference<'a, N: Names>(atom: &[u8], rest: &[u8], names: &N) -> Option<APart<'a>>
-    ensures { MatchOption result
+    ensures is { MatchOption result
         (reference_with (N.names names.now) atom.now rest.now ≡ None)
         (λ a. reference_with (N.names names.now) atom.now rest.now ≡ Some (value_of_a_part a)) }
+    ensures future { IfSome result (λ a. IsFuture (N.names names.now) (value_of_a_part a)) }
 {
     if split_operator(rest).is_some() {
         return None;
@@ -224,9 +232,10 @@ fn reference<'a, N: Names>(atom: &[u8], rest: &[u8], names: &N) -> Option<APart<
 }
 
 fn undefined<'a, N: Names>(symbol: Symbol, names: &N) -> Option<APart<'a>>
-    ensures { MatchOption result
+    ensures is { MatchOption result
         (undefined_name (N.names names.now) symbol ≡ None)
         (λ a. undefined_name (N.names names.now) symbol ≡ Some (value_of_a_part a)) }
+    ensures future { IfSome result (λ a. IsFuture (N.names names.now) (value_of_a_part a)) }
 {
     match names.value(&symbol) {
         Some(_) => None,
@@ -235,9 +244,10 @@ fn undefined<'a, N: Names>(symbol: Symbol, names: &N) -> Option<APart<'a>>
 }
 
 fn local_ahead<'a>(local: Local) -> Option<APart<'a>>
-    ensures { MatchOption result
+    ensures is { MatchOption result
         (local_ahead local.digit local.direction ≡ None)
         (λ a. local_ahead local.digit local.direction ≡ Some (value_of_a_part a)) }
+    ensures future { (names : NamesValue) → IfSome result (λ a. IsFuture names (value_of_a_part a)) }
 {
     match local.direction {
         Direction::Forward => Some(APart::Ahead(local.digit)),

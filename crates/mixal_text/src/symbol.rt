@@ -55,6 +55,17 @@ impl Symbol {
         }
     }
 
+    /// The same symbol once more. It takes no memory.
+    pub fn copied(&self) -> Symbol
+        ensures { result ≡ self.now }
+    {
+        let mut characters = ArrayVec::new();
+        characters
+            .try_extend_from_slice(&self.characters[..])
+            .unwrap();
+        Symbol { characters }
+    }
+
     /// The name, in capitals.
     pub fn name(&self) -> &[u8]
         ensures is { result.now ≡ self.now }

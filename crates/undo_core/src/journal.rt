@@ -42,7 +42,7 @@ fn put_last<T: Copy>(items: &mut Vec<T>, at: usize, item: T)
     ensures { items.new.items ≡ take at items.old.items ++ item ∷ [] }
 {
     items.truncate(at);
-    items.push(item).unwrap();
+    items.push_reserved(item);
 }
 
 impl<S: Undo> Journal<S> {
@@ -79,8 +79,9 @@ impl<S: Undo> Journal<S> {
         let from = self.kept.len();
         self.state.apply(&change, &mut self.kept)?;
         put_last(&mut self.changes, self.cursor, change);
+        let done = self.changes.len();
         put_last(&mut self.starts, self.cursor, from);
-        self.cursor = self.changes.len();
+        self.cursor = done;
         Ok(())
     }
 

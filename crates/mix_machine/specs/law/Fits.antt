@@ -1,7 +1,8 @@
 -- Which lists of writes keep the state in its ranges, and that the old values of such a list undo it.
-use Rattle.std.specs.Prelude.{ℕ, zero, suc, ◌+◌, slice_set, false, Bool, ◌&&◌, nat_le, List, [], ◌∷◌, ◌++◌, ◌≡◌, ◌<◌, ◌≤◌, IsTrue, Some, refl}
+use Rattle.std.specs.Prelude.{ℕ, zero, suc, ◌+◌, slice_set, true, false, Bool, not, ◌&&◌, cond, nat_le, nat_lt, List, [], ◌∷◌, ◌++◌, ◌≡◌, ◌<◌, ◌≤◌, length, IsTrue, Some, refl}
 use Rattle.std.specs.Option.{option_and_then}
 use Rattle.std.proofs.Common.{ap, ◌∙◌, arith, rules}
+use Rattle.std.proofs.lemmas.Bool.{and_parts}
 use Rattle.std.proofs.lemmas.Bool.Decides.{nat_tests}
 use Rattle.std.proofs.lemmas.List.{set-get_or, set-set}
 use Rattle.undo_core.specs.Replay.{put_back}
@@ -9,28 +10,45 @@ use Rattle.mix_word.specs.Word.{WordValue, zero_word}
 use Rattle.mix_word.specs.declared.register.Reg.{Reg}
 use Rattle.mix_word.specs.declared.register.Reg.TheVariants.{A, X, I1, I2, I3, I4, I5, I6, J}
 use Rattle.mix_machine.specs.Registers.{RegistersState, AreRegisters, held_in, with_register, fits_register}
-use Rattle.mix_machine.specs.World.{WorldState, IsWorld, cell_of, has_break, last_clock}
-use Rattle.mix_machine.specs.Write.{set_value, value_at, fits, put_value, Write, set, written, write_all, kept_by, copies, writes_in, writes_of}
-use Rattle.mix_machine.specs.Order.{all_fit}
-use Rattle.mix_machine.specs.declared.plan.Plan.{Plan}
-use Rattle.mix_machine.specs.declared.plan.Plan.TheVariants.{Value, Step}
-use Rattle.mix_machine.specs.declared.plan.Writes.{Writes}
-use Rattle.mix_machine.specs.declared.plan.Writes.TheVariants.{Nothing, Register, RegisterAndToggle, Pair, PairAndToggle, Cell as CellOf, Indicator, Copy}
+use Rattle.mix_machine.specs.World.{WorldState, IsWorld, cell_of, unit_at, has_break, last_clock}
+use Rattle.mix_machine.specs.units.Kind.{has_medium, has_output}
+use Rattle.mix_machine.specs.units.Row.{RowState}
+use Rattle.mix_machine.specs.units.Unit.{most_entries, last_until}
+use Rattle.mix_machine.specs.units.Units.{UnitsState, AreUnits, length_at}
+use Rattle.mix_machine.specs.units.Keep.{keep-set_place, keep-set_length, keep-set_item, keep-set_until, keep-add_blocks, keep-add_row}
+use Rattle.mix_machine.specs.Write.{set_value, value_at, fits, put_value, Write, set, grow, print, written, replaced, write_all, kept_by}
+use Rattle.mix_machine.specs.units.Back.{back-set_place, fits-place_at, back-set_until, fits-until_at, back-set_item, fits-item_at, back-add_blocks, fits-length_of_blocks, back-add_row, fits-length_of_rows}
+use Rattle.mix_machine.specs.law.Units.{below-21, place-below, item-below}
 use Rattle.mix_machine.specs.declared.old.Old.{Old}
-use Rattle.mix_machine.specs.declared.old.Old.TheVariants.{Loc, Clock, Reg as OldRegister, Cell, Over, Cmp as OldCmp, Break}
+use Rattle.mix_machine.specs.declared.old.Old.TheVariants.{Loc, Clock, Reg as OldRegister, Cell, Over, Cmp as OldCmp, Break, At, Len, Item, Until}
 
--- whether a write's value is in the range of its place
-abbrev pub write_fits : Write → Bool
-write_fits (set o) = fits o
+-- a length is only put back
+abbrev pub is_length : Old → Bool
+is_length (Loc n) = false
+is_length (Clock t) = false
+is_length (OldRegister r v) = false
+is_length (Cell p v) = false
+is_length (Over b) = false
+is_length (OldCmp c) = false
+is_length (Break p b) = false
+is_length (At n k) = false
+is_length (Len n k) = true
+is_length (Item n i j v) = false
+is_length (Until n t) = false
 
-abbrev pub AllFit : List Write → Type 0
-AllFit [] = Unit {0}
-AllFit (x ∷ xs) = IsTrue (write_fits x) × AllFit xs
+-- whether a write's place is there, and its value in the range of it; or there is room for what grows
+abbrev pub write_fits : WorldState → Write → Bool
+write_fits w (set o) = not (is_length o) && fits w o
+write_fits w (grow n gap block) =
+    nat_lt n 21 && has_medium (unit_at w n).kind && nat_lt (length (unit_at w n).blocks + gap) most_entries
+write_fits w (print n row) =
+    nat_lt n 21 && not (has_medium (unit_at w n).kind) && has_output (unit_at w n).kind
+    && nat_lt (length (unit_at w n).rows) most_entries
 
--- whether a plan's values are in the ranges of their places
-abbrev pub plan_fits : Plan → Bool
-plan_fits (Value o) = fits o
-plan_fits (Step x loc clock) = all_fit x && nat_le loc 4000 && nat_le clock last_clock
+-- each in the state that the writes before it left
+abbrev pub AllFit : WorldState → List Write → Type 0
+AllFit w [] = Unit {0}
+AllFit w (x ∷ xs) = IsTrue (write_fits w x) × AllFit (written w x) xs
 
 -- a register that can hold a word keeps the ranges
 registers-with : (r : RegistersState) (at : Reg) (v : WordValue) → AreRegisters r → IsTrue (fits_register at v) →
@@ -45,15 +63,62 @@ registers-with r I5 v h f = search (rules, nat_tests)
 registers-with r I6 v h f = search (rules, nat_tests)
 registers-with r J v h f = search (rules, nat_tests)
 
-pub world-set_value : (w : WorldState) (o : Old) → IsWorld w → IsTrue (fits o) → IsWorld (set_value w o)
+pub with-units : (w : WorldState) (us : UnitsState) → IsWorld w → AreUnits us → IsWorld (record w { units = us })
+with-units w us h u =
+    record { registers = h.registers; cells = h.cells; loc = h.loc; clock = h.clock; units = u; breaks = h.breaks }
+
+pub world-set_value : (w : WorldState) (o : Old) → IsWorld w → IsTrue (fits w o) → IsWorld (set_value w o)
 world-set_value w (Loc n) h f = search (rules, nat_tests)
 world-set_value w (Clock t) h f = search (rules, nat_tests)
 world-set_value w (OldRegister r v) h f =
-    record { registers = registers-with w.registers r v h.registers f; cells = h.cells; loc = h.loc; clock = h.clock; breaks = h.breaks }
+    record { registers = registers-with w.registers r v h.registers f; cells = h.cells; loc = h.loc; clock = h.clock; units = h.units; breaks = h.breaks }
 world-set_value w (Cell p v) h f = search (rules, nat_tests)
 world-set_value w (Over b) h f = search rules
 world-set_value w (OldCmp c) h f = search rules
 world-set_value w (Break p b) h f = search (rules, nat_tests)
+world-set_value w (At n k) h f = with-units w _ h (keep-set_place w.units n k h.units f)
+world-set_value w (Len n k) h f = with-units w _ h (keep-set_length w.units n k h.units f)
+world-set_value w (Item n i j v) h f = with-units w _ h (keep-set_item w.units n i j v h.units f)
+world-set_value w (Until n t) h f = with-units w _ h (keep-set_until w.units n t h.units f)
+
+-- what the test of a write that grows says
+record CanGrow (w : WorldState) (n gap : ℕ) : Type 0 where
+  pub unit : n < 21
+  pub medium : has_medium (unit_at w n).kind ≡ true
+  pub room : length (unit_at w n).blocks + gap < most_entries
+
+can-grow : (w : WorldState) (n gap : ℕ) (block : List WordValue) → IsTrue (write_fits w (grow n gap block)) → CanGrow w n gap
+can-grow w n gap block f =
+    let all = and_parts (nat_lt n 21 && has_medium (unit_at w n).kind) (nat_lt (length (unit_at w n).blocks + gap) most_entries) f in
+    let both = and_parts (nat_lt n 21) (has_medium (unit_at w n).kind) all.0 in
+    record { unit = grind (arith, nat_tests); medium = both.1; room = grind (arith, nat_tests) }
+
+record CanPrint (w : WorldState) (n : ℕ) : Type 0 where
+  pub unit : n < 21
+  pub medium : has_medium (unit_at w n).kind ≡ false
+  pub output : has_output (unit_at w n).kind ≡ true
+  pub room : length (unit_at w n).rows < most_entries
+
+not-false : (b : Bool) → IsTrue (not b) → b ≡ false
+not-false true h = absurd (cc)
+not-false false h = refl
+
+can-print : (w : WorldState) (n : ℕ) (row : RowState) → IsTrue (write_fits w (print n row)) → CanPrint w n
+can-print w n row f =
+    let u = unit_at w n in
+    let all = and_parts (nat_lt n 21 && not (has_medium u.kind) && has_output u.kind) (nat_lt (length u.rows) most_entries) f in
+    let three = and_parts (nat_lt n 21 && not (has_medium u.kind)) (has_output u.kind) all.0 in
+    let both = and_parts (nat_lt n 21) (not (has_medium u.kind)) three.0 in
+    record { unit = grind (arith, nat_tests); medium = not-false (has_medium u.kind) both.1; output = three.1; room = grind (arith, nat_tests) }
+
+pub world-written : (w : WorldState) (x : Write) → IsWorld w → IsTrue (write_fits w x) → IsWorld (written w x)
+world-written w (set o) h f = world-set_value w o h (and_parts (not (is_length o)) (fits w o) f).1
+world-written w (grow n gap block) h f =
+    let can = can-grow w n gap block f in
+    with-units w _ h (keep-add_blocks w.units n gap block h.units can.unit can.room)
+world-written w (print n row) h f =
+    let can = can-print w n row f in
+    with-units w _ h (keep-add_row w.units n row h.units can.unit can.room)
 
 pub fits-held_in : (r : RegistersState) (at : Reg) → AreRegisters r → IsTrue (fits_register at (held_in r at))
 fits-held_in r A h = refl
@@ -81,66 +146,61 @@ register-put_back r I5 v = refl
 register-put_back r I6 v = refl
 register-put_back r J v = refl
 
-fits-value_at : (w : WorldState) (o : Old) → IsWorld w → IsTrue (fits o) → IsTrue (fits (value_at w o))
-fits-value_at w (Loc n) h f = grind (arith, nat_tests)
-fits-value_at w (Clock t) h f = grind (arith, nat_tests)
-fits-value_at w (OldRegister r v) h f = fits-held_in w.registers r h.registers
-fits-value_at w (Cell p v) h f = f
-fits-value_at w (Over b) h f = refl
-fits-value_at w (OldCmp c) h f = refl
-fits-value_at w (Break p b) h f = f
+fits-value_at : (w : WorldState) (o : Old) → IsWorld w → IsTrue (not (is_length o)) → IsTrue (fits w o) →
+    IsTrue (fits (set_value w o) (value_at w o))
+fits-value_at w (Loc n) h s f = grind (arith, nat_tests)
+fits-value_at w (Clock t) h s f = grind (arith, nat_tests)
+fits-value_at w (OldRegister r v) h s f = fits-held_in w.registers r h.registers
+fits-value_at w (Cell p v) h s f = f
+fits-value_at w (Over b) h s f = refl
+fits-value_at w (OldCmp c) h s f = refl
+fits-value_at w (Break p b) h s f = f
+fits-value_at w (At n k) h s f = fits-place_at w.units n k h.units f
+fits-value_at w (Len n k) h s f = absurd (cc)
+fits-value_at w (Item n i j v) h s f = fits-item_at w.units n i j v h.units f
+fits-value_at w (Until n t) h s f = fits-until_at w.units n h.units (below-21 n (nat_le t last_until) f)
 
-set-value_at : (w : WorldState) (o : Old) → set_value (set_value w o) (value_at w o) ≡ w
-set-value_at w (Loc n) = refl
-set-value_at w (Clock t) = refl
-set-value_at w (OldRegister r v) =
+with-them : (w : WorldState) (us : UnitsState) → us ≡ w.units → record w { units = us } ≡ w
+with-them w us e = ap (λ (units : UnitsState). record w { units = units }) e
+
+set-value_at : (w : WorldState) (o : Old) → IsWorld w → IsTrue (not (is_length o)) → IsTrue (fits w o) →
+    set_value (set_value w o) (value_at w o) ≡ w
+set-value_at w (Loc n) h s f = refl
+set-value_at w (Clock t) h s f = refl
+set-value_at w (OldRegister r v) h s f =
     ap (λ (registers : RegistersState). record w { registers = registers }) (register-put_back w.registers r v)
-set-value_at w (Cell p v) =
+set-value_at w (Cell p v) h s f =
     let same : slice_set (slice_set w.cells p v) p (cell_of w p) ≡ w.cells =
     set-set w.cells p v (cell_of w p) ∙ set-get_or w.cells p zero_word in
     ap (λ (cells : List WordValue). record w { cells = cells }) same
-set-value_at w (Over b) = refl
-set-value_at w (OldCmp c) = refl
-set-value_at w (Break p b) =
+set-value_at w (Over b) h s f = refl
+set-value_at w (OldCmp c) h s f = refl
+set-value_at w (Break p b) h s f =
     let same : slice_set (slice_set w.breaks p b) p (has_break w p) ≡ w.breaks =
     set-set w.breaks p b (has_break w p) ∙ set-get_or w.breaks p false in
     ap (λ (breaks : List Bool). record w { breaks = breaks }) same
+set-value_at w (At n k) h s f = with-them w _ (back-set_place w.units n k h.units (place-below w.units n k f))
+set-value_at w (Len n k) h s f = absurd (cc)
+set-value_at w (Item n i j v) h s f = with-them w _ (back-set_item w.units n i j v h.units (item-below w.units n i j f))
+set-value_at w (Until n t) h s f = with-them w _ (back-set_until w.units n t h.units (below-21 n (nat_le t last_until) f))
 
 -- putting back what a write replaced undoes it
-put-value_at : (w : WorldState) (o : Old) → IsWorld w → IsTrue (fits o) → put_value (set_value w o) (value_at w o) ≡ Some w
-put-value_at w o h f = rw (fits-value_at w o h f) (ap Some (set-value_at w o))
+put-replaced : (w : WorldState) (x : Write) → IsWorld w → IsTrue (write_fits w x) → put_value (written w x) (replaced w x) ≡ Some w
+put-replaced w (set o) h f =
+    let parts = and_parts (not (is_length o)) (fits w o) f in
+    rw (fits-value_at w o h parts.0 parts.1) (ap Some (set-value_at w o h parts.0 parts.1))
+put-replaced w (grow n gap block) h f =
+    let can = can-grow w n gap block f in
+    rw (fits-length_of_blocks w.units n gap block h.units can.unit can.medium)
+    (ap Some (with-them w _ (back-add_blocks w.units n gap block h.units can.unit can.medium)))
+put-replaced w (print n row) h f =
+    let can = can-print w n row f in
+    rw (fits-length_of_rows w.units n row h.units can.unit can.medium can.output)
+    (ap Some (with-them w _ (back-add_row w.units n row h.units can.unit can.medium can.output)))
 
 -- putting back what a list of writes replaced, last first, undoes them all
-pub undone-write_all : (w : WorldState) (xs : List Write) → IsWorld w → AllFit xs → put_back put_value (kept_by w xs) (write_all w xs) ≡ Some w
+pub undone-write_all : (w : WorldState) (xs : List Write) → IsWorld w → AllFit w xs → put_back put_value (kept_by w xs) (write_all w xs) ≡ Some w
 undone-write_all w [] h f = refl
-undone-write_all w (set o ∷ xs) h f =
-    ap (option_and_then (λ t. put_value t (value_at w o))) (undone-write_all (set_value w o) xs (world-set_value w o h f.0) f.1)
-    ∙ put-value_at w o h f.0
-
-fit-append : (xs ys : List Write) → AllFit xs → AllFit ys → AllFit (xs ++ ys)
-fit-append [] ys h g = g
-fit-append (x ∷ xs) ys h g = (h.0, fit-append xs ys h.1 g)
-
-fit-copies : (n from to : ℕ) (w : WorldState) → to + n ≤ 4000 → AllFit (copies n from to w)
-fit-copies zero from to w h = tt
-fit-copies (suc n) from to w h =
-    (grind (arith, nat_tests), fit-copies n (from + 1) (to + 1) (written w (set (Cell to (cell_of w from)))) (omega arith))
-
-fit-writes_in : (w : WorldState) (x : Writes) → IsTrue (all_fit x) → AllFit (writes_in w x)
-fit-writes_in w Nothing h = tt
-fit-writes_in w (Register r v) h = (h, tt)
-fit-writes_in w (RegisterAndToggle r v b) h = (h, (refl, tt))
-fit-writes_in w (Pair a x) h = (refl, (refl, tt))
-fit-writes_in w (PairAndToggle a x b) h = (refl, (refl, (refl, tt)))
-fit-writes_in w (CellOf p v) h = (h, tt)
-fit-writes_in w (Indicator c) h = (refl, tt)
-fit-writes_in w (Copy c) h =
-    fit-append (copies c.count c.from c.to w) _ (fit-copies c.count c.from c.to w (grind (arith, nat_tests)))
-    (grind (arith, nat_tests), tt)
-
--- the writes of a plan that fits fit
-pub fit-writes_of : (w : WorldState) (p : Plan) → IsTrue (plan_fits p) → AllFit (writes_of w p)
-fit-writes_of w (Value o) h = (h, tt)
-fit-writes_of w (Step x loc clock) h =
-    let fit : IsTrue (all_fit x) = grind (arith, nat_tests) in
-    fit-append (writes_in w x) _ (fit-writes_in w x fit) (grind (arith, nat_tests), (grind (arith, nat_tests), tt))
+undone-write_all w (x ∷ xs) h f =
+    ap (option_and_then (λ t. put_value t (replaced w x))) (undone-write_all (written w x) xs (world-written w x h f.0) f.1)
+    ∙ put-replaced w x h f.0

@@ -2,7 +2,7 @@
 use Rattle.std.specs.Prelude.{Bool, true, false, ◌≡◌, cond, List, [], ◌∷◌, Result, Ok, Err, refl}
 use Rattle.mix_machine.specs.Order.{first_fault, order}
 use Rattle.mix_machine.specs.declared.fault.MixFault.{MixFault}
-use Rattle.mix_machine.specs.declared.fault.MixFault.TheVariants.{NoOperation, FloatingOperation, IndexOverSix, LargeAddress, NoCell, NoField, IndexOverflow, NegativeShift, ClockFull, NoCellAtLocation}
+use Rattle.mix_machine.specs.declared.fault.MixFault.TheVariants.{NoOperation, FloatingOperation, IndexOverSix, LargeAddress, NoCell, NoField, IndexOverflow, NegativeShift, NoUnit, WrongDirection, NoBlock, BadControl, UnitFull, ClockFull, NoCellAtLocation}
 
 abbrev PassesAll : (MixFault → Bool) → List MixFault → Type 0
 PassesAll test [] = Unit {0}
@@ -30,8 +30,13 @@ pub record Passed (test : MixFault → Bool) : Type 0 where
   pub address : test LargeAddress ≡ false
   pub field : test NoField ≡ false
   pub shift : test NegativeShift ≡ false
+  pub unit : test NoUnit ≡ false
+  pub direction : test WrongDirection ≡ false
+  pub control : test BadControl ≡ false
   pub cell : test NoCell ≡ false
   pub overflow : test IndexOverflow ≡ false
+  pub block : test NoBlock ≡ false
+  pub full : test UnitFull ≡ false
   pub clock : test ClockFull ≡ false
 
 pub passed : {X : Type 0} (test : MixFault → Bool) (x y : X) → first_fault test order x ≡ Ok y → Passed test × (x ≡ y)
@@ -46,8 +51,13 @@ passed test x y h =
         address = p.1.1.1.1.0;
         field = p.1.1.1.1.1.0;
         shift = p.1.1.1.1.1.1.0;
+        unit = p.1.1.1.1.1.1.1.0;
+        direction = p.1.1.1.1.1.1.1.1.0;
+        control = p.1.1.1.1.1.1.1.1.1.0;
         cell = p.1.1.1.1.1.1.1.1.1.1.0;
         overflow = p.1.1.1.1.1.1.1.1.1.1.1.0;
+        block = p.1.1.1.1.1.1.1.1.1.1.1.1.0;
+        full = p.1.1.1.1.1.1.1.1.1.1.1.1.1.0;
         clock = p.1.1.1.1.1.1.1.1.1.1.1.1.1.1.0;
       },
       all.1,

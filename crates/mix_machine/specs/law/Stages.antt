@@ -5,9 +5,8 @@ use Rattle.mix_word.specs.declared.operation.Operation.{Operation}
 use Rattle.mix_machine.specs.World.{WorldState, cell_of}
 use Rattle.mix_machine.specs.Decode.{is_cell, is_field, field_at}
 use Rattle.mix_machine.specs.Effects.{effects, goes_on}
-use Rattle.mix_word.specs.Operation.{time_of}
 use Rattle.mix_machine.specs.Do.{next_location}
-use Rattle.mix_machine.specs.Order.{applies, first_fault, all_fit}
+use Rattle.mix_machine.specs.Order.{applies, first_fault, all_fit, clock_after}
 use Rattle.mix_machine.specs.declared.decode.Arguments.{Arguments}
 use Rattle.mix_machine.specs.declared.plan.Effects.{Effects}
 use Rattle.mix_machine.specs.declared.plan.Writes.{Writes}
@@ -50,4 +49,4 @@ fitting_or_fault writes = if not (all_fit writes) then Err IndexOverflow else Ok
 abbrev pub timed_or_fault : Operation → WorldState → Arguments → Effects → Result Plan MixFault
 timed_or_fault op w a e =
     if applies (Named op) w a ClockFull then Err ClockFull
-    else Ok (plan.Step e.writes (next_location e.jumps w a) (w.clock + time_of op a.f))
+    else Ok (plan.Step e.writes (next_location e.jumps w a) (clock_after op w a))

@@ -1,6 +1,6 @@
 -- The plan of an accepted change fits, and taking back what it replaced gives the state before it.
 use Rattle.std.specs.Prelude.{ℕ, Bool, true, false, not, ◌&&◌, cond, nat_le, nat_lt, ◌≡◌, ◌<◌, ◌≤◌, IsTrue, Some, Result, Ok, Err, refl}
-use Rattle.std.proofs.Common.{ap, sym, subst, arith}
+use Rattle.std.proofs.Common.{subst, arith}
 use Rattle.std.proofs.lemmas.Bool.Decides.{nat_tests}
 use Rattle.undo_core.specs.Replay.{put_back}
 use Rattle.mix_word.specs.declared.decoding.Decoded.{Decoded}
@@ -12,7 +12,9 @@ use Rattle.mix_machine.specs.Decode.{is_cell, decode_at, arguments_at}
 use Rattle.mix_machine.specs.Effects.{effects, reaches}
 use Rattle.mix_machine.specs.Order.{applies, operation_or_nop, all_fit}
 use Rattle.mix_machine.specs.Do.{does, kept_values, plan_of, state_after, values_kept, next_location, step_plan, step_or_fault, IsReal}
-use Rattle.mix_machine.specs.law.Fits.{plan_fits, fit-writes_of, undone-write_all}
+use Rattle.mix_machine.specs.law.Fits.{undone-write_all}
+use Rattle.mix_machine.specs.law.Plans.{plan_fits, PlanFits, fit-writes_of}
+use Rattle.mix_machine.specs.law.Accepted.{unit-fits}
 use Rattle.mix_machine.specs.law.Passed.{passed}
 use Rattle.mix_machine.specs.declared.decode.Arguments.{Arguments}
 use Rattle.mix_machine.specs.declared.plan.Writes.{Writes}
@@ -34,16 +36,17 @@ within : (jumps : Bool) (w : WorldState) (a : Arguments) → w.loc < 4000 → (j
 within true w a h t = let cell = t refl in grind (arith, nat_tests)
 within false w a h t = omega arith
 
-fits-step : (x : Writes) (loc clock : ℕ) → not (all_fit x) ≡ false → loc ≤ 4000 → nat_lt last_clock clock ≡ false →
-    IsTrue (plan_fits (plan.Step x loc clock))
-fits-step x loc clock fit low time =
+fits-step : (w : WorldState) (x : Writes) (loc clock : ℕ) → not (all_fit x) ≡ false → loc ≤ 4000 → nat_lt last_clock clock ≡ false →
+    IsTrue (plan_fits w (plan.Step x loc clock))
+fits-step w x loc clock fit low time =
     elim (all_fit x) as (λ b. not b ≡ false → IsTrue (b && nat_le loc 4000 && nat_le clock last_clock)) [
       | true ↦ λ q. grind (arith, nat_tests)
       | false ↦ λ q. absurd (cc)
     ] fit
 
 -- the plan of an accepted step fits
-step-fits : (d : Decoded) (w : WorldState) (a : Arguments) (p : Plan) → IsWorld w → step_or_fault d w a ≡ Ok p → IsTrue (plan_fits p)
+pub step-fits : (d : Decoded) (w : WorldState) (a : Arguments) (p : Plan) → IsWorld w → step_or_fault d w a ≡ Ok p →
+    IsTrue (plan_fits w p) × PlanFits w p
 step-fits d w a p h e =
     let op = operation_or_nop d in
     let all = passed (applies d w a) (step_plan op w a) p e in
@@ -51,52 +54,41 @@ step-fits d w a p h e =
     let not_last = all.0.location in
     let there : w.loc < 4000 = grind (arith, nat_tests) in
     let loc = within (effects op w a).jumps w a there (target op w a all.0.cell) in
-    subst (λ q. IsTrue (plan_fits q)) all.1 (fits-step (effects op w a).writes _ _ all.0.overflow loc all.0.clock)
+    let units = unit-fits op w a h all.0.unit all.0.direction all.0.control all.0.cell all.0.block all.0.full all.0.clock in
+    subst (λ q. IsTrue (plan_fits w q) × PlanFits w q) all.1 (fits-step w (effects op w a).writes _ _ all.0.overflow loc all.0.clock, units)
 
 -- the plan of an accepted change fits
-pub plan-fits : (w : WorldState) (c : Change) (p : Plan) → IsWorld w → IsReal c → plan_of w c ≡ Ok p → IsTrue (plan_fits p)
+pub plan-fits : (w : WorldState) (c : Change) (p : Plan) → IsWorld w → IsReal c → plan_of w c ≡ Ok p →
+    IsTrue (plan_fits w p) × PlanFits w p
 unfolding plan_of
 plan-fits w Step p h r e = step-fits (decode_at w) w (arguments_at w) p h e
 plan-fits w (SetReg at v) p h r e =
-    elim (fits_register at v) as (λ b. fits_register at v ≡ b → cond b (Ok (plan.Value (old.Reg at v))) (Err IndexOverflow) ≡ Ok p → IsTrue (plan_fits p)) [
-      | true ↦ λ f q. let same : plan.Value (old.Reg at v) ≡ p = cc in subst (λ q. IsTrue (plan_fits q)) same f
+    elim (fits_register at v) as (λ b. fits_register at v ≡ b → cond b (Ok (plan.Value (old.Reg at v))) (Err IndexOverflow) ≡ Ok p → IsTrue (plan_fits w p) × PlanFits w p) [
+      | true ↦ λ f q. let same : plan.Value (old.Reg at v) ≡ p = cc in subst (λ q. IsTrue (plan_fits w q) × PlanFits w q) same (f, tt)
       | false ↦ λ f q. absurd (cc)
     ] refl e
 plan-fits w (SetCell at v) p h r e =
-    let same : plan.Value (old.Cell at v) ≡ p = cc in subst (λ q. IsTrue (plan_fits q)) same (grind (arith, nat_tests))
+    let same : plan.Value (old.Cell at v) ≡ p = cc in subst (λ q. IsTrue (plan_fits w q) × PlanFits w q) same (grind (arith, nat_tests), tt)
 plan-fits w (SetLoc at) p h r e =
-    let same : plan.Value (old.Loc at) ≡ p = cc in subst (λ q. IsTrue (plan_fits q)) same (grind (arith, nat_tests))
+    let same : plan.Value (old.Loc at) ≡ p = cc in subst (λ q. IsTrue (plan_fits w q) × PlanFits w q) same (grind (arith, nat_tests), tt)
 plan-fits w (SetOver b) p h r e =
-    let same : plan.Value (old.Over b) ≡ p = cc in subst (λ q. IsTrue (plan_fits q)) same refl
+    let same : plan.Value (old.Over b) ≡ p = cc in subst (λ q. IsTrue (plan_fits w q) × PlanFits w q) same (refl, tt)
 plan-fits w (SetCmp c) p h r e =
-    let same : plan.Value (old.Cmp c) ≡ p = cc in subst (λ q. IsTrue (plan_fits q)) same refl
+    let same : plan.Value (old.Cmp c) ≡ p = cc in subst (λ q. IsTrue (plan_fits w q) × PlanFits w q) same (refl, tt)
 plan-fits w (Break at) p h r e =
-    let same : plan.Value (old.Break at true) ≡ p = cc in subst (λ q. IsTrue (plan_fits q)) same (grind (arith, nat_tests))
+    let same : plan.Value (old.Break at true) ≡ p = cc in subst (λ q. IsTrue (plan_fits w q) × PlanFits w q) same (grind (arith, nat_tests), tt)
 plan-fits w (Clear at) p h r e =
-    let same : plan.Value (old.Break at false) ≡ p = cc in subst (λ q. IsTrue (plan_fits q)) same (grind (arith, nat_tests))
+    let same : plan.Value (old.Break at false) ≡ p = cc in subst (λ q. IsTrue (plan_fits w q) × PlanFits w q) same (grind (arith, nat_tests), tt)
 
 undone-state_after : (w t : WorldState) (c : Change) (r : Result Plan MixFault) → IsWorld w → IsReal c → plan_of w c ≡ r → state_after w r ≡ Ok t →
     put_back put_value (values_kept w r) t ≡ Some w
 undone-state_after w t c (Ok p) h real e g =
     let same : write_all w (writes_of w p) ≡ t = cc (g) in
     subst (λ s. put_back put_value (kept_by w (writes_of w p)) s ≡ Some w) same
-    (undone-write_all w (writes_of w p) h (fit-writes_of w p (plan-fits w c p h real e)))
+    (let fits = plan-fits w c p h real e in undone-write_all w (writes_of w p) h (fit-writes_of w p h fits.0 fits.1))
 undone-state_after w t c (Err f) h real e g = cc
 
 -- putting back what an accepted change replaced gives the state before it
 pub undone-does : (w t : WorldState) (c : Change) → IsWorld w × IsReal c → does w c ≡ Ok t → put_back put_value (kept_values w c) t ≡ Some w
 unfolding does kept_values
 undone-does w t c real g = undone-state_after w t c (plan_of w c) real.0 real.1 refl g
-
--- what is read off the plan
-pub does-refused : (w : WorldState) (c : Change) (f : MixFault) → Err f ≡ plan_of w c → does w c ≡ Err f
-unfolding does
-does-refused w c f e = ap (state_after w) (sym e)
-
-pub does-accepted : (w : WorldState) (c : Change) (p : Plan) → Ok p ≡ plan_of w c → does w c ≡ Ok (write_all w (writes_of w p))
-unfolding does
-does-accepted w c p e = ap (state_after w) (sym e)
-
-pub kept-accepted : (w : WorldState) (c : Change) (p : Plan) → Ok p ≡ plan_of w c → kept_values w c ≡ kept_by w (writes_of w p)
-unfolding kept_values
-kept-accepted w c p e = ap (values_kept w) (sym e)

@@ -18,7 +18,7 @@ impl World {
         ensures { result ≡ outcome_of Operation.Add self.now a }
     {
         let v = self.operand(a)?.value();
-        self.sum_into(DataReg::A, add(self.registers.a, v))
+        self.sum_into(DataReg::A, add(self.registers.get(Reg::A), v))
     }
 
     /// SUB.
@@ -26,7 +26,7 @@ impl World {
         ensures { result ≡ outcome_of Operation.Sub self.now a }
     {
         let v = self.operand(a)?.value();
-        self.sum_into(DataReg::A, sub(self.registers.a, v))
+        self.sum_into(DataReg::A, sub(self.registers.get(Reg::A), v))
     }
 
     /// MUL.
@@ -34,7 +34,7 @@ impl World {
         ensures { result ≡ outcome_of Operation.Mul self.now a }
     {
         let v = self.operand(a)?.value();
-        Ok(goes_on(pair_into(mul(self.registers.a, v))))
+        Ok(goes_on(pair_into(mul(self.registers.get(Reg::A), v))))
     }
 
     /// DIV: where there is no quotient the toggle goes on, and rA and rX stay.
@@ -42,12 +42,12 @@ impl World {
         ensures { result ≡ outcome_of Operation.Div self.now a }
     {
         let v = self.operand(a)?.value();
-        let (upper, lower) = (self.registers.a, self.registers.x);
+        let (upper, lower) = (self.registers.get(Reg::A), self.registers.get(Reg::X));
         match div(upper, lower, v) {
             Some((quotient, remainder)) => Ok(goes_on(Writes::PairAndToggle(
                 quotient, remainder, self.over,
             ))),
-            None => Ok(goes_on(Writes::PairAndToggle(self.registers.a, self.registers.x, true))),
+            None => Ok(goes_on(Writes::PairAndToggle(upper, lower, true))),
         }
     }
 
@@ -55,14 +55,17 @@ impl World {
     pub(crate) fn to_number(&self, a: Arguments) -> Outcome
         ensures { result ≡ outcome_of Operation.Num self.now a }
     {
-        self.sum_into(DataReg::A, num(self.registers.a, self.registers.x))
+        self.sum_into(
+            DataReg::A,
+            num(self.registers.get(Reg::A), self.registers.get(Reg::X)),
+        )
     }
 
     /// CHAR.
     pub(crate) fn to_characters(&self, a: Arguments) -> Outcome
         ensures { result ≡ outcome_of Operation.Char self.now a }
     {
-        Ok(goes_on(pair_into(to_char(self.registers.a, self.registers.x))))
+        Ok(goes_on(pair_into(to_char(self.registers.get(Reg::A), self.registers.get(Reg::X)))))
     }
 
     /// SLA, SRA, SLAX, SRAX, SLC, SRC; M is not negative.
@@ -72,7 +75,12 @@ impl World {
         if a.m.sign() == Sign::Minus && a.m.magnitude() != 0 {
             return Err(MixFault::NegativeShift);
         }
-        let words = shift(kind, self.registers.a, self.registers.x, a.m.magnitude());
+        let words = shift(
+            kind,
+            self.registers.get(Reg::A),
+            self.registers.get(Reg::X),
+            a.m.magnitude(),
+        );
         Ok(goes_on(shift_into(kind, words)))
     }
 }

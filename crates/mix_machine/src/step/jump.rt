@@ -55,15 +55,15 @@ impl World {
         }
     }
 
-    // rJ after a jump: the location after it where it is taken, and else what it was.
-    fn return_address(&self, taken: bool) -> Word
+    /// rJ after a jump: the location after it where it is taken, and else what it was.
+    pub(crate) fn return_address(&self, taken: bool) -> Word
         ensures is { result ≡ return_address self.now taken }
         ensures fits { fits_register Reg.J result ≡ true }
     {
         if taken {
             Word::of(Sign::Plus, u32::from(self.loc) + 1)
         } else {
-            self.registers.j
+            self.registers.get(Reg::J)
         }
     }
 }

@@ -8,14 +8,14 @@ use crate::fault::MixFault;
 use crate::plan::{Copies, Outcome, Writes};
 use crate::step::transfer::goes_on;
 use crate::world::World;
-use mix_word::{CELLS, Operation, Sign, Word, add};
+use mix_word::{CELLS, Operation, Reg, Sign, Word, add};
 
 impl World {
     /// MOVE: F words; rI1 grows by F.
     pub(crate) fn move_words(&self, a: Arguments) -> Outcome
         ensures { result ≡ outcome_of Operation.Move self.now a }
     {
-        let (count, to) = (a.f, self.registers.i1);
+        let (count, to) = (a.f, self.registers.get(Reg::I1));
         if count == 0 {
             return Ok(goes_on(Writes::Nothing));
         }
@@ -33,8 +33,8 @@ impl World {
     }
 }
 
-// Whether so many cells stand from a word's number on.
-fn is_row(word: Word, count: u8) -> bool
+/// Whether so many cells stand from a word's number on.
+pub(crate) fn is_row(word: Word, count: u8) -> bool
     ensures { result ≡ is_row word count }
 {
     let number = word.magnitude();

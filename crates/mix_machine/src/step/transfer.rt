@@ -1,5 +1,6 @@
 //! Loads, stores, address transfers and comparisons (1.3.1).
-ghost use Rattle.std.specs.Prelude.{◌≡◌};
+ghost use Rattle.std.specs.Prelude.{◌≡◌, nat_lt};
+ghost use Rattle.mix_machine.specs.Registers.{fits_register};
 ghost use Rattle.mix_machine.specs.Effects.{goes_on, sum_into};
 ghost use Rattle.mix_machine.specs.law.Stages.{outcome_of, fitting_or_fault};
 
@@ -31,19 +32,32 @@ pub(crate) fn word_into(r: Reg, word: Word) -> Outcome
     }
 }
 
+// A word into an index register, which holds two bytes.
+fn two_bytes_into(r: Reg, word: Word) -> Outcome
+    requires index { fits_register r word ≡ nat_lt word.magnitude 4096 }
+    ensures { result ≡ fitting_or_fault (Writes.Register r word) }
+{
+    if word.magnitude() < 4096 {
+        Ok(goes_on(Writes::Register(r, word)))
+    } else {
+        Err(MixFault::IndexOverflow)
+    }
+}
+
 impl World {
     /// A sum into a register, whose overflow turns the toggle on where the register has five bytes.
     pub(crate) fn sum_into(&self, r: DataReg, sum: (Word, bool)) -> Outcome
         ensures { result ≡ fitting_or_fault (sum_into r self.now sum) }
     {
         let (word, overflow) = sum;
+        let register = r.reg();
         match r {
             DataReg::A | DataReg::X => {
                 let over = self.over || overflow;
-                Ok(goes_on(Writes::RegisterAndToggle(r.reg(), word, over)))
+                Ok(goes_on(Writes::RegisterAndToggle(register, word, over)))
             }
-            DataReg::I1 | DataReg::I2 | DataReg::I3 => word_into(r.reg(), word),
-            DataReg::I4 | DataReg::I5 | DataReg::I6 => word_into(r.reg(), word),
+            DataReg::I1 | DataReg::I2 | DataReg::I3 => two_bytes_into(register, word),
+            DataReg::I4 | DataReg::I5 | DataReg::I6 => two_bytes_into(register, word),
         }
     }
 
@@ -76,7 +90,7 @@ impl World {
         ensures { result ≡ outcome_of Operation.StoreJ self.now a }
     {
         let operand = self.operand(a)?;
-        Ok(goes_on(operand.put(self.registers.j)))
+        Ok(goes_on(operand.put(self.registers.get(Reg::J))))
     }
 
     /// STZ.

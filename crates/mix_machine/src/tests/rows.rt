@@ -13,6 +13,7 @@ pub mod program;
 pub mod register_jump;
 pub mod shift;
 pub mod store;
+pub mod unit;
 
 // The sign, the address, the index, F and C of an instruction.
 pub type Code = (Sign, u16, u8, u8, u8);

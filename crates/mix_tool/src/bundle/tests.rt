@@ -28,12 +28,14 @@ const BUNDLES: [(&[u8], &[u8], &[u8], &[u8]); 10] = [
     ),
 ];
 
+fn has_parts(bundle: &[u8], source: &[u8], deck: &[u8], script: &[u8]) -> bool {
+    let parts = cut(bundle);
+    parts.source == source && parts.deck == deck && parts.script == script
+}
+
 #[test]
 fn cuts_a_bundle_at_its_markers(rt: HostRuntime) {
     for (bundle, source, deck, script) in BUNDLES {
-        let parts = cut(bundle);
-        assert_eq!(rt; parts.source, source, "{bundle:?}");
-        assert_eq!(rt; parts.deck, deck, "{bundle:?}");
-        assert_eq!(rt; parts.script, script, "{bundle:?}");
+        assert!(rt; has_parts(bundle, source, deck, script), "{bundle:?}");
     }
 }

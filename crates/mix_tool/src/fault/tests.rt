@@ -1,32 +1,8 @@
 //! Each fault as it is printed.
-use crate::fault::{AsmFault, AsmKind, DeckFault, DeckKind, Refusal, ToolFault};
-use mix_machine::MixFault;
-use std::test::Fail;
-
-const SOURCE_FAULTS: [(AsmKind, &str); 16] = [
-    (AsmKind::BadByte, "A1 bad byte"),
-    (AsmKind::NoSuchOperation, "A2 no such operation"),
-    (AsmKind::BadSymbol, "A3 bad symbol"),
-    (AsmKind::DefinedTwice, "A4 defined twice"),
-    (AsmKind::BadExpression, "A5 bad expression"),
-    (AsmKind::NumberTooLarge, "A6 number too large"),
-    (AsmKind::UndefinedSymbol, "A7 undefined symbol"),
-    (AsmKind::ExpressionOverflow, "A8 overflow in expression"),
-    (AsmKind::AddressTooLarge, "A9 address beyond two bytes"),
-    (
-        AsmKind::PartOutOfRange,
-        "A10 index, field or F out of range",
-    ),
-    (
-        AsmKind::LocationOutOfRange,
-        "A11 location outside 0 to 3999",
-    ),
-    (AsmKind::BadAlf, "A12 bad ALF"),
-    (AsmKind::NoEnd, "A13 no END"),
-    (AsmKind::NoSuchLocalSymbol, "A14 no such local symbol"),
-    (AsmKind::StartOutOfRange, "A15 start outside 0 to 3999"),
-    (AsmKind::SourceTooLong, "A16 source too long"),
-];
+use crate::fault::{Refusal, ToolFault};
+use mix_machine::{DeckFault, DeckKind, MixFault};
+use std::alloc::Global;
+use std::fmt::Display;
 
 const DECK_FAULTS: [(DeckKind, &str); 9] = [
     (DeckKind::BadHeader, "K1 bad header"),
@@ -69,54 +45,6 @@ const REFUSALS: [(Refusal, &str); 6] = [
     ),
 ];
 
-#[test]
-fn prints_the_faults_of_a_source(rt: HostRuntime) -> Result<(), Fail> {
-    for (kind, text) in SOURCE_FAULTS {
-        let printed = format!(in rt.alloc(); "{kind}")?;
-        assert_eq!(rt; printed.as_str(), text);
-        let (number, words) = (kind.number(), kind.text());
-        let parts = format!(in rt.alloc(); "A{number} {words}")?;
-        assert_eq!(rt; parts.as_str(), text);
-    }
-    Ok(())
-}
-
-#[test]
-fn prints_the_faults_of_a_deck(rt: HostRuntime) -> Result<(), Fail> {
-    for (kind, text) in DECK_FAULTS {
-        let printed = format!(in rt.alloc(); "{kind}")?;
-        assert_eq!(rt; printed.as_str(), text);
-        let (number, words) = (kind.number(), kind.text());
-        let parts = format!(in rt.alloc(); "K{number} {words}")?;
-        assert_eq!(rt; parts.as_str(), text);
-    }
-    Ok(())
-}
-
-#[test]
-fn prints_the_faults_of_the_tool(rt: HostRuntime) -> Result<(), Fail> {
-    for (fault, text) in TOOL_FAULTS {
-        let printed = format!(in rt.alloc(); "{fault}")?;
-        assert_eq!(rt; printed.as_str(), text);
-        let (number, words) = (fault.number(), fault.text());
-        let parts = format!(in rt.alloc(); "T{number} {words}")?;
-        assert!(rt; text.starts_with(parts.as_str()));
-    }
-    Ok(())
-}
-
-#[test]
-fn prints_the_refusals_of_a_command(rt: HostRuntime) -> Result<(), Fail> {
-    for (refusal, text) in REFUSALS {
-        let printed = format!(in rt.alloc(); "{refusal}")?;
-        assert_eq!(rt; printed.as_str(), text);
-        let (number, words) = (refusal.number(), refusal.text());
-        let parts = format!(in rt.alloc(); "C{number} {words}")?;
-        assert!(rt; text.starts_with(parts.as_str()), "{text}");
-    }
-    Ok(())
-}
-
 /// Lines, as they are counted and as they are printed.
 const LINES: [(u32, &str); 7] = [
     (1, "line 1: "),
@@ -128,32 +56,47 @@ const LINES: [(u32, &str); 7] = [
     (4_294_967_295, "line 4294967295: "),
 ];
 
-#[test]
-fn prints_the_line_before_a_fault_of_a_source(rt: HostRuntime) -> Result<(), Fail> {
-    for (line, front) in LINES {
-        for (kind, text) in SOURCE_FAULTS {
-            let fault = AsmFault { line, kind };
-            let printed = format!(in rt.alloc(); "{fault}")?;
-            let wanted = format!(in rt.alloc(); "{front}{text}")?;
-            assert_eq!(rt; printed.as_str(), wanted.as_str());
-        }
-    }
-    Ok(())
+// Whether a value is printed as these two texts, one after the other.
+fn is_printed<T: Display>(alloc: Global, value: &T, front: &str, text: &str) -> bool {
+    let (Ok(printed), Ok(wanted)) = (
+        format!(in alloc; "{value}"),
+        format!(in alloc; "{front}{text}"),
+    ) else {
+        return false;
+    };
+    printed.as_str() == wanted.as_str()
+}
+
+fn all_printed<T: Display>(alloc: Global, rows: &[(T, &str)]) -> bool {
+    rows.iter()
+        .all(|(value, text)| is_printed(alloc, value, "", text))
 }
 
 #[test]
-fn prints_the_line_before_a_fault_of_a_deck(rt: HostRuntime) -> Result<(), Fail> {
+fn prints_each_fault(rt: HostRuntime) {
+    assert!(rt; all_printed(rt.alloc(), &DECK_FAULTS));
+    assert!(rt; all_printed(rt.alloc(), &TOOL_FAULTS));
+    assert!(rt; all_printed(rt.alloc(), &REFUSALS));
+}
+
+// Whether a fault of a deck is printed so, and as the tool's own.
+fn is_printed_twice(alloc: Global, fault: DeckFault, front: &str, text: &str) -> bool {
+    let Ok(whole) = format!(in alloc; "T5 deck refused at {front}") else {
+        return false;
+    };
+    is_printed(alloc, &fault, front, text)
+        && is_printed(alloc, &ToolFault::Deck(fault), whole.as_str(), text)
+}
+
+#[test]
+fn prints_the_line_before_each_fault(rt: HostRuntime) {
     for (line, front) in LINES {
         for (kind, text) in DECK_FAULTS {
             let fault = DeckFault { line, kind };
-            let printed = format!(in rt.alloc(); "{fault}")?;
-            let wanted = format!(in rt.alloc(); "{front}{text}")?;
-            assert_eq!(rt; printed.as_str(), wanted.as_str());
-            let refused = ToolFault::Deck(fault);
-            let whole = format!(in rt.alloc(); "{refused}")?;
-            let wanted = format!(in rt.alloc(); "T5 deck refused at {front}{text}")?;
-            assert_eq!(rt; whole.as_str(), wanted.as_str());
+            assert!(rt;
+                is_printed_twice(rt.alloc(), fault, front, text),
+                "{front}{text}"
+            );
         }
     }
-    Ok(())
 }

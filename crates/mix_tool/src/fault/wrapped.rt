@@ -2,9 +2,9 @@
 
 ghost use Rattle.std.specs.Prelude.{◌≡◌};
 ghost use Rattle.mix_tool.specs.Wrapped.{fault_of_read};
-ghost use Rattle.mix_tool.specs.declared.fault.ToolFault.TheVariants.{Memory as memory, Write as write, Deck as deck};
+ghost use Rattle.mix_tool.specs.declared.fault.ToolFault.TheVariants.{Memory as memory, Write as write};
 
-use crate::fault::{DeckFault, ToolFault};
+use crate::fault::ToolFault;
 use mix_stream::{Failed, ReadFault};
 use undo_core::Memory;
 
@@ -13,14 +13,6 @@ impl From<Memory> for ToolFault {
 
     fn from(_: Memory) -> ToolFault {
         ToolFault::Memory
-    }
-}
-
-impl From<DeckFault> for ToolFault {
-    ghost from_gives = { λ refused fault. fault ≡ deck refused };
-
-    fn from(fault: DeckFault) -> ToolFault {
-        ToolFault::Deck(fault)
     }
 }
 

@@ -1,7 +1,7 @@
 //! Each end of a `step` as it is printed, and what is reported of it.
 use super::{End, Told};
 use mix_machine::MixFault;
-use std::test::Fail;
+use std::alloc::Global;
 
 // End, what is printed, what is reported.
 const ENDS: [(End, &str, Told); 17] = [
@@ -84,12 +84,17 @@ const ENDS: [(End, &str, Told); 17] = [
     ),
 ];
 
-#[test]
-fn prints_each_end(rt: HostRuntime) -> Result<(), Fail> {
-    for (end, text, told) in ENDS {
-        let printed = format!(in rt.alloc(); "{end}")?;
-        assert_eq!(rt; printed.as_str(), text);
-        assert_eq!(rt; end.told(), told);
+// Whether an end is printed and reported so.
+fn is_told(alloc: Global, end: End, text: &str, told: Told) -> bool {
+    match format!(in alloc; "{end}") {
+        Ok(printed) => printed.as_str() == text && end.told() == told,
+        Err(_) => false,
     }
-    Ok(())
+}
+
+#[test]
+fn prints_each_end(rt: HostRuntime) {
+    for (end, text, told) in ENDS {
+        assert!(rt; is_told(rt.alloc(), end, text, told), "{text}");
+    }
 }

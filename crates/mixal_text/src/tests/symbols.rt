@@ -37,7 +37,10 @@ const NO_SYMBOLS: [&str; 18] = [
 fn symbols(rt: HostRuntime) {
     for (text, name) in SYMBOLS {
         match Symbol::of(text.as_bytes()) {
-            Some(symbol) => assert_eq!(rt; symbol.name(), name.as_bytes(), "{text}"),
+            Some(symbol) => {
+                assert_eq!(rt; symbol.name(), name.as_bytes(), "{text}");
+                assert_eq!(rt; symbol.copied().name(), name.as_bytes(), "{text}");
+            }
             None => assert!(rt; false, "{text}"),
         }
     }

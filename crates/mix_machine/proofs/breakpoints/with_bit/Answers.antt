@@ -1,4 +1,4 @@
-use Rattle.std.proofs.Common.{w64, refl}
+use Rattle.std.proofs.Common.{w64}
 use Rattle.std.proofs.lemmas.Nat.Bits.{bit_at_set_same, bit_at_set_other, bit_at_clear_same, bit_at_clear_other}
 use Rattle.mix_machine.proofs.breakpoints.with_bit.Goals as goal
 

@@ -16,7 +16,7 @@ pub fn rows() -> &'static [Row] {
     &ROWS
 }
 
-static ROWS: [Row; 48] = [
+static ROWS: [Row; 43] = [
     (
         "C is 5 and F is 3",
         (Plus, 0, 7, 3, 5),
@@ -68,36 +68,6 @@ static ROWS: [Row; 48] = [
     (
         "C is 55 and F is 5",
         (Plus, 0, 7, 5, 55),
-        &[],
-        Fault(NoOperation),
-    ),
-    (
-        "JBUS, of which there is no unit",
-        (Plus, 0, 0, 0, 34),
-        &[],
-        Fault(NoOperation),
-    ),
-    (
-        "IOC, of which there is no unit",
-        (Plus, 0, 0, 0, 35),
-        &[],
-        Fault(NoOperation),
-    ),
-    (
-        "IN, of which there is no unit",
-        (Plus, 0, 0, 0, 36),
-        &[],
-        Fault(NoOperation),
-    ),
-    (
-        "OUT, of which there is no unit",
-        (Plus, 0, 0, 0, 37),
-        &[],
-        Fault(NoOperation),
-    ),
-    (
-        "JRED, of which there is no unit",
-        (Plus, 0, 0, 0, 38),
         &[],
         Fault(NoOperation),
     ),

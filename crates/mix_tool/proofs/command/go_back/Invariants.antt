@@ -1,8 +1,6 @@
-use Rattle.std.proofs.Common.{◌≡◌, ◌-◌, length, take}
+use Rattle.std.proofs.Common.{◌≡◌}
+use Rattle.mix_tool.specs.Timeline.{back_by}
 use Rattle.mix_tool.proofs.command.go_back.Given as goal
 
 abbrev pub invariant-loop-taken : goal.invariant-loop-taken
-invariant-loop-taken l = record {
-  first : l.journal.first ≡ l.fn.journal.first;
-  left : l.journal.changes ≡ take (length l.fn.journal.changes - l.taken) l.fn.journal.changes;
-}
+invariant-loop-taken l = l.journal ≡ back_by l.fn.journal l.taken

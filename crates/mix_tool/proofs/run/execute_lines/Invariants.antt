@@ -8,11 +8,9 @@ use Rattle.mix_tool.proofs.run.execute_lines.Given as goal
 -- what was written so far, and the replies to the lines that are left, are the replies to all
 abbrev pub invariant-loop-rest : goal.invariant-loop-rest
 invariant-loop-rest g l =
-    let first = l.fn.session.journal.first in
-    let whole = replies first l.fn.session.journal.changes (lines l.script) in
-    let left = replies first l.session.journal.changes (lines l.rest) in
+    let whole = replies l.fn.session (lines l.script) in
+    let left = replies l.session (lines l.rest) in
     record {
-      first : l.session.journal.first ≡ first;
       written : (done : List ℕ) × Appends (g.W.Out.told l.fn.out) (g.W.Out.told l.out) done × (whole.bytes ≡ done ++ left.bytes);
       told : told_of_both l.told left.told ≡ whole.told;
       failed : g.W.Out.failed l.out ≡ g.W.Out.failed l.fn.out;

@@ -14,7 +14,7 @@ returns-in-Err c =
     let w = c.args.self.now in
     let cell = c.requires.cell in
     let there : (w.loc == 4000) ≡ false = grind (arith, nat_tests) in
-    sym (fault-of-operation (applies (Named op) w c.args.a) (step_plan op w c.args.a) (effects op w c.args.a) c.in-Err.fault there c.requires.served (sym c.in-Err.ensures))
+    sym (fault-of-operation (applies (Named op) w c.args.a) (step_plan op w c.args.a) (effects op w c.args.a) c.in-Err.fault there c.requires.served (sym c.requires.outcome ∙ c.in-Err.is))
 
 pub returns-in-Ok : goal.returns-in-Ok
 returns-in-Ok c =
@@ -22,5 +22,5 @@ returns-in-Ok c =
     let w = c.args.self.now in
     let cell = c.requires.cell in
     let there : (w.loc == 4000) ≡ false = grind (arith, nat_tests) in
-    let all = fault-of-clock (applies (Named op) w c.args.a) (step_plan op w c.args.a) (effects op w c.args.a) c.in-Ok.effects there c.requires.served (sym c.in-Ok.ensures) in
+    let all = fault-of-clock (applies (Named op) w c.args.a) (step_plan op w c.args.a) (effects op w c.args.a) c.in-Ok.effects there c.requires.served (sym c.requires.outcome ∙ c.in-Ok.is) in
     c.timed.ensures ∙ ap (timed_or_fault op w c.args.a) (sym all.1) ∙ sym all.0

@@ -1,0 +1,152 @@
+//! The end of a step: its time, and its plan carried out.
+ghost use Rattle.std.specs.Prelude.{◌≡◌, ◌<◌, ◌^◌};
+ghost use Rattle.mix_word.specs.declared.decoding.Decoded.TheVariants.{Named};
+ghost use Rattle.mix_machine.specs.Order.{applies};
+ghost use Rattle.mix_machine.specs.UnitAction.{use_of, start_of, transfer_start};
+ghost use Rattle.mix_machine.specs.Do.{step_or_fault};
+ghost use Rattle.mix_machine.specs.law.Stages.{of_instruction, fault_among, outcome_of, timed_or_fault};
+ghost use Rattle.mix_machine.specs.law.Carried.{Carried};
+
+use crate::decode::Arguments;
+use crate::fault::MixFault;
+use crate::old::Old;
+use crate::plan::{Effects, Outcome, Plan};
+use crate::units::UnitNo;
+use crate::world::World;
+use mix_word::Operation;
+use undo_core::Refused;
+
+const LAST_CLOCK: u64 = 1_000_000_000_000_000_000;
+
+// The most that one change keeps.
+const MOST_KEPT: usize = 104;
+
+impl World {
+    /// Ends a step of an operation, by what the operation does, or its first fault.
+    #[inline(always)]
+    pub(crate) fn finish(
+        &mut self,
+        operation: Operation,
+        outcome: Outcome,
+        a: Arguments,
+        kept: &mut Vec<Old>,
+    ) -> Result<(), Refused<MixFault>>
+        requires cell { self.old.loc < 4000 }
+        requires f { a.f < 64 }
+        requires outcome { outcome ≡ outcome_of operation self.old a }
+        ensures { Carried (step_or_fault (Named operation) self.old a) self.old self.new kept.old.items kept.new.items result }
+    {
+        // (the proof knows the ranges of the machine where a field of it is named)
+        let _ = &self.loc;
+        match self.plan_of_operation(operation, outcome, a) {
+            Err(fault) => Err(Refused::Fault(fault)),
+            Ok(plan) => {
+                kept.reserve(MOST_KEPT)?;
+                self.perform(plan, kept)?;
+                Ok(())
+            }
+        }
+    }
+
+    // The plan of a step of an operation, or its first fault.
+    #[inline(always)]
+    fn plan_of_operation(
+        &self,
+        operation: Operation,
+        outcome: Outcome,
+        a: Arguments,
+    ) -> Result<Plan, MixFault>
+        requires cell { self.now.loc < 4000 }
+        requires outcome { outcome ≡ outcome_of operation self.now a }
+        ensures { result ≡ step_or_fault (Named operation) self.now a }
+    {
+        let given = a;
+        match self.fault_of_instruction(operation, given) {
+            Some(fault) => Err(fault),
+            None => self.plan_of_served(operation, outcome, a),
+        }
+    }
+
+    // What the instruction alone says against the step.
+    #[inline(always)]
+    fn fault_of_instruction(&self, operation: Operation, a: Arguments) -> Option<MixFault>
+        ensures { result ≡ fault_among (applies (Named operation) self.now a) of_instruction }
+    {
+        if !operation.needs_address() {
+            None
+        } else if a.index > 6 {
+            Some(MixFault::IndexOverSix)
+        } else if a.m.magnitude() >= 4096 {
+            Some(MixFault::LargeAddress)
+        } else {
+            None
+        }
+    }
+
+    // The plan of an operation that its instruction allows: its own faults, and then the clock.
+    #[inline(always)]
+    fn plan_of_served(
+        &self,
+        operation: Operation,
+        outcome: Outcome,
+        a: Arguments,
+    ) -> Result<Plan, MixFault>
+        requires cell { self.now.loc < 4000 }
+        requires served { fault_among (applies (Named operation) self.now a) of_instruction ≡ None }
+        requires outcome { outcome ≡ outcome_of operation self.now a }
+        ensures { result ≡ step_or_fault (Named operation) self.now a }
+    {
+        match outcome {
+            Err(fault) => Err(fault),
+            Ok(effects) => self.timed(operation, a, effects),
+        }
+    }
+
+    // The plan of what an operation does, if the clock can show its time.
+    #[inline(always)]
+    fn timed(&self, operation: Operation, a: Arguments, effects: Effects) -> Result<Plan, MixFault>
+        requires cell { self.now.loc < 4000 }
+        ensures { result ≡ timed_or_fault operation self.now a effects }
+    {
+        let clock = self.start(operation, a.f) + u64::from(operation.time(a.f));
+        if clock > LAST_CLOCK {
+            return Err(MixFault::ClockFull);
+        }
+        let loc = if effects.jumps {
+            a.m.magnitude()
+        } else {
+            self.loc + 1
+        };
+        Ok(Plan::Step(effects.writes, loc, clock))
+    }
+
+    // The clock at which a step begins: of IN, OUT and IOC when the last transfer of their unit is over.
+    #[inline(always)]
+    fn start(&self, operation: Operation, f: u8) -> u64
+        ensures is { result ≡ start_of (use_of operation) self.now f }
+        ensures bound { result < 2 ^ 63 }
+    {
+        match operation {
+            Operation::Ioc | Operation::In | Operation::Out => self.transfer_start(f),
+            Operation::Nop | Operation::Num | Operation::Char | Operation::Hlt => self.clock,
+            Operation::Add | Operation::Sub | Operation::Mul | Operation::Div => self.clock,
+            Operation::Shift(_) | Operation::Move | Operation::Jbus | Operation::Jred => self.clock,
+            Operation::Load(_) | Operation::LoadNegated(_) | Operation::Store(_) => self.clock,
+            Operation::StoreJ | Operation::StoreZero | Operation::Compare(_) => self.clock,
+            Operation::Jump(_) | Operation::RegisterJump(_, _) => self.clock,
+            Operation::Increase(_) | Operation::Decrease(_) => self.clock,
+            Operation::Enter(_) | Operation::EnterNegated(_) => self.clock,
+        }
+    }
+
+    // The clock at which a transfer of a unit begins.
+    fn transfer_start(&self, f: u8) -> u64
+        ensures is { result ≡ transfer_start self.now f }
+        ensures bound { result < 2 ^ 63 }
+    {
+        match UnitNo::of(f) {
+            None => self.clock,
+            Some(n) => self.start_at(n),
+        }
+    }
+}

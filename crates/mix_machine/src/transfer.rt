@@ -1,0 +1,232 @@
+//! What IN, OUT and IOC write (1.3.1, "Input-output operators"): a block moved between a unit and the cells, the place and the time of the
+//! unit, and what it holds more.
+ghost use Rattle.std.specs.Prelude.{◌≡◌, ◌<◌, ◌≤◌, ◌++◌, ℕ, ◌+◌, ◌^◌, true, false, vec_len, vec_capacity, length, IsTrue, OnOk, OnErr};
+ghost use Rattle.mix_machine.specs.World.{unit_at};
+ghost use Rattle.mix_machine.specs.UnitAction.{transfer_start, transfer_end};
+ghost use Rattle.mix_machine.specs.Write.{fits, write_all, kept_by, each, from_block, from_cell, place_after, input_writes, replace_writes, append_writes, row_writes, output_writes, control_writes};
+ghost use Rattle.mix_machine.specs.units.Kind.{block_length, has_place, has_medium};
+ghost use Rattle.mix_machine.specs.units.Unit.{last_until};
+ghost use Rattle.mix_machine.specs.units.Units.{fits_item};
+ghost use Rattle.mix_machine.specs.law.Plans.{InputFits, OutputFits, ControlFits};
+
+use crate::old::Old;
+use crate::perform::place;
+use crate::plan::Transfer;
+use crate::units::{Kind, UnitNo};
+use crate::world::World;
+use undo_core::Memory;
+
+impl World {
+    /// The clock at which a transfer of a unit begins: at once, or when the last one is over.
+    pub(crate) fn start_at(&self, n: UnitNo) -> u64
+        ensures is { result ≡ transfer_start self.now n }
+        ensures bound { result < 2 ^ 63 }
+    {
+        let until = self.units.unit(n).until();
+        if until > self.clock {
+            until
+        } else {
+            self.clock
+        }
+    }
+
+    /// The time until which a transfer of a unit takes.
+    pub(crate) fn end_at(&self, n: UnitNo) -> u64
+        requires { transfer_end self.now n ≤ last_until }
+        ensures { result ≡ transfer_end self.now n }
+    {
+        self.start_at(n) + 1 + self.units.unit(n).delay()
+    }
+
+    /// What IN writes.
+    pub(crate) fn input(&mut self, t: Transfer, kept: &mut Vec<Old>)
+        requires fits { InputFits self.old t }
+        requires room { vec_len kept.old + length (input_writes (unit_at self.old t.unit).kind self.old t) ≤ vec_capacity kept.old }
+        ensures state { self.new ≡ write_all self.old (input_writes (unit_at self.old t.unit).kind self.old t) }
+        ensures kept { kept.new.items ≡ kept.old.items ++ kept_by self.old (input_writes (unit_at self.old t.unit).kind self.old t) }
+        ensures len { vec_len kept.new ≡ vec_len kept.old + length (input_writes (unit_at self.old t.unit).kind self.old t) }
+        ensures capacity { vec_capacity kept.new ≡ vec_capacity kept.old }
+    {
+        let (n, given) = (t.unit, t);
+        let kind = self.units.unit(n).kind();
+        let until = self.end_at(n);
+        self.move_on(kind, given, kept);
+        self.write(Old::Until(n, until), kept);
+        self.to_cells(t, kind.block_length(), kept);
+    }
+
+    /// What OUT writes. Out of memory for a new block or row, nothing is altered.
+    pub(crate) fn output(&mut self, t: Transfer, kept: &mut Vec<Old>) -> Result<(), Memory>
+        requires fits { OutputFits self.old t }
+        requires room { vec_len kept.old + length (output_writes (unit_at self.old t.unit).kind self.old t) ≤ vec_capacity kept.old }
+        ensures state { OnOk result (self.new ≡ write_all self.old (output_writes (unit_at self.old t.unit).kind self.old t)) }
+        ensures kept { OnOk result (kept.new.items ≡ kept.old.items ++ kept_by self.old (output_writes (unit_at self.old t.unit).kind self.old t)) }
+        ensures len { OnOk result (vec_len kept.new ≡ vec_len kept.old + length (output_writes (unit_at self.old t.unit).kind self.old t)) }
+        ensures capacity { OnOk result (vec_capacity kept.new ≡ vec_capacity kept.old) }
+        ensures same { OnErr result (self.new ≡ self.old) }
+        ensures same_kept { OnErr result (kept.new.items ≡ kept.old.items) }
+    {
+        let (block, unit) = (t.block, self.units.unit(t.unit));
+        let (kind, blocks) = (unit.kind(), unit.blocks());
+        if !kind.has_medium() {
+            return self.print(t, kind, kept);
+        }
+        if block < blocks {
+            self.replace(t, kind, kept);
+            Ok(())
+        } else {
+            self.append(t, kind, kept)
+        }
+    }
+
+    // The words of cells in place of those of a block.
+    fn replace(&mut self, t: Transfer, kind: Kind, kept: &mut Vec<Old>)
+        requires fits { OutputFits self.old t }
+        requires kind { kind ≡ (unit_at self.old t.unit).kind }
+        requires medium { has_medium kind ≡ true }
+        requires block { t.block < length (unit_at self.old t.unit).blocks }
+        requires room { vec_len kept.old + length (replace_writes kind self.old t) ≤ vec_capacity kept.old }
+        ensures state { self.new ≡ write_all self.old (replace_writes kind self.old t) }
+        ensures kept { kept.new.items ≡ kept.old.items ++ kept_by self.old (replace_writes kind self.old t) }
+        ensures len { vec_len kept.new ≡ vec_len kept.old + length (replace_writes kind self.old t) }
+        ensures capacity { vec_capacity kept.new ≡ vec_capacity kept.old }
+    {
+        // (the proof knows the ranges of the machine where a field of it is named)
+        let _ = &self.loc;
+        let (n, given) = (t.unit, t);
+        let until = self.end_at(n);
+        self.move_on(kind, given, kept);
+        self.write(Old::Until(n, until), kept);
+        self.from_cells(t, kind.block_length(), kept);
+    }
+
+    // The words of cells as a new block, after as many blocks of +0 as are missing before it.
+    fn append(&mut self, t: Transfer, kind: Kind, kept: &mut Vec<Old>) -> Result<(), Memory>
+        requires fits { OutputFits self.old t }
+        requires kind { kind ≡ (unit_at self.old t.unit).kind }
+        requires medium { has_medium kind ≡ true }
+        requires block { length (unit_at self.old t.unit).blocks ≤ t.block }
+        requires room { vec_len kept.old + length (append_writes kind self.old t) ≤ vec_capacity kept.old }
+        ensures state { OnOk result (self.new ≡ write_all self.old (append_writes kind self.old t)) }
+        ensures kept { OnOk result (kept.new.items ≡ kept.old.items ++ kept_by self.old (append_writes kind self.old t)) }
+        ensures len { OnOk result (vec_len kept.new ≡ vec_len kept.old + length (append_writes kind self.old t)) }
+        ensures capacity { OnOk result (vec_capacity kept.new ≡ vec_capacity kept.old) }
+        ensures same { OnErr result (self.new ≡ self.old) }
+        ensures same_kept { OnErr result (kept.new.items ≡ kept.old.items) }
+    {
+        let n = t.unit;
+        let until = self.end_at(n);
+        let unit = self.units.unit(n);
+        let (len, gap) = (unit.len(), t.block - unit.blocks());
+        let (from, size) = (usize::from(t.cell), usize::from(kind.block_length()));
+        self.units
+            .add_blocks(n, gap, &self.cells[from..from + size])?;
+        kept.push_reserved(Old::Len(n, len));
+        self.move_on(kind, t, kept);
+        self.write(Old::Until(n, until), kept);
+        Ok(())
+    }
+
+    // The words of cells as a new row.
+    fn print(&mut self, t: Transfer, kind: Kind, kept: &mut Vec<Old>) -> Result<(), Memory>
+        requires fits { OutputFits self.old t }
+        requires kind { kind ≡ (unit_at self.old t.unit).kind }
+        requires medium { has_medium kind ≡ false }
+        requires room { vec_len kept.old + length (row_writes kind self.old t) ≤ vec_capacity kept.old }
+        ensures state { OnOk result (self.new ≡ write_all self.old (row_writes kind self.old t)) }
+        ensures kept { OnOk result (kept.new.items ≡ kept.old.items ++ kept_by self.old (row_writes kind self.old t)) }
+        ensures len { OnOk result (vec_len kept.new ≡ vec_len kept.old + length (row_writes kind self.old t)) }
+        ensures capacity { OnOk result (vec_capacity kept.new ≡ vec_capacity kept.old) }
+        ensures same { OnErr result (self.new ≡ self.old) }
+        ensures same_kept { OnErr result (kept.new.items ≡ kept.old.items) }
+    {
+        let n = t.unit;
+        let until = self.end_at(n);
+        let len = self.units.unit(n).len();
+        let (from, size) = (usize::from(t.cell), usize::from(kind.block_length()));
+        self.units.add_words(n, &self.cells[from..from + size])?;
+        kept.push_reserved(Old::Len(n, len));
+        self.write(Old::Until(n, until), kept);
+        Ok(())
+    }
+
+    /// What IOC writes. Out of memory for the mark of a page, nothing is altered.
+    pub(crate) fn control(&mut self, n: UnitNo, at: u16, kept: &mut Vec<Old>) -> Result<(), Memory>
+        requires fits { ControlFits self.old n at }
+        requires room { vec_len kept.old + length (control_writes (unit_at self.old n).kind self.old n at) ≤ vec_capacity kept.old }
+        ensures state { OnOk result (self.new ≡ write_all self.old (control_writes (unit_at self.old n).kind self.old n at)) }
+        ensures kept { OnOk result (kept.new.items ≡ kept.old.items ++ kept_by self.old (control_writes (unit_at self.old n).kind self.old n at)) }
+        ensures len { OnOk result (vec_len kept.new ≡ vec_len kept.old + length (control_writes (unit_at self.old n).kind self.old n at)) }
+        ensures capacity { OnOk result (vec_capacity kept.new ≡ vec_capacity kept.old) }
+        ensures same { OnErr result (self.new ≡ self.old) }
+        ensures same_kept { OnErr result (kept.new.items ≡ kept.old.items) }
+    {
+        let until = self.end_at(n);
+        let unit = self.units.unit(n);
+        let (kind, len) = (unit.kind(), unit.len());
+        match kind {
+            Kind::Tape | Kind::PaperTape => {
+                self.write(Old::At(n, at), kept);
+                self.write(Old::Until(n, until), kept);
+            }
+            Kind::Disk => self.write(Old::Until(n, until), kept),
+            Kind::Printer => {
+                self.units.add_page(n)?;
+                kept.push_reserved(Old::Len(n, len));
+                self.write(Old::Until(n, until), kept);
+            }
+            Kind::CardReader | Kind::CardPunch | Kind::Typewriter => {}
+        }
+        Ok(())
+    }
+
+    // The place after the block, where the unit has one.
+    fn move_on(&mut self, kind: Kind, t: Transfer, kept: &mut Vec<Old>)
+        requires few { t.block < 1000 }
+        requires fits { has_place kind ≡ true → IsTrue (fits self.old (Old.At t.unit (t.block + 1))) }
+        requires room { vec_len kept.old + length (place_after kind t) ≤ vec_capacity kept.old }
+        ensures state { self.new ≡ write_all self.old (place_after kind t) }
+        ensures kept { kept.new.items ≡ kept.old.items ++ kept_by self.old (place_after kind t) }
+        ensures len { vec_len kept.new ≡ vec_len kept.old + length (place_after kind t) }
+        ensures capacity { vec_capacity kept.new ≡ vec_capacity kept.old }
+    {
+        if kind.has_place() {
+            self.write(Old::At(t.unit, t.block + 1), kept);
+        }
+    }
+
+    // The words of a block into cells.
+    fn to_cells(&mut self, t: Transfer, size: u8, kept: &mut Vec<Old>)
+        requires size { size ≡ block_length (unit_at self.old t.unit).kind }
+        requires block { t.block < length (unit_at self.old t.unit).blocks }
+        requires cells { t.cell + size ≤ 4000 }
+        requires room { vec_len kept.old + size ≤ vec_capacity kept.old }
+        ensures state { self.new ≡ write_all self.old (each size 0 (from_block self.old t)) }
+        ensures kept { kept.new.items ≡ kept.old.items ++ kept_by self.old (each size 0 (from_block self.old t)) }
+        ensures len { vec_len kept.new ≡ vec_len kept.old + size }
+        ensures capacity { vec_capacity kept.new ≡ vec_capacity kept.old }
+    {
+        for j in 0..size {
+            let word = self.units.unit(t.unit).word(t.block, j);
+            self.write(Old::Cell(place(t.cell + u16::from(j)), word), kept);
+        }
+    }
+
+    // The words of cells into a block.
+    fn from_cells(&mut self, t: Transfer, size: u8, kept: &mut Vec<Old>)
+        requires cells { t.cell + size ≤ 4000 }
+        requires block { (j : ℕ) → j < size → IsTrue (fits_item self.old.units t.unit t.block j) }
+        requires room { vec_len kept.old + size ≤ vec_capacity kept.old }
+        ensures state { self.new ≡ write_all self.old (each size 0 (from_cell self.old t)) }
+        ensures kept { kept.new.items ≡ kept.old.items ++ kept_by self.old (each size 0 (from_cell self.old t)) }
+        ensures len { vec_len kept.new ≡ vec_len kept.old + size }
+        ensures capacity { vec_capacity kept.new ≡ vec_capacity kept.old }
+    {
+        // (the proof knows the ranges of the machine where a field of it is named)
+        let _ = &self.loc;
+        for j in 0..size {
+            let word = self.cell(place(t.cell + u16::from(j)));
+            self.write(Old::Item(t.unit, t.block, j, word), kept);
+        }
+    }
+}

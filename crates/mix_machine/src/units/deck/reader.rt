@@ -1,0 +1,242 @@
+//! The lines of a deck, read one after the other into the units.
+ghost use Rattle.std.specs.Prelude.{◌≡◌, ◌<◌, ◌≤◌, ◌+◌, ◌*◌, ◌^◌, ◌++◌, OnOk, length, vec_len, IfOk, IfSome, MatchResult, Ok, Err};
+ghost use Rattle.mix_lines.specs.Lines.{words};
+ghost use Rattle.mix_machine.specs.units.Kind.{block_length};
+ghost use Rattle.mix_machine.specs.units.Unit.{most_entries};
+ghost use Rattle.mix_machine.specs.units.deck.Block.{deck_words, words_from};
+ghost use Rattle.mix_machine.specs.units.deck.Deck.{Gives, nothing_read, reads_nothing, end_unit, begin_unit, header_line, blank_or, with_words, line_of_words, line_of_text, line_of_unit, line_below, line_read, kind_at, room_of};
+
+use crate::units::Units;
+use crate::units::deck::block::{deck_word, has_codes, has_more_words, is_too_long, word_at};
+use crate::units::deck::header::{Header, header_of, is_header};
+use crate::units::deck_fault::DeckKind;
+use crate::units::kind::Kind;
+use crate::units::number::UnitNo;
+use mix_lines::{Words, next_word};
+use mix_word::Word;
+use std::alloc::Global;
+use std::marker::Model;
+use std::mem;
+use undo_core::{Memory, Refused};
+
+const MOST_BLOCKS: usize = 1000;
+
+/// What is read of a deck so far: the units, up to the last header; the unit of that header; the words read for it; and of each unit
+/// whether a header named it.
+#[derive(Drop)]
+pub(crate) struct Reader {
+    alloc: Global,
+    units: Units,
+    unit: Option<UnitNo>,
+    words: Vec<Word>,
+    given: [bool; 21],
+}
+
+impl Model for Reader {
+    ghost use Rattle.mix_machine.specs.units.deck.Deck.{Reading, IsReading};
+
+    ghost Value = { Reading };
+
+    ghost use Rattle.mix_machine.specs.units.deck.ReaderView.{reading_of};
+
+    ghost view = { reading_of };
+
+    ghost invariant = { λ r. IsReading (reading_of r) };
+}
+
+impl Reader {
+    /// Nothing read.
+    pub(crate) fn new(alloc: Global) -> Result<Reader, Memory>
+        ensures { IfOk result (λ r. r ≡ nothing_read) }
+    {
+        let units = Units::empty(alloc)?;
+        Ok(Reader {
+            alloc,
+            units,
+            unit: None,
+            words: Vec::new(alloc),
+            given: [false; 21],
+        })
+    }
+
+    /// Reads a line.
+    #[tactic(auto, unfolding(crate::specs::units::deck::Deck::line_read))]
+    pub(crate) fn line(&mut self, text: &[u8]) -> Result<(), Refused<DeckKind>>
+        ensures { Gives (line_read self.old text.now) self.new result }
+    {
+        if is_header(text) {
+            return match self.header_line(text) {
+                Ok(()) => Ok(()),
+                Err(kind) => Err(Refused::Fault(kind)),
+            };
+        }
+        match self.unit {
+            None => self.blank_or(DeckKind::BadHeader, text),
+            Some(unit) => {
+                let kind = self.units.unit(unit).kind();
+                self.line_of_unit(kind, text)
+            }
+        }
+    }
+
+    /// Ends the last unit, and gives the units.
+    pub(crate) fn finish(self) -> Result<Units, DeckKind>
+        ensures { MatchResult result (λ us. end_unit self.units self.unit self.words ≡ Ok us) (λ k. end_unit self.units self.unit self.words ≡ Err k) }
+    {
+        let mut reader = self;
+        match reader.end_unit() {
+            Err(kind) => Err(kind),
+            Ok(()) => Ok(reader.units),
+        }
+    }
+
+    // A header ends the unit before it and begins another.
+    fn header_line(&mut self, text: &[u8]) -> Result<(), DeckKind>
+        ensures { MatchResult result (λ _. header_line self.old text.now ≡ Ok self.new) (λ k. header_line self.old text.now ≡ Err k) }
+    {
+        match self.end_unit() {
+            Err(kind) => Err(kind),
+            Ok(()) => self.begin_unit(header_of(text)),
+        }
+    }
+
+    // The words of a unit become its blocks, each of which has to be whole.
+    fn end_unit(&mut self) -> Result<(), DeckKind>
+        ensures ended { MatchResult result (λ _. end_unit self.old.units self.old.unit self.old.words ≡ Ok self.new.units) (λ k. end_unit self.old.units self.old.unit self.old.words ≡ Err k) }
+        ensures given { self.new.given ≡ self.old.given }
+    {
+        match self.unit {
+            None => Ok(()),
+            Some(unit) => {
+                let length = usize::from(self.units.unit(unit).kind().block_length());
+                if self.words.len() % length != 0 {
+                    return Err(DeckKind::PartOfBlock);
+                }
+                let words = mem::replace(&mut self.words, Vec::new(self.alloc));
+                self.units.fill(unit, words);
+                Ok(())
+            }
+        }
+    }
+
+    // A header begins a unit, which no header named before.
+    fn begin_unit(&mut self, header: Option<Header>) -> Result<(), DeckKind>
+        requires { IfSome header (λ h. IfSome h.delay (λ t. t < 10 ^ 18)) }
+        ensures { MatchResult result (λ _. begin_unit self.old.units self.old.given header ≡ Ok self.new) (λ k. begin_unit self.old.units self.old.given header ≡ Err k) }
+    {
+        match header {
+            None => Err(DeckKind::BadHeader),
+            Some(header) => {
+                let index = usize::from(header.unit.number());
+                if self.given[index] {
+                    return Err(DeckKind::UnitGivenTwice);
+                }
+                if reads_nothing(self.units.unit(header.unit).kind()) && header.delay.is_none() {
+                    return Err(DeckKind::NoInput);
+                }
+                self.units.set_delay(header.unit, header.delay.unwrap_or(0));
+                self.unit = Some(header.unit);
+                self.words.clear();
+                self.given[index] = true;
+                Ok(())
+            }
+        }
+    }
+
+    // A blank line is nothing; another has a fault.
+    fn blank_or(&self, kind: DeckKind, text: &[u8]) -> Result<(), Refused<DeckKind>>
+        ensures { Gives (blank_or kind self.now (words text.now)) self.now result }
+    {
+        match next_word(text) {
+            None => Ok(()),
+            Some(_) => Err(Refused::Fault(kind)),
+        }
+    }
+
+    // A line below the header of a unit of this kind.
+    fn line_of_unit(&mut self, kind: Kind, text: &[u8]) -> Result<(), Refused<DeckKind>>
+        requires { room_of self.old.units self.old.unit ≡ most_entries * block_length kind }
+        ensures { Gives (line_of_unit kind self.old text.now) self.new result }
+    {
+        match kind {
+            Kind::Tape => self.line_of_words(Kind::Tape, text),
+            Kind::Disk => self.line_of_words(Kind::Disk, text),
+            Kind::CardReader => self.line_of_text(Kind::CardReader, text),
+            Kind::CardPunch | Kind::Printer => self.blank_or(DeckKind::NoInput, text),
+            Kind::Typewriter => self.line_of_text(Kind::Typewriter, text),
+            Kind::PaperTape => self.line_of_text(Kind::PaperTape, text),
+        }
+    }
+
+    // A line of a tape or a disk: words.
+    fn line_of_words(&mut self, kind: Kind, text: &[u8]) -> Result<(), Refused<DeckKind>>
+        requires { room_of self.old.units self.old.unit ≡ most_entries * block_length kind }
+        ensures { Gives (line_of_words kind self.old text.now) self.new result }
+    {
+        let room = MOST_BLOCKS * usize::from(kind.block_length()) - self.words.len();
+        if has_more_words(text, room) {
+            return Err(Refused::Fault(DeckKind::TooManyBlocks));
+        }
+        push_words(&mut self.words, text)
+    }
+
+    // A line of cards or text: one block, five characters a word.
+    fn line_of_text(&mut self, kind: Kind, text: &[u8]) -> Result<(), Refused<DeckKind>>
+        requires { room_of self.old.units self.old.unit ≡ most_entries * block_length kind }
+        ensures { Gives (line_of_text kind self.old text.now) self.new result }
+    {
+        let length = kind.block_length();
+        let columns = 5 * usize::from(length);
+        if self.words.len() + usize::from(length) > MOST_BLOCKS * usize::from(length) {
+            return Err(Refused::Fault(DeckKind::TooManyBlocks));
+        }
+        if is_too_long(text, columns) {
+            return Err(Refused::Fault(DeckKind::LineTooLong));
+        }
+        if !has_codes(text, columns) {
+            return Err(Refused::Fault(DeckKind::NoMixCharacter));
+        }
+        match push_columns(&mut self.words, text, length) {
+            Ok(()) => Ok(()),
+            Err(Memory) => Err(Refused::Memory),
+        }
+    }
+}
+
+// Whether a unit reads nothing.
+fn reads_nothing(kind: Kind) -> bool
+    ensures { result ≡ reads_nothing kind }
+{
+    match kind {
+        Kind::CardPunch | Kind::Printer => true,
+        Kind::Tape | Kind::Disk | Kind::CardReader => false,
+        Kind::Typewriter | Kind::PaperTape => false,
+    }
+}
+
+// Appends the words of a line to those before them.
+fn push_words(list: &mut Vec<Word>, text: &[u8]) -> Result<(), Refused<DeckKind>>
+    ensures read { Gives (with_words list.old.items (deck_words (words text.now))) list.new.items result }
+    ensures len { vec_len list.new ≤ vec_len list.old + length (words text.now) }
+{
+    let mut words = Words::of(text);
+    while let Some(word) = words.next() {
+        match deck_word(word) {
+            None => return Err(Refused::Fault(DeckKind::BadWord)),
+            Some(word) => list.push(word)?,
+        }
+    }
+    Ok(())
+}
+
+// Appends so many words of five characters each.
+fn push_columns(list: &mut Vec<Word>, text: &[u8], count: u8) -> Result<(), Memory>
+    requires { count ≤ 100 }
+    ensures read { OnOk result (list.new.items ≡ list.old.items ++ words_from count 0 text.now) }
+    ensures len { vec_len list.new ≤ vec_len list.old + count }
+{
+    for i in 0..count {
+        list.push(word_at(text, 5 * usize::from(i)))?;
+    }
+    Ok(())
+}

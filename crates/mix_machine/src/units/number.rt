@@ -1,0 +1,54 @@
+//! The number of a unit.
+ghost use Rattle.std.specs.Prelude.{◌≡◌, ◌<◌, ◌≤◌, ◌↔◌, IsSome, IfSome};
+ghost use Rattle.mix_machine.specs.units.Kind.{kind_of};
+
+use crate::units::kind::{KINDS, Kind};
+use std::marker::Model;
+
+/// The number of a unit, 0 to 20 (1.3.1): 0 to 7 are tapes, 8 to 15 disks, 16 the card reader, 17 the card punch, 18 the printer, 19 the
+/// typewriter and 20 the paper tape.
+#[derive(Clone, Copy, Debug, PartialEq, Eq)]
+pub struct UnitNo {
+    number: u8,
+}
+
+impl Model for UnitNo {
+    ghost use Rattle.std.specs.Prelude.{ℕ, ◌<◌};
+
+    ghost Value = { ℕ };
+
+    ghost view = { λ u. u.number };
+
+    ghost invariant = { λ u. u.number < 21 };
+
+    ghost inverse = { λ n. record { number = n } };
+}
+
+impl UnitNo {
+    /// The unit of this number (1.3.1), or none where it is over 20.
+    pub fn of(n: u8) -> Option<UnitNo>
+        ensures valid { IsSome result ↔ (n ≤ 20) }
+        ensures value { IfSome result (λ u. u ≡ n) }
+    {
+        if n <= 20 {
+            Some(UnitNo { number: n })
+        } else {
+            None
+        }
+    }
+
+    /// The number, 0 to 20 (1.3.1).
+    pub fn number(self) -> u8
+        ensures is { result ≡ self }
+        ensures bound { result < 21 }
+    {
+        self.number
+    }
+
+    /// What the unit is (1.3.1).
+    pub fn kind(self) -> Kind
+        ensures { result ≡ kind_of self }
+    {
+        KINDS[usize::from(self.number)]
+    }
+}

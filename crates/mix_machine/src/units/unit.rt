@@ -1,0 +1,264 @@
+//! One unit (1.3.1, "Input-output operators"): its blocks and its place among them, the rows that it has written, and its times.
+ghost use Rattle.std.specs.Prelude.{◌≡◌, ◌<◌, ◌≤◌, ◌+◌, ◌*◌, ◌/◌, ◌%◌, ◌++◌, None, Some, MatchOption, OnOk, OnErr, length, replicate, vec_len, vec_capacity, IsTrue, slice_get};
+ghost use Rattle.mix_word.specs.Word.{zero_word};
+ghost use Rattle.mix_machine.specs.units.Kind.{block_length};
+ghost use Rattle.mix_machine.specs.units.Unit.{IsUnit, empty_unit, word_of, with_word, with_blocks, with_row, filled, most_entries, last_delay, last_until};
+ghost use Rattle.mix_machine.specs.units.Units.{cut_to, can_cut, length_of};
+
+use crate::units::kind::Kind;
+use crate::units::row::Row;
+use mix_word::Word;
+use std::alloc::Global;
+use std::marker::Model;
+use undo_core::Memory;
+
+/// A unit (1.3.1): the blocks that it reads and the place of the next one, the rows that it has written, its delay, and the time until
+/// which its last transfer takes.
+// The blocks lie side by side in one list of words.
+#[derive(Drop)]
+pub struct Unit {
+    kind: Kind,
+    place: u16,
+    count: u16,
+    words: Vec<Word>,
+    rows: Vec<Row>,
+    delay: u64,
+    until: u64,
+}
+
+impl Model for Unit {
+    ghost use Rattle.mix_machine.specs.units.Unit.{UnitState};
+
+    ghost Value = { UnitState };
+
+    ghost use Rattle.mix_machine.specs.units.View.{unit_of_fields, AreFields};
+
+    ghost view = { unit_of_fields };
+
+    ghost invariant = { AreFields };
+}
+
+impl Unit {
+    /// The place of the block that is read next, 0 to the number of blocks; 0 where the unit has no place (1.3.1).
+    pub fn place(&self) -> u16
+        ensures is { result ≡ self.now.place }
+        ensures bound { result ≤ most_entries }
+    {
+        self.place
+    }
+
+    /// How many blocks the unit has to read, or keeps, at most 1,000 (1.3.1).
+    #[tactic(auto, using(crate::proofs::BlockLemmas::blocks))]
+    pub fn blocks(&self) -> u16
+        ensures { result ≡ length self.now.blocks }
+    {
+        self.count
+    }
+
+    /// The words of block i, counted from 0, or none where it isn't there (1.3.1).
+    #[tactic(auto, using(crate::proofs::BlockLemmas::blocks))]
+    pub fn block(&self, i: u16) -> Option<&[Word]>
+        ensures { MatchOption result (None ≡ slice_get self.now.blocks i) (λ words. Some words.now ≡ slice_get self.now.blocks i) }
+    {
+        if i < self.count {
+            let length = usize::from(self.kind.block_length());
+            let start = usize::from(i) * length;
+            Some(&self.words[start..start + length])
+        } else {
+            None
+        }
+    }
+
+    /// How many rows the unit has written, at most 1,000 (1.3.1).
+    pub fn rows(&self) -> u16
+        ensures { result ≡ length self.now.rows }
+    {
+        self.rows.len() as u16
+    }
+
+    /// Row i, counted from 0, or none where it isn't there (1.3.1).
+    pub fn row(&self, i: u16) -> Option<&Row>
+        ensures { MatchOption result (None ≡ slice_get self.now.rows i) (λ row. Some row.now ≡ slice_get self.now.rows i) }
+    {
+        self.rows.get(usize::from(i))
+    }
+
+    /// How long a transfer takes beside the time of its step, in u (1.3.1).
+    pub fn delay(&self) -> u64
+        ensures { result ≡ self.now.delay }
+    {
+        self.delay
+    }
+
+    /// The time until which the last transfer takes, in u (1.3.1).
+    pub fn until(&self) -> u64
+        ensures is { result ≡ self.now.until }
+        ensures bound { result ≤ last_until }
+    {
+        self.until
+    }
+
+    /// A unit of a kind with nothing in it.
+    pub(crate) fn empty(alloc: Global, kind: Kind) -> Unit
+        ensures { result ≡ empty_unit kind }
+    {
+        Unit {
+            kind,
+            place: 0,
+            count: 0,
+            words: Vec::new(alloc),
+            rows: Vec::new(alloc),
+            delay: 0,
+            until: 0,
+        }
+    }
+
+    /// What the unit is.
+    pub(crate) fn kind(&self) -> Kind
+        ensures { result ≡ self.now.kind }
+    {
+        self.kind
+    }
+
+    /// Word j of block i, both counted from 0.
+    #[tactic(auto, using(crate::proofs::BlockLemmas::blocks))]
+    pub(crate) fn word(&self, i: u16, j: u8) -> Word
+        requires block { i < length self.now.blocks }
+        requires word { j < block_length self.now.kind }
+        ensures { result ≡ word_of self.now i j }
+    {
+        self.words[offset(self.count, self.kind.block_length(), i, j)]
+    }
+
+    /// Sets word j of block i.
+    #[tactic(auto, using(crate::proofs::BlockLemmas::blocks))]
+    pub(crate) fn set_word(&mut self, i: u16, j: u8, word: Word)
+        requires block { i < length self.old.blocks }
+        requires word { j < block_length self.old.kind }
+        ensures { self.new ≡ with_word self.old i j word }
+    {
+        let at = offset(self.count, self.kind.block_length(), i, j);
+        self.words[at] = word;
+    }
+
+    /// Sets the place of the block that is read next.
+    pub(crate) fn set_place(&mut self, place: u16)
+        requires { place ≤ length self.old.blocks }
+        ensures { self.new ≡ record self.old { place = place } }
+    {
+        self.place = place;
+    }
+
+    /// Sets the time until which the last transfer takes.
+    pub(crate) fn set_until(&mut self, until: u64)
+        requires { until ≤ last_until }
+        ensures { self.new ≡ record self.old { until = until } }
+    {
+        self.until = until;
+    }
+
+    /// Sets the delay.
+    pub(crate) fn set_delay(&mut self, delay: u64)
+        requires { delay ≤ last_delay }
+        ensures { self.new ≡ record self.old { delay = delay } }
+    {
+        self.delay = delay;
+    }
+
+    /// Puts the blocks that these words make in place of all others, and the unit at the first of them.
+    pub(crate) fn fill(&mut self, words: Vec<Word>)
+        requires whole { length words.items % block_length self.old.kind ≡ 0 }
+        requires room { length words.items / block_length self.old.kind ≤ most_entries }
+        ensures { self.new ≡ filled self.old words.items }
+    {
+        let length = usize::from(self.kind.block_length());
+        self.count = (words.len() / length) as u16;
+        self.place = 0;
+        self.words = words;
+    }
+
+    /// How many blocks a tape or a disk has, and how many rows another unit has written.
+    pub(crate) fn len(&self) -> u16
+        ensures { result ≡ length_of self.now }
+    {
+        if self.kind.has_medium() {
+            self.count
+        } else {
+            self.rows.len() as u16
+        }
+    }
+
+    /// Cuts the list of blocks, or of rows, to so many.
+    pub(crate) fn cut(&mut self, len: u16)
+        requires { IsTrue (can_cut len self.old) }
+        ensures { self.new ≡ cut_to len self.old }
+    {
+        if self.kind.has_medium() {
+            let length = usize::from(self.kind.block_length());
+            self.words.truncate(usize::from(len) * length);
+            self.count = len;
+        } else {
+            self.rows.truncate(usize::from(len));
+        }
+    }
+
+    /// Appends so many blocks of +0 and then one of these words. Out of memory, the unit is as it was.
+    pub(crate) fn add_blocks(&mut self, gap: u16, words: &[Word]) -> Result<(), Memory>
+        requires whole { length words.now ≡ block_length self.old.kind }
+        requires room { length self.old.blocks + gap < most_entries }
+        ensures added { OnOk result (self.new ≡ with_blocks self.old gap words.now) }
+        ensures same { OnErr result (self.new ≡ self.old) }
+    {
+        let length = usize::from(self.kind.block_length());
+        let blank = usize::from(gap) * length;
+        self.words.reserve(blank + length)?;
+        push_zeros(&mut self.words, blank);
+        push_words(&mut self.words, words);
+        self.count += gap + 1;
+        Ok(())
+    }
+
+    /// Appends a row. Out of memory, the unit is as it was.
+    pub(crate) fn add_row(&mut self, row: Row) -> Result<(), Memory>
+        requires { length self.old.rows < most_entries }
+        ensures added { OnOk result (self.new ≡ with_row self.old row) }
+        ensures same { OnErr result (self.new ≡ self.old) }
+    {
+        self.rows.push(row)?;
+        Ok(())
+    }
+}
+
+// Where word j of block i is among the words of so many blocks of a length.
+fn offset(count: u16, length: u8, i: u16, j: u8) -> usize
+    requires block { i < count }
+    requires word { j < length }
+    ensures is { result ≡ i * length + j }
+    ensures within { result < count * length }
+{
+    usize::from(i) * usize::from(length) + usize::from(j)
+}
+
+// Appends so many words of +0, for which there is room.
+fn push_zeros(list: &mut Vec<Word>, count: usize)
+    requires { vec_len list.old + count ≤ vec_capacity list.old }
+    ensures items { list.new.items ≡ list.old.items ++ replicate count zero_word }
+    ensures len { vec_len list.new ≡ vec_len list.old + count }
+    ensures capacity { vec_capacity list.new ≡ vec_capacity list.old }
+{
+    for _word in 0..count {
+        list.push_reserved(Word::ZERO);
+    }
+}
+
+// Appends some words, for which there is room.
+fn push_words(list: &mut Vec<Word>, words: &[Word])
+    requires { vec_len list.old + length words.now ≤ vec_capacity list.old }
+    ensures items { list.new.items ≡ list.old.items ++ words.now }
+    ensures len { vec_len list.new ≡ vec_len list.old + length words.now }
+    ensures capacity { vec_capacity list.new ≡ vec_capacity list.old }
+{
+    for word in words {
+        list.push_reserved(*word);
+    }
+}

@@ -1,0 +1,43 @@
+-- The timeline of a session: the loaded machine, the changes done since, and those taken back, which stand ahead. The machine is run anew
+-- from its first state on the changes done, wherever something of it is asked.
+use Rattle.std.specs.Prelude.{ℕ, zero, suc, ◌-◌, ◌&&◌, Bool, [], ◌∷◌, ◌++◌, length, take, drop, nat_lt, unwrap_or}
+use Rattle.undo_core.specs.History.{History}
+use Rattle.undo_core.specs.Replay.{replay}
+use Rattle.mix_machine.specs.World.{WorldState, has_break}
+use Rattle.mix_machine.specs.Do.{does}
+use Rattle.mix_machine.specs.declared.old.Change.{Change}
+use Rattle.mix_machine.specs.declared.old.Change.TheVariants.{Step}
+
+abbrev pub Timeline : Type 0
+Timeline = History WorldState Change
+
+-- no change is done, and none stands ahead
+abbrev pub beginning : WorldState → Timeline
+beginning base = record { first = base; changes = []; ahead = [] }
+
+-- the machine after the changes done (where one of them were a fault: the first state)
+unfoldable pub world_of : Timeline → WorldState
+world_of t = unwrap_or (replay does t.first t.changes) t.first
+
+-- one change more is done, and nothing stands ahead of it
+abbrev pub with_change : Timeline → Change → Timeline
+with_change t change = record { first = t.first; changes = t.changes ++ change ∷ []; ahead = [] }
+
+-- so many steps more are done, one after the other
+abbrev pub with_steps : Timeline → ℕ → Timeline
+with_steps t zero = t
+with_steps t (suc k) = with_change (with_steps t k) Step
+
+-- the last n changes are taken back, and stand ahead of those that are left
+abbrev pub back_by : Timeline → ℕ → Timeline
+back_by t n =
+    let left = length t.changes - n in
+    record { first = t.first; changes = take left t.changes; ahead = drop left t.changes ++ t.ahead }
+
+-- the next n changes ahead are done again
+abbrev pub forth_by : Timeline → ℕ → Timeline
+forth_by t n = record { first = t.first; changes = t.changes ++ take n t.ahead; ahead = drop n t.ahead }
+
+-- whether the machine is at a breakpoint: the location is a cell that has one
+abbrev pub is_at_break : WorldState → Bool
+is_at_break w = nat_lt w.loc 4000 && has_break w w.loc

@@ -1,0 +1,11 @@
+pub mod Fault
+pub mod Key
+pub mod PassOne
+pub mod Program
+pub mod Row
+pub mod Table
+pub mod Assembly
+pub mod Chain
+pub mod Draft
+pub mod Fed
+pub mod Listing

@@ -1,0 +1,148 @@
+//! END (1.3.2): its LOC, its ADDRESS, and the program.
+ghost use Rattle.std.specs.Prelude.{◌≡◌, ◌<◌, slice_get, false, length, Ok, Err, OnOk, IfOk};
+ghost use Rattle.std.specs.List.{list_any};
+ghost use Rattle.mix_word.specs.Word.{plus};
+ghost use Rattle.undo_core.specs.Refused.{IfFault};
+ghost use Rattle.mixal_asm.specs.declared.row.Shows.TheVariants.{Start};
+ghost use Rattle.mixal_asm.specs.PassOne.{is_taken, with_line};
+ghost use Rattle.mixal_asm.specs.Assembly.{is_unmet, program_at, end_value, start_of, first_uses, inserted, ended, end_line};
+
+use crate::draft::Draft;
+use crate::fault::AsmKind;
+use crate::program::Program;
+use crate::row::{Shows, Source};
+use crate::scope::Own;
+use crate::unmet::is_unmet;
+use mix_word::{Place, Word};
+use mixal_text::{Label, TextFault};
+use std::alloc::Global;
+use undo_core::{Memory, Refused};
+
+// The start, which is 0 to 3999, or else A15.
+fn start_of(value: Word) -> Result<Place, AsmKind>
+    ensures { result ≡ start_of value }
+{
+    match Place::of((value.magnitude() % 4096) as u16) {
+        Some(start) => Ok(start),
+        None => Err(AsmKind::StartOutOfRange),
+    }
+}
+
+impl<'s> Draft<'s> {
+    ghost use Rattle.mixal_asm.specs.Draft.{HasNoLiteral, scope_value, passes};
+
+    // The value of the ADDRESS of END, which is 0 where it is left out.
+    fn read_end(&self, own: Option<Own>, address: &[u8]) -> Result<Word, AsmKind>
+        ensures { result ≡ end_value (scope_value self.now.names own) (plus self.now.here) address.now }
+    {
+        if address.is_empty() {
+            Ok(Word::ZERO)
+        } else {
+            self.read_value(own, address)
+        }
+    }
+
+    /// END, by its LOC and its ADDRESS: the lines that are inserted before it, its LOC, the start and the program.
+    #[tactic(auto, unfolding(crate::specs::Assembly::end_line, crate::specs::Assembly::inserted))]
+    pub(crate) fn end_line(
+        mut self,
+        alloc: Global,
+        text: &'s [u8],
+        loc: &Option<Label>,
+        address: &[u8],
+    ) -> Result<Program<'s>, Refused<AsmKind>>
+        requires lines { length self.rows < 20000 }
+        requires untaken { is_taken self.names loc.now ≡ false }
+        requires unplaced { HasNoLiteral self.names }
+        ensures ok { IfOk result (λ program. end_line self.entry text.now loc.now address.now ≡ Ok program) }
+        ensures fault { IfFault result (λ kind. end_line self.entry text.now loc.now address.now ≡ Err kind) }
+    {
+        let number = self.number();
+        self.insert_literals()?;
+        self.insert_zeros(loc)?;
+        self.ended(alloc, number, text, loc, address)
+    }
+
+    // The rest of END, where those lines are inserted.
+    #[tactic(auto, unfolding(crate::specs::Assembly::ended))]
+    fn ended(
+        mut self,
+        alloc: Global,
+        number: u32,
+        text: &'s [u8],
+        loc: &Option<Label>,
+        address: &[u8],
+    ) -> Result<Program<'s>, Refused<AsmKind>>
+        requires { is_taken self.names loc.now ≡ false }
+        ensures ok { IfOk result (λ program. ended self.entry number text.now loc.now address.now ≡ Ok program) }
+        ensures fault { IfFault result (λ kind. ended self.entry number text.now loc.now address.now ≡ Err kind) }
+    {
+        if self.has_unmet(loc) {
+            return Err(Refused::Fault(AsmKind::Text(TextFault::NoSuchLocalSymbol)));
+        }
+        let own = self.label(loc, self.here_word())?;
+        let value = match self.read_end(own, address) {
+            Ok(value) => value,
+            Err(kind) => return Err(Refused::Fault(kind)),
+        };
+        let start = match start_of(value) {
+            Ok(start) => start,
+            Err(kind) => return Err(Refused::Fault(kind)),
+        };
+        match self.finish(alloc, number, text, start) {
+            Ok(program) => Ok(program),
+            Err(Memory) => Err(Refused::Memory),
+        }
+    }
+
+    // The row of END, and the program.
+    fn finish(
+        mut self,
+        alloc: Global,
+        number: u32,
+        text: &'s [u8],
+        start: Place,
+    ) -> Result<Program<'s>, Memory>
+        ensures { IfOk result (λ program. program ≡ program_at (with_line self.entry number text.now Start) start) }
+    {
+        self.add_row(Source::Line(number, text), Shows::Start)?;
+        self.into_program(alloc, start)
+    }
+
+    // Whether any dF meets no dH, that of END included.
+    fn has_unmet(&self, loc: &Option<Label>) -> bool
+        ensures { result ≡ list_any (is_unmet self.now.names loc.now) (first_uses self.now.emitted) }
+    {
+        for i in 0..self.words.use_count() {
+            if self.is_unmet_at(loc, i) {
+                return true;
+            }
+        }
+        false
+    }
+
+    // Whether the name of this number is such a dF.
+    fn is_unmet_at(&self, loc: &Option<Label>, i: usize) -> bool
+        ensures { result ≡ passes (is_unmet self.now.names loc.now) (slice_get (first_uses self.now.emitted) i) }
+    {
+        match self.words.use_at(i) {
+            Some(name) => is_unmet(&self.names, loc, name),
+            None => false,
+        }
+    }
+
+    // The program of all lines.
+    fn into_program(self, alloc: Global, start: Place) -> Result<Program<'s>, Memory>
+        ensures { IfOk result (λ program. program ≡ program_at self.entry start) }
+    {
+        let words = self.words.placed(alloc)?;
+        let patches = self.words.references();
+        Ok(Program {
+            words,
+            start,
+            names: self.names,
+            rows: self.rows,
+            patches,
+        })
+    }
+}

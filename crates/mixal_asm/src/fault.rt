@@ -1,0 +1,82 @@
+//! The faults of a source: a number and a text each, and the line of the source.
+ghost use Rattle.std.specs.Prelude.{◌≡◌, Some};
+ghost use Rattle.mixal_asm.specs.Fault.{kind_number, kind_text, kind_line, asm_fault_line};
+
+use mixal_text::TextFault;
+use std::fmt;
+
+/// Why a source is refused (1.3.2), in the order of the numbers, but for those of a line's text, which come first here.
+#[derive(Clone, Copy, Debug, PartialEq, Eq)]
+pub enum AsmKind {
+    /// A1 to A3, A5 to A8, A10, A12, A14: a fault of a line's text. A14 is also a dF that no later dH meets.
+    Text(TextFault),
+    /// A4: a symbol that a line before has defined.
+    DefinedTwice,
+    /// A9: an address whose magnitude is 4096 or more, at the line of the instruction, or of the name that it waits for.
+    AddressTooLarge,
+    /// A11: a word at location 4000, or an ORIG that is not 0 to 4000.
+    LocationOutOfRange,
+    /// A13: no line is END. The line after the last one is reported.
+    NoEnd,
+    /// A15: a start that is not 0 to 3999.
+    StartOutOfRange,
+    /// A16: over 1,048,576 bytes, reported at line 1, or over 20,000 lines, reported at line 20,001.
+    SourceTooLong,
+}
+
+impl AsmKind {
+    /// The number after the letter A, 1 to 16.
+    pub fn number(self) -> u8
+        ensures { result ≡ kind_number self }
+    {
+        match self {
+            AsmKind::Text(fault) => fault.number(),
+            AsmKind::DefinedTwice => 4,
+            AsmKind::AddressTooLarge => 9,
+            AsmKind::LocationOutOfRange => 11,
+            AsmKind::NoEnd => 13,
+            AsmKind::StartOutOfRange => 15,
+            AsmKind::SourceTooLong => 16,
+        }
+    }
+
+    /// The words after the number.
+    pub fn text(self) -> &'static str
+        ensures { result.now ≡ kind_text self }
+    {
+        match self {
+            AsmKind::Text(fault) => fault.text(),
+            AsmKind::DefinedTwice => "defined twice",
+            AsmKind::AddressTooLarge => "address beyond two bytes",
+            AsmKind::LocationOutOfRange => "location outside 0 to 3999",
+            AsmKind::NoEnd => "no END",
+            AsmKind::StartOutOfRange => "start outside 0 to 3999",
+            AsmKind::SourceTooLong => "source too long",
+        }
+    }
+}
+
+/// `A13 no END`.
+impl fmt::Display for AsmKind {
+    ghost output = { λ kind. Some (kind_line kind) };
+
+    fn fmt<W: fmt::Write>(&self, f: &mut fmt::Formatter<W>) -> fmt::Result {
+        write!(f, "A{} {}", self.number(), self.text())
+    }
+}
+
+/// The first fault of a source, at its line, counted from 1.
+#[derive(Clone, Copy, Debug, PartialEq, Eq)]
+pub struct AsmFault {
+    pub line: u32,
+    pub kind: AsmKind,
+}
+
+/// `line 2: A13 no END`.
+impl fmt::Display for AsmFault {
+    ghost output = { λ fault. Some (asm_fault_line fault) };
+
+    fn fmt<W: fmt::Write>(&self, f: &mut fmt::Formatter<W>) -> fmt::Result {
+        write!(f, "line {}: {}", self.line, self.kind)
+    }
+}

@@ -1,0 +1,33 @@
+//! The assembler of MIXAL (The Art of Computer Programming, 1.3.2): a source, line by line, into words, a start and a listing.
+#![tactic(auto)]
+
+mod assembler;
+mod chain;
+mod close;
+mod code;
+mod draft;
+mod emitted;
+mod end;
+mod fault;
+mod fed;
+mod inserted;
+mod key;
+mod lines;
+mod listing;
+mod names;
+mod program;
+mod read;
+mod row;
+mod scope;
+mod source;
+#[cfg(test)]
+mod tests;
+mod unmet;
+mod words;
+
+pub use assembler::Assembler;
+pub use fault::{AsmFault, AsmKind};
+pub use fed::Fed;
+pub use mix_stream::{Counted, Failed, In, Out};
+pub use program::Program;
+pub use source::{MAX_SOURCE_BYTES, assemble};

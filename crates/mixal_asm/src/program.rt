@@ -1,0 +1,82 @@
+//! An assembled source (1.3.2): what it gives to the machine, and what its names mean.
+ghost use Rattle.std.specs.Prelude.{◌≡◌};
+ghost use Rattle.mixal_asm.specs.declared.key.Key.TheVariants.{Name};
+ghost use Rattle.mixal_asm.specs.PassOne.{value_of, names_at};
+
+use crate::key::Key;
+use crate::names::NameTable;
+use crate::row::Row;
+use mix_word::{Place, Word};
+use mixal_text::{Names, Symbol};
+use std::marker::Model;
+
+/// An assembled source (1.3.2). Its names are the finished map: every LOC, the undefined symbols, and that of END.
+#[derive(Drop)]
+pub struct Program<'s> {
+    pub(crate) words: Vec<(Place, Word)>,
+    pub(crate) start: Place,
+    pub(crate) names: NameTable,
+    pub(crate) rows: Vec<Row<'s>>,
+    pub(crate) patches: usize,
+}
+
+impl<'s> Model for Program<'s> {
+    ghost use Rattle.std.specs.Prelude.{map};
+    ghost use Rattle.mixal_asm.specs.Program.{ProgramValue};
+
+    ghost Value = { ProgramValue };
+
+    ghost use Rattle.mixal_asm.specs.Row.{row_value};
+
+    ghost view = { λ p. record {
+      words = p.words.items;
+      start = p.start;
+      names = p.names;
+      rows = map row_value p.rows.items;
+      patches = p.patches;
+    } };
+}
+
+impl<'s> Program<'s> {
+    /// The words with their places, in the order of the lines: a later one at the same place wins (1.3.2). It takes no memory.
+    pub fn words(&self) -> &[(Place, Word)]
+        ensures { result.now ≡ self.now.words }
+    {
+        self.words.as_slice()
+    }
+
+    /// Where the program begins (1.3.2): field (4:5) of the ADDRESS of END. It takes no memory.
+    pub fn start(&self) -> Place
+        ensures { result ≡ self.now.start }
+    {
+        self.start
+    }
+
+    /// The value of a symbol that the source uses or defines (1.3.2), and none of any other. It takes no memory.
+    pub fn symbol(&self, symbol: &Symbol) -> Option<Word>
+        ensures { result ≡ value_of self.now.names (Name symbol.now) }
+    {
+        self.names.value(&Key::Name(symbol.copied()))
+    }
+
+    /// How many future references the source has (1.3.2): those of undefined symbols are among them, literals are not. It
+    /// takes no memory.
+    pub fn patches(&self) -> usize
+        ensures { result ≡ self.now.patches }
+    {
+        self.patches
+    }
+}
+
+/// A symbol by the finished map; dB is the last dH of the source.
+impl<'s> Names for Program<'s> {
+    ghost names = { λ p. names_at p.names p.names };
+
+    fn value(&self, symbol: &Symbol) -> Option<Word> {
+        self.symbol(symbol)
+    }
+
+    fn back(&self, digit: u8) -> Option<Word> {
+        self.names.back(digit)
+    }
+}

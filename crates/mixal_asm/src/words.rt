@@ -1,0 +1,176 @@
+//! The emitted words (1.3.2), those that wait for a name included.
+ghost use Rattle.std.specs.Prelude.{◌≡◌, ◌<◌, ◌+◌, ◌++◌, [], ◌∷◌, length, map, slice_get, count_by, option_copied, IsTrue, IfOk, OnOk, OnErr};
+ghost use Rattle.mixal_asm.specs.PassOne.{is_awaited};
+ghost use Rattle.mixal_asm.specs.Assembly.{first_uses, references_in, is_reference, is_waiting};
+ghost use Rattle.mixal_asm.specs.Chain.{IsUsed, last_use};
+
+use crate::chain::Entry;
+use crate::close::close;
+use crate::emitted::Emitted;
+use crate::key::Key;
+use crate::names::NameTable;
+use indexmap::IndexMap;
+use mix_word::{Place, Word};
+use std::alloc::{AllocError, Global};
+use std::marker::Model;
+use undo_core::Memory;
+
+/// The emitted words in the order of their lines, each finished as far as names have values.
+#[derive(Drop)]
+pub(crate) struct WordList {
+    entries: Vec<Entry>,
+    // The last word that waits for each name, in the order of the first uses.
+    last: IndexMap<Key, usize>,
+}
+
+impl Model for WordList {
+    ghost use Rattle.std.specs.Prelude.{List, map};
+    ghost use Rattle.mixal_asm.specs.Chain.{Held, held_of, links_of, IsChained};
+
+    ghost Value = { List Held };
+
+    ghost view = { λ w. map held_of w.entries.items };
+
+    ghost invariant = { λ w. IsChained (links_of w.entries.items) w.last.entries };
+}
+
+impl WordList {
+    ghost use Rattle.mixal_asm.specs.Chain.{emitted_of, closed_held};
+
+    /// No words. It takes no memory.
+    pub(crate) fn new(alloc: Global) -> WordList
+        ensures { result ≡ [] }
+    {
+        WordList {
+            entries: Vec::new(alloc),
+            last: IndexMap::new(alloc),
+        }
+    }
+
+    /// How many words there are.
+    pub(crate) fn len(&self) -> usize
+        ensures { result ≡ length self.now }
+    {
+        self.entries.len()
+    }
+
+    /// Whether a word waits for a name, or waited for it before it got its value.
+    pub(crate) fn is_awaited(&self, name: &Key) -> bool
+        ensures { result ≡ is_awaited name.now (emitted_of self.now) }
+    {
+        self.last.contains_key(name)
+    }
+
+    /// One word more. If it waits for a name, no name before has that value.
+    pub(crate) fn push(&mut self, emitted: Emitted) -> Result<(), Memory>
+        ensures ok { OnOk result (self.new ≡ self.old ++ record { emitted = emitted; word = emitted.word } ∷ []) }
+        ensures err { OnErr result (self.new ≡ self.old) }
+    {
+        self.entries.reserve(1)?;
+        let before = note_use(&mut self.last, &emitted.awaits, self.entries.len())?;
+        let word = emitted.word;
+        let entry = Entry {
+            emitted,
+            word,
+            before,
+        };
+        self.entries.push(entry).unwrap();
+        Ok(())
+    }
+
+    /// Gives a name its value in all words that wait for it. The value fits two bytes if there are any.
+    pub(crate) fn close(&mut self, name: &Key, value: Word)
+        requires { IsTrue (is_awaited name.now (emitted_of self.old)) → value.magnitude < 4096 }
+        ensures { self.new ≡ map (closed_held name.now value) self.old }
+    {
+        let last = self.last.get(name).copied();
+        close(&mut self.entries, name, last, value);
+    }
+
+    /// The name of this number, in the order of first use, among those that words wait for or waited for.
+    pub(crate) fn use_at(&self, i: usize) -> Option<&Key>
+        ensures { option_copied result ≡ slice_get (first_uses (emitted_of self.now)) i }
+    {
+        match self.last.get_index(i) {
+            Some((name, _)) => Some(name),
+            None => None,
+        }
+    }
+
+    /// How many such names there are.
+    pub(crate) fn use_count(&self) -> usize
+        ensures { result ≡ length (first_uses (emitted_of self.now)) }
+    {
+        self.last.len()
+    }
+
+    /// The words with their places.
+    pub(crate) fn placed(&self, alloc: Global) -> Result<Vec<(Place, Word)>, AllocError>
+        ensures { IfOk result (λ words. words.items ≡ map (λ held. (held.emitted.place, held.word)) self.now) }
+    {
+        placed(alloc, &self.entries)
+    }
+
+    /// How many words have a future reference.
+    pub(crate) fn references(&self) -> usize
+        ensures { result ≡ references_in (emitted_of self.now) }
+    {
+        self.entries
+            .iter()
+            .filter(|entry| is_reference(&entry.emitted.awaits))
+            .count()
+    }
+
+    /// How many words wait for a name that has no value yet, the places of literals aside.
+    pub(crate) fn waiting(&self, names: &NameTable) -> usize
+        ensures { result ≡ count_by (λ word. is_waiting names.now word.awaits) (emitted_of self.now) }
+    {
+        self.entries
+            .iter()
+            .filter(|entry| is_waiting(names, &entry.emitted.awaits))
+            .count()
+    }
+}
+
+fn placed(alloc: Global, entries: &[Entry]) -> Result<Vec<(Place, Word)>, AllocError>
+    ensures { IfOk result (λ words. words.items ≡ map (λ entry. (entry.emitted.place, entry.word)) entries.now) }
+{
+    entries
+        .iter()
+        .map(|entry| (entry.emitted.place, entry.word))
+        .collect(alloc)
+}
+
+// Notes that the word at a place in the list is the last use of what it waits for, and gives the use before.
+fn note_use(
+    last: &mut IndexMap<Key, usize>,
+    awaits: &Option<Key>,
+    at: usize,
+) -> Result<Option<usize>, Memory>
+    ensures before { IfOk result (λ before. before ≡ last_use last.old.entries awaits.now) }
+    ensures used { OnOk result (IsUsed last.old.entries last.new.entries awaits.now at) }
+    ensures err { OnErr result (last.new.entries ≡ last.old.entries) }
+{
+    match awaits {
+        None => Ok(None),
+        Some(name) => Ok(last.insert(name.copied(), at)?),
+    }
+}
+
+fn is_reference(awaits: &Option<Key>) -> bool
+    ensures { result ≡ is_reference awaits.now }
+{
+    match awaits {
+        Some(Key::Name(_) | Key::Local(..)) => true,
+        Some(Key::Literal(_)) | None => false,
+    }
+}
+
+fn is_waiting(names: &NameTable, awaits: &Option<Key>) -> bool
+    ensures { result ≡ is_waiting names.now awaits.now }
+{
+    match awaits {
+        Some(name) => is_reference(awaits) && names.value(name).is_none(),
+        None => false,
+    }
+}

@@ -1,0 +1,254 @@
+"""What the comparisons of a built program with the model have in common: runs, counts, and a difference cut down to what it needs."""
+
+import concurrent.futures
+import multiprocessing
+import os
+import re
+import signal
+import sys
+import tempfile
+from collections import Counter
+
+import bundle
+import parts
+from machine import instruction
+from operations import TABLE, UNIT_OPERATIONS
+from texts import TEXTS
+
+WORKERS = int(os.environ.get("WORKERS", "2"))
+CHUNK = 250  # bundles that a worker does at a time
+TRIALS = 1500
+SECONDS = 60  # after which a run counts as one that doesn't end
+TOLD = re.compile(rb"\b([AMKCT][0-9]+) [a-z]")
+
+
+class Endless(Exception):
+    pass
+
+
+def ring(*_):
+    raise Endless
+
+
+def run_program(program, text, folder, lists=False):
+    """Standard output, standard error and the status of one run on a bundle, or of the listing of a source."""
+    names = [os.path.join(folder, "%s-%d" % (name, os.getpid())) for name in ("in", "out", "err")]
+    with open(names[0], "wb") as file:
+        file.write(text)
+    new = os.O_WRONLY | os.O_CREAT | os.O_TRUNC
+    signal.signal(signal.SIGALRM, ring)
+    words = [program, "list", names[0]] if lists else [program]
+    child = os.posix_spawn(program, words, os.environ, file_actions=[
+        (os.POSIX_SPAWN_OPEN, 0, "/dev/null" if lists else names[0], os.O_RDONLY, 0), (os.POSIX_SPAWN_OPEN, 1, names[1], new, 0o600),
+        (os.POSIX_SPAWN_OPEN, 2, names[2], new, 0o600)])
+    signal.alarm(SECONDS)
+    try:
+        status = os.waitstatus_to_exitcode(os.waitpid(child, 0)[1])
+    except Endless:
+        os.kill(child, signal.SIGKILL)
+        os.waitpid(child, 0)
+        status = "no end after %d seconds" % SECONDS
+    signal.alarm(0)
+    written = []
+    for name in names[1:]:
+        with open(name, "rb") as file:
+            written.append(file.read())
+    return written[0], written[1], status
+
+
+class Seen:
+    """What a run met: faults told, operations done, pairs of C and F tried, jumps that were taken."""
+
+    def __init__(self):
+        self.faults, self.done, self.pairs, self.statuses = Counter(), Counter(), set(), Counter()
+        self.units, self.more = Counter(), Counter()
+
+    def step(self, before, result, after):
+        if before.loc < 4000:
+            _, _, _, f, c = instruction(before.cell(before.loc))
+            self.pairs.add((c, f))
+            if result[1:].isdigit():
+                return  # a fault, which is counted where it is told
+            self.done[result] += 1
+            if result in UNIT_OPERATIONS:
+                self.units[result, f] += 1
+            if result[0] == "J" and after.loc != before.loc + 1:
+                self.done[result + " taken"] += 1
+
+    def answer(self, answer):
+        self.statuses[answer[2]] += 1
+        for number in TOLD.findall(answer[0] + answer[1]):
+            self.faults[number.decode()] += 1
+
+    def add(self, other):
+        self.faults += other.faults
+        self.done += other.done
+        self.pairs |= other.pairs
+        self.statuses += other.statuses
+        self.units += other.units
+        self.more += other.more
+
+
+class Comparison:
+    """A program against the model on the texts that `drawn(seed, k)` gives: bundles, or sources where it lists."""
+
+    def __init__(self, drawn, program, seed, lists=False, look=None, wanted=None):
+        self.drawn, self.program, self.seed, self.lists = drawn, program, seed, lists
+        self.look = look  # what else is counted of a text
+        self.wanted = wanted  # the operations and faults that ought to be met; all where it is None
+
+    def model(self, text):
+        return bundle.run_list(text) if self.lists else bundle.run(text)
+
+    def other(self, text, folder):
+        return run_program(self.program, text, folder, self.lists)
+
+    def chunk(self, numbers, folder):
+        """What was seen, and the number of the first text that differs or None."""
+        seen = Seen()
+        for k in numbers:
+            text = self.drawn(self.seed, k)
+            if self.look:
+                self.look(seen, text)
+            answer = self.model(text) if self.lists else bundle.run(text, seen.step)
+            seen.answer(answer)
+            if answer != self.other(text, folder):
+                return seen, k
+        return seen, None
+
+
+def cut_down(text, differs):
+    """Leaves out lines, many at a time at first, until each one that is left is needed for a difference; then words of lines.
+
+    After so many trials it stops where it is: a source of 20,000 lines may need all of them."""
+    for _ in range(4):
+        before = text
+        lines = [line + b"\n" for line in text.split(b"\n")]
+        lines[-1] = lines[-1][:-1]
+        text = b"".join(fewer_words(fewer(lines, differs), differs))
+        if text == before:
+            break
+    return text
+
+
+def fewer(pieces, differs, before=b"", after=b""):
+    """The pieces that are needed for a difference, between what stands before and after them."""
+    size, trials = max(len(pieces) // 2, 1), 0
+    while True:
+        at, count = 0, len(pieces)
+        while at < len(pieces) and trials < TRIALS:
+            less = pieces[:at] + pieces[at + size:]
+            trials += 1
+            if differs(before + b"".join(less) + after):
+                pieces = less
+            else:
+                at += size
+        if size > 1:
+            size = max(size // 2, 1)
+        elif len(pieces) == count or trials == TRIALS:
+            return pieces
+
+
+def fewer_words(lines, differs):
+    """A word goes with the blanks before it. Where many lines are left, they stay as they are."""
+    for at, line in enumerate(lines if len(lines) <= 40 else []):
+        words = [word for word in re.split(rb"([ \t]*[^ \t\n]+)", line) if word]
+        lines[at] = b"".join(fewer(words, differs, b"".join(lines[:at]), b"".join(lines[at + 1:])))
+    return lines
+
+
+def shown(name, written):
+    lines = written.split(b"\n")
+    if len(lines) > 40:
+        lines = lines[:20] + [b"(%d lines left out here)" % (len(lines) - 40)] + lines[-20:]
+    print("--- " + name)
+    for line in lines[:-1] if lines[-1] == b"" else lines:
+        plain = line.isascii() and line.decode().isprintable()
+        print("    " + (line[:200].decode() if plain else repr(line[:200])[1:]))
+
+
+def report(one, k, folder):
+    text = one.drawn(one.seed, k)
+    if one.model(text) == one.other(text, folder):
+        print("bundle %d of seed %s differed once, and then no more" % (k, one.seed))
+        return
+    text = cut_down(text, lambda less: one.model(less) != one.other(less, folder))
+    model, other = one.model(text), one.other(text, folder)
+    what = "source" if one.lists else "bundle"
+    print("%s %d of seed %s differs. Cut down to %d bytes:" % (what, k, one.seed, len(text)))
+    shown(what, text)
+    for place, name in enumerate(("standard output", "standard error", "status")):
+        if model[place] == other[place]:
+            continue
+        if name == "status":
+            print("--- status: model %s, program %s" % (model[2], other[2]))
+        else:
+            shown("model, " + name, model[place])
+            shown("program, " + name, other[place])
+            pairs = zip(model[place].split(b"\n") + [b"(no line)"], other[place].split(b"\n") + [b"(no line)"])
+            at, (first, second) = next((at, pair) for at, pair in enumerate(pairs, 1) if pair[0] != pair[1])
+            print("--- first at line %d: model %r, program %r" % (at, first, second))
+    if len(text) < 2000:
+        plain = ["%%" if b == 37 else chr(b) if 32 <= b < 127 and b not in b"'\\" else "\\%03o" % b for b in text]
+        print("--- to run it: printf '%s' | '%s'%s" % ("".join(plain), one.program, " list /dev/stdin" if one.lists else ""))
+
+
+def listed(counts, names):
+    return ", ".join("%s %d" % (name, counts[name]) for name in names if counts[name])
+
+
+def tell(seen, wanted=None):
+    ops = [op for (c, _), op in TABLE.items() if parts.has("units") or not 34 <= c <= 38]
+    names = [name for name in dict.fromkeys(op.name for op in ops) if wanted is None or name in wanted]
+    print("faults: " + listed(seen.faults, TEXTS))
+    print("statuses: " + listed(seen.statuses, (0, 1, 2, 3)))
+    if seen.more:
+        print("met: " + listed(seen.more, sorted(seen.more)))
+    never = [name for name in TEXTS if not seen.faults[name] and (wanted is None or name in wanted)]
+    if seen.done:
+        print("operations: " + listed(seen.done, names))
+        print("jumps taken, not to the next location: " + ", ".join(
+            "%s %d" % (name, seen.done[name + " taken"]) for name in names if name[0] == "J"))
+        print("pairs of C and F tried: %d of 4096" % len(seen.pairs))
+        never = [name for name in names if not seen.done[name]] + never
+    if seen.units:
+        print("units: " + ", ".join("%s %s" % (name, "/".join(str(seen.units[name, f]) for f in range(21))) for name in UNIT_OPERATIONS))
+    print("never: " + (" ".join(never) or "nothing"))
+
+
+def compare(one, count):
+    """Draws and compares so many; the status."""
+    seen, first = Seen(), None
+    with tempfile.TemporaryDirectory(dir="/dev/shm" if os.path.isdir("/dev/shm") else None) as folder:
+        with concurrent.futures.ProcessPoolExecutor(WORKERS, multiprocessing.get_context("fork")) as pool:
+            waiting, begin = [], 0
+            while waiting or begin < count and first is None:
+                while begin < count and len(waiting) < 2 * WORKERS and first is None:
+                    numbers = range(begin, min(begin + CHUNK, count))
+                    waiting.append(pool.submit(one.chunk, numbers, folder))
+                    begin += CHUNK
+                part, differing = waiting.pop(0).result()
+                if first is None:
+                    seen.add(part)
+                    first = differing
+        if first is not None:
+            report(one, first, folder)
+            return 1
+    tell(seen, one.wanted)
+    print("%d %s, 0 differences (seed %s)" % (count, "listings" if one.lists else "bundles", one.seed))
+    return 0
+
+
+def main(name, drawn, words, needs=(), may_list=False, look=None, wanted=None):
+    """What a comparison does with the words of its command line."""
+    words = parts.from_words(words)
+    parts.take(*needs)
+    lists = may_list and "--list" in words
+    if lists:
+        words.remove("--list")
+    if len(words) != 3 or not words[1].isdigit():
+        sys.exit("usage: model/%s%s [--parts LIST] BINARY N SEED" % (name, " [--list]" if may_list else ""))
+    program = os.path.abspath(words[0])
+    if not os.access(program, os.X_OK):
+        sys.exit("no program: " + program)
+    return compare(Comparison(drawn, program, words[2], lists, look, wanted), int(words[1]))
