@@ -2,6 +2,7 @@
 
 mod forward;
 mod hostile;
+mod listing;
 
 /// All bytes in one call.
 const ALL: usize = 4096;
