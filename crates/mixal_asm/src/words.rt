@@ -1,5 +1,5 @@
 //! The emitted words (1.3.2), those that wait for a name included.
-ghost use Rattle.std.specs.Prelude.{◌≡◌, ◌<◌, ◌+◌, ◌++◌, [], ◌∷◌, length, map, slice_get, count_by, option_copied, IsTrue, IfOk, OnOk, OnErr};
+ghost use Rattle.std.specs.Prelude.{◌≡◌, ◌<◌, ◌≤◌, ◌+◌, ◌++◌, [], ◌∷◌, length, map, slice_get, count_by, option_copied, IsTrue, IfOk, OnOk, OnErr, vec_len, vec_capacity};
 ghost use Rattle.mixal_asm.specs.PassOne.{is_awaited};
 ghost use Rattle.mixal_asm.specs.Assembly.{first_uses, references_in, is_reference, is_waiting};
 ghost use Rattle.mixal_asm.specs.Chain.{IsUsed, last_use};
@@ -135,10 +135,20 @@ impl WordList {
 fn placed(alloc: Global, entries: &[Entry]) -> Result<Vec<(Place, Word)>, AllocError>
     ensures { IfOk result (λ words. words.items ≡ map (λ entry. (entry.emitted.place, entry.word)) entries.now) }
 {
-    entries
-        .iter()
-        .map(|entry| (entry.emitted.place, entry.word))
-        .collect(alloc)
+    let mut words = Vec::new(alloc);
+    words.reserve(entries.len())?;
+    push_placed(&mut words, entries);
+    Ok(words)
+}
+
+// Appends the words of some entries with their places, for which there is room.
+fn push_placed(list: &mut Vec<(Place, Word)>, entries: &[Entry])
+    requires { vec_len list.old + length entries.now ≤ vec_capacity list.old }
+    ensures items { list.new.items ≡ list.old.items ++ map (λ entry. (entry.emitted.place, entry.word)) entries.now }
+{
+    for entry in entries {
+        list.push_reserved((entry.emitted.place, entry.word));
+    }
 }
 
 // Notes that the word at a place in the list is the last use of what it waits for, and gives the use before.

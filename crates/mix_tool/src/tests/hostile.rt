@@ -15,49 +15,120 @@ use std::alloc::Global;
 use std::io;
 use std::test::Fail;
 
-const BUNDLE: &str = " ENTA 5\n STA 9\n HLT\n END 0\n%SCRIPT\nstep 9\nback 1\n";
+/// A bundle, what it writes, and its status.
+struct Row {
+    bundle: &'static str,
+    written: &'static str,
+    status: u8,
+}
 
-const WRITTEN: &str = "ran 3 to 0003 clock 13: halt\nback 1 to 0002 clock 3\n";
+// Short commands; the first example; a program that types; a program that reads cards, and its deck.
+const ROWS: [Row; 4] = [
+    Row {
+        bundle: " ENTA 5\n STA 9\n HLT\n END 0\n%SCRIPT\nstep 9\nback 1\n",
+        written: "ran 3 to 0003 clock 13: halt\nback 1 to 0002 clock 3\n",
+        status: 0,
+    },
+    Row {
+        bundle: " ENTA 5\n INCA 7\n STA 100\n HLT\n END 0\n%SCRIPT\nstep 4\nback 2\nshow regs\n",
+        written: "ran 4 to 0004 clock 14: halt
+back 2 to 0002 clock 2
+A  + 00 00 00 00 12
+X  + 00 00 00 00 00
+I1 + 00 00
+I2 + 00 00
+I3 + 00 00
+I4 + 00 00
+I5 + 00 00
+I6 + 00 00
+J  + 00 00
+over off cmp E loc 0002 clock 2
+",
+        status: 0,
+    },
+    Row {
+        bundle: "TERM    EQU    19          the console
+        ORIG   1000
+START   OUT    MSG(TERM)   output
+        HLT                halt execution
+MSG     ALF    \"MIXAL\"
+        ALF    \" HELL\"
+        ALF    \"O WOR\"
+        ALF    \"LD   \"
+        END    START
+%SCRIPT
+run 100
+show unit 19
+back all
+show changes
+",
+        written: "ran 2 to 1002 clock 11: halt
+unit 19 place 0 blocks 0 output 1
+> MIXAL HELLO WORLD                                                     
+back 2 to 1000 clock 0
+changes 0
+",
+        status: 0,
+    },
+    Row {
+        bundle: " IN 100(16)\n IN 100(16)\n END 0\n%DEVICES\n%UNIT 16\nA CARD\n%SCRIPT\nstep 2\nback 2\nback 1\n",
+        written: "ran 1 to 0001 clock 1: fault M11 no block
+? C4 fewer changes than asked
+back 1 to 0000 clock 0
+",
+        status: 3,
+    },
+];
 
-// Runs the bundle, each byte read alone, with a read that fails: nothing is written.
-fn fails_at_read(alloc: Global, call: u64) -> bool {
-    let mut input = Chunks::of(BUNDLE.as_bytes(), 1, call);
+// Runs a bundle, each byte read alone, with a read that fails: nothing is written.
+fn fails_at_read(alloc: Global, row: &Row, call: u64) -> bool {
+    let mut input = Chunks::of(row.bundle.as_bytes(), 1, call);
     let mut sink = Sink::of(ALL, 0);
     let outcome = run_bundle(alloc, &mut input, &mut sink);
     outcome == Err(ToolFault::Read) && input.failures() == 1 && sink.bytes().is_empty()
 }
 
-// Runs the bundle with a write that fails, if there are so many: a beginning is written, and one failure is counted.
-fn fails_at_write(alloc: Global, size: usize, call: u64) -> bool {
-    let mut input = Chunks::of(BUNDLE.as_bytes(), 7, 0);
+// Runs a bundle with a write that fails, if there are so many: a beginning is written, and one failure is counted.
+fn fails_at_write(alloc: Global, row: &Row, size: usize, call: u64) -> bool {
+    let mut input = Chunks::of(row.bundle.as_bytes(), 7, 0);
     let mut sink = Sink::of(size, call);
     let outcome = run_bundle(alloc, &mut input, &mut sink);
     let written = sink.bytes();
-    if written.len() == WRITTEN.len() {
-        outcome == Ok(0) && sink.failures() == 0 && written == WRITTEN.as_bytes()
+    if written.len() == row.written.len() {
+        outcome == Ok(row.status) && sink.failures() == 0 && written == row.written.as_bytes()
     } else {
         outcome == Err(ToolFault::Write)
             && sink.failures() == 1
-            && WRITTEN.as_bytes().starts_with(written)
+            && row.written.as_bytes().starts_with(written)
     }
 }
 
 #[test]
 fn each_read_fails_in_turn(rt: HostRuntime) {
-    // a read for each byte, and one that finds the end
-    for call in 1..BUNDLE.len() as u64 + 2 {
-        assert!(rt; fails_at_read(rt.alloc(), call), "read {call}");
+    for row in &ROWS {
+        // a read for each byte, and one that finds the end
+        for before in 0..=row.bundle.len() as u64 {
+            assert!(rt;
+                fails_at_read(rt.alloc(), row, before + 1),
+                "{}: {before}",
+                row.bundle
+            );
+        }
     }
 }
 
 #[test]
 fn each_write_fails_in_turn(rt: HostRuntime) {
-    for size in [1, 5, ALL] {
-        for call in 1..60 {
-            assert!(rt;
-                fails_at_write(rt.alloc(), size, call),
-                "write {call} by {size}"
-            );
+    for row in &ROWS {
+        for size in [1, 5, ALL] {
+            // a write for each byte, and one that is not made
+            for before in 0..=row.written.len() as u64 {
+                assert!(rt;
+                    fails_at_write(rt.alloc(), row, size, before + 1),
+                    "{}: {before} by {size}",
+                    row.bundle
+                );
+            }
         }
     }
 }

@@ -1,0 +1,158 @@
+"""Inputs at each limit and one past it, and inputs that never end. Each answer is worked out here, from the rules alone."""
+
+import os
+import subprocess
+
+from running import SECONDS, Count, Runner, bundle, folder, lines, shown
+
+SOURCE, SCRIPT, DECK, BUNDLE = 1048576, 1048576, 33554432, 41943040
+END = b" END 0\n"
+T6 = (b"", b"mixrev: T6 input too long\n", 2)
+
+
+def refused_deck(line, fault):
+    return b"", b"mixrev: T5 deck refused at line %d: %s\n" % (line, fault), 2
+
+
+def filled(text, size, by=b"*"):
+    """A text of so many bytes: lines of asterisks, or what is given, after it."""
+    rest = size - len(text)
+    return text + (by * 99 + b"\n") * (rest // 100) + by * (rest % 100)
+
+
+def endless(program, count):
+    """Readers that never end: the program stops at its limit, and says so."""
+    for name, command, most in [
+            ("/dev/zero", "exec cat /dev/zero", None), ("yes", "exec yes", None), ("blank lines", "exec yes ''", None),
+            ("a script that never ends", "printf ' END 0\\n%%SCRIPT\\n'; exec yes step", None)]:
+        feeder = subprocess.Popen(["/bin/sh", "-c", command], stdout=subprocess.PIPE, stderr=subprocess.DEVNULL)
+        answer = subprocess.run([program], stdin=feeder.stdout, capture_output=True, timeout=SECONDS)
+        feeder.stdout.close()
+        feeder.wait(SECONDS)
+        count.same(name, (answer.stdout, answer.stderr, answer.returncode), T6)
+    with open("/dev/zero", "rb") as zero:
+        answer = subprocess.run([program], stdin=zero, capture_output=True, timeout=SECONDS)
+    count.same("/dev/zero itself", (answer.stdout, answer.stderr, answer.returncode), T6)
+    with folder() as place:
+        name = os.path.join(place, "long")
+        with open(name, "wb") as file:
+            file.truncate(10 * BUNDLE)
+        with open(name, "rb") as file:
+            answer = subprocess.run([program], stdin=file, capture_output=True, timeout=SECONDS)
+            taken = os.lseek(file.fileno(), 0, os.SEEK_CUR)
+        count.same("ten times the limit", (answer.stdout, answer.stderr, answer.returncode), T6)
+        count.same("bytes that were taken of it", taken, BUNDLE + 1)
+
+
+def sizes():
+    """Texts at their limit and one byte over it: name, bundle, what is wanted."""
+    clock = (b"clock 0\n", b"", 0)
+    for over in (0, 1):
+        name = ["at the limit", "one byte over it"][over]
+        for what, source in [("source", filled(END, SOURCE + over)), ("source of one line", b"*" * (SOURCE + over - 8) + b"\n" + END)]:
+            wanted = (b"line 1: A16 source too long\n", b"", 1) if over else clock
+            yield what + " " + name, whole_source(source) + b"%SCRIPT\nshow clock", wanted
+        last = b"\nshow clock\n"
+        yield "script " + name, bundle(END, filled(b"", SCRIPT + over - len(last)) + last), T6 if over else clock
+        for by in (b"\n", b" "):
+            deck = filled(b"", DECK + over - 1, by) + b"\n"
+            yield "deck %s, of %r" % (name, by), END + b"%DEVICES\n" + deck + b"%SCRIPT\nshow clock", \
+                refused_deck(1, b"K9 deck too long") if over else clock
+        yield "bundle " + name, filled(END, BUNDLE + over), T6 if over else (b"line 1: A16 source too long\n", b"", 1)
+        parts = filled(END, SOURCE - 1) + b"\n%DEVICES\n" + filled(b"", DECK - 1, b" ") + b"\n%SCRIPT\n" + filled(b"", SCRIPT + over)
+        yield "all parts at their limits, the script " + name, parts, T6 if over else (b"", b"", 0)
+
+
+def whole_source(source):
+    """The line feed before a marker is of the source: its last byte is made one."""
+    return source[:-1] + b"\n"
+
+
+def counts():
+    """Lines, instructions, steps and the clock."""
+    yield "20,000 lines", b"\n" * 19999 + b" END 7\n%SCRIPT\nback all", (b"back 0 to 0007 clock 0\n", b"", 0)
+    yield "20,001 lines", b"\n" * 20000 + END, (b"line 20001: A16 source too long\n", b"", 1)
+    yield "20,001 lines, the last after END", b"\n" * 19999 + END + b"X", (b"", b"", 0)
+    yield "20,000 lines and no END", b"\n" * 20000, (b"line 20001: A13 no END\n", b"", 1)
+    yield "4,000 instructions", b" HLT\n" * 4000 + b" END 3999\n%SCRIPT\nstep\n", (b"ran 1 to 4000 clock 10: halt\n", b"", 0)
+    yield "4,001 instructions", b" HLT\n" * 4001 + END, (b"line 4001: A11 location outside 0 to 3999\n", b"", 1)
+    yield "1,000,000 steps", b" JMP *\n" + END + b"%SCRIPT\nrun 1000000\nback 999999\nforth 999999\nstep 1000000\nback all\nshow changes\n", \
+        (b"ran 1000000 to 0000 clock 1000000: limit\nback 999999 to 0000 clock 1\nforth 999999 to 0000 clock 1000000\n"
+         b"ran 1000000 to 0000 clock 2000000: limit\nback 2000000 to 0000 clock 0\nchanges 0\n", b"", 0)
+    yield "1,000,001 steps", END + b"%SCRIPT\nrun 1000001\nstep 1000001\nshow changes\n", \
+        (b"? C3 number out of range\n" * 2 + b"changes 0\n", b"", 3)
+    typed = b" OUT 100(19)\n OUT 100(19)\n NOP\n" + END + b"%DEVICES\n%UNIT 19 delay "
+    script = b"\n%SCRIPT\nstep 2\nstep\nshow clock\nback all\nshow clock\n"
+    full = b"fault M14 clock full\n"
+    yield "a clock of 10^18", typed + b"9" * 17 + b"8" + script, \
+        (b"ran 2 to 0002 clock 1000000000000000000: limit\nran 0 to 0002 clock 1000000000000000000: " + full +
+         b"clock 1000000000000000000\nback 2 to 0000 clock 0\nclock 0\n", b"", 3)
+    yield "a clock that would pass 10^18", typed + b"9" * 18 + script, \
+        (b"ran 1 to 0001 clock 1: " + full + b"ran 0 to 0001 clock 1: " + full + b"clock 1\nback 1 to 0000 clock 0\nclock 0\n", b"", 3)
+
+
+WORDS = b" ".join([b"+0102030405"] * 100) + b"\n"
+
+
+def block(unit):
+    return WORDS if unit < 16 else b"CARD\n"
+
+
+def input_units():
+    return [*range(17), 19, 20]
+
+
+def full_units():
+    """1,000 blocks on every unit that takes them, and one more on each."""
+    units = input_units()
+    deck = b"".join(b"%%UNIT %d\n" % unit + block(unit) * 1000 for unit in units)
+    # each is there: its first line, and as many lines as it shows
+    yield "1,000 blocks on every unit", bundle(END, b"".join(b"show unit %d\n" % unit for unit in units), deck), \
+        (b"".join(b"unit %d place 0 blocks 1000 output 0\n" % unit + shown_block(unit) * 1000 for unit in units), b"", 0)
+    for unit in units:
+        yield "1,001 blocks on unit %d" % unit, bundle(END, b"", b"%%UNIT %d\n" % unit + block(unit) * 1001), \
+            refused_deck(1002, b"K8 too many blocks")
+    # the last block that is there is read, and no other
+    reads = lines(" IN 100(0)", " IN 100(16)", " IN 100(19)", " IN 100(20)", " LDX =999=", " IN 100(8)", " DEC1 1", " J1P 0", " INCX 1", " IN 100(8)", " END 0")
+    yield "every block is read", bundle(reads, b"set I1 1000\nrun 1000000\nshow changes\n", deck), \
+        (b"ok\nran 8001 to 0009 clock 9001: fault M11 no block\nchanges 8002\n", b"", 3)
+    for unit in units:
+        if unit < 8 or unit > 15:
+            yield "the 1,001st block of unit %d" % unit, bundle(lines(" IN 100(%d)" % unit, " DEC1 1", " J1P 0", " IN 100(%d)" % unit, " END 0"),
+                b"set I1 1000\nrun 1000000\n", b"%%UNIT %d\n" % unit + block(unit) * 1000), \
+                (b"ok\nran 3000 to 0003 clock 3000: fault M11 no block\n", b"", 3)
+
+
+def shown_block(unit):
+    if unit < 16:
+        return (b" ".join([b"+0102030405"] * 5) + b"\n") * 20
+    return b"< CARD".ljust(2 + (80 if unit == 16 else 70)) + b"\n"
+
+
+def written_units():
+    """1,000 blocks or rows are written to every unit that takes them, and not one more."""
+    for unit in [*range(8), 17, 18, 19, 20]:
+        source = lines(" OUT 100(%d)" % unit, " JMP 0", " END 0")
+        yield "1,000 written to unit %d" % unit, bundle(source, b"run 1000000\nback 2000\nforth 2000\nstep\nback all\nshow unit %d\n" % unit), \
+            (b"ran 2000 to 0000 clock 2000: fault M13 unit full\nback 2000 to 0000 clock 0\nforth 2000 to 0000 clock 2000\n"
+             b"ran 0 to 0000 clock 2000: fault M13 unit full\nback 2000 to 0000 clock 0\nunit %d place 0 blocks 0 output 0\n" % unit, b"", 3)
+    for unit in range(8, 16):
+        source = lines(" OUT 100(%d)" % unit, " INCX 1", " JMP 0", " END 0")
+        yield "1,000 written to unit %d" % unit, bundle(source, b"run 1000000\nset X 999\nstep\nset X 1000\nstep\nback all\nset X 999\nstep\n"), \
+            (b"ran 3000 to 0000 clock 3000: fault M13 unit full\nok\nran 1 to 0001 clock 3001: limit\nok\nran 1 to 0002 clock 3002: limit\n"
+             b"back 3004 to 0000 clock 0\nok\nran 1 to 0001 clock 1: limit\n", b"", 3)
+    source = lines(" IOC 0(18)", " JMP 0", " END 0")
+    yield "1,000 page marks", bundle(source, b"run 1000000\nshow unit 18\n"), \
+        (b"ran 2000 to 0000 clock 2000: fault M13 unit full\nunit 18 place 0 blocks 0 output 1000\n" + b"> %PAGE\n" * 1000, b"", 3)
+
+
+def rows(program, workers, quick=False):
+    count = Count()
+    endless(program, count)
+    with folder() as place:
+        runner = Runner(program, place)
+        for part in (sizes, counts, full_units, written_units):
+            for name, text, wanted in part():
+                found = runner.run(text)
+                count.row(name, found == wanted, "found %s, and not %s" % (shown(found), shown(wanted)))
+    return count

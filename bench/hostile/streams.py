@@ -1,0 +1,95 @@
+"""Streams that fail: closed pipes, a full disk, a folder as input, an input that vanishes. The status is 2, T2 or T3 is reported, and what was
+written is a beginning of what is due."""
+
+import os
+import pty
+import subprocess
+import threading
+
+from cuts import GREETED, HELLO
+from running import SECONDS, Count, bundle, folder, lines
+
+TEXT = bundle(HELLO, GREETED)
+LONG = bundle(lines(" END 0"), lines(*["show cells 0 3999"] * 20))
+T2 = b"mixrev: T2 read failed\n"
+T3 = b"mixrev: T3 write failed\n"
+
+
+def shell(command, program, name, more=()):
+    """A command of the shell, in which $0 is the program and $1 a bundle: what it wrote, what was reported, its status."""
+    answer = subprocess.run(["/bin/bash", "-c", "set -o pipefail; " + command, program, name, *more], capture_output=True,
+                            timeout=SECONDS, stdin=subprocess.DEVNULL)
+    return answer.stdout, answer.stderr, answer.returncode
+
+
+def due(program, name):
+    answer = subprocess.run([program], stdin=open(name, "rb"), capture_output=True, timeout=SECONDS)
+    return answer.stdout
+
+
+def vanishing_terminal(program, text):
+    """Standard input is a terminal that goes away after some lines: its reads fail then."""
+    ours, theirs = pty.openpty()
+    child = subprocess.Popen([program], stdin=theirs, stdout=subprocess.PIPE, stderr=subprocess.PIPE)
+    os.close(theirs)
+    os.write(ours, text)
+    threading.Event().wait(0.2)  # it reads what was written, and waits for more
+    os.close(ours)
+    output, errors = child.communicate(timeout=SECONDS)
+    return output, errors, child.returncode
+
+
+def vanishing_writer(program, text, at):
+    """Standard input is a pipe whose writer ends early: the bundle ends there."""
+    child = subprocess.Popen([program], stdin=subprocess.PIPE, stdout=subprocess.PIPE, stderr=subprocess.PIPE)
+    output, errors = child.communicate(text[:at], timeout=SECONDS)
+    return output, errors, child.returncode
+
+
+def closed_pipe(program, name, taken):
+    """Standard output is a pipe whose reader takes some bytes and goes away; the signal that this sends is passed over."""
+    with open(name, "rb") as text:
+        child = subprocess.Popen([program], stdin=text, stdout=subprocess.PIPE, stderr=subprocess.PIPE, restore_signals=False)
+        begun = child.stdout.read(taken) if taken else b""
+        child.stdout.close()
+        errors = child.stderr.read()
+        return begun, errors, child.wait(SECONDS)
+
+
+def rows(program, workers, quick=False):
+    count = Count()
+    with folder() as place:
+        name, long = os.path.join(place, "bundle"), os.path.join(place, "long")
+        for file, text in [(name, TEXT), (long, LONG)]:
+            with open(file, "wb") as written:
+                written.write(text)
+        wanted, much = due(program, name), due(program, long)
+        count.row("the bundle as it is", wanted.startswith(b"ran 2 to 1002 clock 11: halt\n"))
+
+        count.same("a full disk", shell('"$0" <"$1" >/dev/full', program, name), (b"", T3, 2))
+        count.same("a full disk for errors too", shell('"$0" <"$1" >/dev/full 2>/dev/full', program, name), (b"", b"", 2))
+        count.same("a full disk for errors alone", shell('"$0" <"$1" 2>/dev/full', program, name), (wanted, b"", 0))
+        count.same("a closed output", shell('"$0" <"$1" >&-', program, name), (b"", T3, 2))
+        count.same("a closed output and closed errors", shell('"$0" <"$1" >&- 2>&-', program, name), (b"", b"", 2))
+        count.same("a closed input", shell('"$0" <&-', program, name), (b"", T2, 2))
+        count.same("all closed", shell('"$0" <&- >&- 2>&-', program, name), (b"", b"", 2))
+        count.same("a folder as input", shell('"$0" </', program, name), (b"", T2, 2))
+        count.same("an output open for reading alone", shell('"$0" <"$1" 1</dev/null', program, name), (b"", T3, 2))
+        count.same("an input open for writing alone", shell('"$0" 0>>"$1"', program, os.path.join(place, "empty")), (b"", T2, 2))
+        count.same("an empty input", shell('"$0" </dev/null', program, name), (b"line 1: A13 no END\n", b"", 1))
+        count.same("a file taken away before it is read", shell('cp "$1" "$1.2"; exec <"$1.2"; rm "$1.2"; "$0"', program, name), (wanted, b"", 0))
+
+        # With the signal as a shell leaves it the program may be ended by it (141), as any other; it is not to write more, or hang.
+        output, errors, status = shell('"$0" <"$1" | head -c 5', program, long)
+        count.row("| head -c 5", output == much[:5] and (status, errors) in [(141, b""), (2, T3)], repr((output, errors, status)))
+        for taken in (0, 5, 4096, 70000):
+            begun, errors, status = closed_pipe(program, long, taken)
+            count.same("a reader that takes %d bytes and goes" % taken, (begun, errors, status), (much[:taken], T3, 2))
+
+        for text in (b" END 0\n", TEXT):
+            count.same("a terminal that goes away", vanishing_terminal(program, text), (b"", T2, 2))
+        for at, answer in [(0, (b"line 1: A13 no END\n", b"", 1)), (len(HELLO) - 6, (b"line 9: A13 no END\n", b"", 1))]:
+            got = vanishing_writer(program, TEXT, at)
+            count.row("a writer that ends after %d bytes" % at, got[2] in (0, 1) and got[1] == b"" and (at or got == answer), repr(got))
+        count.same("a writer that ends in the script", vanishing_writer(program, TEXT, TEXT.index(b"show unit")), (wanted.split(b"\n")[0] + b"\n", b"", 0))
+    return count
