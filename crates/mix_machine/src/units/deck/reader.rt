@@ -71,7 +71,10 @@ impl Reader {
             };
         }
         match self.unit {
-            None => self.blank_or(DeckKind::BadHeader, text),
+            None => match self.blank_or(DeckKind::BadHeader, text) {
+                Ok(()) => Ok(()),
+                Err(kind) => Err(Refused::Fault(kind)),
+            },
             Some(unit) => {
                 let kind = self.units.unit(unit).kind();
                 self.line_of_unit(kind, text)
@@ -144,12 +147,12 @@ impl Reader {
     }
 
     // A blank line is nothing; another has a fault.
-    fn blank_or(&self, kind: DeckKind, text: &[u8]) -> Result<(), Refused<DeckKind>>
-        ensures { Gives (blank_or kind self.now (words text.now)) self.now result }
+    fn blank_or(&self, kind: DeckKind, text: &[u8]) -> Result<(), DeckKind>
+        ensures { MatchResult result (λ _. blank_or kind self.now (words text.now) ≡ Ok self.now) (λ k. blank_or kind self.now (words text.now) ≡ Err k) }
     {
         match next_word(text) {
             None => Ok(()),
-            Some(_) => Err(Refused::Fault(kind)),
+            Some(_) => Err(kind),
         }
     }
 
@@ -162,7 +165,10 @@ impl Reader {
             Kind::Tape => self.line_of_words(Kind::Tape, text),
             Kind::Disk => self.line_of_words(Kind::Disk, text),
             Kind::CardReader => self.line_of_text(Kind::CardReader, text),
-            Kind::CardPunch | Kind::Printer => self.blank_or(DeckKind::NoInput, text),
+            Kind::CardPunch | Kind::Printer => match self.blank_or(DeckKind::NoInput, text) {
+                Ok(()) => Ok(()),
+                Err(kind) => Err(Refused::Fault(kind)),
+            },
             Kind::Typewriter => self.line_of_text(Kind::Typewriter, text),
             Kind::PaperTape => self.line_of_text(Kind::PaperTape, text),
         }
