@@ -1,4 +1,4 @@
-//! What `show all` writes of the machine: every part of it that does not hold what an empty machine holds.
+//! What `show all` writes of the machine: its registers, the cells that are not +0, its breakpoints, and the units that hold something.
 
 ghost use Rattle.std.specs.Prelude.{◌≡◌, ◌<◌, Some, IfOk, string_bytes};
 ghost use Rattle.mix_tool.specs.Show.{is_plus_zero, filled_cell_text, filled_cells_text, breaks_text, is_used, used_unit_text, used_units_text, all_text};
