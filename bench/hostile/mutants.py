@@ -31,7 +31,7 @@ def originals():
 
 
 def mutant(texts, seed, k):
-    """Mutant k of a seed is always the same."""
+    """Mutant k of a seed is the same as long as the examples are."""
     draw = random.Random("%s/%d" % (seed, k))
     text = bytearray(draw.choice(texts))
     for _ in range(draw.choice((1, 1, 1, 2, 2, 3, 5, 8, 20))):
