@@ -1,10 +1,8 @@
-"""Which parts the program has that is modelled. The model has every part; it behaves as a program that lacks those not named here."""
+"""Which parts the program has that is modelled: all of them, or those that `--parts` names, for a program that has fewer."""
 
 WHOLE = ("assembler", "units", "commands", "expressions", "show-all")
 
-PROFILE = ("assembler", "units", "commands", "expressions")  # what the program has today; a part that lands in it is named here
-
-taken = set(PROFILE)
+taken = set(WHOLE)
 
 
 def has(part):

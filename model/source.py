@@ -24,7 +24,7 @@ def read_line(line):
     if line.startswith(b"*") or is_blank(line):
         return None
     found = words_of(line)
-    if line[:1] not in (b" ", b"\t"):  # a LOC, and today there is none
+    if line[:1] not in (b" ", b"\t"):  # a LOC, and here there is none
         check_characters(found[0])
         raise Fault("A3")
     op = found[0].upper()

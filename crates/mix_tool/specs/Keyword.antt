@@ -9,7 +9,7 @@ use Rattle.mix_tool.specs.declared.keyword.CommandWord.TheVariants as command
 use Rattle.mix_tool.specs.declared.keyword.BackWord.{BackWord}
 use Rattle.mix_tool.specs.declared.keyword.BackWord.TheVariants as back
 use Rattle.mix_tool.specs.declared.keyword.ShowWord.{ShowWord}
-use Rattle.mix_tool.specs.declared.keyword.ShowWord.TheVariants.{Registers, Cells, Clock, Breaks, Changes, Unit}
+use Rattle.mix_tool.specs.declared.keyword.ShowWord.TheVariants.{Registers, Cells, Clock, Breaks, Changes, Unit, All}
 use Rattle.mix_tool.specs.declared.keyword.SetWord.{SetWord}
 use Rattle.mix_tool.specs.declared.keyword.SetWord.TheVariants.{Register, Cell, Location, Toggle, Indicator}
 
@@ -52,9 +52,10 @@ show_name Clock = codes "clock"
 show_name Breaks = codes "breaks"
 show_name Changes = codes "changes"
 show_name Unit = codes "unit"
+show_name All = codes "all"
 
 abbrev pub all_shows : List ShowWord
-all_shows = Registers ∷ Cells ∷ Clock ∷ Breaks ∷ Changes ∷ Unit ∷ []
+all_shows = Registers ∷ Cells ∷ Clock ∷ Breaks ∷ Changes ∷ Unit ∷ All ∷ []
 
 -- what `set` may set
 abbrev pub set_name : SetWord → List ℕ

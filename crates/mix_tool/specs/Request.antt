@@ -224,8 +224,11 @@ topic_of names here show.Changes words = do
   none ← no_word words
   Ok topic.Changes
 topic_of names here show.Unit words = unit_topic words
+topic_of names here show.All words = do
+  none ← no_word words
+  Ok topic.All
 
--- `show regs`, `show cells E E`, `show clock`, `show breaks`, `show changes`, `show unit N`
+-- `show regs`, `show cells E E`, `show clock`, `show breaks`, `show changes`, `show unit N`, `show all`
 unfoldable pub show_request : NamesValue → WordValue → List (List ℕ) → Result Request Refusal
 show_request names here [] = Err BadArgument
 show_request names here (word ∷ more) = do

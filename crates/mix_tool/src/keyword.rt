@@ -126,6 +126,7 @@ pub(crate) enum ShowWord {
     Breaks,
     Changes,
     Unit,
+    All,
 }
 
 impl Keyword for ShowWord {
@@ -141,6 +142,7 @@ impl Keyword for ShowWord {
             ShowWord::Breaks => "breaks",
             ShowWord::Changes => "changes",
             ShowWord::Unit => "unit",
+            ShowWord::All => "all",
         }
     }
 
@@ -152,10 +154,11 @@ impl Keyword for ShowWord {
             ShowWord::Breaks,
             ShowWord::Changes,
             ShowWord::Unit,
+            ShowWord::All,
         ]
     }
 
-    ghost named = { elim [ show.Registers ↦ refl | show.Cells ↦ refl | show.Clock ↦ refl | show.Breaks ↦ refl | show.Changes ↦ refl | show.Unit ↦ refl ] };
+    ghost named = { elim [ show.Registers ↦ refl | show.Cells ↦ refl | show.Clock ↦ refl | show.Breaks ↦ refl | show.Changes ↦ refl | show.Unit ↦ refl | show.All ↦ refl ] };
 }
 
 /// What `set` may set.

@@ -34,6 +34,7 @@ pub(crate) enum Topic {
     Breaks,
     Changes,
     Unit(UnitNo),
+    All,
 }
 
 /// The most steps that one command may ask for.
@@ -221,6 +222,10 @@ fn read_topic<N: Names>(
             Ok(Topic::Changes)
         }
         ShowWord::Unit => read_unit(words),
+        ShowWord::All => {
+            no_word(words)?;
+            Ok(Topic::All)
+        }
     }
 }
 

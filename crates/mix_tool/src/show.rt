@@ -5,12 +5,14 @@ ghost use Rattle.std.specs.List.{range_with_len};
 ghost use Rattle.mix_word.specs.Register.{all_registers};
 ghost use Rattle.mix_tool.specs.Show.{value_text, register_line, flags_text, registers_text, cell_line, numbers_between, cells_text, clock_text, break_text, break_texts, breaks_text, changes_text, topic_text};
 
+mod all;
 mod unit;
 mod words;
 
 use crate::keyword::Keyword;
 use crate::reply::{Location, stand_of};
 use crate::request::Topic;
+use crate::show::all::all_lines;
 use crate::show::unit::unit_lines;
 use mix_machine::{Place, Reg, World};
 use mix_word::{Short, Word};
@@ -36,6 +38,7 @@ pub(crate) fn topic_lines(
         Topic::Breaks => breaks_line(alloc, world),
         Topic::Changes => changes_line(alloc, changes),
         Topic::Unit(number) => unit_lines(alloc, world, number),
+        Topic::All => all_lines(alloc, world),
     }
 }
 

@@ -9,14 +9,27 @@ use std::alloc::{AllocError, Global};
 use std::fmt;
 
 /// The line of a unit, and what it holds.
-#[tactic(auto, unfolding(crate::specs::ShowUnit::unit_text))]
 pub(super) fn unit_lines(alloc: Global, world: &World, number: UnitNo) -> Result<String, AllocError>
     ensures { IfOk result (λ s. string_bytes s ≡ unit_text world.now number) }
 {
-    let unit = world.unit(number);
-    let (line, contents) = (UnitLine(number, unit), Contents(number.kind(), unit));
-    let text = format!(in alloc; "{line}{contents}")?;
+    let lines = UnitLines(world, number);
+    let text = format!(in alloc; "{lines}")?;
     Ok(text)
+}
+
+/// The line of a unit, and what it holds.
+#[derive(Clone, Copy)]
+pub(super) struct UnitLines<'a>(pub &'a World, pub UnitNo);
+
+impl fmt::Display for UnitLines<'_> {
+    ghost output = { λ l. Some (unit_text l.0.now l.1) };
+
+    #[tactic(auto, unfolding(crate::specs::ShowUnit::unit_text))]
+    fn fmt<W: fmt::Write>(&self, f: &mut fmt::Formatter<W>) -> fmt::Result {
+        let unit = self.0.unit(self.1);
+        let (line, contents) = (UnitLine(self.1, unit), Contents(self.1.kind(), unit));
+        write!(f, "{line}{contents}")
+    }
 }
 
 /// The place of the next block of a unit, and how many blocks and rows it has.

@@ -8,7 +8,7 @@ use mixal_asm::assemble;
 use std::test::Fail;
 
 // A line on the session that the row above left, what becomes of it, its reply, and then the values kept and the changes ahead.
-const LINES: [(&str, Told, &str, usize, usize); 16] = [
+const LINES: [(&str, Told, &str, usize, usize); 21] = [
     (
         "step 4",
         Told::Accepted,
@@ -86,6 +86,18 @@ const LINES: [(&str, Told, &str, usize, usize); 16] = [
         0,
         100_001,
     ),
+    // ENT1 101 keeps three values, and MOVE 100(63) sixty-six: the location, the clock, rI1 and 63 cells.
+    ("set cell 0 26476721", Told::Accepted, "ok\n", 1, 0),
+    ("set cell 1 26218439", Told::Accepted, "ok\n", 2, 0),
+    ("set cell 100 7", Told::Accepted, "ok\n", 3, 0),
+    (
+        "step 2",
+        Told::Accepted,
+        "ran 2 to 0002 clock 128: limit\n",
+        72,
+        0,
+    ),
+    ("back 1", Told::Accepted, "back 1 to 0001 clock 1\n", 6, 1),
 ];
 
 // Whether a line is answered so, and leaves so many kept values and changes ahead.
