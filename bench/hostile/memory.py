@@ -214,6 +214,10 @@ def may_leave(words, before, more):
 def stages(program, place, count):
     """What stands after a refusal in `step 4` and in `back 2` of the first example, and what the next lines then reply."""
     refusing = Refusing(program, place)
+    line = "changes %d kept %d loc %d clock %d\n"
+    rows = [(0, 0, 0, 0), (1, 3, 1, 1), (2, 7, 2, 2), (3, 10, 3, 4), (4, 12, 4, 14)]
+    kept = "".join(line % rows[k] for k in (1, 2, 3, 4, 3, 2, 1, 0, 1, 2, 3, 4)).encode()
+    count.same("what the first example keeps", refusing.runner.run(input_of(b"journal", FIRST, b"", b"\n" * 4)), (kept, b"", 0))
     met = set()
     for n in range(1, MOST):
         answer, refused = refusing.run(n, input_of(b"on", FIRST, b"", b"step 4\nshow clock\n"))
