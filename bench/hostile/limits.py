@@ -3,7 +3,7 @@
 import os
 import subprocess
 
-from running import SECONDS, Count, Runner, bundle, folder, lines, shown
+from running import SECONDS, Count, Runner, bundle, folder, lines, shown, takes_words
 
 SOURCE, SCRIPT, DECK, BUNDLE = 1048576, 1048576, 33554432, 41943040
 END = b" END 0\n"
@@ -146,9 +146,37 @@ def written_units():
         (b"ran 2000 to 0000 clock 2000: fault M13 unit full\nunit 18 place 0 blocks 0 output 1000\n" + b"> %PAGE\n" * 1000, b"", 3)
 
 
+def by_files(place):
+    """The same of files that the command line names: words, what is wanted. A part at its limit is read, and one byte over it is refused."""
+    source, script, deck, zero = (os.path.join(place, name) for name in ("source", "script", "deck", "long"))
+    for name, text in [(source, END), (script, b"show clock\n"), (deck, b"\n")]:
+        with open(name, "wb") as file:
+            file.write(text)
+    long_source = (b"line 1: A16 source too long\n", b"", 1)
+    clock = (b"clock 0\n", b"", 0)
+    yield ["list", "/dev/zero"], long_source
+    yield ["debug", "/dev/zero", script], long_source
+    yield ["debug", source, "/dev/zero"], T6
+    yield ["debug", source, script, "--devices", "/dev/zero"], refused_deck(1, b"K9 deck too long")
+    yield ["debug", source, script, "--devices", deck], clock
+    for over in (0, 1):
+        for part, text, wanted in [
+                (0, filled(END, SOURCE + over), long_source), (1, filled(b"show clock\n", SCRIPT + over), T6),
+                (2, filled(b"", DECK + over, b" "), refused_deck(1, b"K9 deck too long"))]:
+            with open(zero, "wb") as file:
+                file.write(text)
+            files = [zero if part == k else name for k, name in enumerate((source, script, deck))]
+            yield ["debug", files[0], files[1], "--devices", files[2]], wanted if over else clock
+
+
 def rows(program, workers, quick=False):
     count = Count()
     endless(program, count)
+    if takes_words(program):
+        with folder() as place, folder() as other:
+            runner = Runner(program, other)
+            for words, wanted in by_files(place):
+                count.same(" ".join(words), runner.run(b"", words), wanted)
     with folder() as place:
         runner = Runner(program, place)
         for part in (sizes, counts, full_units, written_units):

@@ -4,7 +4,8 @@ A step of ` JMP *` keeps three values: the location, the clock and rJ. So the jo
 begin; the memory that the process has touched is compared with these, by the bytes of each, and with that of a tenth of the steps."""
 
 import os
-import time
+import subprocess
+import sys
 
 from running import Count, folder
 
@@ -14,16 +15,25 @@ STEP_BYTES = KEPT * VALUE_BYTES + CHANGE_BYTES + START_BYTES
 MORE = 4 << 20  # beside the journal: the script, and what the process has anyway
 
 
+# A small process that runs the program: the memory of a child is counted from that of its parent on.
+CHILD = """
+import os, sys
+program, bundle, output = sys.argv[1:]
+child = os.posix_spawn(program, [program], os.environ, file_actions=[
+    (os.POSIX_SPAWN_OPEN, 0, bundle, os.O_RDONLY, 0), (os.POSIX_SPAWN_OPEN, 1, output, os.O_WRONLY | os.O_CREAT | os.O_TRUNC, 0o600)])
+_, status, used = os.wait4(child, 0)
+print(os.waitstatus_to_exitcode(status), used.ru_maxrss * 1024, used.ru_utime + used.ru_stime)
+"""
+
+
 def run(program, place, text):
     """Standard output, the status, the most memory that was touched, in bytes, and seconds of processor time."""
     names = [os.path.join(place, name) for name in ("in", "out")]
     with open(names[0], "wb") as file:
         file.write(text)
-    child = os.posix_spawn(program, [program], os.environ, file_actions=[
-        (os.POSIX_SPAWN_OPEN, 0, names[0], os.O_RDONLY, 0), (os.POSIX_SPAWN_OPEN, 1, names[1], os.O_WRONLY | os.O_CREAT | os.O_TRUNC, 0o600)])
-    _, status, used = os.wait4(child, 0)
+    told = subprocess.run([sys.executable, "-c", CHILD, program, *names], stdout=subprocess.PIPE, check=True).stdout.split()
     with open(names[1], "rb") as file:
-        return file.read(), os.waitstatus_to_exitcode(status), used.ru_maxrss * 1024, used.ru_utime + used.ru_stime
+        return file.read(), int(told[0]), int(told[1]), float(told[2])
 
 
 def rows(program, workers, quick=False):

@@ -106,10 +106,14 @@ def one(program, place, name, text, words):
     return (name,) + refused_in_turn(program, place, text, words)
 
 
+def shows_all(program, text):
+    """Whether a program knows `show all`."""
+    with folder() as place:
+        return Runner(program, place).run(text)[0].startswith(b"A  + 00 00 00 00 00\n")
+
+
 def cases(program, place):
-    with folder() as other:
-        shows_all = Runner(program, other).run(bundle(b" END 0\n", b"show all"))[2] == 0
-    for name, source, deck, script in bundles(shows_all):
+    for name, source, deck, script in bundles(shows_all(program, bundle(b" END 0\n", b"show all"))):
         yield name, bundle(source, script, deck), ()
         if takes_words(program):
             files = [os.path.join(place, "%s of %s" % (part, name.replace("/", "-"))) for part in ("source", "script", "deck")]
@@ -127,7 +131,7 @@ def rows(program, workers, quick=False, again=None):
         every = [case for case in cases(program, place) if not quick or case[0] in ("the first example", "a source with characters")]
         jobs = [(one, program, place, *case) for case in every]
         if again:
-            jobs += [(one_again, again, place, *case) for case in again_cases()]
+            jobs += [(one_again, again, place, *case) for case in again_cases(again)]
         with concurrent.futures.ProcessPoolExecutor(workers, multiprocessing.get_context("fork")) as pool:
             for name, allocations, wrong in pool.map(call, jobs):
                 total += allocations
@@ -150,9 +154,9 @@ def input_of(how, source, deck, script):
     return b"\0".join([how, source, deck or b"", script])
 
 
-def again_cases():
-    for name, source, deck, script in bundles(False):
-        if source == HELLO or b"ZZ" not in script and not name.startswith(("a refused", "a source without", "a script")):
+def again_cases(program):
+    for name, source, deck, script in bundles(shows_all(program, input_of(b"on", b" END 0\n", b"", b"show all"))):
+        if not name.startswith(("a refused", "a source without", "a script")):
             yield name + ", again", b"again", source, deck, script
     for name, source, deck, steps in [("the first example", FIRST, None, 4), ("a move", MOVE, None, 2), ("a tape is read", TAPE_IN, BLOCK, 1),
                                       ("a disk is written past its end", DISK_OUT, None, 2), ("each unit is written", OUTPUTS, None, 11),
@@ -177,28 +181,49 @@ def one_again(program, place, name, how, source, deck, script):
     return name, MOST, (MOST, whole, "an end")
 
 
+TOLD = re.compile(rb"(?:assemble|units|load|open)\n|(?:step|forth) (\d+) (\d+) \d+ \d+ (\d+) (\d+)\n|command (\d+) (\d+) (\d+) \d+ \d+\n")
+
+
 def is_unchanged(told, script):
-    """One refusal was told, and of changes, place, clock and what is kept it left what is promised."""
-    match = re.fullmatch(rb"(assemble|units|load|open)\n|(step|forth) (\d+) (\d+) \d+ \d+ (\d+) (\d+)\n|command (\d+) (\d+) \d+ \d+\n", told)
+    """One refusal was told, and of the changes, and in a journal of what is kept, it left what is promised."""
+    match = TOLD.fullmatch(told)
     if not match:
         return False
-    if match[2]:  # of a journal: nothing has changed
-        return match[3] == match[4] and match[5] == match[6]
+    if match[1]:  # a step of a journal: nothing has changed
+        return match[1] == match[2] and match[3] == match[4]
+    if match[5]:
+        words = script.split(b"\n")[int(match[5])].split()
+        return may_leave(words, int(match[6]), int(match[7]) - int(match[6]))
     return True
 
 
-FIRST_KEPT = (0, 3, 7, 10, 12)
+def may_leave(words, before, more):
+    """Whether a command that was refused memory, with so many changes before it, may leave so many more."""
+    count = int(words[1]) if len(words) > 1 and words[1].isdigit() else 1
+    if words[0] in (b"step", b"run", b"forth"):
+        return 0 <= more <= count
+    if words[0] in (b"set", b"break", b"clear"):
+        return 0 <= more <= 1
+    if words == [b"back", b"break"]:
+        return -before <= more <= 0
+    if words[0] == b"back":
+        return more in (0, -before if words[1] == b"all" else -count)
+    return more == 0
 
 
 def stages(program, place, count):
     """What stands after a refusal in `step 4` and in `back 2` of the first example, and what the next lines then reply."""
     refusing = Refusing(program, place)
+    line = "changes %d kept %d loc %d clock %d\n"
+    rows = [(0, 0, 0, 0), (1, 3, 1, 1), (2, 7, 2, 2), (3, 10, 3, 4), (4, 12, 4, 14)]
+    kept = "".join(line % rows[k] for k in (1, 2, 3, 4, 3, 2, 1, 0, 1, 2, 3, 4)).encode()
+    count.same("what the first example keeps", refusing.runner.run(input_of(b"journal", FIRST, b"", b"\n" * 4)), (kept, b"", 0))
     met = set()
     for n in range(1, MOST):
         answer, refused = refusing.run(n, input_of(b"on", FIRST, b"", b"step 4\nshow clock\n"))
         if not refused:
             break
-        match = re.fullmatch(rb"command 0 (\d+) (\d+) (\d+)\n", answer[1])
+        match = re.fullmatch(rb"command 0 0 (\d+) (\d+) (\d+)\n", answer[1])
         if not match:
             continue
         k = int(match[1])
@@ -216,7 +241,7 @@ def stages(program, place, count):
         answer, refused = refusing.run(n, input_of(b"on", FIRST, b"", b"step 4\nback 2\nshow clock\n"))
         if not refused:
             break
-        match = re.fullmatch(rb"command 4 (\d+) (\d+) (\d+)\n", answer[1])
+        match = re.fullmatch(rb"command 1 4 (\d+) (\d+) (\d+)\n", answer[1])
         if match:
             met += 1
             count.same("back 2 after step 4, allocation %d refused" % n, (match.groups(), answer[0]), ((b"2", b"2", b"2"), whole + b"clock 2\n"))

@@ -1,4 +1,5 @@
-"""Bundles that are the examples with mistakes in them: bits flipped, lines doubled, cut, and spliced. The program against the model."""
+"""Bundles that are the examples and the bundles of runs/ with mistakes in them: bits flipped, lines doubled, cut, and spliced. The program against
+the model."""
 
 import concurrent.futures
 import glob
@@ -19,19 +20,19 @@ EDGES = [b"0", b"1", b"-1", b"63", b"64", b"999", b"1000", b"3999", b"4000", b"4
 
 
 def originals():
-    names = sorted(glob.glob(os.path.join(TOP, "examples", "*.mix")))
+    names = sorted(glob.glob(os.path.join(TOP, "examples", "*.mix")) + glob.glob(os.path.join(TOP, "runs", "*.mix")))
     texts = []
     for name in names:
         with open(name, "rb") as file:
             texts.append(file.read())
-    # and what no example has: decks, and words of characters
+    # and every kind of unit
     units = lines(*("show unit %d" % unit for unit in (0, 8, 16, 17, 18, 19, 20)))
     writes = lines(" IN 200(16)", " OUT 200(17)", " OUT 200(18)", " IOC 0(18)", " OUT 0(9)", " IN 0(0)", " JBUS *(19)", " OUT 0(19)", " IOC -1(0)", " HLT", " END 0")
     return texts + [bundle(READS, READ, DECK), bundle(HELLO, GREETED), bundle(writes, lines("run 50", "back 3", "forth 2") + units, DECK)]
 
 
 def mutant(texts, seed, k):
-    """Mutant k of a seed is always the same."""
+    """Mutant k of a seed is the same as long as the examples are."""
     draw = random.Random("%s/%d" % (seed, k))
     text = bytearray(draw.choice(texts))
     for _ in range(draw.choice((1, 1, 1, 2, 2, 3, 5, 8, 20))):
