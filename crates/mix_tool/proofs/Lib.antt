@@ -1,5 +1,6 @@
 mod CommandLemmas
 mod CutLemmas
+mod EndingLemmas
 mod RunLemmas
 mod ShowLemmas
 mod TimelineLemmas

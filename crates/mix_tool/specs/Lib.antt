@@ -1,5 +1,6 @@
 pub mod Bundle
 pub mod Command
+pub mod Ending
 pub mod Fault
 pub mod Keyword
 pub mod Output

@@ -1,5 +1,5 @@
 -- What the tool writes and the status with which it ends: a function of the source, the deck and the script.
-use Rattle.std.specs.Prelude.{◌≡◌, ℕ, Option, List, [], ◌∷◌, ◌++◌, Result, Ok, Err, length, nat_lt, if◌then◌else◌}
+use Rattle.std.specs.Prelude.{◌≡◌, ◌≢◌, ◌≤◌, ℕ, Option, List, [], ◌∷◌, ◌++◌, Result, Ok, Err, length, nat_lt, if◌then◌else◌}
 use Rattle.std.specs.Io.KnownBytes.{Appends, Keeps}
 use Rattle.mixal_asm.specs.Assembly.{assembly}
 use Rattle.mixal_asm.specs.Fault.{asm_fault_line}
@@ -51,6 +51,10 @@ replies s (line ∷ rest) =
 abbrev pub status_of : Told → ℕ
 status_of Accepted = 0
 status_of Refused = 3
+
+-- what a run that ends may answer: 2 is for the faults of the tool
+abbrev pub IsStatus : ℕ → Type 0
+IsStatus status = (status ≤ 3) × (status ≢ 2)
 
 -- a script in a session
 unfoldable pub outcome_of_script : SessionState → List ℕ → Outcome

@@ -4,6 +4,7 @@
 mod bundle;
 mod command;
 mod fault;
+mod files;
 mod keyword;
 mod laws;
 mod list;
@@ -14,8 +15,10 @@ mod session;
 mod show;
 
 pub use fault::ToolFault;
+pub use files::run_plan;
 pub use laws::back_and_forth_law;
 pub use list::run_list;
+pub use mix_cli::{LineFault, Plan, line_status, read_words};
 pub use mix_machine::{DeckFault, DeckKind};
 pub use mixal_asm::{AsmFault, AsmKind, Counted, Failed, In, Out};
 pub use reply::Told;

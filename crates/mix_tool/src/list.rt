@@ -1,11 +1,11 @@
 //! The listing of a source.
 
-ghost use Rattle.std.specs.Prelude.{◌≡◌, ◌<◌, ◌+◌, ◌-◌, ◌^◌, ℕ, List, Some, Ok, Err, IfErr};
+ghost use Rattle.std.specs.Prelude.{◌≡◌, ◌<◌, ◌+◌, ◌-◌, ◌^◌, ℕ, List, Some, Ok, Err, IfErr, IfOk};
 ghost use Rattle.std.specs.Io.KnownBytes.{Appends, Keeps};
 ghost use Rattle.mix_stream.specs.Stream.{AppendsFront, ConsumesAtMost, CountsRead, CountsWrite};
 ghost use Rattle.mixal_asm.specs.Assembly.{max_source_bytes};
 ghost use Rattle.mixal_asm.specs.Listing.{listing};
-ghost use Rattle.mix_tool.specs.Output.{Meets, Ended, IsOwn, list_output, list_outcome};
+ghost use Rattle.mix_tool.specs.Output.{Meets, Ended, IsOwn, IsStatus, list_output, list_outcome};
 
 use crate::fault::ToolFault;
 use crate::run::refuse_source;
@@ -20,6 +20,7 @@ fn list<W: Out>(alloc: Global, program: &Program, out: &mut W) -> Result<u8, Too
     ensures output { Meets (Ended (listing program.now) 0) result (W.told out.old) (W.told out.new) }
     ensures write { CountsWrite (result ≡ Err ToolFault.Write) (W.failed out.old) (W.failed out.new) }
     ensures only { IfErr result IsOwn }
+    ensures ends { IfOk result IsStatus }
 {
     match program.write_listing(alloc, out) {
         Ok(()) => Ok(0),
@@ -47,6 +48,7 @@ pub fn run_list<R: In, W: Out>(alloc: Global, source: &mut R, out: &mut W) -> Re
 
     // Never more is read.
     ensures source { ConsumesAtMost (R.rest source.old) (R.rest source.new) (max_source_bytes + 1) }
+    ensures ends { IfOk result IsStatus }
 {
     let text = read_up_to(alloc, source, MAX_SOURCE_BYTES + 1)?;
     match assemble(alloc, &text) {

@@ -9,7 +9,7 @@ ghost use Rattle.mix_lines.specs.Lines.{lines};
 ghost use Rattle.mixal_asm.specs.Assembly.{assembly, max_source_bytes};
 ghost use Rattle.mix_machine.specs.units.deck.Deck.{deck_of, max_deck_bytes};
 ghost use Rattle.mix_tool.specs.Session.{opened};
-ghost use Rattle.mix_tool.specs.Output.{Meets, Ended, IsOwn, output, outcome_of, bundle_output, outcome_of_script, replies, status_of, max_script_bytes, max_bundle_bytes};
+ghost use Rattle.mix_tool.specs.Output.{Meets, Ended, IsOwn, IsStatus, output, outcome_of, bundle_output, outcome_of_script, replies, status_of, max_script_bytes, max_bundle_bytes};
 ghost use Rattle.mix_stream.specs.Stream.{AppendsFront, ConsumesAtMost, CountsRead, CountsWrite};
 
 use crate::bundle::cut;
@@ -45,6 +45,7 @@ pub(crate) fn refuse_source<W: Out>(
     ensures output { Meets (Ended (asm_fault_line fault ++ 10 ∷ []) 1) result (W.told out.old) (W.told out.new) }
     ensures write { CountsWrite (result ≡ Err ToolFault.Write) (W.failed out.old) (W.failed out.new) }
     ensures only { IfErr result IsOwn }
+    ensures ends { IfOk result IsStatus }
 {
     let line = fault_line(alloc, fault)?;
     write_all(out, line.as_bytes())?;
@@ -99,6 +100,7 @@ fn execute<W: Out>(session: &mut Session, script: &[u8], out: &mut W) -> Result<
     ensures unread { result ≢ Err ToolFault.Read }
     ensures status { result ≢ Ok 1 }
     ensures deck { (f : DeckFault) → result ≢ Err (ToolFault.Deck f) }
+    ensures ends { IfOk result IsStatus }
 {
     if script.len() > MAX_SCRIPT_BYTES {
         return Err(ToolFault::Long);
@@ -121,6 +123,7 @@ fn open_and_execute<W: Out>(
     ensures unread { result ≢ Err ToolFault.Read }
     ensures status { result ≢ Ok 1 }
     ensures deck { (f : DeckFault) → result ≢ Err (ToolFault.Deck f) }
+    ensures ends { IfOk result IsStatus }
 {
     let mut session = Session::open(alloc, program, units)?;
     execute(&mut session, script, out)
@@ -139,6 +142,7 @@ fn run_deck<W: Out>(
     ensures output { Meets (outcome_of (Ok program.entry) (deck_of deck.now) script.now) result (W.told out.old) (W.told out.new) }
     ensures write { CountsWrite (result ≡ Err ToolFault.Write) (W.failed out.old) (W.failed out.new) }
     ensures unread { result ≢ Err ToolFault.Read }
+    ensures ends { IfOk result IsStatus }
 {
     match Units::read(alloc, deck) {
         Err(Refused::Memory) => Err(ToolFault::Memory),
@@ -160,6 +164,7 @@ fn run_parts<W: Out>(
     ensures output { Meets (output source.now deck.now script.now) result (W.told out.old) (W.told out.new) }
     ensures write { CountsWrite (result ≡ Err ToolFault.Write) (W.failed out.old) (W.failed out.new) }
     ensures unread { result ≢ Err ToolFault.Read }
+    ensures ends { IfOk result IsStatus }
 {
     match assemble(alloc, source) {
         Err(Refused::Memory) => Err(ToolFault::Memory),
@@ -186,6 +191,7 @@ fn run_script<C: In, W: Out>(
     ensures script { ConsumesAtMost (C.rest script.old) (C.rest script.new) (max_script_bytes + 1) }
     ensures status { result ≢ Ok 1 }
     ensures deck { (f : DeckFault) → result ≢ Err (ToolFault.Deck f) }
+    ensures ends { IfOk result IsStatus }
 {
     let commands = read_up_to(alloc, script, MAX_SCRIPT_BYTES + 1)?;
     open_and_execute(alloc, program, units, &commands, out)
@@ -217,6 +223,7 @@ fn run_program<D: In, C: In, W: Out>(
     ensures deck_failed { D.failed deck.old < D.failed deck.new → script.new ≡ script.old }
     ensures script_in_turn { (d : List ℕ) → D.rest deck.old ≡ Some d
         → (script.new ≡ script.old) ⊎ (D.rest deck.new ≡ Some (drop (max_deck_bytes + 1) d)) }
+    ensures ends { IfOk result IsStatus }
 {
     let devices = read_up_to(alloc, deck, MAX_DECK_BYTES + 1)?;
     match Units::read(alloc, &devices) {
@@ -279,6 +286,7 @@ pub fn run_debug<S: In, D: In, C: In, W: Out>(
         → ((deck.new ≡ deck.old) × (script.new ≡ script.old)) ⊎ (S.rest source.new ≡ Some (drop (max_source_bytes + 1) s)) }
     ensures script_in_turn { (d : List ℕ) → D.rest deck.old ≡ Some d
         → (script.new ≡ script.old) ⊎ (D.rest deck.new ≡ Some (drop (max_deck_bytes + 1) d)) }
+    ensures ends { IfOk result IsStatus }
 {
     let text = read_up_to(alloc, source, MAX_SOURCE_BYTES + 1)?;
     match assemble(alloc, &text) {
@@ -306,6 +314,7 @@ pub fn run_bundle<R: In, W: Out>(alloc: Global, input: &mut R, out: &mut W) -> R
 
     // Never more is read.
     ensures input { ConsumesAtMost (R.rest input.old) (R.rest input.new) (max_bundle_bytes + 1) }
+    ensures ends { IfOk result IsStatus }
 {
     let bundle = read_up_to(alloc, input, MAX_BUNDLE_BYTES + 1)?;
     if bundle.len() > MAX_BUNDLE_BYTES {

@@ -1,31 +1,62 @@
-//! The program: a bundle from standard input, its replies to standard output.
+//! The program: what its words ask for, from files or standard input to standard output.
 #![tactic(auto)]
 
-use mix_tool::{Counted, ToolFault, run_bundle};
+use mix_tool::{Counted, LineFault, ToolFault, line_status, read_words, run_plan};
 use std::process::ExitCode;
 use std::{env, fmt, io};
 
-/// The status of a bad command line and of a fault of the tool.
+/// The status of words that cannot be read.
 const FAILED: u8 = 2;
 
 fn main(rt: HostRuntime) -> ExitCode {
-    let words = match env::args(&rt) {
-        Ok(args) => args.count(),
-        Err(error) => return unread(&rt, error),
-    };
-    if words > 1 {
-        return report(&rt, "it takes no words; a bundle comes from standard input");
+    match words(&rt) {
+        Ok(words) => run(&rt, &words),
+        Err(error) => unread(&rt, error),
     }
-    let mut input = Counted::of(rt.reader());
-    let mut output = Counted::of(io::writer(&rt));
-    match run_bundle(rt.alloc(), &mut input, &mut output) {
-        Ok(status) => ExitCode::from(status),
-        Err(fault) => report(&rt, fault),
+}
+
+// The words of the command line, the program's name first.
+fn words(rt: &HostRuntime) -> io::Result<Vec<String>> {
+    let words: Vec<String> = env::args(rt)?.collect(rt.alloc())?;
+    Ok(words)
+}
+
+fn run(rt: &HostRuntime, words: &[String]) -> ExitCode {
+    let mut texts: Vec<&str> = Vec::new(rt.alloc());
+    for word in words {
+        if texts.push(word.as_str()).is_err() {
+            return report(rt, ToolFault::Memory);
+        }
+    }
+    match read_words(rt.alloc(), &texts) {
+        Ok(plan) => {
+            let mut input = Counted::of(rt.reader());
+            let mut output = Counted::of(io::writer(rt));
+            let mut errors = Counted::of(rt.stderr());
+            let status = run_plan(rt, rt.alloc(), &plan, &mut input, &mut output, &mut errors);
+            ExitCode::from(status)
+        }
+        Err(fault) => {
+            tell(rt, &fault);
+            ExitCode::from(line_status(&fault))
+        }
+    }
+}
+
+// Help goes to standard output, a mistake to standard error; where the write fails, the status alone says so.
+fn tell(rt: &HostRuntime, fault: &LineFault) {
+    match fault {
+        LineFault::Line(error) => {
+            let _ = error.print(rt);
+        }
+        LineFault::Memory => {
+            let _ = eprintln!(rt; "mixrev: {}", ToolFault::Memory);
+        }
     }
 }
 
 // The words could not be read: out of memory, or one of them is no text.
-fn unread(rt: &impl Eprint, error: io::Error) -> ExitCode {
+fn unread(rt: &HostRuntime, error: io::Error) -> ExitCode {
     if error.kind() == io::ErrorKind::OutOfMemory {
         report(rt, ToolFault::Memory)
     } else {
@@ -34,7 +65,7 @@ fn unread(rt: &impl Eprint, error: io::Error) -> ExitCode {
 }
 
 // What went wrong is written on standard error; where that fails too, the status alone says so.
-fn report(rt: &impl Eprint, fault: impl fmt::Display + Drop) -> ExitCode {
+fn report(rt: &HostRuntime, fault: impl fmt::Display + Drop) -> ExitCode {
     let _ = eprintln!(rt; "mixrev: {fault}");
     ExitCode::from(FAILED)
 }

@@ -1,0 +1,43 @@
+-- A command line that has words, and clap's errors as its own.
+use Rattle.std.proofs.Common.{◌≡◌, ◌<◌, ◌∙◌, ⊎_elim, false, refl, sym, ap, subst, List, length, Result, Ok, Err, IfErr}
+use Rattle.std.specs.Prelude.{nat_le}
+use Rattle.std.specs.Result.{IsErrAnd}
+use Rattle.std.specs.Borrow.{Bor}
+use Rattle.std.proofs.lemmas.Bool.{lt-leb}
+use Rattle.std.proofs.lemmas.List.{length-map}
+use Rattle.clap.specs.Walk.{Text, texts}
+use Rattle.clap.specs.Kinds.{HasKind, IsAmong, Kinds}
+use Rattle.clap.specs.Values.{kind_of}
+use Rattle.clap.specs.Words.{fault_of}
+use Rattle.clap.specs.declared.error.Error.{Error}
+use Rattle.clap.specs.declared.error.kind.ErrorKind.TheVariants.{OutOfMemory}
+use Rattle.mix_cli.specs.declared.fault.LineFault.{LineFault}
+use Rattle.mix_cli.specs.declared.fault.LineFault.TheVariants.{Line, Memory}
+use Rattle.mix_cli.specs.Fault.{IsFaultOf, IsRefusedBy}
+use Rattle.mix_cli.specs.Plan.{line_kinds}
+use Rattle.mix_cli.specs.Program.{mixrev}
+
+pub has_words : (words : List (Bor Text)) → 1 < length words → nat_le (length (texts words)) 1 ≡ false
+has_words words lt = ap (λ n. nat_le n 1) (length-map words (λ s. s.now)) ∙ lt-leb (length words) 1 lt
+
+pub kinds_are : (words : List (Bor Text)) → 1 < length words → line_kinds (texts words) ≡ fault_of mixrev (texts words)
+kinds_are words lt = rw (has_words words lt) refl
+
+among : (kinds : Kinds) (error : Error) (fault : LineFault) → HasKind kinds error → IsFaultOf error fault → IsRefusedBy kinds fault
+among kinds error Memory has is = tt
+among kinds error (Line told) has is =
+    ⊎_elim (λ memory. absurd (is.1 memory)) (λ kind. subst (λ e. IsAmong (kind_of e) kinds) (sym is.0) kind) has
+
+memory : (error : Error) (fault : LineFault) → kind_of error ≡ OutOfMemory → IsFaultOf error fault → fault ≡ Memory
+memory error Memory kind is = refl
+memory error (Line told) kind is = absurd (is.1 kind)
+
+pub refused_by : {T : Type 0} (result : Result T LineFault) (kinds : Kinds) (error : Error) → HasKind kinds error
+    → IsErrAnd result (IsFaultOf error) → IfErr result (IsRefusedBy kinds)
+refused_by (Ok x) kinds error has is = tt
+refused_by (Err fault) kinds error has is = among kinds error fault has is
+
+pub told_as_memory : {T P : Type 0} (result : Result T LineFault) (error : Error) → (P → kind_of error ≡ OutOfMemory)
+    → IsErrAnd result (IsFaultOf error) → IfErr result (λ e. P → e ≡ Memory)
+told_as_memory (Ok x) error kind is = tt
+told_as_memory (Err fault) error kind is = λ p. memory error fault (kind p) is

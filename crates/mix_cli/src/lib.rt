@@ -1,0 +1,12 @@
+//! The command line: what the words after the program's name ask for, and what is answered to words that ask for nothing.
+#![tactic(auto)]
+
+mod fault;
+mod program;
+mod words;
+
+pub use fault::{LineFault, line_status};
+pub use words::{Plan, read_words};
+
+#[cfg(test)]
+mod tests;
