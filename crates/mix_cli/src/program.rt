@@ -21,8 +21,9 @@ Examples:
   mixrev debug primes.mix session.txt
   mixrev debug primes.mix session.txt --devices tapes.deck
 
-The status is 0 where all is accepted, 1 where the source is refused, 3 where a command is refused or a step meets a
-fault, and 2 where a word, a file, the deck or memory fails.";
+The status is 0 where all is accepted, 1 where the source is refused, and 3 where a command is refused or a step meets a fault.
+It is 2 where nothing could be run to its end: a mistake in the words, a file that cannot be opened or read, a deck that is
+refused, a text that is too long, an output that takes no more, or no memory.";
 
 const MORE_ON_LIST: &str = "\
 A source is a text file with a program in the language MIXAL, which ends in a line END. The listing has each line with its
