@@ -4,7 +4,6 @@ import concurrent.futures
 import multiprocessing
 import os
 import re
-import signal
 import sys
 import tempfile
 from collections import Counter
@@ -13,47 +12,21 @@ import bundle
 import parts
 from machine import instruction
 from operations import TABLE, UNIT_OPERATIONS
+from program import Runner
 from texts import TEXTS
 
 WORKERS = int(os.environ.get("WORKERS", "2"))
 CHUNK = 250  # bundles that a worker does at a time
 TRIALS = 1500
-SECONDS = 60  # after which a run counts as one that doesn't end
 TOLD = re.compile(rb"\b([AMKCT][0-9]+) [a-z]")
-
-
-class Endless(Exception):
-    pass
-
-
-def ring(*_):
-    raise Endless
 
 
 def run_program(program, text, folder, lists=False):
     """Standard output, standard error and the status of one run on a bundle, or of the listing of a source."""
-    names = [os.path.join(folder, "%s-%d" % (name, os.getpid())) for name in ("in", "out", "err")]
-    with open(names[0], "wb") as file:
-        file.write(text)
-    new = os.O_WRONLY | os.O_CREAT | os.O_TRUNC
-    signal.signal(signal.SIGALRM, ring)
-    words = [program, "list", names[0]] if lists else [program]
-    child = os.posix_spawn(program, words, os.environ, file_actions=[
-        (os.POSIX_SPAWN_OPEN, 0, "/dev/null" if lists else names[0], os.O_RDONLY, 0), (os.POSIX_SPAWN_OPEN, 1, names[1], new, 0o600),
-        (os.POSIX_SPAWN_OPEN, 2, names[2], new, 0o600)])
-    signal.alarm(SECONDS)
-    try:
-        status = os.waitstatus_to_exitcode(os.waitpid(child, 0)[1])
-    except Endless:
-        os.kill(child, signal.SIGKILL)
-        os.waitpid(child, 0)
-        status = "no end after %d seconds" % SECONDS
-    signal.alarm(0)
-    written = []
-    for name in names[1:]:
-        with open(name, "rb") as file:
-            written.append(file.read())
-    return written[0], written[1], status
+    runner = Runner(program, folder)
+    if lists:
+        return runner.run_on("/dev/null", ["list", runner.write(text)])
+    return runner.run(text)
 
 
 class Seen:

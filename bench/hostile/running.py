@@ -1,7 +1,6 @@
 """Runs of the built program, and rows that are counted: what the parts of `bench/hostile/run` have in common."""
 
 import os
-import signal
 import subprocess
 import sys
 import tempfile
@@ -12,55 +11,14 @@ HERE = os.path.dirname(os.path.abspath(__file__))
 TOP = os.path.dirname(os.path.dirname(HERE))
 sys.path.insert(0, os.path.join(TOP, "model"))
 
-SECONDS = 60  # after which a run counts as one that does not end
+from program import SECONDS, Endless, Runner, ring  # (handed on)
+
 FOLDER = "/dev/shm" if os.path.isdir("/dev/shm") else None
-
-
-class Endless(Exception):
-    pass
-
-
-def ring(*_):
-    raise Endless
 
 
 def folder():
     """A folder for the files of runs, in memory where there is one."""
     return tempfile.TemporaryDirectory(dir=FOLDER, prefix="mixrev_hostile_")
-
-
-class Runner:
-    """Runs a program again and again, its streams through files of one folder."""
-
-    def __init__(self, program, place):
-        self.program = program
-        self.names = [os.path.join(place, "%s-%d" % (name, os.getpid())) for name in ("in", "out", "err")]
-
-    def run(self, text, words=(), environment=None):
-        """Standard output, standard error and the status of one run with this on standard input."""
-        with open(self.names[0], "wb") as file:
-            file.write(text)
-        return self.run_on(self.names[0], words, environment)
-
-    def run_on(self, name, words=(), environment=None):
-        new = os.O_WRONLY | os.O_CREAT | os.O_TRUNC
-        signal.signal(signal.SIGALRM, ring)
-        child = os.posix_spawn(self.program, [self.program, *words], {**os.environ, **(environment or {})}, file_actions=[
-            (os.POSIX_SPAWN_OPEN, 0, name, os.O_RDONLY, 0), (os.POSIX_SPAWN_OPEN, 1, self.names[1], new, 0o600),
-            (os.POSIX_SPAWN_OPEN, 2, self.names[2], new, 0o600)])
-        signal.alarm(SECONDS)
-        try:
-            status = os.waitstatus_to_exitcode(os.waitpid(child, 0)[1])
-        except Endless:
-            os.kill(child, signal.SIGKILL)
-            os.waitpid(child, 0)
-            status = "no end after %d seconds" % SECONDS
-        signal.alarm(0)
-        written = []
-        for name in self.names[1:]:
-            with open(name, "rb") as file:
-                written.append(file.read())
-        return written[0], written[1], status
 
 
 class Count:

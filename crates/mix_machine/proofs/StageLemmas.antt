@@ -1,7 +1,11 @@
 -- The tests of a step made in groups find the same fault as the one order does.
 use Rattle.std.proofs.Common.{◌≡◌, ◌∙◌, Bool, true, false, cond, List, [], ◌∷◌, ◌++◌, Some, None, Result, Ok, Err, refl, ap}
-use Rattle.mix_machine.specs.Order.{first_fault, order}
-use Rattle.mix_machine.specs.law.Stages.{of_instruction, of_operation, fault_among}
+use Rattle.mix_word.specs.declared.decoding.Decoded.{Decoded}
+use Rattle.mix_word.specs.declared.decoding.Decoded.TheVariants.{Named, Floating, Unknown}
+use Rattle.mix_machine.specs.World.{WorldState}
+use Rattle.mix_machine.specs.Order.{applies, first_fault, order}
+use Rattle.mix_machine.specs.law.Stages.{of_instruction, of_address, of_operation, fault_among}
+use Rattle.mix_machine.specs.declared.decode.Arguments.{Arguments}
 use Rattle.mix_machine.specs.declared.fault.MixFault.{MixFault}
 use Rattle.mix_machine.specs.declared.fault.MixFault.TheVariants.{NoCellAtLocation, ClockFull}
 
@@ -64,3 +68,10 @@ pub fault-of-clock : {X Y : Type 0} (test : MixFault → Bool) (x : X) (y z : Y)
 fault-of-clock test x y z h s e =
     let done = first-ok test of_operation (ClockFull ∷ []) x y z e in
     (at-cell test x h ∙ among-none test of_instruction (of_operation ++ ClockFull ∷ []) x s ∙ done.0, done.1)
+
+-- a fault of I or M is the step's, whatever C and F name
+pub fault-of-address : {X : Type 0} (d : Decoded) (w : WorldState) (a : Arguments) (x : X) (f : MixFault) → applies d w a NoCellAtLocation ≡ false →
+    fault_among (applies d w a) of_address ≡ Some f → first_fault (applies d w a) order x ≡ Err f
+fault-of-address (Named op) w a x f h s = fault-of-instruction (applies (Named op) w a) x f h s
+fault-of-address Floating w a x f h s = absurd (cc)
+fault-of-address Unknown w a x f h s = absurd (cc)

@@ -15,6 +15,7 @@ use undo_core::Refused;
 impl World {
     /// Does a change, or reports its first fault; out of memory is the answer to none that has a fault.
     #[tactic(auto, unfolding(crate::specs::Do::plan_of))]
+    #[inline(always)]
     pub(crate) fn change(
         &mut self,
         change: Change,
@@ -41,7 +42,8 @@ impl World {
         }
     }
 
-    // Sets one value that fits its place.
+    // Sets one value that fits its place. (It stands apart, so that a step alone is short.)
+    #[inline(never)]
     fn set(&mut self, value: Old, kept: &mut Vec<Old>) -> Result<(), Refused<MixFault>>
         requires { IsTrue (fits self.old value) }
         ensures { Carried (Ok (Value value)) self.old self.new kept.old.items kept.new.items result }

@@ -8,6 +8,7 @@ use crate::old::Old;
 use crate::plan::{Plan, Writes};
 use crate::world::World;
 use mix_word::{Place, Reg, Word};
+use std::mem;
 use undo_core::Memory;
 
 impl World {
@@ -27,8 +28,8 @@ impl World {
             Plan::Value(value) => self.write(value, kept),
             Plan::Step(writes, loc, clock) => {
                 self.write_in(writes, kept)?;
-                self.write(Old::Loc(loc), kept);
-                self.write(Old::Clock(clock), kept);
+                self.write_loc(loc, kept);
+                self.write_clock(clock, kept);
             }
         }
         Ok(())
@@ -50,21 +51,21 @@ impl World {
     {
         match writes {
             Writes::Nothing => {}
-            Writes::Register(r, word) => self.write(Old::Reg(r, word), kept),
+            Writes::Register(r, word) => self.write_register(r, word, kept),
             Writes::RegisterAndToggle(r, word, over) => {
-                self.write(Old::Reg(r, word), kept);
-                self.write(Old::Over(over), kept);
+                self.write_register(r, word, kept);
+                self.write_over(over, kept);
             }
             Writes::Pair(upper, lower) => self.write_pair(upper, lower, kept),
             Writes::PairAndToggle(upper, lower, over) => {
                 self.write_pair(upper, lower, kept);
-                self.write(Old::Over(over), kept);
+                self.write_over(over, kept);
             }
-            Writes::Cell(place, word) => self.write(Old::Cell(place, word), kept),
-            Writes::Indicator(cmp) => self.write(Old::Cmp(cmp), kept),
+            Writes::Cell(place, word) => self.write_cell(place, word, kept),
+            Writes::Indicator(cmp) => self.write_cmp(cmp, kept),
             Writes::Copy(words) => {
                 self.copy(words.count, words.from, words.to, kept);
-                self.write(Old::Reg(Reg::I1, words.index), kept);
+                self.write_register(Reg::I1, words.index, kept);
             }
             Writes::Input(transfer) => self.input(transfer, kept),
             Writes::Output(transfer) => return self.output(transfer, kept),
@@ -82,8 +83,8 @@ impl World {
         ensures len { vec_len kept.new ≡ vec_len kept.old + 2 }
         ensures capacity { vec_capacity kept.new ≡ vec_capacity kept.old }
     {
-        self.write(Old::Reg(Reg::A, upper), kept);
-        self.write(Old::Reg(Reg::X, lower), kept);
+        self.write_register(Reg::A, upper, kept);
+        self.write_register(Reg::X, lower, kept);
     }
 
     // So many words from one cell on to another on, one at a time, the first one first.
@@ -96,10 +97,14 @@ impl World {
         ensures len { vec_len kept.new ≡ vec_len kept.old + count }
         ensures capacity { vec_capacity kept.new ≡ vec_capacity kept.old }
     {
+        // (a list that nothing else can reach, so that the compiler need not read its place and length again for each word)
+        let alloc = *kept.allocator();
+        let mut list = mem::replace(kept, Vec::new(alloc));
         for i in 0..count {
             let word = self.cell(place(from + u16::from(i)));
-            self.write(Old::Cell(place(to + u16::from(i)), word), kept);
+            self.write_cell(place(to + u16::from(i)), word, &mut list);
         }
+        *kept = list;
     }
 }
 

@@ -1,8 +1,11 @@
 //! A step: the tests of its instruction, and what its operation does (1.3.1, "MIX operators").
-ghost use Rattle.std.specs.Prelude.{◌≡◌, ◌<◌};
+ghost use Rattle.std.specs.Prelude.{◌≡◌, ◌<◌, ◌&&◌, nat_le, nat_lt, None};
 ghost use Rattle.mix_word.specs.Table.{decode_of};
+ghost use Rattle.mix_word.specs.Word.{parts_of};
 ghost use Rattle.mix_machine.specs.Decode.{arguments_of};
 ghost use Rattle.mix_machine.specs.Do.{plan_of, step_or_fault};
+ghost use Rattle.mix_machine.specs.Order.{applies};
+ghost use Rattle.mix_machine.specs.law.Stages.{of_address, fault_among};
 ghost use Rattle.mix_machine.specs.law.Carried.{Carried};
 
 mod arithmetic;
@@ -19,7 +22,7 @@ use crate::old::{Change, Old};
 use crate::plan::Writes;
 use crate::step::transfer::goes_on;
 use crate::world::World;
-use mix_word::{Decoded, Operation, Parts, Place, decode};
+use mix_word::{Decoded, Operation, Place, Word, decode};
 use undo_core::Refused;
 
 impl World {
@@ -31,24 +34,80 @@ impl World {
         match Place::of(self.loc) {
             None => Err(Refused::Fault(MixFault::NoCellAtLocation)),
             Some(place) => {
-                let parts = instruction(self.cell(place));
-                self.step_of_parts(parts, kept)
+                let word = self.cell(place);
+                self.step_of_word(word, kept)
             }
         }
     }
 
-    // A step of an instruction at a cell.
-    fn step_of_parts(&mut self, parts: Parts, kept: &mut Vec<Old>) -> Result<(), Refused<MixFault>>
+    // A step of the instruction in a word, at a cell.
+    fn step_of_word(&mut self, word: Word, kept: &mut Vec<Old>) -> Result<(), Refused<MixFault>>
         requires cell { self.old.loc < 4000 }
-        requires address { parts.address < 4096 }
-        requires f { parts.f < 64 }
-        ensures { Carried (step_or_fault (decode_of parts.code parts.f) self.old (arguments_of self.old parts)) self.old self.new kept.old.items kept.new.items result }
+        ensures { Carried (step_or_fault (decode_of (parts_of word).code (parts_of word).f) self.old (arguments_of self.old (parts_of word))) self.old self.new kept.old.items kept.new.items result }
     {
+        let parts = instruction(word);
         let arguments = self.arguments(parts);
-        match decode(parts.code, parts.f) {
-            Decoded::Named(operation) => self.step_of_operation(operation, arguments, kept),
+        let given = arguments;
+        match self.fault_of_address(word, given) {
+            Some(fault) => Err(Refused::Fault(fault)),
+            None => self.step_of_code(parts.code, arguments, kept),
+        }
+    }
+
+    // A step of what C and F name.
+    #[inline(always)]
+    fn step_of_code(
+        &mut self,
+        code: u8,
+        a: Arguments,
+        kept: &mut Vec<Old>,
+    ) -> Result<(), Refused<MixFault>>
+        requires cell { self.old.loc < 4000 }
+        requires f { a.f < 64 }
+        requires served { fault_among (applies (decode_of code a.f) self.old a) of_address ≡ None }
+        ensures { Carried (step_or_fault (decode_of code a.f) self.old a) self.old self.new kept.old.items kept.new.items result }
+    {
+        match decode(code, a.f) {
+            Decoded::Named(operation) => self.step_of_operation(operation, a, kept),
             Decoded::Floating => Err(Refused::Fault(MixFault::FloatingOperation)),
             Decoded::Unknown => Err(Refused::Fault(MixFault::NoOperation)),
+        }
+    }
+
+    // What I and M say against the step of an instruction.
+    #[inline(always)]
+    fn fault_of_address(&self, word: Word, a: Arguments) -> Option<MixFault>
+        requires { a ≡ arguments_of self.now (parts_of word) }
+        ensures { result ≡ fault_among (applies (decode_of (parts_of word).code a.f) self.now a) of_address }
+    {
+        if is_plain(a) {
+            None
+        } else {
+            self.fault_of_odd_address(word)
+        }
+    }
+
+    // What an I over 6 or an M of 4096 and more says against it: nothing where the operation does not look at them.
+    #[cold]
+    #[inline(never)]
+    fn fault_of_odd_address(&self, word: Word) -> Option<MixFault>
+        ensures { result ≡ fault_among (applies (decode_of (parts_of word).code (parts_of word).f) self.now (arguments_of self.now (parts_of word))) of_address }
+    {
+        let parts = instruction(word);
+        let a = self.arguments(parts);
+        match decode(parts.code, parts.f) {
+            Decoded::Named(operation) => {
+                if !operation.needs_address() {
+                    None
+                } else if a.index > 6 {
+                    Some(MixFault::IndexOverSix)
+                } else if a.m.magnitude() >= 4096 {
+                    Some(MixFault::LargeAddress)
+                } else {
+                    None
+                }
+            }
+            Decoded::Floating | Decoded::Unknown => None,
         }
     }
 
@@ -61,6 +120,7 @@ impl World {
     ) -> Result<(), Refused<MixFault>>
         requires cell { self.old.loc < 4000 }
         requires f { a.f < 64 }
+        requires served { fault_among (applies (Decoded.Named operation) self.old a) of_address ≡ None }
         ensures { Carried (step_or_fault (Decoded.Named operation) self.old a) self.old self.new kept.old.items kept.new.items result }
     {
         let given = a;
@@ -149,4 +209,12 @@ impl World {
             ),
         }
     }
+}
+
+// Whether I is at most 6 and M is below 4096.
+#[inline(always)]
+fn is_plain(a: Arguments) -> bool
+    ensures { result ≡ (nat_le a.index 6 && nat_lt a.m.magnitude 4096) }
+{
+    a.index <= 6 && a.m.magnitude() < 4096
 }

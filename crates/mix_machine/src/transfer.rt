@@ -39,6 +39,7 @@ impl World {
     }
 
     /// What IN writes.
+    #[inline(never)]
     pub(crate) fn input(&mut self, t: Transfer, kept: &mut Vec<Old>)
         requires fits { InputFits self.old t }
         requires room { vec_len kept.old + length (input_writes (unit_at self.old t.unit).kind self.old t) ≤ vec_capacity kept.old }
@@ -56,6 +57,7 @@ impl World {
     }
 
     /// What OUT writes. Out of memory for a new block or row, nothing is altered.
+    #[inline(never)]
     pub(crate) fn output(&mut self, t: Transfer, kept: &mut Vec<Old>) -> Result<(), Memory>
         requires fits { OutputFits self.old t }
         requires room { vec_len kept.old + length (output_writes (unit_at self.old t.unit).kind self.old t) ≤ vec_capacity kept.old }
@@ -151,6 +153,7 @@ impl World {
     }
 
     /// What IOC writes. Out of memory for the mark of a page, nothing is altered.
+    #[inline(never)]
     pub(crate) fn control(&mut self, n: UnitNo, at: u16, kept: &mut Vec<Old>) -> Result<(), Memory>
         requires fits { ControlFits self.old n at }
         requires room { vec_len kept.old + length (control_writes (unit_at self.old n).kind self.old n at) ≤ vec_capacity kept.old }

@@ -4,9 +4,10 @@ ghost use Rattle.mix_machine.specs.Write.{set_value, value_at, fits};
 
 use crate::old::Old;
 use crate::world::World;
+use mix_word::{Cmp, Place, Reg, Word};
 
 impl World {
-    /// Sets a value, and keeps the one that it replaces.
+    /// Sets a value, and keeps the one that it replaces. What a step writes most has a function of its own below, which is quicker.
     #[inline(always)]
     pub(crate) fn write(&mut self, value: Old, kept: &mut Vec<Old>)
         requires fits { IsTrue (fits self.old value) }
@@ -19,6 +20,91 @@ impl World {
         let next = value;
         kept.push_reserved(self.value_at(value));
         self.set_value(next);
+    }
+
+    /// Sets a register, and keeps what it held.
+    #[inline(always)]
+    pub(crate) fn write_register(&mut self, r: Reg, word: Word, kept: &mut Vec<Old>)
+        requires fits { IsTrue (fits self.old (Old.Reg r word)) }
+        requires room { vec_len kept.old < vec_capacity kept.old }
+        ensures state { self.new ≡ set_value self.old (Old.Reg r word) }
+        ensures kept { kept.new.items ≡ kept.old.items ++ value_at self.old (Old.Reg r word) ∷ [] }
+        ensures len { vec_len kept.new ≡ vec_len kept.old + 1 }
+        ensures capacity { vec_capacity kept.new ≡ vec_capacity kept.old }
+    {
+        kept.push_reserved(Old::Reg(r, self.registers.get(r)));
+        self.registers.set(r, word);
+    }
+
+    /// Sets a cell, and keeps what it held.
+    #[inline(always)]
+    pub(crate) fn write_cell(&mut self, place: Place, word: Word, kept: &mut Vec<Old>)
+        requires fits { IsTrue (fits self.old (Old.Cell place word)) }
+        requires room { vec_len kept.old < vec_capacity kept.old }
+        ensures state { self.new ≡ set_value self.old (Old.Cell place word) }
+        ensures kept { kept.new.items ≡ kept.old.items ++ value_at self.old (Old.Cell place word) ∷ [] }
+        ensures len { vec_len kept.new ≡ vec_len kept.old + 1 }
+        ensures capacity { vec_capacity kept.new ≡ vec_capacity kept.old }
+    {
+        let at = usize::from(place.number());
+        kept.push_reserved(Old::Cell(place, self.cells[at]));
+        self.cells[at] = word;
+    }
+
+    /// Sets the overflow toggle, and keeps what it was.
+    #[inline(always)]
+    pub(crate) fn write_over(&mut self, over: bool, kept: &mut Vec<Old>)
+        requires fits { IsTrue (fits self.old (Old.Over over)) }
+        requires room { vec_len kept.old < vec_capacity kept.old }
+        ensures state { self.new ≡ set_value self.old (Old.Over over) }
+        ensures kept { kept.new.items ≡ kept.old.items ++ value_at self.old (Old.Over over) ∷ [] }
+        ensures len { vec_len kept.new ≡ vec_len kept.old + 1 }
+        ensures capacity { vec_capacity kept.new ≡ vec_capacity kept.old }
+    {
+        kept.push_reserved(Old::Over(self.over));
+        self.over = over;
+    }
+
+    /// Sets the comparison indicator, and keeps what it was.
+    #[inline(always)]
+    pub(crate) fn write_cmp(&mut self, cmp: Cmp, kept: &mut Vec<Old>)
+        requires fits { IsTrue (fits self.old (Old.Cmp cmp)) }
+        requires room { vec_len kept.old < vec_capacity kept.old }
+        ensures state { self.new ≡ set_value self.old (Old.Cmp cmp) }
+        ensures kept { kept.new.items ≡ kept.old.items ++ value_at self.old (Old.Cmp cmp) ∷ [] }
+        ensures len { vec_len kept.new ≡ vec_len kept.old + 1 }
+        ensures capacity { vec_capacity kept.new ≡ vec_capacity kept.old }
+    {
+        kept.push_reserved(Old::Cmp(self.cmp));
+        self.cmp = cmp;
+    }
+
+    /// Sets the location, and keeps the one before.
+    #[inline(always)]
+    pub(crate) fn write_loc(&mut self, loc: u16, kept: &mut Vec<Old>)
+        requires fits { IsTrue (fits self.old (Old.Loc loc)) }
+        requires room { vec_len kept.old < vec_capacity kept.old }
+        ensures state { self.new ≡ set_value self.old (Old.Loc loc) }
+        ensures kept { kept.new.items ≡ kept.old.items ++ value_at self.old (Old.Loc loc) ∷ [] }
+        ensures len { vec_len kept.new ≡ vec_len kept.old + 1 }
+        ensures capacity { vec_capacity kept.new ≡ vec_capacity kept.old }
+    {
+        kept.push_reserved(Old::Loc(self.loc));
+        self.loc = loc;
+    }
+
+    /// Sets the clock, and keeps the time before.
+    #[inline(always)]
+    pub(crate) fn write_clock(&mut self, clock: u64, kept: &mut Vec<Old>)
+        requires fits { IsTrue (fits self.old (Old.Clock clock)) }
+        requires room { vec_len kept.old < vec_capacity kept.old }
+        ensures state { self.new ≡ set_value self.old (Old.Clock clock) }
+        ensures kept { kept.new.items ≡ kept.old.items ++ value_at self.old (Old.Clock clock) ∷ [] }
+        ensures len { vec_len kept.new ≡ vec_len kept.old + 1 }
+        ensures capacity { vec_capacity kept.new ≡ vec_capacity kept.old }
+    {
+        kept.push_reserved(Old::Clock(self.clock));
+        self.clock = clock;
     }
 
     /// Sets a value that is in the range of its place.

@@ -32,13 +32,13 @@ fn row(code: u8, f: u8) -> Decoded
 {
     match code / 8 {
         0 => low(code, f),
-        1 => found(Operation::Load(DataReg::at_offset(code - 8)), code, f),
+        1 => found(Operation::Load(DataReg::at_offset(code % 8)), code, f),
         2 => found(
-            Operation::LoadNegated(DataReg::at_offset(code - 16)),
+            Operation::LoadNegated(DataReg::at_offset(code % 8)),
             code,
             f,
         ),
-        3 => found(Operation::Store(DataReg::at_offset(code - 24)), code, f),
+        3 => found(Operation::Store(DataReg::at_offset(code % 8)), code, f),
         4 => middle(code, f),
         5 => register_jump(code, f),
         6 => address_transfer(code, f),
@@ -206,7 +206,7 @@ fn register_jump(code: u8, f: u8) -> Decoded
         _ => return unknown(code, f),
     };
     found(
-        Operation::RegisterJump(DataReg::at_offset(code - 40), condition),
+        Operation::RegisterJump(DataReg::at_offset(code % 8), condition),
         code,
         f,
     )
@@ -218,7 +218,7 @@ fn address_transfer(code: u8, f: u8) -> Decoded
     requires high { code < 56 }
     ensures { result ≡ decode_of code f }
 {
-    let r = DataReg::at_offset(code - 48);
+    let r = DataReg::at_offset(code % 8);
     match f {
         0 => found(Operation::Increase(r), code, f),
         1 => found(Operation::Decrease(r), code, f),
@@ -237,6 +237,6 @@ fn comparison(code: u8, f: u8) -> Decoded
     if f == 6 && code == 56 {
         floating(code, f)
     } else {
-        found(Operation::Compare(DataReg::at_offset(code - 56)), code, f)
+        found(Operation::Compare(DataReg::at_offset(code % 8)), code, f)
     }
 }

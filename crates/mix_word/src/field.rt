@@ -1,5 +1,5 @@
 //! A field (L:R) of a word (1.3.1): bytes L to R, where position 0 is the sign.
-ghost use Rattle.std.specs.Prelude.{◌≡◌, Some, IfSome, ◌+◌, ◌-◌, ◌*◌, ◌/◌, ◌%◌, ◌^◌, ◌<◌, ◌≤◌};
+ghost use Rattle.std.specs.Prelude.{◌≡◌, Some, IfSome, ◌+◌, ◌-◌, ◌*◌, ◌/◌, ◌%◌, ◌^◌, ◌<◌, ◌≤◌, ◌&&◌, ◌==◌};
 ghost use Rattle.mix_word.specs.Field.{field_between, code_of_field, field_of, field_value_of, put_field_of, field, width_of};
 
 use crate::word::{Sign, Word};
@@ -75,6 +75,13 @@ impl Field {
         self.right
     }
 
+    // Whether it is the whole word.
+    fn is_whole(self) -> bool
+        ensures { result ≡ (self.left == 0 && self.right == 5) }
+    {
+        self.left == 0 && self.right == 5
+    }
+
     // How many bits lie below the field's bytes, and how many bits these have.
     fn place(self) -> (u32, u32)
         ensures below { result.0 ≡ 6 * (5 - self.right) }
@@ -89,8 +96,19 @@ impl Field {
 
 impl Word {
     /// What a load takes (1.3.1): the bytes of a field at the right end of a word, with the sign if L is 0, or else with +.
-    #[tactic(auto, using(crate::proofs::FieldLemmas::fields))]
+    // (most instructions take the whole word, of which nothing has to be cut)
     pub fn field_value(self, f: Field) -> Word
+        ensures { result ≡ field_value_of self f }
+    {
+        if f.is_whole() {
+            self
+        } else {
+            self.bytes_of_field(f)
+        }
+    }
+
+    #[tactic(auto, using(crate::proofs::FieldLemmas::fields))]
+    fn bytes_of_field(self, f: Field) -> Word
         ensures { result ≡ field_value_of self f }
     {
         let (below, bits) = f.place();
@@ -103,8 +121,18 @@ impl Word {
     }
 
     /// What a store leaves (1.3.1): the word with the rightmost bytes of `v` in the field, and with the sign of `v` if L is 0.
-    #[tactic(auto, using(crate::proofs::FieldLemmas::fields))]
     pub fn put_field(self, f: Field, v: Word) -> Word
+        ensures { result ≡ put_field_of self f v }
+    {
+        if f.is_whole() {
+            v
+        } else {
+            self.put_bytes_of_field(f, v)
+        }
+    }
+
+    #[tactic(auto, using(crate::proofs::FieldLemmas::fields))]
+    fn put_bytes_of_field(self, f: Field, v: Word) -> Word
         ensures { result ≡ put_field_of self f v }
     {
         let (below, bits) = f.place();

@@ -135,7 +135,8 @@ impl DataReg {
             4 => DataReg::I4,
             5 => DataReg::I5,
             6 => DataReg::I6,
-            _ => DataReg::X,
+            7 => DataReg::X,
+            _ => unreachable!(),
         }
     }
 

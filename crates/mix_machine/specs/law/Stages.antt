@@ -16,9 +16,13 @@ use Rattle.mix_machine.specs.declared.step.operand.Operand.{Operand}
 use Rattle.mix_machine.specs.declared.fault.MixFault.{MixFault}
 use Rattle.mix_machine.specs.declared.fault.MixFault.TheVariants.{NoOperation, FloatingOperation, IndexOverSix, LargeAddress, NoCell, NoField, IndexOverflow, NegativeShift, NoUnit, WrongDirection, NoBlock, BadControl, UnitFull, ClockFull}
 
+-- the faults of I and M
+abbrev pub of_address : List MixFault
+of_address = IndexOverSix ∷ LargeAddress ∷ []
+
 -- the faults that are read off the instruction
 abbrev pub of_instruction : List MixFault
-of_instruction = NoOperation ∷ FloatingOperation ∷ IndexOverSix ∷ LargeAddress ∷ []
+of_instruction = NoOperation ∷ FloatingOperation ∷ of_address
 
 -- the faults of the operation itself
 abbrev pub of_operation : List MixFault

@@ -4,7 +4,7 @@ ghost use Rattle.mix_word.specs.declared.decoding.Decoded.TheVariants.{Named};
 ghost use Rattle.mix_machine.specs.Order.{applies};
 ghost use Rattle.mix_machine.specs.UnitAction.{use_of, start_of, transfer_start};
 ghost use Rattle.mix_machine.specs.Do.{step_or_fault};
-ghost use Rattle.mix_machine.specs.law.Stages.{of_instruction, fault_among, outcome_of, timed_or_fault};
+ghost use Rattle.mix_machine.specs.law.Stages.{of_address, fault_among, outcome_of, timed_or_fault};
 ghost use Rattle.mix_machine.specs.law.Carried.{Carried};
 
 use crate::decode::Arguments;
@@ -33,53 +33,19 @@ impl World {
     ) -> Result<(), Refused<MixFault>>
         requires cell { self.old.loc < 4000 }
         requires f { a.f < 64 }
+        requires served { fault_among (applies (Named operation) self.old a) of_address ≡ None }
         requires outcome { outcome ≡ outcome_of operation self.old a }
         ensures { Carried (step_or_fault (Named operation) self.old a) self.old self.new kept.old.items kept.new.items result }
     {
         // (the proof knows the ranges of the machine where a field of it is named)
         let _ = &self.loc;
-        match self.plan_of_operation(operation, outcome, a) {
+        match self.plan_of_served(operation, outcome, a) {
             Err(fault) => Err(Refused::Fault(fault)),
             Ok(plan) => {
                 kept.reserve(MOST_KEPT)?;
                 self.perform(plan, kept)?;
                 Ok(())
             }
-        }
-    }
-
-    // The plan of a step of an operation, or its first fault.
-    #[inline(always)]
-    fn plan_of_operation(
-        &self,
-        operation: Operation,
-        outcome: Outcome,
-        a: Arguments,
-    ) -> Result<Plan, MixFault>
-        requires cell { self.now.loc < 4000 }
-        requires outcome { outcome ≡ outcome_of operation self.now a }
-        ensures { result ≡ step_or_fault (Named operation) self.now a }
-    {
-        let given = a;
-        match self.fault_of_instruction(operation, given) {
-            Some(fault) => Err(fault),
-            None => self.plan_of_served(operation, outcome, a),
-        }
-    }
-
-    // What the instruction alone says against the step.
-    #[inline(always)]
-    fn fault_of_instruction(&self, operation: Operation, a: Arguments) -> Option<MixFault>
-        ensures { result ≡ fault_among (applies (Named operation) self.now a) of_instruction }
-    {
-        if !operation.needs_address() {
-            None
-        } else if a.index > 6 {
-            Some(MixFault::IndexOverSix)
-        } else if a.m.magnitude() >= 4096 {
-            Some(MixFault::LargeAddress)
-        } else {
-            None
         }
     }
 
@@ -92,7 +58,7 @@ impl World {
         a: Arguments,
     ) -> Result<Plan, MixFault>
         requires cell { self.now.loc < 4000 }
-        requires served { fault_among (applies (Named operation) self.now a) of_instruction ≡ None }
+        requires served { fault_among (applies (Named operation) self.now a) of_address ≡ None }
         requires outcome { outcome ≡ outcome_of operation self.now a }
         ensures { result ≡ step_or_fault (Named operation) self.now a }
     {

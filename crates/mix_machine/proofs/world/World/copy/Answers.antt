@@ -11,9 +11,9 @@ loop-i-preserved c =
     let q : c.place.result ≡ c.args.from + i = cc in
     let v = c.cell-word.ensures in
     record {
-      state = copied-state c.args.count i c.args.from c.args.to _ _ w _ c.cell-word.result h p q v c.write.ensures.state ∙ c.loop-i.invariant.state;
-      kept = copied-values c.args.count i c.args.from c.args.to _ _ w _ c.cell-word.result _ _ h p q v c.write.ensures.state c.write.ensures.kept
+      state = copied-state c.args.count i c.args.from c.args.to _ _ w _ c.cell-word.result h p q v c.write_cell.ensures.state ∙ c.loop-i.invariant.state;
+      kept = copied-values c.args.count i c.args.from c.args.to _ _ w _ c.cell-word.result _ _ h p q v c.write_cell.ensures.state c.write_cell.ensures.kept
           ∙ c.loop-i.invariant.kept;
       len = omega arith;
-      capacity = c.write.ensures.capacity ∙ c.loop-i.invariant.capacity;
+      capacity = c.write_cell.ensures.capacity ∙ c.loop-i.invariant.capacity;
     }

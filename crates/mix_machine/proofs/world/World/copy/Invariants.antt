@@ -6,8 +6,8 @@ abbrev pub invariant-loop-i : goal.invariant-loop-i
 invariant-loop-i l = record {
   state : write_all l.self (copies (l.count - l.i) (l.from + l.i) (l.to + l.i) l.self)
       ≡ write_all l.initial.self (copies l.count l.from l.to l.initial.self);
-  kept : l.kept.items ++ kept_by l.self (copies (l.count - l.i) (l.from + l.i) (l.to + l.i) l.self)
-      ≡ l.initial.kept.items ++ kept_by l.initial.self (copies l.count l.from l.to l.initial.self);
-  len : vec_len l.kept ≡ vec_len l.initial.kept + l.i;
-  capacity : vec_capacity l.kept ≡ vec_capacity l.initial.kept;
+  kept : l.list.items ++ kept_by l.self (copies (l.count - l.i) (l.from + l.i) (l.to + l.i) l.self)
+      ≡ l.initial.list.items ++ kept_by l.initial.self (copies l.count l.from l.to l.initial.self);
+  len : vec_len l.list ≡ vec_len l.initial.list + l.i;
+  capacity : vec_capacity l.list ≡ vec_capacity l.initial.list;
 }

@@ -1,0 +1,18 @@
+use Rattle.std.proofs.Common.{◌≡◌, sym, ◌==◌, false, Err, rules, arith}
+use Rattle.std.proofs.lemmas.Bool.Decides.{nat_tests}
+use Rattle.mix_word.specs.Table.{decode_of}
+use Rattle.mix_word.specs.Word.{parts_of}
+use Rattle.mix_machine.specs.Order.{operation_or_nop}
+use Rattle.mix_machine.specs.Do.{step_or_fault, step_plan}
+use Rattle.mix_machine.proofs.StageLemmas.{fault-of-address}
+use Rattle.mix_machine.proofs.world.World.step_of_word.Goals as goal
+
+pub returns-in-Some : goal.returns-in-Some
+returns-in-Some c =
+    let w = c.args.self.now in
+    let a = c.arguments-arguments.result in
+    let d = decode_of (parts_of c.args.word).code a.f in
+    let cell = c.requires.cell in
+    let there : (w.loc == 4000) ≡ false = grind (arith, nat_tests) in
+    let refused : step_or_fault d w a ≡ Err c.in-Some.fault = fault-of-address d w a (step_plan (operation_or_nop d) w a) c.in-Some.fault there (sym c.in-Some.ensures) in
+    search (rules, refused)
