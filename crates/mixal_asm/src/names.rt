@@ -22,10 +22,19 @@ pub(crate) struct Latest {
 }
 
 /// The names that have a value, in the order in which they got it.
-#[derive(Drop)]
 pub(crate) struct NameTable {
     values: IndexMap<Key, Word>,
     latest: IndexMap<u8, Latest>,
+}
+
+// Written out, so that the proof of what drops a table has one call to read, and not those of its fields.
+impl Drop for NameTable {
+    fn drop(self) {
+        let NameTable {
+            values: _,
+            latest: _,
+        } = self;
+    }
 }
 
 impl Model for NameTable {
