@@ -15,7 +15,7 @@ use std::marker::Model;
 use undo_core::Memory;
 
 /// Of a digit d, how many dH there are, and the value of the last one.
-#[derive(Clone, Copy, Debug)]
+#[derive(Clone, Copy)]
 pub(crate) struct Latest {
     pub count: usize,
     pub value: Word,
