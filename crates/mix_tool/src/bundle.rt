@@ -10,7 +10,7 @@ const DEVICES: &[u8] = b"%DEVICES";
 const SCRIPT: &[u8] = b"%SCRIPT";
 
 /// The source, the deck and the script of a bundle, each with all its bytes; a part that is missing is empty.
-#[derive(Clone, Copy, Debug)]
+#[derive(Clone, Copy)]
 pub(crate) struct BundleParts<'a> {
     pub source: &'a [u8],
     pub deck: &'a [u8],

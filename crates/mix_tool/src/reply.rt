@@ -35,7 +35,7 @@ pub(crate) struct Reply {
 }
 
 /// Why `step` or `run` did no more steps.
-#[derive(Clone, Copy, Debug, PartialEq, Eq)]
+#[derive(Clone, Copy)]
 pub(crate) enum End {
     Halt,
     Break,

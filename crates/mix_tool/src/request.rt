@@ -174,16 +174,21 @@ fn read_change<N: Names>(
             let value = word_in(one_word(words)?, names, here)?;
             Ok(Change::SetReg(register, value))
         }
-        SetWord::Cell => {
-            let (at, value) = two_words(words)?;
-            let at = expression_in(at, names, here)?;
-            let value = word_in(value, names, here)?;
-            Ok(Change::SetCell(place_of(at)?, value))
-        }
+        SetWord::Cell => read_cell(words, names, here),
         SetWord::Location => Ok(Change::SetLoc(one_place(words, names, here)?)),
         SetWord::Toggle => Ok(Change::SetOver(keyword(one_word(words)?)?)),
         SetWord::Indicator => Ok(Change::SetCmp(keyword(one_word(words)?)?)),
     }
+}
+
+// A cell, and the word that it gets.
+fn read_cell<N: Names>(words: &mut Words, names: &N, here: Word) -> Result<Change, Refusal>
+    ensures { result ≡ change_of (N.names names.now) here SetWord.Cell words.old }
+{
+    let (at, value) = two_words(words)?;
+    let at = expression_in(at, names, here)?;
+    let value = word_in(value, names, here)?;
+    Ok(Change::SetCell(place_of(at)?, value))
 }
 
 #[tactic(auto, unfolding(crate::specs::Request::show_request))]

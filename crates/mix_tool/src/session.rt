@@ -19,11 +19,21 @@ use std::marker::Model;
 use undo_core::{Journal, Memory};
 
 /// An assembled program, the machine that it was loaded into, and the changes of that machine.
-#[derive(Drop)]
 pub struct Session<'s> {
     alloc: Global,
     program: Program<'s>,
     journal: Journal<World>,
+}
+
+// Written out, so that the proof of what drops a session has one call to read, and not those of its fields.
+impl Drop for Session<'_> {
+    fn drop(self) {
+        let Session {
+            alloc: _,
+            program: _,
+            journal: _,
+        } = self;
+    }
 }
 
 impl<'s> Model for Session<'s> {

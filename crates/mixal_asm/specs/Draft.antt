@@ -16,7 +16,7 @@ use Rattle.std.specs.Prelude.{Result, Ok, length}
 use Rattle.mixal_asm.specs.declared.fault.AsmKind.{AsmKind}
 use Rattle.mixal_asm.specs.declared.row.Shows.TheVariants as shows
 use Rattle.mixal_asm.specs.PassOne.{Before, with_line, NamesSoFar, value_of, back_of}
-use Rattle.mixal_asm.specs.Assembly.{finished_word}
+use Rattle.mixal_asm.specs.Assembly.{Answer, More, Done, finished_word, program_at}
 use Rattle.mixal_asm.specs.Chain.{Held, emitted_of}
 
 -- a word as it is by these names
@@ -77,6 +77,16 @@ passes test (Some x) = test x
 pub record IsReady (b : Before) : Type 0 where
   pub unplaced : HasNoLiteral b.names
   pub lines : length b.rows ≤ 20000
+
+-- what a line gives, by the lines so far with it and, at END, the start of their program
+abbrev pub answer_at : Before → Option ℕ → Answer
+answer_at b None = More b
+answer_at b (Some start) = Done (program_at b start)
+
+-- where a line was not END, the next can follow
+abbrev pub WaitsFor : Option ℕ → Before → Type 0
+WaitsFor None b = IsReady b
+WaitsFor (Some start) b = Unit {0}
 
 -- whether lines come after one with this OP: after END none do
 abbrev pub goes_on : Op → Bool

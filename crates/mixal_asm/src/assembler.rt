@@ -1,20 +1,20 @@
 //! The assembler, one line at a time (1.3.2).
 ghost use Rattle.std.specs.Prelude.{◌≡◌, ◌<◌, length, true, false, Ok, Err, IfOk};
 ghost use Rattle.undo_core.specs.Refused.{IfFault};
-ghost use Rattle.mixal_text.specs.declared.op.Op.TheVariants.{End};
 ghost use Rattle.mixal_text.specs.Line.{HasBytes, IsOfBytes, Remark, value_of_line};
 ghost use Rattle.mixal_asm.specs.PassOne.{at_first, number_after, is_taken};
 ghost use Rattle.mixal_asm.specs.Assembly.{answer_of, answer_of_line, answer_of_op, waiting_in};
-ghost use Rattle.mixal_asm.specs.Draft.{HasNoLiteral, goes_on};
+ghost use Rattle.mixal_asm.specs.Draft.{HasNoLiteral, WaitsFor, answer_at, goes_on};
 ghost use Rattle.mixal_asm.specs.Fed.{answer_of_fed};
 
 use crate::draft::Draft;
 use crate::fault::{AsmFault, AsmKind};
 use crate::fed::Fed;
+use mix_word::Place;
 use mixal_text::{Label, Line, Op, read_line};
 use std::alloc::Global;
 use std::marker::Model;
-use undo_core::{Memory, Refused};
+use undo_core::Refused;
 
 /// The assembler of one source (1.3.2), seen as what the lines so far give. It goes once over the lines: a word whose address is
 /// not known yet waits for its name, and is finished where the name gets its value.
@@ -70,17 +70,15 @@ impl<'s> Assembler<'s> {
     }
 
     // The same without the number of the line.
-    #[tactic(auto, unfolding(crate::specs::Assembly::answer_of))]
     fn answer(self, text: &'s [u8]) -> Result<Fed<'s>, Refused<AsmKind>>
         ensures ok { IfOk result (λ fed. answer_of self.entry text.now ≡ Ok (answer_of_fed fed)) }
         ensures fault { IfFault result (λ kind. answer_of self.entry text.now ≡ Err kind) }
     {
-        if self.draft.is_full() {
-            return Err(Refused::Fault(AsmKind::SourceTooLong));
-        }
-        match read_line(text) {
-            Ok(line) => answer_line(self.draft, self.alloc, text, line),
-            Err(fault) => Err(Refused::Fault(AsmKind::Text(fault))),
+        let alloc = self.alloc;
+        let mut draft = self.draft;
+        match answer(&mut draft, text)? {
+            None => Ok(Fed::More(Assembler { draft, alloc })),
+            Some(start) => Ok(Fed::Done(draft.into_program(alloc, start)?)),
         }
     }
 
@@ -92,102 +90,101 @@ impl<'s> Assembler<'s> {
     }
 }
 
+// What a line gives: the lines so far with it and, at END, the start of their program.
+#[tactic(auto, unfolding(crate::specs::Assembly::answer_of))]
+fn answer<'s>(draft: &mut Draft<'s>, text: &'s [u8]) -> Result<Option<Place>, Refused<AsmKind>>
+    requires { HasNoLiteral draft.old.names }
+    ensures ok { IfOk result (λ end. answer_of draft.old text.now ≡ Ok (answer_at draft.new end)) }
+    ensures fault { IfFault result (λ kind. answer_of draft.old text.now ≡ Err kind) }
+    ensures ready { IfOk result (λ end. WaitsFor end draft.new) }
+{
+    if draft.is_full() {
+        return Err(Refused::Fault(AsmKind::SourceTooLong));
+    }
+    match read_line(text) {
+        Ok(line) => answer_line(draft, text, line),
+        Err(fault) => Err(Refused::Fault(AsmKind::Text(fault))),
+    }
+}
+
 // A line that was read. A symbol that has a value already is A4.
 fn answer_line<'s>(
-    draft: Draft<'s>,
-    alloc: Global,
+    draft: &mut Draft<'s>,
     text: &'s [u8],
     line: Line<'s>,
-) -> Result<Fed<'s>, Refused<AsmKind>>
-    requires lines { length draft.rows < 20000 }
-    requires unplaced { HasNoLiteral draft.names }
+) -> Result<Option<Place>, Refused<AsmKind>>
+    requires lines { length draft.old.rows < 20000 }
+    requires unplaced { HasNoLiteral draft.old.names }
     requires bytes { HasBytes line }
-    ensures ok { IfOk result (λ fed. answer_of_line draft.entry text.now (value_of_line line.entry) ≡ Ok (answer_of_fed fed)) }
-    ensures fault { IfFault result (λ kind. answer_of_line draft.entry text.now (value_of_line line.entry) ≡ Err kind) }
+    ensures ok { IfOk result (λ end. answer_of_line draft.old text.now (value_of_line line.entry) ≡ Ok (answer_at draft.new end)) }
+    ensures fault { IfFault result (λ kind. answer_of_line draft.old text.now (value_of_line line.entry) ≡ Err kind) }
+    ensures ready { IfOk result (λ end. WaitsFor end draft.new) }
 {
     match line {
-        Line::Remark => answer_remark(draft, alloc, text),
+        Line::Remark => answer_remark(draft, text),
         Line::Code { loc, op, address } => {
             if draft.is_taken(&loc) {
                 return Err(Refused::Fault(AsmKind::DefinedTwice));
             }
-            answer_code(draft, alloc, text, &loc, op, address)
+            answer_code(draft, text, &loc, op, address)
         }
     }
 }
 
 fn answer_remark<'s>(
-    mut draft: Draft<'s>,
-    alloc: Global,
+    draft: &mut Draft<'s>,
     text: &'s [u8],
-) -> Result<Fed<'s>, Refused<AsmKind>>
-    requires lines { length draft.rows < 20000 }
-    requires unplaced { HasNoLiteral draft.names }
-    ensures ok { IfOk result (λ fed. answer_of_line draft.entry text.now Remark ≡ Ok (answer_of_fed fed)) }
-    ensures fault { IfFault result (λ kind. answer_of_line draft.entry text.now Remark ≡ Err kind) }
+) -> Result<Option<Place>, Refused<AsmKind>>
+    requires lines { length draft.old.rows < 20000 }
+    requires unplaced { HasNoLiteral draft.old.names }
+    ensures ok { IfOk result (λ end. answer_of_line draft.old text.now Remark ≡ Ok (answer_at draft.new end)) }
+    ensures fault { IfFault result (λ kind. answer_of_line draft.old text.now Remark ≡ Err kind) }
+    ensures ready { IfOk result (λ end. WaitsFor end draft.new) }
 {
-    match draft.remark(text) {
-        Ok(()) => Ok(Fed::More(Assembler { draft, alloc })),
-        Err(Memory) => Err(Refused::Memory),
-    }
+    draft.remark(text)?;
+    Ok(None)
 }
 
 fn answer_code<'s>(
-    draft: Draft<'s>,
-    alloc: Global,
+    draft: &mut Draft<'s>,
     text: &'s [u8],
     loc: &Option<Label>,
     op: Op,
     address: &'s [u8],
-) -> Result<Fed<'s>, Refused<AsmKind>>
-    requires lines { length draft.rows < 20000 }
-    requires unplaced { HasNoLiteral draft.names }
+) -> Result<Option<Place>, Refused<AsmKind>>
+    requires lines { length draft.old.rows < 20000 }
+    requires unplaced { HasNoLiteral draft.old.names }
     requires bytes { IsOfBytes op }
-    requires untaken { is_taken draft.names loc.now ≡ false }
-    ensures ok { IfOk result (λ fed. answer_of_op draft.entry text.now loc.now op address.now ≡ Ok (answer_of_fed fed)) }
-    ensures fault { IfFault result (λ kind. answer_of_op draft.entry text.now loc.now op address.now ≡ Err kind) }
+    requires untaken { is_taken draft.old.names loc.now ≡ false }
+    ensures ok { IfOk result (λ end. answer_of_op draft.old text.now loc.now op address.now ≡ Ok (answer_at draft.new end)) }
+    ensures fault { IfFault result (λ kind. answer_of_op draft.old text.now loc.now op address.now ≡ Err kind) }
+    ensures ready { IfOk result (λ end. WaitsFor end draft.new) }
 {
     match op {
-        Op::End => answer_end(draft, alloc, text, loc, address),
-        _ => answer_more(draft, alloc, text, loc, op, address),
+        Op::End => {
+            let start = draft.end_line(text, loc, address)?;
+            Ok(Some(start))
+        }
+        _ => answer_more(draft, text, loc, op, address),
     }
 }
 
 fn answer_more<'s>(
-    mut draft: Draft<'s>,
-    alloc: Global,
+    draft: &mut Draft<'s>,
     text: &'s [u8],
     loc: &Option<Label>,
     op: Op,
     address: &'s [u8],
-) -> Result<Fed<'s>, Refused<AsmKind>>
+) -> Result<Option<Place>, Refused<AsmKind>>
     requires op { goes_on op ≡ true }
-    requires lines { length draft.rows < 20000 }
-    requires unplaced { HasNoLiteral draft.names }
+    requires lines { length draft.old.rows < 20000 }
+    requires unplaced { HasNoLiteral draft.old.names }
     requires bytes { IsOfBytes op }
-    requires untaken { is_taken draft.names loc.now ≡ false }
-    ensures ok { IfOk result (λ fed. answer_of_op draft.entry text.now loc.now op address.now ≡ Ok (answer_of_fed fed)) }
-    ensures fault { IfFault result (λ kind. answer_of_op draft.entry text.now loc.now op address.now ≡ Err kind) }
+    requires untaken { is_taken draft.old.names loc.now ≡ false }
+    ensures ok { IfOk result (λ end. answer_of_op draft.old text.now loc.now op address.now ≡ Ok (answer_at draft.new end)) }
+    ensures fault { IfFault result (λ kind. answer_of_op draft.old text.now loc.now op address.now ≡ Err kind) }
+    ensures ready { IfOk result (λ end. WaitsFor end draft.new) }
 {
     draft.code_line(text, loc, op, address)?;
-    Ok(Fed::More(Assembler { draft, alloc }))
-}
-
-fn answer_end<'s>(
-    draft: Draft<'s>,
-    alloc: Global,
-    text: &'s [u8],
-    loc: &Option<Label>,
-    address: &'s [u8],
-) -> Result<Fed<'s>, Refused<AsmKind>>
-    requires lines { length draft.rows < 20000 }
-    requires unplaced { HasNoLiteral draft.names }
-    requires untaken { is_taken draft.names loc.now ≡ false }
-    ensures ok { IfOk result (λ fed. answer_of_op draft.entry text.now loc.now End address.now ≡ Ok (answer_of_fed fed)) }
-    ensures fault { IfFault result (λ kind. answer_of_op draft.entry text.now loc.now End address.now ≡ Err kind) }
-{
-    match draft.end_line(alloc, text, loc, address) {
-        Ok(program) => Ok(Fed::Done(program)),
-        Err(refused) => Err(refused),
-    }
+    Ok(None)
 }

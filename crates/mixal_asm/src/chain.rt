@@ -7,7 +7,7 @@ use mix_word::{Parts, Word};
 
 /// An emitted word: as it was emitted, as it is by the names that have a value, and which word before it waits for the same
 /// name, if it waits for one.
-#[derive(Debug, Drop)]
+#[derive(Drop)]
 pub(crate) struct Entry {
     pub emitted: Emitted,
     pub word: Word,

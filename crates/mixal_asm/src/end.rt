@@ -3,8 +3,7 @@ ghost use Rattle.std.specs.Prelude.{◌≡◌, ◌<◌, slice_get, false, length
 ghost use Rattle.std.specs.List.{list_any};
 ghost use Rattle.mix_word.specs.Word.{plus};
 ghost use Rattle.undo_core.specs.Refused.{IfFault};
-ghost use Rattle.mixal_asm.specs.declared.row.Shows.TheVariants.{Start};
-ghost use Rattle.mixal_asm.specs.PassOne.{is_taken, with_line};
+ghost use Rattle.mixal_asm.specs.PassOne.{is_taken};
 ghost use Rattle.mixal_asm.specs.Assembly.{is_unmet, program_at, end_value, start_of, first_uses, inserted, ended, end_line};
 
 use crate::draft::Draft;
@@ -42,40 +41,38 @@ impl<'s> Draft<'s> {
         }
     }
 
-    /// END, by its LOC and its ADDRESS: the lines that are inserted before it, its LOC, the start and the program.
+    /// END, by its LOC and its ADDRESS: the lines that are inserted before it, its LOC and its row. It answers the start of the program.
     #[tactic(auto, unfolding(crate::specs::Assembly::end_line, crate::specs::Assembly::inserted))]
     pub(crate) fn end_line(
-        mut self,
-        alloc: Global,
+        &mut self,
         text: &'s [u8],
         loc: &Option<Label>,
         address: &[u8],
-    ) -> Result<Program<'s>, Refused<AsmKind>>
-        requires lines { length self.rows < 20000 }
-        requires untaken { is_taken self.names loc.now ≡ false }
-        requires unplaced { HasNoLiteral self.names }
-        ensures ok { IfOk result (λ program. end_line self.entry text.now loc.now address.now ≡ Ok program) }
-        ensures fault { IfFault result (λ kind. end_line self.entry text.now loc.now address.now ≡ Err kind) }
+    ) -> Result<Place, Refused<AsmKind>>
+        requires lines { length self.old.rows < 20000 }
+        requires untaken { is_taken self.old.names loc.now ≡ false }
+        requires unplaced { HasNoLiteral self.old.names }
+        ensures ok { IfOk result (λ start. end_line self.old text.now loc.now address.now ≡ Ok (program_at self.new start)) }
+        ensures fault { IfFault result (λ kind. end_line self.old text.now loc.now address.now ≡ Err kind) }
     {
         let number = self.number();
         self.insert_literals()?;
         self.insert_zeros(loc)?;
-        self.ended(alloc, number, text, loc, address)
+        self.ended(number, text, loc, address)
     }
 
     // The rest of END, where those lines are inserted.
     #[tactic(auto, unfolding(crate::specs::Assembly::ended))]
     fn ended(
-        mut self,
-        alloc: Global,
+        &mut self,
         number: u32,
         text: &'s [u8],
         loc: &Option<Label>,
         address: &[u8],
-    ) -> Result<Program<'s>, Refused<AsmKind>>
-        requires { is_taken self.names loc.now ≡ false }
-        ensures ok { IfOk result (λ program. ended self.entry number text.now loc.now address.now ≡ Ok program) }
-        ensures fault { IfFault result (λ kind. ended self.entry number text.now loc.now address.now ≡ Err kind) }
+    ) -> Result<Place, Refused<AsmKind>>
+        requires { is_taken self.old.names loc.now ≡ false }
+        ensures ok { IfOk result (λ start. ended self.old number text.now loc.now address.now ≡ Ok (program_at self.new start)) }
+        ensures fault { IfFault result (λ kind. ended self.old number text.now loc.now address.now ≡ Err kind) }
     {
         if self.has_unmet(loc) {
             return Err(Refused::Fault(AsmKind::Text(TextFault::NoSuchLocalSymbol)));
@@ -85,28 +82,13 @@ impl<'s> Draft<'s> {
             Ok(value) => value,
             Err(kind) => return Err(Refused::Fault(kind)),
         };
-        let start = match start_of(value) {
-            Ok(start) => start,
-            Err(kind) => return Err(Refused::Fault(kind)),
-        };
-        match self.finish(alloc, number, text, start) {
-            Ok(program) => Ok(program),
-            Err(Memory) => Err(Refused::Memory),
+        match start_of(value) {
+            Ok(start) => {
+                self.add_row(Source::Line(number, text), Shows::Start)?;
+                Ok(start)
+            }
+            Err(kind) => Err(Refused::Fault(kind)),
         }
-    }
-
-    // The row of END, and the program.
-    fn finish(
-        mut self,
-        alloc: Global,
-        number: u32,
-        text: &'s [u8],
-        start: Place,
-    ) -> Result<Program<'s>, Memory>
-        ensures { IfOk result (λ program. program ≡ program_at (with_line self.entry number text.now Start) start) }
-    {
-        self.add_row(Source::Line(number, text), Shows::Start)?;
-        self.into_program(alloc, start)
     }
 
     // Whether any dF meets no dH, that of END included.
@@ -131,8 +113,8 @@ impl<'s> Draft<'s> {
         }
     }
 
-    // The program of all lines.
-    fn into_program(self, alloc: Global, start: Place) -> Result<Program<'s>, Memory>
+    /// The program of all lines.
+    pub(crate) fn into_program(self, alloc: Global, start: Place) -> Result<Program<'s>, Memory>
         ensures { IfOk result (λ program. program ≡ program_at self.entry start) }
     {
         let words = self.words.placed(alloc)?;

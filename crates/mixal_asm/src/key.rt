@@ -10,7 +10,7 @@ use std::hash::{Hash, Hasher};
 
 /// What gets a value once (1.3.2): an ordinary symbol; the local symbol dH by its digit d and by how many dH stand before
 /// it; or a literal, whose value is its place, by how many literals stand before it.
-#[derive(Debug, Drop)]
+#[derive(Drop)]
 pub(crate) enum Key {
     Name(Symbol),
     Local(u8, usize),

@@ -15,17 +15,26 @@ use std::marker::Model;
 use undo_core::Memory;
 
 /// Of a digit d, how many dH there are, and the value of the last one.
-#[derive(Clone, Copy, Debug)]
+#[derive(Clone, Copy)]
 pub(crate) struct Latest {
     pub count: usize,
     pub value: Word,
 }
 
 /// The names that have a value, in the order in which they got it.
-#[derive(Drop)]
 pub(crate) struct NameTable {
     values: IndexMap<Key, Word>,
     latest: IndexMap<u8, Latest>,
+}
+
+// Written out, so that the proof of what drops a table has one call to read, and not those of its fields.
+impl Drop for NameTable {
+    fn drop(self) {
+        let NameTable {
+            values: _,
+            latest: _,
+        } = self;
+    }
 }
 
 impl Model for NameTable {

@@ -5,7 +5,7 @@ use mixal_text::Symbol;
 
 /// What a row shows beside its text: nothing; the value that EQU gives; the word of this number, from 0 on, in the order
 /// of the words, with its place; or the start.
-#[derive(Clone, Copy, Debug)]
+#[derive(Clone, Copy)]
 pub(crate) enum Shows {
     Nothing,
     Value(Word),
@@ -15,7 +15,7 @@ pub(crate) enum Shows {
 
 /// Where a row comes from: a line of the source by its number and its text, a literal as it stands between its equals signs, or
 /// an undefined symbol. The last two are lines that are inserted before END.
-#[derive(Debug, Drop)]
+#[derive(Drop)]
 pub(crate) enum Source<'s> {
     Line(u32, &'s [u8]),
     Literal(&'s [u8]),
@@ -23,7 +23,7 @@ pub(crate) enum Source<'s> {
 }
 
 /// A row of the listing.
-#[derive(Debug, Drop)]
+#[derive(Drop)]
 pub(crate) struct Row<'s> {
     pub source: Source<'s>,
     pub shows: Shows,

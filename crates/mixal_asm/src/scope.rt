@@ -9,7 +9,7 @@ use mix_word::Word;
 use mixal_text::{Label, Names, Symbol};
 
 /// The digit d of a line whose LOC is dH, and the value of the dH before it, which dB means there.
-#[derive(Clone, Copy, Debug)]
+#[derive(Clone, Copy)]
 pub(crate) struct Own {
     pub digit: u8,
     pub back: Option<Word>,

@@ -3,7 +3,7 @@ ghost use Rattle.std.specs.Prelude.{◌≡◌, ◌<◌, IfSome};
 ghost use Rattle.mixal_text.specs.Local.{local_of, direction_of};
 
 /// Where a local symbol points: to its own line, or to the closest one before or after it.
-#[derive(Clone, Copy, Debug, PartialEq, Eq)]
+#[derive(Clone, Copy)]
 pub(crate) enum Direction {
     Here,
     Backward,
@@ -11,7 +11,7 @@ pub(crate) enum Direction {
 }
 
 /// A local symbol: `2H`, `2B` or `2F`, of which the digit is 2.
-#[derive(Clone, Copy, Debug, PartialEq, Eq)]
+#[derive(Clone, Copy)]
 pub(crate) struct Local {
     pub digit: u8,
     pub direction: Direction,

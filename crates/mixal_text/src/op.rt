@@ -18,7 +18,7 @@ pub enum Op {
 }
 
 /// The name that stands in the place of OP.
-#[derive(Clone, Copy, Debug, PartialEq, Eq)]
+#[derive(Clone, Copy)]
 pub(crate) enum Mnemonic {
     Machine(Operation),
     Equ,

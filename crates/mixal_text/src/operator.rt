@@ -6,7 +6,7 @@ use crate::fault::TextFault;
 use mix_word::{Sign, Word, add, div, mul, sub};
 
 /// What stands between two atoms: `+`, `-`, `*`, `/`, `//` or `:`.
-#[derive(Clone, Copy, Debug, PartialEq, Eq)]
+#[derive(Clone, Copy)]
 pub(crate) enum Operator {
     Add,
     Subtract,

@@ -4,4 +4,4 @@ use Rattle.mixal_asm.proofs.draft.Draft.end_line.Goals as goal
 pub ended-requires : goal.ended-requires
 ended-requires c =
     c.in_ok-insert_zeros.ensures.untaken
-    (taken_as_before c.args.self.names c.insert_literals.new.self.names c.args.loc.now c.in_ok-insert_literals.ensures.others c.requires.untaken)
+    (taken_as_before c.args.self.now.names c.insert_literals.new.self.names c.args.loc.now c.in_ok-insert_literals.ensures.others c.requires.untaken)

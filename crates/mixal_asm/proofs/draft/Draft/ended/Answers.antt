@@ -12,7 +12,7 @@ returns-in-Err-start_of-clause-fault c =
     ended_is _ _ _ _ _ _ _ _ _ (sym c.has_unmet.ensures ∙ c.if-has_unmet.false) c.here_word.ensures c.in_ok-own.ensures.ok c.in_ok-own.ensures.own c.read_end.ensures
     ∙ rw (c.in-Ok.is, ← c.start_of.ensures, c.in-Err-start_of.is) refl
 
-pub returns-in-Ok-finish-clause-ok : goal.returns-in-Ok-finish-clause-ok
-returns-in-Ok-finish-clause-ok c =
+pub returns-in_ok-add_row-in-Ok-start_of-clause-ok : goal.returns-in_ok-add_row-in-Ok-start_of-clause-ok
+returns-in_ok-add_row-in-Ok-start_of-clause-ok c =
     ended_is _ _ _ _ _ _ _ _ _ (sym c.has_unmet.ensures ∙ c.if-has_unmet.false) c.here_word.ensures c.in_ok-own.ensures.ok c.in_ok-own.ensures.own c.read_end.ensures
-    ∙ rw (c.in-Ok.is, ← c.start_of.ensures, c.in-Ok-start_of.is, c.in-Ok-finish.ensures) refl
+    ∙ rw (c.in-Ok.is, ← c.start_of.ensures, c.in-Ok-start_of.is, c.in_ok-add_row-in-Ok-start_of.ensures) refl
