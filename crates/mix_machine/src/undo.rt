@@ -27,6 +27,7 @@ impl Undo for World {
 
     /// Does a change (1.3.1), or reports its fault. A fault, or out of memory for what it keeps, alters nothing.
     #[tactic(auto, unfolding(crate::specs::Do::does, crate::specs::Do::kept_values))]
+    // (inlined, as `Journal::go` is)
     #[inline(always)]
     fn apply(&mut self, change: &Change, kept: &mut Vec<Old>) -> Result<(), Refused<MixFault>> {
         // (the proof knows the ranges of the machine where a field of it is named)

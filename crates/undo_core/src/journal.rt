@@ -62,6 +62,7 @@ impl<S: Undo> Journal<S> {
     }
 
     /// Does one change more and forgets those ahead. A fault of the state, or out of memory, alters nothing.
+    // (inlined, so that a change that the caller knows, as a step, is not passed through memory)
     #[inline(always)]
     pub fn go(&mut self, change: S::Change) -> Result<(), Refused<S::Fault>>
         ensures first { self.new.first ≡ self.old.first }
