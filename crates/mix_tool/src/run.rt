@@ -198,7 +198,6 @@ fn run_script<C: In, W: Out>(
 }
 
 // The deck and the script of an assembled source.
-#[tactic(auto, unfolding(crate::specs::Output::outcome_of))]
 fn run_program<D: In, C: In, W: Out>(
     alloc: Global,
     program: Program,
@@ -240,7 +239,6 @@ fn run_program<D: In, C: In, W: Out>(
 ///
 /// It fails with T1 where memory is refused, with T2 or T3 where a read or the write fails, with T5 where the deck is refused, and with
 /// T6 where the script is over 1,048,576 bytes. After T1 and T3 a beginning of the output stands written, after the others nothing.
-#[tactic(auto, unfolding(crate::specs::Output::output, crate::specs::Output::outcome_of))]
 pub fn run_debug<S: In, D: In, C: In, W: Out>(
     alloc: Global,
     source: &mut S,
