@@ -2,7 +2,7 @@
 //! unit, and what it holds more.
 ghost use Rattle.std.specs.Prelude.{◌≡◌, ◌<◌, ◌≤◌, ◌++◌, ℕ, ◌+◌, ◌^◌, true, false, vec_len, vec_capacity, length, IsTrue, OnOk, OnErr};
 ghost use Rattle.mix_machine.specs.World.{unit_at};
-ghost use Rattle.mix_machine.specs.UnitAction.{transfer_start, transfer_end};
+ghost use Rattle.mix_machine.specs.UnitAction.{transfer_start, transfer_end, marks_page};
 ghost use Rattle.mix_machine.specs.Write.{fits, write_all, kept_by, each, from_block, from_cell, place_after, input_writes, replace_writes, append_writes, row_writes, output_writes, control_writes};
 ghost use Rattle.mix_machine.specs.units.Kind.{block_length, has_place, has_medium};
 ghost use Rattle.mix_machine.specs.units.Unit.{last_until};
@@ -67,6 +67,7 @@ impl World {
         ensures capacity { OnOk result (vec_capacity kept.new ≡ vec_capacity kept.old) }
         ensures same { OnErr result (self.new ≡ self.old) }
         ensures same_kept { OnErr result (kept.new.items ≡ kept.old.items) }
+        ensures more { OnErr result (has_medium (unit_at self.old t.unit).kind ≡ true → length (unit_at self.old t.unit).blocks ≤ t.block) }
     {
         let (block, unit) = (t.block, self.units.unit(t.unit));
         let (kind, blocks) = (unit.kind(), unit.blocks());
@@ -163,6 +164,7 @@ impl World {
         ensures capacity { OnOk result (vec_capacity kept.new ≡ vec_capacity kept.old) }
         ensures same { OnErr result (self.new ≡ self.old) }
         ensures same_kept { OnErr result (kept.new.items ≡ kept.old.items) }
+        ensures page { OnErr result (marks_page (unit_at self.old n).kind ≡ true) }
     {
         let until = self.end_at(n);
         let unit = self.units.unit(n);
