@@ -2,7 +2,7 @@
 ghost use Rattle.std.specs.Prelude.{◌≡◌, ◌<◌};
 ghost use Rattle.mix_word.specs.Word.{parts_of};
 ghost use Rattle.mix_machine.specs.World.{IsWorld};
-ghost use Rattle.mix_machine.specs.Decode.{index_of, arguments_of};
+ghost use Rattle.mix_machine.specs.Decode.{index_of, address_of, arguments_of};
 
 use crate::address::Address;
 use crate::world::World;
@@ -31,13 +31,26 @@ impl World {
     /// I, M and F of an instruction.
     pub(crate) fn arguments(&self, parts: Parts) -> Arguments
         requires { parts.address < 4096 }
-        ensures { result ≡ arguments_of self.now parts }
+        ensures is { result ≡ arguments_of self.now parts }
+        ensures plain { result.index ≡ 0 → result.m.magnitude < 4096 }
     {
-        let index = self.index(parts.index);
         Arguments {
             index: parts.index,
-            m: Address::add(parts.sign, parts.address, index),
+            m: self.address(parts),
             f: parts.f,
+        }
+    }
+
+    // M: where I is 0, the address by itself, which takes less time.
+    fn address(&self, parts: Parts) -> Address
+        requires { parts.address < 4096 }
+        ensures is { result ≡ address_of self.now parts }
+        ensures plain { parts.index ≡ 0 → result.magnitude < 4096 }
+    {
+        if parts.index == 0 {
+            Address::of(parts.sign, parts.address)
+        } else {
+            Address::add(parts.sign, parts.address, self.index(parts.index))
         }
     }
 
