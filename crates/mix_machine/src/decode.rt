@@ -6,7 +6,7 @@ ghost use Rattle.mix_machine.specs.Decode.{index_of, address_of, arguments_of};
 
 use crate::address::Address;
 use crate::world::World;
-use mix_word::{Parts, Reg, Sign, Word};
+use mix_word::{Parts, Word};
 
 /// What an instruction gives to its operation: I, the address M, and F.
 #[derive(Clone, Copy)]
@@ -55,18 +55,11 @@ impl World {
     }
 
     // The index register of this number, and +0 where it has none.
+    #[tactic(auto, using(crate::proofs::RegisterLemmas::index_bound))]
     fn index(&self, i: u8) -> Word
         ensures is { result ≡ index_of self.now i }
         ensures bound { result.magnitude < 4096 }
     {
-        match i {
-            1 => self.registers.get(Reg::I1),
-            2 => self.registers.get(Reg::I2),
-            3 => self.registers.get(Reg::I3),
-            4 => self.registers.get(Reg::I4),
-            5 => self.registers.get(Reg::I5),
-            6 => self.registers.get(Reg::I6),
-            _ => Word::ZERO,
-        }
+        self.registers.index(i)
     }
 }
