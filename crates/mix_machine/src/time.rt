@@ -32,7 +32,7 @@ impl Model for Time {
 impl Time {
     /// The time of this number.
     #[inline(always)]
-    pub fn of(number: u64) -> Time
+    pub(crate) fn of(number: u64) -> Time
         ensures { result ≡ number }
     {
         Time {
@@ -43,7 +43,7 @@ impl Time {
 
     /// Its number, in u.
     #[inline(always)]
-    pub fn number(self) -> u64
+    pub(crate) fn number(self) -> u64
         ensures { result ≡ self }
     {
         u64::from(self.high) * HALF + u64::from(self.low)
