@@ -1,13 +1,13 @@
 -- The instruction at the location and what it gives to its operation: I, M and F (1.3.1, "Instruction format").
-use Rattle.std.specs.Prelude.{ℕ, Bool, ◌==◌, ◌||◌, ◌&&◌, nat_lt, unwrap_or, if◌then◌else◌}
+use Rattle.std.specs.Prelude.{ℕ, Bool, ◌==◌, ◌||◌, ◌&&◌, nat_lt, unwrap_or}
 use Rattle.std.specs.Option.{is_some}
-use Rattle.mix_word.specs.Word.{WordValue, word, zero_word, parts_of}
+use Rattle.mix_word.specs.Word.{WordValue, word, parts_of}
 use Rattle.mix_word.specs.Arithmetic.{sum_of}
 use Rattle.mix_word.specs.Field.{FieldValue, field, field_of, field_value_of}
 use Rattle.mix_word.specs.Table.{decode_of}
 use Rattle.mix_word.specs.declared.word.Parts.{Parts}
 use Rattle.mix_word.specs.declared.decoding.Decoded.{Decoded}
-use Rattle.mix_machine.specs.Registers.{is_plus}
+use Rattle.mix_machine.specs.Registers.{is_plus, index_in}
 use Rattle.mix_machine.specs.World.{WorldState, cell_of}
 use Rattle.mix_machine.specs.declared.decode.Arguments.{Arguments}
 
@@ -19,15 +19,9 @@ instruction w = parts_of (cell_of w w.loc)
 abbrev pub decode_at : WorldState → Decoded
 decode_at w = decode_of (instruction w).code (instruction w).f
 
--- the index register rIi, and +0 where i is 0
+-- the index register of an instruction
 abbrev pub index_of : WorldState → ℕ → WordValue
-index_of w i =
-    if i == 1 then w.registers.i1 else
-    if i == 2 then w.registers.i2 else
-    if i == 3 then w.registers.i3 else
-    if i == 4 then w.registers.i4 else
-    if i == 5 then w.registers.i5 else
-    if i == 6 then w.registers.i6 else zero_word
+index_of w i = index_in w.registers i
 
 -- M: the sum of the address and the index register, of which a zero has the sign of the instruction
 abbrev pub address_of : WorldState → Parts → WordValue

@@ -1,5 +1,5 @@
 -- The nine registers (1.3.1): what each holds, and what it can hold.
-use Rattle.std.specs.Prelude.{◌≡◌, ◌<◌, Bool, true, false, ◌&&◌, nat_lt, List, slice_index_or}
+use Rattle.std.specs.Prelude.{ℕ, ◌≡◌, ◌<◌, Bool, true, false, ◌==◌, ◌&&◌, nat_lt, List, slice_index_or, if◌then◌else◌}
 use Rattle.mix_word.specs.Word.{WordValue, zero_word}
 use Rattle.mix_word.specs.declared.register.Reg.{Reg}
 use Rattle.mix_word.specs.declared.register.Reg.TheVariants.{A, X, I1, I2, I3, I4, I5, I6, J}
@@ -44,6 +44,16 @@ held_in r I4 = r.i4
 held_in r I5 = r.i5
 held_in r I6 = r.i6
 held_in r J = r.j
+
+-- the index register rIi, and +0 where i is 0
+abbrev pub index_in : RegistersState → ℕ → WordValue
+index_in r i =
+    if i == 1 then r.i1 else
+    if i == 2 then r.i2 else
+    if i == 3 then r.i3 else
+    if i == 4 then r.i4 else
+    if i == 5 then r.i5 else
+    if i == 6 then r.i6 else zero_word
 
 -- the same registers but for one
 abbrev pub with_register : RegistersState → Reg → WordValue → RegistersState

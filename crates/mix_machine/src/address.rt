@@ -1,6 +1,6 @@
 //! The address M of an instruction (1.3.1): the sum of its AA and an index register.
 ghost use Rattle.std.specs.Prelude.{◌≡◌, ◌<◌, ◌↔◌, IsTrue, IsSome, IfSome};
-ghost use Rattle.mix_word.specs.Word.{word};
+ghost use Rattle.mix_word.specs.Word.{word, zero_word};
 ghost use Rattle.mix_word.specs.Arithmetic.{sum_of};
 ghost use Rattle.mix_machine.specs.Decode.{is_cell};
 
@@ -28,6 +28,18 @@ impl Model for Address {
 }
 
 impl Address {
+    /// An address by itself, as the sum of it and no index register.
+    pub(crate) fn of(sign: Sign, address: u16) -> Address
+        requires { address < 4096 }
+        ensures is { result ≡ (sum_of (word sign address) zero_word).0 }
+        ensures bound { result.magnitude < 4096 }
+    {
+        Address {
+            sign,
+            magnitude: address,
+        }
+    }
+
     /// The sum of an address and an index register; a zero sum has the sign of the address.
     pub(crate) fn add(sign: Sign, address: u16, index: Word) -> Address
         requires address { address < 4096 }

@@ -2,11 +2,11 @@
 ghost use Rattle.std.specs.Prelude.{◌≡◌, ◌<◌};
 ghost use Rattle.mix_word.specs.Word.{parts_of};
 ghost use Rattle.mix_machine.specs.World.{IsWorld};
-ghost use Rattle.mix_machine.specs.Decode.{index_of, arguments_of};
+ghost use Rattle.mix_machine.specs.Decode.{index_of, address_of, arguments_of};
 
 use crate::address::Address;
 use crate::world::World;
-use mix_word::{Parts, Reg, Sign, Word};
+use mix_word::{Parts, Word};
 
 /// What an instruction gives to its operation: I, the address M, and F.
 #[derive(Clone, Copy)]
@@ -31,29 +31,35 @@ impl World {
     /// I, M and F of an instruction.
     pub(crate) fn arguments(&self, parts: Parts) -> Arguments
         requires { parts.address < 4096 }
-        ensures { result ≡ arguments_of self.now parts }
+        ensures is { result ≡ arguments_of self.now parts }
+        ensures plain { result.index ≡ 0 → result.m.magnitude < 4096 }
     {
-        let index = self.index(parts.index);
         Arguments {
             index: parts.index,
-            m: Address::add(parts.sign, parts.address, index),
+            m: self.address(parts),
             f: parts.f,
         }
     }
 
+    // M: where I is 0, the address by itself, which takes less time.
+    fn address(&self, parts: Parts) -> Address
+        requires { parts.address < 4096 }
+        ensures is { result ≡ address_of self.now parts }
+        ensures plain { parts.index ≡ 0 → result.magnitude < 4096 }
+    {
+        if parts.index == 0 {
+            Address::of(parts.sign, parts.address)
+        } else {
+            Address::add(parts.sign, parts.address, self.index(parts.index))
+        }
+    }
+
     // The index register of this number, and +0 where it has none.
+    #[tactic(auto, using(crate::proofs::RegisterLemmas::index_bound))]
     fn index(&self, i: u8) -> Word
         ensures is { result ≡ index_of self.now i }
         ensures bound { result.magnitude < 4096 }
     {
-        match i {
-            1 => self.registers.get(Reg::I1),
-            2 => self.registers.get(Reg::I2),
-            3 => self.registers.get(Reg::I3),
-            4 => self.registers.get(Reg::I4),
-            5 => self.registers.get(Reg::I5),
-            6 => self.registers.get(Reg::I6),
-            _ => Word::ZERO,
-        }
+        self.registers.index(i)
     }
 }

@@ -13,6 +13,7 @@ mod perform;
 mod plan;
 mod registers;
 mod step;
+mod time;
 mod transfer;
 mod undo;
 mod units;

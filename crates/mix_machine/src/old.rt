@@ -1,4 +1,5 @@
 //! The changes of a state, and the old values that take them back.
+use crate::time::Time;
 use crate::units::UnitNo;
 use mix_word::{Cmp, Place, Reg, Word};
 
@@ -22,7 +23,7 @@ pub enum Change {
 #[derive(Clone, Copy, Debug, PartialEq, Eq)]
 pub enum Old {
     Loc(u16),
-    Clock(u64),
+    Clock(Time),
     Reg(Reg, Word),
     Cell(Place, Word),
     Over(bool),
@@ -31,5 +32,5 @@ pub enum Old {
     At(UnitNo, u16),
     Len(UnitNo, u16),
     Item(UnitNo, u16, u8, Word),
-    Until(UnitNo, u64),
+    Until(UnitNo, Time),
 }

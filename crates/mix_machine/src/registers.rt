@@ -1,6 +1,6 @@
 //! The nine registers (1.3.1).
 ghost use Rattle.std.specs.Prelude.{◌≡◌};
-ghost use Rattle.mix_machine.specs.Registers.{held_in, with_register, fits_register, blank_registers};
+ghost use Rattle.mix_machine.specs.Registers.{held_in, index_in, with_register, fits_register, blank_registers};
 
 use mix_word::{Reg, Sign, Word};
 use std::marker::Model;
@@ -37,6 +37,19 @@ impl Registers {
         ensures { result ≡ held_in self.now r }
     {
         self.words[usize::from(r.number())]
+    }
+
+    /// What the index register of a number holds, and +0 where there is none of it.
+    #[inline(always)]
+    #[tactic(auto, using(crate::proofs::RegisterLemmas::index_at))]
+    pub(crate) fn index(&self, i: u8) -> Word
+        ensures { result ≡ index_in self.now i }
+    {
+        if 1 <= i && i <= 6 {
+            self.words[usize::from(Reg::I1.number() + i - 1)]
+        } else {
+            Word::ZERO
+        }
     }
 
     /// Puts a word into a register.

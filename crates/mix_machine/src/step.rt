@@ -77,7 +77,8 @@ impl World {
     // What I and M say against the step of an instruction.
     #[inline(always)]
     fn fault_of_address(&self, word: Word, a: Arguments) -> Option<MixFault>
-        requires { a ≡ arguments_of self.now (parts_of word) }
+        requires arguments { a ≡ arguments_of self.now (parts_of word) }
+        requires plain { a.index ≡ 0 → a.m.magnitude < 4096 }
         ensures { result ≡ fault_among (applies (decode_of (parts_of word).code a.f) self.now a) of_address }
     {
         if is_plain(a) {
@@ -211,10 +212,11 @@ impl World {
     }
 }
 
-// Whether I is at most 6 and M is below 4096.
+// Whether I is at most 6 and M is below 4096, as it is where I is 0.
 #[inline(always)]
 fn is_plain(a: Arguments) -> bool
+    requires { a.index ≡ 0 → a.m.magnitude < 4096 }
     ensures { result ≡ (nat_le a.index 6 && nat_lt a.m.magnitude 4096) }
 {
-    a.index <= 6 && a.m.magnitude() < 4096
+    a.index == 0 || a.index <= 6 && a.m.magnitude() < 4096
 }

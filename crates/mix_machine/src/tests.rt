@@ -2,6 +2,7 @@
 ghost use Rattle.std.specs.Prelude.{◌≡◌};
 
 use self::rows::{Code, Row, Then, Value, Written};
+use crate::time::Time;
 use crate::{
     Change, Cmp, MixFault, Old, Place, Reg, Sign, Units, Word, World, halt_law, kept_count_law,
 };
@@ -426,6 +427,13 @@ fn try_out(alloc: Global, world: &mut World, change: Change) -> Option<usize>
             world.revert(&mut kept, 0);
             Some(count)
         }
+    }
+}
+
+#[test]
+fn times_in_two_halves(rt: HostRuntime) {
+    for n in [0, 0xffff_ffff, 0x1_0000_0000, LAST_CLOCK, u64::MAX] {
+        assert_eq!(rt; Time::of(n).number(), n, "{n}");
     }
 }
 

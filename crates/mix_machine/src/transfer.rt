@@ -52,7 +52,7 @@ impl World {
         let kind = self.units.unit(n).kind();
         let until = self.end_at(n);
         self.move_on(kind, given, kept);
-        self.write(Old::Until(n, until), kept);
+        self.write_until(n, until, kept);
         self.to_cells(t, kind.block_length(), kept);
     }
 
@@ -99,7 +99,7 @@ impl World {
         let (n, given) = (t.unit, t);
         let until = self.end_at(n);
         self.move_on(kind, given, kept);
-        self.write(Old::Until(n, until), kept);
+        self.write_until(n, until, kept);
         self.from_cells(t, kind.block_length(), kept);
     }
 
@@ -126,7 +126,7 @@ impl World {
             .add_blocks(n, gap, &self.cells[from..from + size])?;
         kept.push_reserved(Old::Len(n, len));
         self.move_on(kind, t, kept);
-        self.write(Old::Until(n, until), kept);
+        self.write_until(n, until, kept);
         Ok(())
     }
 
@@ -149,7 +149,7 @@ impl World {
         let (from, size) = (usize::from(t.cell), usize::from(kind.block_length()));
         self.units.add_words(n, &self.cells[from..from + size])?;
         kept.push_reserved(Old::Len(n, len));
-        self.write(Old::Until(n, until), kept);
+        self.write_until(n, until, kept);
         Ok(())
     }
 
@@ -172,13 +172,13 @@ impl World {
         match kind {
             Kind::Tape | Kind::PaperTape => {
                 self.write(Old::At(n, at), kept);
-                self.write(Old::Until(n, until), kept);
+                self.write_until(n, until, kept);
             }
-            Kind::Disk => self.write(Old::Until(n, until), kept),
+            Kind::Disk => self.write_until(n, until, kept),
             Kind::Printer => {
                 self.units.add_page(n)?;
                 kept.push_reserved(Old::Len(n, len));
-                self.write(Old::Until(n, until), kept);
+                self.write_until(n, until, kept);
             }
             Kind::CardReader | Kind::CardPunch | Kind::Typewriter => {}
         }

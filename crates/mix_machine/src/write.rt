@@ -3,6 +3,8 @@ ghost use Rattle.std.specs.Prelude.{◌≡◌, ◌<◌, ◌++◌, ◌∷◌, [],
 ghost use Rattle.mix_machine.specs.Write.{set_value, value_at, fits};
 
 use crate::old::Old;
+use crate::time::Time;
+use crate::units::UnitNo;
 use crate::world::World;
 use mix_word::{Cmp, Place, Reg, Word};
 
@@ -103,8 +105,20 @@ impl World {
         ensures len { vec_len kept.new ≡ vec_len kept.old + 1 }
         ensures capacity { vec_capacity kept.new ≡ vec_capacity kept.old }
     {
-        kept.push_reserved(Old::Clock(self.clock));
+        kept.push_reserved(Old::Clock(Time::of(self.clock)));
         self.clock = clock;
+    }
+
+    /// Sets the time until which a unit is busy, and keeps the one before.
+    pub(crate) fn write_until(&mut self, n: UnitNo, until: u64, kept: &mut Vec<Old>)
+        requires fits { IsTrue (fits self.old (Old.Until n until)) }
+        requires room { vec_len kept.old < vec_capacity kept.old }
+        ensures state { self.new ≡ set_value self.old (Old.Until n until) }
+        ensures kept { kept.new.items ≡ kept.old.items ++ value_at self.old (Old.Until n until) ∷ [] }
+        ensures len { vec_len kept.new ≡ vec_len kept.old + 1 }
+        ensures capacity { vec_capacity kept.new ≡ vec_capacity kept.old }
+    {
+        self.write(Old::Until(n, Time::of(until)), kept);
     }
 
     /// Sets a value that is in the range of its place.
@@ -115,7 +129,7 @@ impl World {
     {
         match value {
             Old::Loc(loc) => self.loc = loc,
-            Old::Clock(clock) => self.clock = clock,
+            Old::Clock(clock) => self.clock = clock.number(),
             Old::Reg(r, word) => self.registers.set(r, word),
             Old::Cell(place, word) => self.cells[usize::from(place.number())] = word,
             Old::Over(over) => self.over = over,
@@ -124,7 +138,7 @@ impl World {
             Old::At(n, place) => self.units.set_place(n, place),
             Old::Len(n, len) => self.units.cut(n, len),
             Old::Item(n, i, j, word) => self.units.set_item(n, i, j, word),
-            Old::Until(n, until) => self.units.set_until(n, until),
+            Old::Until(n, until) => self.units.set_until(n, until.number()),
         }
     }
 
@@ -136,7 +150,7 @@ impl World {
     {
         match value {
             Old::Loc(_) => Old::Loc(self.loc),
-            Old::Clock(_) => Old::Clock(self.clock),
+            Old::Clock(_) => Old::Clock(Time::of(self.clock)),
             Old::Reg(r, _) => Old::Reg(r, self.register(r)),
             Old::Cell(place, _) => Old::Cell(place, self.cell(place)),
             Old::Over(_) => Old::Over(self.over),
@@ -145,7 +159,7 @@ impl World {
             Old::At(n, _) => Old::At(n, self.units.unit(n).place()),
             Old::Len(n, _) => Old::Len(n, self.units.unit(n).len()),
             Old::Item(n, i, j, _) => Old::Item(n, i, j, self.units.unit(n).word(i, j)),
-            Old::Until(n, _) => Old::Until(n, self.units.unit(n).until()),
+            Old::Until(n, _) => Old::Until(n, Time::of(self.units.unit(n).until())),
         }
     }
 }

@@ -32,4 +32,4 @@ returns-clause-kept c =
     c.move_on.ensures.state ∙ ap (λ (s : WorldState). write_all s (place_after c.args.kind t)) (with-grown (view_of c.self.inside) w _ _ c.self.view_is grown) in
     let first : c.move_on.new.kept.items ≡ c.push_reserved.new.self.items ++ kept_by state (place_after c.args.kind t) =
     c.move_on.ensures.kept ∙ ap (λ (s : WorldState). c.push_reserved.new.self.items ++ kept_by s (place_after c.args.kind t)) (with-grown (view_of c.self.inside) w _ _ c.self.view_is grown) in
-    grown-kept state _ (place_after c.args.kind t) (Until t.unit (transfer_end w t.unit)) _ c.args.kept.now.items _ _ _ moved old first c.write.ensures.kept
+    grown-kept state _ (place_after c.args.kind t) (Until t.unit (transfer_end w t.unit)) _ c.args.kept.now.items _ _ _ moved old first c.write_until.ensures.kept

@@ -12,7 +12,7 @@ returns-clause-state c =
     let w = c.args.self.now in
     let t = c.args.t in
     let place = place_after c.args.kind t in
-    let timed : c.write.new.self ≡ set_value c.move_on.new.self (Until t.unit (transfer_end w t.unit)) = cc in
+    let timed : c.write_until.new.self ≡ set_value c.move_on.new.self (Until t.unit (transfer_end w t.unit)) = cc in
     let words = cells-same c.block_length.result (block_length c.args.kind) w _ _ c.args.kind t c.move_on.ensures.state timed c.block_length.ensures.is in
     three-state w _ _ _ place _ _ _ c.move_on.ensures.state timed c.from_cells.ensures.state words
 
@@ -21,6 +21,6 @@ returns-clause-kept c =
     let w = c.args.self.now in
     let t = c.args.t in
     let place = place_after c.args.kind t in
-    let timed : c.write.new.self ≡ set_value c.move_on.new.self (Until t.unit (transfer_end w t.unit)) = cc in
+    let timed : c.write_until.new.self ≡ set_value c.move_on.new.self (Until t.unit (transfer_end w t.unit)) = cc in
     let words = cells-same c.block_length.result (block_length c.args.kind) w _ _ c.args.kind t c.move_on.ensures.state timed c.block_length.ensures.is in
-    three-kept w _ _ place _ _ _ c.args.kept.now.items _ _ _ c.move_on.ensures.state timed c.move_on.ensures.kept c.write.ensures.kept c.from_cells.ensures.kept words
+    three-kept w _ _ place _ _ _ c.args.kept.now.items _ _ _ c.move_on.ensures.state timed c.move_on.ensures.kept c.write_until.ensures.kept c.from_cells.ensures.kept words

@@ -32,4 +32,4 @@ pub invariant_of-self-in-Until : goal.invariant_of-self-in-Until
 invariant_of-self-in-Until c =
     let w = view_of c.self.inside in
     let o = Until c.in-Until.n c.in-Until.until in
-    rw c.set_until.ensures (world-set_value w o c.self.invariant (fits-here w _ _ o c.self.view_is c.in-Until.is c.requires))
+    rw (c.set_until.ensures, c.number-in-Until.ensures) (world-set_value w o c.self.invariant (fits-here w _ _ o c.self.view_is c.in-Until.is c.requires))
