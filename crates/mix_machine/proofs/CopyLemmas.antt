@@ -1,5 +1,6 @@
 -- One word of MOVE copied: what is left to copy leads to the same state and the same kept values.
 use Rattle.std.proofs.Common.{ℕ, suc, ◌+◌, ◌-◌, ◌<◌, ◌≡◌, ◌++◌, ◌∙◌, List, [], ◌∷◌, sym, ap, arith, append_assoc, refl}
+use Rattle.std.proofs.lemmas.List.{append-nil}
 use Rattle.mix_word.specs.Word.{WordValue}
 use Rattle.mix_machine.specs.World.{WorldState, cell_of}
 use Rattle.mix_machine.specs.Write.{set, write_all, kept_by, copies, set_value, value_at}
@@ -32,3 +33,12 @@ copied-values count i from to p q w w2 v ks ks2 h ep eq ev ew ek =
     let t : to + (i + 1) ≡ to + i + 1 = omega arith in
     let next = copies-next (count - i) (count - (i + 1)) (from + i) (to + i) (from + (i + 1)) (to + (i + 1)) w n f t in
     rw (ek, ew, ev, ep, eq) (append_assoc ks _ _ ∙ sym (ap (λ xs. ks ++ kept_by w xs) next))
+
+-- nothing is left to copy
+pub copied-all-state : (n from to : ℕ) (w v : WorldState) → n ≡ 0 → write_all w (copies n from to w) ≡ v → w ≡ v
+copied-all-state n from to w v e h =
+    let none : write_all w (copies n from to w) ≡ w = rw e refl in sym none ∙ h
+
+pub copied-all-values : (n from to : ℕ) (w : WorldState) (ks ls : List Old) → n ≡ 0 → ks ++ kept_by w (copies n from to w) ≡ ls → ks ≡ ls
+copied-all-values n from to w ks ls e h =
+    let none : ks ++ kept_by w (copies n from to w) ≡ ks = rw e (append-nil ks) in sym none ∙ h

@@ -29,3 +29,7 @@ length-each (suc n) j f = ap suc (length-each n (j + 1) f)
 pub each-none : (n j : ℕ) (f : ℕ → Old) (w : WorldState) (ks ls : List Old) → n ≡ 0 → ks ++ kept_by w (each n j f) ≡ ls → ks ≡ ls
 each-none n j f w ks ls e h =
     let none : ks ++ kept_by w (each n j f) ≡ ks = rw e (append-nil ks) in sym none ∙ h
+
+pub each-done : (n j : ℕ) (f : ℕ → Old) (w v : WorldState) → n ≡ 0 → write_all w (each n j f) ≡ v → w ≡ v
+each-done n j f w v e h =
+    let none : write_all w (each n j f) ≡ w = rw e refl in sym none ∙ h

@@ -95,10 +95,10 @@ fit-items (suc n) j m i size w v h f le =
           (λ k l. fits-item-after w.units m i j k (v j) h.units here (f k l)) (omega arith),
     )
 
-fits-until-in : (n t : ℕ) → n < 21 → t ≤ last_until → IsTrue (fits_until n t)
+pub fits-until-in : (n t : ℕ) → n < 21 → t ≤ last_until → IsTrue (fits_until n t)
 fits-until-in n t l h = grind (arith, nat_tests)
 
-fits-place-in : (w : WorldState) (n k : ℕ) → n < 21 → has_place (unit_at w n).kind ≡ true → k ≤ length (unit_at w n).blocks →
+pub fits-place-in : (w : WorldState) (n k : ℕ) → n < 21 → has_place (unit_at w n).kind ≡ true → k ≤ length (unit_at w n).blocks →
     IsTrue (fits_place w.units n k)
 fits-place-in w n k l p h = grind (arith, nat_tests)
 

@@ -1,5 +1,5 @@
-use Rattle.std.proofs.Common.{◌≡◌, ◌+◌, ◌∙◌, arith}
-use Rattle.mix_machine.proofs.CopyLemmas.{copied-state, copied-values}
+use Rattle.std.proofs.Common.{◌≡◌, ◌+◌, ◌-◌, ◌∙◌, arith}
+use Rattle.mix_machine.proofs.CopyLemmas.{copied-state, copied-values, copied-all-state, copied-all-values}
 use Rattle.mix_machine.proofs.world.World.copy.Goals as goal
 
 pub loop-i-preserved : goal.loop-i-preserved
@@ -17,3 +17,12 @@ loop-i-preserved c =
       len = omega arith;
       capacity = c.write_cell.ensures.capacity ∙ c.loop-i.invariant.capacity;
     }
+
+pub returns-clause-state : goal.returns-clause-state
+returns-clause-state c =
+    copied-all-state (c.args.count - c.loop-i.i) (c.args.from + c.loop-i.i) (c.args.to + c.loop-i.i) _ _ (omega arith) c.loop-i.invariant.state
+
+pub returns-clause-kept : goal.returns-clause-kept
+returns-clause-kept c =
+    let all = copied-all-values (c.args.count - c.loop-i.i) (c.args.from + c.loop-i.i) (c.args.to + c.loop-i.i) c.loop-i.self _ _ (omega arith) c.loop-i.invariant.kept in
+    cc

@@ -5,7 +5,7 @@ use Rattle.mix_machine.specs.units.Units.{fits_item}
 use Rattle.mix_machine.specs.law.Fits.{world-set_value}
 use Rattle.mix_machine.specs.law.Units.{fits-item-after}
 use Rattle.mix_machine.specs.declared.old.Old.TheVariants.{Item}
-use Rattle.mix_machine.proofs.EachLemmas.{each-state, each-kept, each-none}
+use Rattle.mix_machine.proofs.EachLemmas.{each-state, each-kept, each-none, each-done}
 use Rattle.mix_machine.proofs.world.World.from_cells.Goals as goal
 
 pub loop-j-preserved : goal.loop-j-preserved
@@ -32,3 +32,7 @@ loop-j-preserved c =
 pub returns-clause-kept : goal.returns-clause-kept
 returns-clause-kept c =
     each-none (c.args.size - c.loop-j.j) c.loop-j.j (from_cell c.args.self.now c.args.t) c.loop-j.self _ _ (omega arith) c.loop-j.invariant.kept
+
+pub returns-clause-state : goal.returns-clause-state
+returns-clause-state c =
+    each-done (c.args.size - c.loop-j.j) c.loop-j.j (from_cell c.args.self.now c.args.t) c.loop-j.self _ (omega arith) c.loop-j.invariant.state

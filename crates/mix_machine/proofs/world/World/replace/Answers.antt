@@ -1,11 +1,62 @@
-use Rattle.std.proofs.Common.{◌≡◌, ◌++◌}
-use Rattle.mix_machine.specs.World.{unit_at}
+use Rattle.std.proofs.Common.{◌≡◌, ◌++◌, ◌∙◌, ap, sym, subst}
+use Rattle.mix_machine.specs.World.{IsWorld, unit_at}
 use Rattle.mix_machine.specs.UnitAction.{transfer_end}
-use Rattle.mix_machine.specs.Write.{each, from_cell, place_after, set_value, write_all, kept_by}
-use Rattle.mix_machine.specs.units.Kind.{block_length}
+use Rattle.mix_machine.specs.Write.{busy, each, from_cell, place_after, set_value, write_all, kept_by}
+use Rattle.mix_machine.specs.units.Kind.{block_length, has_medium}
 use Rattle.mix_machine.specs.declared.old.Old.TheVariants.{Until}
-use Rattle.mix_machine.proofs.TransferLemmas.{three-state, three-kept, cells-same}
+use Rattle.mix_machine.specs.law.Plans.{fits-until-in, items-ready}
+use Rattle.mix_machine.proofs.EachLemmas.{length-each}
+use Rattle.mix_machine.proofs.TransferLemmas.{three-state, three-kept, three-len, cells-same, room-first, room-second, room-third, to-ready, fits-place-after}
 use Rattle.mix_machine.proofs.world.World.replace.Goals as goal
+
+pub end_at-until-requires : goal.end_at-until-requires
+end_at-until-requires c = c.requires.fits.until
+
+pub move_on-requires-clause-few : goal.move_on-requires-clause-few
+move_on-requires-clause-few c = c.requires.fits.block (ap (λ k. has_medium k) (sym c.requires.kind) ∙ c.requires.medium)
+
+pub move_on-requires-clause-fits : goal.move_on-requires-clause-fits
+move_on-requires-clause-fits c = fits-place-after c.args.self.now c.args.t _ c.requires.fits.unit c.requires.block c.requires.kind
+
+pub move_on-requires-clause-room : goal.move_on-requires-clause-room
+move_on-requires-clause-room c =
+    let w = c.args.self.now in
+    let t = c.args.t in
+    room-first (place_after c.args.kind t) (each (block_length c.args.kind) 0 (from_cell w t)) (busy w t.unit) _ _ c.requires.room
+
+pub write_until-requires-clause-fits : goal.write_until-requires-clause-fits
+write_until-requires-clause-fits c =
+    rw c.end_at-until.ensures (fits-until-in c.args.t.unit (transfer_end c.args.self.now c.args.t.unit) c.requires.fits.unit c.requires.fits.until)
+
+pub write_until-requires-clause-room : goal.write_until-requires-clause-room
+write_until-requires-clause-room c =
+    let w = c.args.self.now in
+    let t = c.args.t in
+    room-second (place_after c.args.kind t) (each (block_length c.args.kind) 0 (from_cell w t)) (busy w t.unit) _ _ _ _ c.requires.room
+    c.move_on.ensures.len c.move_on.ensures.capacity
+
+pub from_cells-requires-clause-cells : goal.from_cells-requires-clause-cells
+from_cells-requires-clause-cells c = rw (c.block_length.ensures.is, c.requires.kind) c.requires.fits.cells
+
+pub from_cells-requires-clause-block : goal.from_cells-requires-clause-block
+from_cells-requires-clause-block c =
+    let w = c.args.self.now in
+    let t = c.args.t in
+    let medium = ap (λ k. has_medium k) (sym c.requires.kind) ∙ c.requires.medium in
+    let same = to-ready w _ _ t _ _ c.requires.kind c.move_on.ensures.state c.end_at-until.ensures c.write_until.ensures.state in
+    λ j l. rw same (
+    items-ready w t (subst IsWorld c.self.view_is c.self.invariant) c.requires.fits medium c.requires.block j
+    (rw (c.block_length.ensures.is, c.requires.kind) at l)
+    )
+
+pub from_cells-requires-clause-room : goal.from_cells-requires-clause-room
+from_cells-requires-clause-room c =
+    let w = c.args.self.now in
+    let t = c.args.t in
+    rw c.block_length.ensures.is (
+    room-third (place_after c.args.kind t) (each (block_length c.args.kind) 0 (from_cell w t)) (busy w t.unit) _ _ _ _ _ _ _ c.requires.room
+    c.move_on.ensures.len c.move_on.ensures.capacity c.write_until.ensures.len c.write_until.ensures.capacity (length-each (block_length c.args.kind) 0 (from_cell w t))
+    )
 
 pub returns-clause-state : goal.returns-clause-state
 returns-clause-state c =
@@ -24,3 +75,13 @@ returns-clause-kept c =
     let timed : c.write_until.new.self ≡ set_value c.move_on.new.self (Until t.unit (transfer_end w t.unit)) = cc in
     let words = cells-same c.block_length.result (block_length c.args.kind) w _ _ c.args.kind t c.move_on.ensures.state timed c.block_length.ensures.is in
     three-kept w _ _ place _ _ _ c.args.kept.now.items _ _ _ c.move_on.ensures.state timed c.move_on.ensures.kept c.write_until.ensures.kept c.from_cells.ensures.kept words
+
+pub returns-clause-len : goal.returns-clause-len
+returns-clause-len c =
+    let w = c.args.self.now in
+    let t = c.args.t in
+    three-len (place_after c.args.kind t) (each (block_length c.args.kind) 0 (from_cell w t)) (busy w t.unit) _ _ _ _ _
+    c.move_on.ensures.len c.write_until.ensures.len (rw c.block_length.ensures.is at c.from_cells.ensures.len) (length-each (block_length c.args.kind) 0 (from_cell w t))
+
+pub returns-clause-capacity : goal.returns-clause-capacity
+returns-clause-capacity c = c.from_cells.ensures.capacity ∙ c.write_until.ensures.capacity ∙ c.move_on.ensures.capacity
