@@ -1,5 +1,5 @@
 -- One of many values written: what is left to write leads to the same state and the same kept values.
-use Rattle.std.proofs.Common.{ℕ, zero, suc, ◌+◌, ◌-◌, ◌<◌, ◌≡◌, ◌++◌, ◌∙◌, List, [], ◌∷◌, length, sym, ap, arith, append_assoc, refl}
+use Rattle.std.proofs.Common.{ℕ, zero, suc, ◌+◌, ◌-◌, ◌<◌, ◌≤◌, ◌≡◌, ◌++◌, ◌∙◌, List, [], ◌∷◌, length, sym, ap, arith, append_assoc, refl}
 use Rattle.std.proofs.lemmas.List.{append-nil}
 use Rattle.mix_machine.specs.World.{WorldState}
 use Rattle.mix_machine.specs.Write.{set, write_all, kept_by, each, set_value, value_at}
@@ -33,3 +33,13 @@ each-none n j f w ks ls e h =
 pub each-done : (n j : ℕ) (f : ℕ → Old) (w v : WorldState) → n ≡ 0 → write_all w (each n j f) ≡ v → w ≡ v
 each-done n j f w v e h =
     let none : write_all w (each n j f) ≡ w = rw e refl in sym none ∙ h
+
+-- the next one is there, and there is room for it
+pub cell-below : (at number j size : ℕ) → number ≡ j → j < size → at + size ≤ 4000 → at + number < 4000
+cell-below at number j size e h l = omega arith
+
+pub room-left : (l c len cap j size : ℕ) → l ≡ len + j → c ≡ cap → j < size → len + size ≤ cap → l < c
+room-left l c len cap j size el ec h r = omega arith
+
+pub len-all : (l len j size : ℕ) → l ≡ len + j → j ≤ size → size ≤ j → l ≡ len + size
+len-all l len j size e h g = omega arith

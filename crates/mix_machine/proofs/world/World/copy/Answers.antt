@@ -1,5 +1,6 @@
 use Rattle.std.proofs.Common.{◌≡◌, ◌+◌, ◌-◌, ◌∙◌, arith}
 use Rattle.mix_machine.proofs.CopyLemmas.{copied-state, copied-values, copied-all-state, copied-all-values}
+use Rattle.mix_machine.proofs.EachLemmas.{cell-below, room-left, len-all}
 use Rattle.mix_machine.proofs.world.World.copy.Goals as goal
 
 pub loop-i-preserved : goal.loop-i-preserved
@@ -25,4 +26,19 @@ returns-clause-state c =
 pub returns-clause-kept : goal.returns-clause-kept
 returns-clause-kept c =
     let all = copied-all-values (c.args.count - c.loop-i.i) (c.args.from + c.loop-i.i) (c.args.to + c.loop-i.i) c.loop-i.self _ _ (omega arith) c.loop-i.invariant.kept in
-    cc
+    rw c.replace-list.ensures.value at all
+
+pub place-requires : goal.place-requires
+place-requires c = cell-below _ _ _ _ c.from.ensures c.loop-i-test.true c.requires.there
+
+pub place-requires-in-loop-i : goal.place-requires-in-loop-i
+place-requires-in-loop-i c = cell-below _ _ _ _ c.from-in-loop-i.ensures c.loop-i-test.true c.requires.into
+
+pub write_cell-requires-clause-room : goal.write_cell-requires-clause-room
+write_cell-requires-clause-room c =
+    room-left _ _ _ _ _ _ (rw c.replace-list.ensures.value at c.loop-i.invariant.len) (rw c.replace-list.ensures.value at c.loop-i.invariant.capacity)
+    c.loop-i-test.true c.requires.room
+
+pub returns-clause-len : goal.returns-clause-len
+returns-clause-len c =
+    len-all _ _ _ _ (rw c.replace-list.ensures.value at c.loop-i.invariant.len) c.loop-i.auto.i-end c.loop-i-test.false

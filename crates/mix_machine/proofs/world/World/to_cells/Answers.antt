@@ -4,7 +4,7 @@ use Rattle.mix_machine.specs.Write.{from_block}
 use Rattle.mix_machine.specs.units.Unit.{UnitState, word_of}
 use Rattle.mix_machine.specs.units.Units.{UnitsState, unit_of}
 use Rattle.mix_machine.specs.declared.old.Old.TheVariants.{Cell}
-use Rattle.mix_machine.proofs.EachLemmas.{each-state, each-kept, each-none, each-done}
+use Rattle.mix_machine.proofs.EachLemmas.{each-state, each-kept, each-none, each-done, cell-below, room-left, len-all}
 use Rattle.mix_machine.proofs.world.World.to_cells.Goals as goal
 
 pub loop-j-preserved : goal.loop-j-preserved
@@ -33,3 +33,22 @@ returns-clause-kept c =
 pub returns-clause-state : goal.returns-clause-state
 returns-clause-state c =
     each-done (c.args.size - c.loop-j.j) c.loop-j.j (from_block c.args.self.now c.args.t) c.loop-j.self _ (omega arith) c.loop-j.invariant.state
+
+pub place-requires : goal.place-requires
+place-requires c = cell-below _ _ _ _ c.from.ensures c.loop-j-test.true c.requires.cells
+
+pub word-word-requires-clause-block : goal.word-word-requires-clause-block
+word-word-requires-clause-block c =
+    let unit = c.unit.ensures ∙ ap (λ (v : WorldState). unit_at v c.args.t.unit) c.self.view_is ∙ ap (λ (us : UnitsState). unit_of us c.args.t.unit) c.loop-j.invariant.units in
+    rw unit c.requires.block
+
+pub word-word-requires-clause-word : goal.word-word-requires-clause-word
+word-word-requires-clause-word c =
+    let unit = c.unit.ensures ∙ ap (λ (v : WorldState). unit_at v c.args.t.unit) c.self.view_is ∙ ap (λ (us : UnitsState). unit_of us c.args.t.unit) c.loop-j.invariant.units in
+    rw (unit, ← c.requires.size) c.loop-j-test.true
+
+pub write-requires-clause-room : goal.write-requires-clause-room
+write-requires-clause-room c = room-left _ _ _ _ _ _ c.loop-j.invariant.len c.loop-j.invariant.capacity c.loop-j-test.true c.requires.room
+
+pub returns-clause-len : goal.returns-clause-len
+returns-clause-len c = len-all _ _ _ _ c.loop-j.invariant.len c.loop-j.auto.j-end c.loop-j-test.false
