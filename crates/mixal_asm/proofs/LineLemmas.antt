@@ -15,7 +15,7 @@ use Rattle.mixal_text.specs.Address.{OperandValue, address_of}
 use Rattle.mixal_asm.specs.declared.fault.AsmKind.{AsmKind}
 use Rattle.mixal_asm.specs.declared.row.Shows.TheVariants as shows
 use Rattle.mixal_asm.specs.declared.scope.Own.{Own}
-use Rattle.mixal_asm.specs.PassOne.{Before, with_name, name_of, is_awaited, with_loc, names_at, of_text, with_word, with_line, number_after, con_line, orig_line, location_of, machine_line, with_instruction, instruction}
+use Rattle.mixal_asm.specs.PassOne.{Before, Line, with_name, name_of, is_awaited, with_loc, names_at, of_text, with_word, with_line, number_after, con_line, orig_line, location_of, machine_line, with_instruction, instruction}
 use Rattle.std.specs.List.{list_any}
 use Rattle.std.proofs.Common.{map}
 use Rattle.mixal_text.specs.declared.fault.TextFault.TheVariants.{NoSuchLocalSymbol}
@@ -32,7 +32,7 @@ pub con_is : (b named : Before) (text : List ℕ) (loc : Option Label) (address 
     → here ≡ plus b.here → with_loc b loc here ≡ Ok named → scope_value named.names own ≡ names_at b.names named.names
     → read ≡ of_text (w_value_of (scope_value named.names own) (plus named.here) address)
     → con_line b text loc address
-    ≡ (read >>= λ value. shown_word (number_after b) text (length b.emitted) (with_word named value None))
+    ≡ (read >>= λ value. shown_word (Line (number_after b) text) (length b.emitted) (with_word named value None))
 unfolding con_line
 con_is b named text loc address here own read is_here ok scope is = rw (is, scope, ← is_here, ok) refl
 
@@ -49,7 +49,7 @@ pub machine_is : (b named : Before) (text : List ℕ) (loc : Option Label) (code
     → here ≡ plus b.here → with_loc b loc here ≡ Ok named → scope_value named.names own ≡ names_at b.names named.names
     → of_text (address_of (scope_value named.names own) (plus named.here) f address) ≡ read
     → machine_line b text loc code f address
-    ≡ (read >>= λ operand. shown_word (number_after b) text (length b.emitted) (with_instruction named (instruction code operand) operand.a))
+    ≡ (read >>= λ operand. shown_word (Line (number_after b) text) (length b.emitted) (with_instruction named (instruction code operand) operand.a))
 unfolding machine_line
 machine_is b named text loc code f address here own read is_here ok scope is = rw (← is, scope, ← is_here, ok) refl
 

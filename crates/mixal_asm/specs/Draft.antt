@@ -15,7 +15,7 @@ use Rattle.mixal_text.specs.Steps.{◌>>=◌}
 use Rattle.std.specs.Prelude.{Result, Ok, length}
 use Rattle.mixal_asm.specs.declared.fault.AsmKind.{AsmKind}
 use Rattle.mixal_asm.specs.declared.row.Shows.TheVariants as shows
-use Rattle.mixal_asm.specs.PassOne.{Before, with_line, NamesSoFar, value_of, back_of}
+use Rattle.mixal_asm.specs.PassOne.{Before, SourceValue, with_row, NamesSoFar, value_of, back_of}
 use Rattle.mixal_asm.specs.Assembly.{Answer, More, Done, finished_word, program_at}
 use Rattle.mixal_asm.specs.Chain.{Held, emitted_of}
 
@@ -63,10 +63,10 @@ abbrev pub HasNoLiteral : NamesSoFar → Type 0
 HasNoLiteral names = (j : ℕ) → value_of names (key.Literal j) ≡ None
 
 -- a word and the row of its line, which shows it by its number
-abbrev pub shown_word : ℕ → List ℕ → ℕ → Result Before AsmKind → Result Before AsmKind
-shown_word number text count emitted = do
+abbrev pub shown_word : SourceValue → ℕ → Result Before AsmKind → Result Before AsmKind
+shown_word source count emitted = do
   next ← emitted
-  Ok (with_line next number text (shows.Word count))
+  Ok (with_row next source (shows.Word count))
 
 -- whether what may be there passes a test
 abbrev pub passes : {A : Type 0} → (A → Bool) → Option A → Bool

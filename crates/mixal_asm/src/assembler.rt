@@ -4,7 +4,7 @@ ghost use Rattle.undo_core.specs.Refused.{IfFault};
 ghost use Rattle.mixal_text.specs.Line.{HasBytes, IsOfBytes, Remark, value_of_line};
 ghost use Rattle.mixal_asm.specs.PassOne.{at_first, number_after, is_taken};
 ghost use Rattle.mixal_asm.specs.Assembly.{answer_of, answer_of_line, answer_of_op, waiting_in};
-ghost use Rattle.mixal_asm.specs.Draft.{HasNoLiteral, WaitsFor, answer_at, goes_on};
+ghost use Rattle.mixal_asm.specs.Draft.{HasNoLiteral, IsReady, WaitsFor, answer_at, goes_on};
 ghost use Rattle.mixal_asm.specs.Fed.{answer_of_fed};
 
 use crate::draft::Draft;
@@ -54,31 +54,12 @@ impl<'s> Assembler<'s> {
         ensures ok { IfOk result (λ fed. answer_of self.entry text.now ≡ Ok (answer_of_fed fed)) }
         ensures fault { IfFault result (λ fault. (fault.line ≡ number_after self.entry) × (answer_of self.entry text.now ≡ Err fault.kind)) }
     {
-        let number = self.number();
-        match self.answer(text) {
-            Ok(fed) => Ok(fed),
-            Err(Refused::Fault(kind)) => Err(Refused::Fault(AsmFault { line: number, kind })),
-            Err(Refused::Memory) => Err(Refused::Memory),
-        }
-    }
-
-    /// The number of the next line.
-    pub(crate) fn number(&self) -> u32
-        ensures { result ≡ number_after self.now }
-    {
-        self.draft.rows.len() as u32 + 1
-    }
-
-    // The same without the number of the line.
-    fn answer(self, text: &'s [u8]) -> Result<Fed<'s>, Refused<AsmKind>>
-        ensures ok { IfOk result (λ fed. answer_of self.entry text.now ≡ Ok (answer_of_fed fed)) }
-        ensures fault { IfFault result (λ kind. answer_of self.entry text.now ≡ Err kind) }
-    {
         let alloc = self.alloc;
         let mut draft = self.draft;
-        match answer(&mut draft, text)? {
-            None => Ok(Fed::More(Assembler { draft, alloc })),
-            Some(start) => Ok(Fed::Done(draft.into_program(alloc, start)?)),
+        match add_line(&mut draft, text) {
+            Ok(None) => Ok(Fed::More(Assembler { draft, alloc })),
+            Ok(Some(start)) => Ok(Fed::Done(draft.into_program(alloc, start)?)),
+            Err(refused) => Err(refused),
         }
     }
 
@@ -90,7 +71,25 @@ impl<'s> Assembler<'s> {
     }
 }
 
-// What a line gives: the lines so far with it and, at END, the start of their program.
+/// What a line gives: the lines so far with it and, at END, the start of their program; or its fault with its number.
+pub(crate) fn add_line<'s>(
+    draft: &mut Draft<'s>,
+    text: &'s [u8],
+) -> Result<Option<Place>, Refused<AsmFault>>
+    requires { IsReady draft.old }
+    ensures ok { IfOk result (λ end. answer_of draft.old text.now ≡ Ok (answer_at draft.new end)) }
+    ensures fault { IfFault result (λ fault. (fault.line ≡ number_after draft.old) × (answer_of draft.old text.now ≡ Err fault.kind)) }
+    ensures ready { IfOk result (λ end. WaitsFor end draft.new) }
+{
+    let number = draft.number();
+    match answer(draft, text) {
+        Ok(end) => Ok(end),
+        Err(Refused::Fault(kind)) => Err(Refused::Fault(AsmFault { line: number, kind })),
+        Err(Refused::Memory) => Err(Refused::Memory),
+    }
+}
+
+// The same without the number of the line.
 #[tactic(auto, unfolding(crate::specs::Assembly::answer_of))]
 fn answer<'s>(draft: &mut Draft<'s>, text: &'s [u8]) -> Result<Option<Place>, Refused<AsmKind>>
     requires { HasNoLiteral draft.old.names }

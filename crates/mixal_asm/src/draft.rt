@@ -82,7 +82,7 @@ impl<'s> Draft<'s> {
 
     /// The number of the next line.
     pub(crate) fn number(&self) -> u32
-        requires { length self.now.rows < 20000 }
+        requires { length self.now.rows ≤ 20000 }
         ensures { result ≡ number_after self.now }
     {
         self.rows.len() as u32 + 1

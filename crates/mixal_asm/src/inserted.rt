@@ -9,7 +9,7 @@ ghost use Rattle.mixal_asm.specs.Assembly.{literal_line, literal_lines, zero_lin
 use crate::draft::Draft;
 use crate::fault::AsmKind;
 use crate::key::Key;
-use crate::row::{Shows, Source};
+use crate::row::Source;
 use mix_word::Word;
 use mixal_text::{Label, Symbol};
 use undo_core::Refused;
@@ -43,9 +43,7 @@ impl<'s> Draft<'s> {
             Err(kind) => return Err(Refused::Fault(kind)),
         };
         self.define(Key::Literal(j), self.here_word())?;
-        self.emit(value, None)?;
-        self.add_row(Source::Literal(text), Shows::Word(count))?;
-        Ok(())
+        self.emit_shown(Source::Literal(text), count, value)
     }
 
     // A symbol that no LOC defines, as a line NAME CON 0 at the location.
@@ -58,9 +56,7 @@ impl<'s> Draft<'s> {
     {
         let count = self.word_count();
         self.define(Key::Name(symbol.copied()), self.here_word())?;
-        self.emit(Word::ZERO, None)?;
-        self.add_row(Source::Name(symbol), Shows::Word(count))?;
-        Ok(())
+        self.emit_shown(Source::Name(symbol), count, Word::ZERO)
     }
 
     fn zero_line_for(&mut self, loc: &Option<Label>, name: Key) -> Result<(), Refused<AsmKind>>

@@ -46,6 +46,7 @@ fn location_of(value: Word) -> Result<u16, AsmKind>
 }
 
 impl<'s> Draft<'s> {
+    ghost use Rattle.mixal_asm.specs.Row.{source_value};
     ghost use Rattle.mixal_asm.specs.Draft.{IsDue, HasNoLiteral, shown_word};
 
     // An instruction that uses a literal.
@@ -82,38 +83,39 @@ impl<'s> Draft<'s> {
         }
     }
 
-    // A complete word, of this number among the words, and the row of its line.
-    fn emit_shown(
+    /// A complete word, of this number among the words, and the row of its line.
+    pub(crate) fn emit_shown(
         &mut self,
-        number: u32,
-        text: &'s [u8],
+        source: Source<'s>,
         count: usize,
         word: Word,
     ) -> Result<(), Refused<AsmKind>>
-        ensures ok { OnOk result (shown_word number text.now count (with_word self.old word None) ≡ Ok self.new) }
-        ensures fault { IfFault result (λ kind. shown_word number text.now count (with_word self.old word None) ≡ Err kind) }
+        ensures ok { OnOk result (shown_word (source_value source.entry) count (with_word self.old word None) ≡ Ok self.new) }
+        ensures fault { IfFault result (λ kind. shown_word (source_value source.entry) count (with_word self.old word None) ≡ Err kind) }
+        ensures names { OnOk result (self.new.names ≡ self.old.names) }
+        ensures literals { OnOk result (self.new.literals ≡ self.old.literals) }
+        ensures emitted { OnOk result (self.new.emitted ≡ self.old.emitted ++ record { place = self.old.here; word = word; awaits = None } ∷ []) }
     {
         self.emit(word, None)?;
-        self.add_row(Source::Line(number, text), Shows::Word(count))?;
+        self.add_row(source, Shows::Word(count))?;
         Ok(())
     }
 
     // The same of an instruction by its A-part.
     fn instruction_shown(
         &mut self,
-        number: u32,
-        text: &'s [u8],
+        source: Source<'s>,
         count: usize,
         word: Word,
         a: APart<'s>,
     ) -> Result<(), Refused<AsmKind>>
         requires due { IsDue self.old.names (value_of_a_part a) }
         requires unplaced { HasNoLiteral self.old.names }
-        ensures ok { OnOk result (shown_word number text.now count (with_instruction self.old word (value_of_a_part a.entry)) ≡ Ok self.new) }
-        ensures fault { IfFault result (λ kind. shown_word number text.now count (with_instruction self.old word (value_of_a_part a.entry)) ≡ Err kind) }
+        ensures ok { OnOk result (shown_word (source_value source.entry) count (with_instruction self.old word (value_of_a_part a.entry)) ≡ Ok self.new) }
+        ensures fault { IfFault result (λ kind. shown_word (source_value source.entry) count (with_instruction self.old word (value_of_a_part a.entry)) ≡ Err kind) }
     {
         self.emit_instruction(word, a)?;
-        self.add_row(Source::Line(number, text), Shows::Word(count))?;
+        self.add_row(source, Shows::Word(count))?;
         Ok(())
     }
 
@@ -143,7 +145,7 @@ impl<'s> Draft<'s> {
             Err(kind) => return Err(Refused::Fault(kind)),
         };
         let word = instruction_word(code, operand.index, operand.f);
-        self.instruction_shown(number, text, count, word, operand.a)
+        self.instruction_shown(Source::Line(number, text), count, word, operand.a)
     }
 
     /// EQU: its LOC gets the W-value.
@@ -217,7 +219,7 @@ impl<'s> Draft<'s> {
             Ok(value) => value,
             Err(kind) => return Err(Refused::Fault(kind)),
         };
-        self.emit_shown(number, text, count, value)
+        self.emit_shown(Source::Line(number, text), count, value)
     }
 
     /// ALF: the word of five characters at the location.
@@ -236,6 +238,6 @@ impl<'s> Draft<'s> {
         let number = self.number();
         let count = self.word_count();
         self.label(loc, self.here_word())?;
-        self.emit_shown(number, text, count, word)
+        self.emit_shown(Source::Line(number, text), count, word)
     }
 }

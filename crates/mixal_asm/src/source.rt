@@ -1,13 +1,16 @@
 //! A whole source (1.3.2).
 ghost use Rattle.std.specs.Prelude.{◌≡◌, Ok, Err, IfOk};
 ghost use Rattle.undo_core.specs.Refused.{IfFault};
-ghost use Rattle.mixal_asm.specs.Assembly.{assembly};
+ghost use Rattle.mix_lines.specs.Lines.{lines};
+ghost use Rattle.mixal_asm.specs.Assembly.{assembly, program_from, program_at};
+ghost use Rattle.mixal_asm.specs.Draft.{IsReady};
 
-use crate::assembler::Assembler;
+use crate::assembler::add_line;
+use crate::draft::Draft;
 use crate::fault::{AsmFault, AsmKind};
-use crate::fed::Fed;
 use crate::program::Program;
 use mix_lines::split_line;
+use mix_word::Place;
 use std::alloc::Global;
 use undo_core::Refused;
 
@@ -24,20 +27,29 @@ pub fn assemble<'s>(alloc: Global, text: &'s [u8]) -> Result<Program<'s>, Refuse
     if text.len() > MAX_SOURCE_BYTES {
         return Err(fault_at(1, AsmKind::SourceTooLong));
     }
-    let mut assembler = Assembler::new(alloc);
+    let mut draft = Draft::new(alloc);
+    match add_lines(&mut draft, text) {
+        Ok(start) => Ok(draft.into_program(alloc, start)?),
+        Err(refused) => Err(refused),
+    }
+}
+
+// The lines of a text up to END, which gives the start of their program.
+fn add_lines<'s>(draft: &mut Draft<'s>, text: &'s [u8]) -> Result<Place, Refused<AsmFault>>
+    requires { IsReady draft.old }
+    ensures ok { IfOk result (λ start. program_from draft.old (lines text.now) ≡ Ok (program_at draft.new start)) }
+    ensures fault { IfFault result (λ fault. program_from draft.old (lines text.now) ≡ Err fault) }
+{
     let mut rest = text;
     while !rest.is_empty() {
         let (line, after) = split_line(rest);
-        match assembler.line(line) {
-            Ok(Fed::More(next)) => {
-                assembler = next;
-                rest = after;
-            }
-            Ok(Fed::Done(program)) => return Ok(program),
+        match add_line(draft, line) {
+            Ok(None) => rest = after,
+            Ok(Some(start)) => return Ok(start),
             Err(refused) => return Err(refused),
         }
     }
-    Err(fault_at(assembler.number(), AsmKind::NoEnd))
+    Err(fault_at(draft.number(), AsmKind::NoEnd))
 }
 
 fn fault_at(line: u32, kind: AsmKind) -> Refused<AsmFault>
