@@ -79,14 +79,7 @@ impl ShiftKind {
     fn number(self) -> u8
         ensures { result ≡ number_of_shift self }
     {
-        match self {
-            ShiftKind::Sla => 0,
-            ShiftKind::Sra => 1,
-            ShiftKind::Slax => 2,
-            ShiftKind::Srax => 3,
-            ShiftKind::Slc => 4,
-            ShiftKind::Src => 5,
-        }
+        self as u8
     }
 }
 
@@ -94,18 +87,7 @@ impl JumpKind {
     fn number(self) -> u8
         ensures { result ≡ number_of_jump self }
     {
-        match self {
-            JumpKind::Jmp => 0,
-            JumpKind::Jsj => 1,
-            JumpKind::Jov => 2,
-            JumpKind::Jnov => 3,
-            JumpKind::Less => 4,
-            JumpKind::Equal => 5,
-            JumpKind::Greater => 6,
-            JumpKind::GreaterEqual => 7,
-            JumpKind::NotEqual => 8,
-            JumpKind::LessEqual => 9,
-        }
+        self as u8
     }
 }
 
@@ -113,14 +95,7 @@ impl Condition {
     fn number(self) -> u8
         ensures { result ≡ number_of_condition self }
     {
-        match self {
-            Condition::Negative => 0,
-            Condition::Zero => 1,
-            Condition::Positive => 2,
-            Condition::NotNegative => 3,
-            Condition::NotZero => 4,
-            Condition::NotPositive => 5,
-        }
+        self as u8
     }
 }
 
