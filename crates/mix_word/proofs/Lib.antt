@@ -1,4 +1,5 @@
 pub mod RegisterRow
+pub mod RowLemmas
 pub mod Powers
 pub mod CharacterLemmas
 pub mod FindLemmas

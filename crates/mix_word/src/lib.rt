@@ -10,13 +10,13 @@ mod decoding;
 mod display;
 mod field;
 mod laws;
-mod letters;
 mod naming;
 mod needs;
 mod operation;
 mod operations;
 mod place;
 mod register;
+mod rows;
 mod shifting;
 #[cfg(test)]
 mod tests;

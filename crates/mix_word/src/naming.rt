@@ -6,10 +6,6 @@ ghost use Rattle.mix_word.specs.declared.operation.Operation.{Operation};
 ghost use Rattle.mix_word.specs.Names.{name_of};
 ghost use Rattle.mix_word.specs.Table.{operations, operation_named};
 
-use crate::letters::{
-    compare_name, decrease_name, enter_name, enter_negated_name, increase_name, jump_name,
-    load_name, load_negated_name, register_jump_name, shift_name, store_name,
-};
 use crate::operation::Operation;
 use crate::operations::OPERATIONS;
 
@@ -58,34 +54,6 @@ impl Operation {
     fn letters(self) -> &'static str
         ensures { result.now ≡ name_of self }
     {
-        match self {
-            Operation::Nop => "NOP",
-            Operation::Add => "ADD",
-            Operation::Sub => "SUB",
-            Operation::Mul => "MUL",
-            Operation::Div => "DIV",
-            Operation::Num => "NUM",
-            Operation::Char => "CHAR",
-            Operation::Hlt => "HLT",
-            Operation::Shift(kind) => shift_name(kind),
-            Operation::Move => "MOVE",
-            Operation::Load(r) => load_name(r),
-            Operation::LoadNegated(r) => load_negated_name(r),
-            Operation::Store(r) => store_name(r),
-            Operation::StoreJ => "STJ",
-            Operation::StoreZero => "STZ",
-            Operation::Jbus => "JBUS",
-            Operation::Ioc => "IOC",
-            Operation::In => "IN",
-            Operation::Out => "OUT",
-            Operation::Jred => "JRED",
-            Operation::Jump(kind) => jump_name(kind),
-            Operation::RegisterJump(r, condition) => register_jump_name(r, condition),
-            Operation::Increase(r) => increase_name(r),
-            Operation::Decrease(r) => decrease_name(r),
-            Operation::Enter(r) => enter_name(r),
-            Operation::EnterNegated(r) => enter_negated_name(r),
-            Operation::Compare(r) => compare_name(r),
-        }
+        self.row().0
     }
 }

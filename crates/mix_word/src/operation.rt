@@ -1,10 +1,12 @@
 //! The table of operations (1.3.1): their codes, the F that goes with each, names and times.
 ghost use Rattle.std.specs.Prelude.{◌≡◌, ◌<◌, ◌≤◌};
 ghost use Rattle.mix_word.specs.Operation.{operation_code, normal_f_of, time_of, number_of_shift, number_of_jump, number_of_condition};
-ghost use Rattle.mix_word.specs.Table.{decode_of};
+ghost use Rattle.mix_word.specs.Names.{name_of};
+ghost use Rattle.mix_word.specs.Table.{decode_of, row_of};
 
 use crate::decoding::Decoded;
 use crate::register::DataReg;
+use crate::rows::{Row, rows};
 
 /// A shift (1.3.1): of rA alone, of rA and rX, or of both circularly, to the left or to the right.
 #[derive(Clone, Copy, Debug, PartialEq, Eq, Hash)]
@@ -79,14 +81,7 @@ impl ShiftKind {
     fn number(self) -> u8
         ensures { result ≡ number_of_shift self }
     {
-        match self {
-            ShiftKind::Sla => 0,
-            ShiftKind::Sra => 1,
-            ShiftKind::Slax => 2,
-            ShiftKind::Srax => 3,
-            ShiftKind::Slc => 4,
-            ShiftKind::Src => 5,
-        }
+        self as u8
     }
 }
 
@@ -94,18 +89,7 @@ impl JumpKind {
     fn number(self) -> u8
         ensures { result ≡ number_of_jump self }
     {
-        match self {
-            JumpKind::Jmp => 0,
-            JumpKind::Jsj => 1,
-            JumpKind::Jov => 2,
-            JumpKind::Jnov => 3,
-            JumpKind::Less => 4,
-            JumpKind::Equal => 5,
-            JumpKind::Greater => 6,
-            JumpKind::GreaterEqual => 7,
-            JumpKind::NotEqual => 8,
-            JumpKind::LessEqual => 9,
-        }
+        self as u8
     }
 }
 
@@ -113,14 +97,7 @@ impl Condition {
     fn number(self) -> u8
         ensures { result ≡ number_of_condition self }
     {
-        match self {
-            Condition::Negative => 0,
-            Condition::Zero => 1,
-            Condition::Positive => 2,
-            Condition::NotNegative => 3,
-            Condition::NotZero => 4,
-            Condition::NotPositive => 5,
-        }
+        self as u8
     }
 }
 
@@ -130,31 +107,7 @@ impl Operation {
         ensures is { result ≡ operation_code self }
         ensures bound { result < 64 }
     {
-        match self {
-            Operation::Nop => 0,
-            Operation::Add => 1,
-            Operation::Sub => 2,
-            Operation::Mul => 3,
-            Operation::Div => 4,
-            Operation::Num | Operation::Char | Operation::Hlt => 5,
-            Operation::Shift(_) => 6,
-            Operation::Move => 7,
-            Operation::Load(r) => 8 + r.offset(),
-            Operation::LoadNegated(r) => 16 + r.offset(),
-            Operation::Store(r) => 24 + r.offset(),
-            Operation::StoreJ => 32,
-            Operation::StoreZero => 33,
-            Operation::Jbus => 34,
-            Operation::Ioc => 35,
-            Operation::In => 36,
-            Operation::Out => 37,
-            Operation::Jred => 38,
-            Operation::Jump(_) => 39,
-            Operation::RegisterJump(r, _) => 40 + r.offset(),
-            Operation::Increase(r) | Operation::Decrease(r) => 48 + r.offset(),
-            Operation::Enter(r) | Operation::EnterNegated(r) => 48 + r.offset(),
-            Operation::Compare(r) => 56 + r.offset(),
-        }
+        self.row().1
     }
 
     /// The F that an assembler puts where none is written, 0 to 9; an operation by F has no other.
@@ -163,26 +116,50 @@ impl Operation {
         ensures bound { result < 10 }
         ensures decodes { decode_of (operation_code self) result ≡ Decoded.Named self }
     {
-        self.usual_f()
+        self.row().2
     }
 
-    fn usual_f(self) -> u8
-        ensures is { result ≡ normal_f_of self }
-        ensures bound { result < 10 }
+    // Its name, C and normal F.
+    pub(crate) fn row(self) -> Row
+        ensures name { result.0.now ≡ name_of self }
+        ensures code { result.1 ≡ operation_code self }
+        ensures f { result.2 ≡ normal_f_of self }
+    {
+        rows()[usize::from(self.row_number())]
+    }
+
+    // The number of its row.
+    fn row_number(self) -> u8
+        ensures { result ≡ row_of self }
     {
         match self {
-            Operation::Shift(kind) => kind.number(),
-            Operation::Jump(kind) => kind.number(),
-            Operation::RegisterJump(_, condition) => condition.number(),
-            Operation::Char | Operation::Move | Operation::Decrease(_) => 1,
-            Operation::Hlt | Operation::StoreJ | Operation::Enter(_) => 2,
-            Operation::EnterNegated(_) => 3,
-            Operation::Nop | Operation::Num | Operation::Increase(_) => 0,
-            Operation::Jbus | Operation::Ioc | Operation::In | Operation::Out | Operation::Jred =>
-                0,
-            Operation::Add | Operation::Sub | Operation::Mul | Operation::Div => 5,
-            Operation::Load(_) | Operation::LoadNegated(_) | Operation::Store(_) => 5,
-            Operation::StoreZero | Operation::Compare(_) => 5,
+            Operation::Nop => 0,
+            Operation::Add => 1,
+            Operation::Sub => 2,
+            Operation::Mul => 3,
+            Operation::Div => 4,
+            Operation::Num => 5,
+            Operation::Char => 6,
+            Operation::Hlt => 7,
+            Operation::Shift(kind) => 8 + kind.number(),
+            Operation::Move => 14,
+            Operation::Load(r) => 15 + r.offset(),
+            Operation::LoadNegated(r) => 23 + r.offset(),
+            Operation::Store(r) => 31 + r.offset(),
+            Operation::StoreJ => 39,
+            Operation::StoreZero => 40,
+            Operation::Jbus => 41,
+            Operation::Ioc => 42,
+            Operation::In => 43,
+            Operation::Out => 44,
+            Operation::Jred => 45,
+            Operation::Jump(kind) => 46 + kind.number(),
+            Operation::RegisterJump(r, condition) => 56 + 6 * r.offset() + condition.number(),
+            Operation::Increase(r) => 104 + 4 * r.offset(),
+            Operation::Decrease(r) => 105 + 4 * r.offset(),
+            Operation::Enter(r) => 106 + 4 * r.offset(),
+            Operation::EnterNegated(r) => 107 + 4 * r.offset(),
+            Operation::Compare(r) => 136 + r.offset(),
         }
     }
 

@@ -52,17 +52,7 @@ impl Reg {
         ensures listed { slice_get all_registers result ≡ Some self }
         ensures bound { result < 9 }
     {
-        match self {
-            Reg::A => 0,
-            Reg::X => 1,
-            Reg::I1 => 2,
-            Reg::I2 => 3,
-            Reg::I3 => 4,
-            Reg::I4 => 5,
-            Reg::I5 => 6,
-            Reg::I6 => 7,
-            Reg::J => 8,
-        }
+        self as u8
     }
 
     /// The register of a number (1.3.1), 0 to 8 in the order of `ALL`, or none where the number is 9 or more.
@@ -145,16 +135,7 @@ impl DataReg {
         ensures is { result ≡ offset_of self }
         ensures bound { result < 8 }
     {
-        match self {
-            DataReg::A => 0,
-            DataReg::I1 => 1,
-            DataReg::I2 => 2,
-            DataReg::I3 => 3,
-            DataReg::I4 => 4,
-            DataReg::I5 => 5,
-            DataReg::I6 => 6,
-            DataReg::X => 7,
-        }
+        self as u8
     }
 
     /// The register itself (1.3.1).
