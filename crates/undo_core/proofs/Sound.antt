@@ -1,10 +1,9 @@
 -- A journal stays sound as a change is done, taken back and done again, and its first state stays.
 use Rattle.std.proofs.Common.{◌≡◌, ℕ, ◌+◌, ◌-◌, ◌<◌, ◌≤◌, List, [], ◌∷◌, ◌++◌, length, take, drop, reverse, get_or}
 use Rattle.std.proofs.Common.{Option, Some, Result, Ok, Err, refl, sym, ◌∙◌, ap, add-one, arith, unwrap_or, length-append}
-use Rattle.std.proofs.Math.ListN.{set, length-set}
 use Rattle.std.proofs.Math.Seq.{drop-cons, drop-append_seam, take-append_seam}
 use Rattle.std.proofs.lemmas.List.{reverse-append, reverse-reverse, length-take-le, take_all, drop_all, take_more}
-use Rattle.std.proofs.lemmas.List.{take_more_set, take-append-drop, drop-append-le}
+use Rattle.std.proofs.lemmas.List.{take-append-drop, drop-append-le}
 use Rattle.std.specs.Result.{IsErrAnd}
 use Rattle.undo_core.specs.declared.refused.Refused.{Refused}
 use Rattle.undo_core.specs.declared.refused.Refused.TheVariants.{Fault, Memory}
@@ -29,13 +28,13 @@ item_of [] some = absurd (omega arith)
 item_of (x ∷ _) some = x
 
 -- what stands ahead after the last change is taken back
-pub back_ahead : {A : Type 0} (xs : List A) (n cursor : ℕ) → n + 1 ≡ cursor → cursor ≤ length xs →
-    drop n xs ≡ drop (length (take cursor xs) - 1) (take cursor xs) ++ drop cursor xs
-back_ahead xs n cursor last within =
-    let many = length-take-le cursor xs within in
-    let place : length (take cursor xs) - 1 ≡ n = omega arith in
-    let le : n ≤ length (take cursor xs) = omega arith in
-    rw place (ap (drop n) (sym (take-append-drop cursor xs)) ∙ drop-append-le n (take cursor xs) (drop cursor xs) le)
+pub back_ahead : {A : Type 0} (xs : List A) (n done : ℕ) → n + 1 ≡ done → done ≤ length xs →
+    drop n xs ≡ drop (length (take done xs) - 1) (take done xs) ++ drop done xs
+back_ahead xs n done last within =
+    let many = length-take-le done xs within in
+    let place : length (take done xs) - 1 ≡ n = omega arith in
+    let le : n ≤ length (take done xs) = omega arith in
+    rw place (ap (drop n) (sym (take-append-drop done xs)) ∙ drop-append-le n (take done xs) (drop done xs) le)
 
 -- the fault of a refusal that a `?` passed on
 pub fault_of : {S C F : Type 0} (gives : S → C → Result S F) (state : S) (c : C) (first : S) (cs : List C)
@@ -55,34 +54,34 @@ pub record IsDone {S C O F : Type 0} (gives : S → C → Result S F) (keeps : S
   pub kept_is : kept_then ≡ kept ++ keeps s c
   pub from_is : from ≡ length kept
 
--- the last change, and what takes it back
+-- the last change, and what takes it back; the starts of the others are the rest
 pub record IsLast {S C O F : Type 0} (gives : S → C → Result S F) (keeps : S → C → List O) (put : S → O → Option S)
-    (state : S) (kept : List O) (changes : List C) (starts : List ℕ) (n start : ℕ) (before : S) (c : C) : Type 0 where
+    (state : S) (kept : List O) (changes : List C) (rest : List ℕ) (start : ℕ) (before : S) (c : C) : Type 0 where
   pub newest : IsNewest gives keeps put c start kept before state
-  pub older : Leads gives keeps put (unwound put kept state) (reverse (take n changes)) (reverse (take n starts)) (take start kept) before
-  pub next : drop n changes ≡ c ∷ drop (n + 1) changes
+  pub older : Leads gives keeps put (unwound put kept state) (reverse (take (length rest) changes)) (reverse rest) (take start kept) before
+  pub next : drop (length rest) changes ≡ c ∷ drop (length rest + 1) changes
   -- its values can be put back
   pub fits : put_back put (drop start kept) state ≡ Some before
 
 module _ {S C O F : Type 0} {gives : S → C → Result S F} {keeps : S → C → List O} {put : S → O → Option S}
-    {state : S} {kept : List O} {changes : List C} {starts : List ℕ} {cursor : ℕ}
-    (sound : IsSound gives keeps put state kept changes starts cursor) where
+    {state : S} {kept : List O} {changes : List C} {starts : List ℕ}
+    (sound : IsSound gives keeps put state kept changes starts) where
   -- the changes replay to the state
-  pub sound_replay : replay gives (unwound put kept state) (take cursor changes) ≡ Some state
+  pub sound_replay : replay gives (unwound put kept state) (take (length starts) changes) ≡ Some state
   sound_replay =
-      rw reverse-reverse at (leads-replay gives keeps put (unwound put kept state) (reverse (take cursor changes))
-      (reverse (take cursor starts)) kept state sound.done)
+      rw reverse-reverse at (leads-replay gives keeps put (unwound put kept state) (reverse (take (length starts) changes))
+      (reverse starts) kept state sound.done)
 
   -- as many values are kept as the changes count
-  pub sound_count : length kept ≡ count_kept gives keeps (unwound put kept state) (take cursor changes)
+  pub sound_count : length kept ≡ count_kept gives keeps (unwound put kept state) (take (length starts) changes)
   sound_count =
-      rw reverse-reverse at (leads-count_kept gives keeps put (unwound put kept state) (reverse (take cursor changes))
-      (reverse (take cursor starts)) kept state sound.done)
+      rw reverse-reverse at (leads-count_kept gives keeps put (unwound put kept state) (reverse (take (length starts) changes))
+      (reverse starts) kept state sound.done)
 
   -- all values can be put back
   pub sound_put_back : put_back put kept state ≡ Some (unwound put kept state)
   sound_put_back =
-      leads-put_back gives keeps put (unwound put kept state) (reverse (take cursor changes)) (reverse (take cursor starts)) kept state
+      leads-put_back gives keeps put (unwound put kept state) (reverse (take (length starts) changes)) (reverse starts) kept state
       sound.done
 
   -- one change more leaves the first state
@@ -94,15 +93,15 @@ module _ {S C O F : Type 0} {gives : S → C → Result S F} {keeps : S → C �
 
   -- and leads to the state after it
   pub done_leads : {t : S} {c : C} {kept_then : List O} {from : ℕ} → IsDone gives keeps put state t c kept kept_then from →
-      (all : List C) (all_starts : List ℕ) → all ≡ take cursor changes ++ c ∷ [] → all_starts ≡ take cursor starts ++ from ∷ [] →
+      (all : List C) (all_starts : List ℕ) → all ≡ take (length starts) changes ++ c ∷ [] → all_starts ≡ starts ++ from ∷ [] →
       Leads gives keeps put (unwound put kept_then t) (reverse all) (reverse all_starts) kept_then t
   done_leads {t} {c} {kept_then} {from} done all all_starts e f =
       rw (
         done_first done,
         e,
         f,
-        reverse-append_last (take cursor changes) c,
-        reverse-append_last (take cursor starts) from,
+        reverse-append_last (take (length starts) changes) c,
+        reverse-append_last starts from,
         done.kept_is,
         done.from_is,
       ) (
@@ -116,103 +115,107 @@ module _ {S C O F : Type 0} {gives : S → C → Result S F} {keeps : S → C �
         rw (take-append_seam kept (keeps state c)) sound.done,
       )
 
+  -- each change of a new list is done
+  pub go_whole : (c : C) (from : ℕ) (all : List C) (all_starts : List ℕ) →
+      all ≡ take (length starts) changes ++ c ∷ [] → all_starts ≡ starts ++ from ∷ [] → length all ≡ length all_starts
+  go_whole c from all all_starts e f =
+      let many : length all ≡ length (take (length starts) changes) + 1 =
+      ap length e ∙ length-append (take (length starts) changes) (c ∷ []) in
+      let many_starts : length all_starts ≡ length starts + 1 = ap length f ∙ length-append starts (from ∷ []) in
+      omega (arith, length-take-le (length starts) changes sound.within)
+
   -- after a new change, which cuts what stands ahead
   pub go_sound : {t : S} {c : C} {kept_then : List O} {from : ℕ} → IsDone gives keeps put state t c kept kept_then from →
-      (all : List C) (all_starts : List ℕ) → all ≡ take cursor changes ++ c ∷ [] → all_starts ≡ take cursor starts ++ from ∷ [] →
-      (n : ℕ) → n ≡ length all → IsSound gives keeps put t kept_then all all_starts n
-  go_sound {t} {c} {kept_then} {from} done all all_starts e f n whole =
-      let many : length all ≡ length (take cursor changes) + 1 = ap length e ∙ length-append (take cursor changes) (c ∷ []) in
-      let many_starts : length all_starts ≡ length (take cursor starts) + 1 =
-      ap length f ∙ length-append (take cursor starts) (from ∷ []) in
-      let same_many : length (take cursor starts) ≡ length (take cursor changes) =
-      length-take-le cursor starts (omega (arith, sound.within, sound.paired)) ∙ sym (length-take-le cursor changes sound.within) in
+      (all : List C) (all_starts : List ℕ) → all ≡ take (length starts) changes ++ c ∷ [] → all_starts ≡ starts ++ from ∷ [] →
+      IsSound gives keeps put t kept_then all all_starts
+  go_sound {t} {c} {kept_then} {from} done all all_starts e f =
+      let whole = go_whole c from all all_starts e f in
       record {
         within = omega arith;
-        paired = omega arith;
-        done = rw (take_all n all (omega arith), take_all n all_starts (omega arith)) (done_leads done all all_starts e f);
-        ahead = rw (drop_all n all (omega arith)) refl;
+        done = rw (take_all (length all_starts) all (omega arith)) (done_leads done all all_starts e f);
+        ahead = rw (drop_all (length all_starts) all (omega arith)) refl;
       }
 
   -- the new list replays to the new state
   pub go_replays : {t : S} {c : C} {kept_then : List O} {from : ℕ} → IsDone gives keeps put state t c kept kept_then from →
-      (all : List C) → all ≡ take cursor changes ++ c ∷ [] → (n : ℕ) → n ≡ length all →
-      replay gives (unwound put kept_then t) (take n all) ≡ Some t
-  go_replays {t} {c} {kept_then} {from} done all e n whole =
-      rw (done_first done, take_all n all (omega arith), e)
-      (replay-append_some gives (unwound put kept state) state t (take cursor changes) c sound_replay done.given)
+      (all : List C) (all_starts : List ℕ) → all ≡ take (length starts) changes ++ c ∷ [] → all_starts ≡ starts ++ from ∷ [] →
+      replay gives (unwound put kept_then t) (take (length all_starts) all) ≡ Some t
+  go_replays {t} {c} {kept_then} {from} done all all_starts e f =
+      let whole = go_whole c from all all_starts e f in
+      rw (done_first done, take_all (length all_starts) all (omega arith), e)
+      (replay-append_some gives (unwound put kept state) state t (take (length starts) changes) c sound_replay done.given)
 
   -- the state before a new change gives the one after it, to which the new list replays
   pub go_given : {t : S} {c : C} {kept_then : List O} {from : ℕ} → IsDone gives keeps put state t c kept kept_then from →
-      (all : List C) → all ≡ take cursor changes ++ c ∷ [] → (n : ℕ) → n ≡ length all →
-      (before : S) → replay gives (unwound put kept state) (take cursor changes) ≡ Some before →
-      (after : S) × (gives before c ≡ Ok after) × (replay gives (unwound put kept_then t) (take n all) ≡ Some after)
-  go_given {t} done all e n whole before was =
+      (all : List C) (all_starts : List ℕ) → all ≡ take (length starts) changes ++ c ∷ [] → all_starts ≡ starts ++ from ∷ [] →
+      (before : S) → replay gives (unwound put kept state) (take (length starts) changes) ≡ Some before →
+      (after : S) × (gives before c ≡ Ok after) × (replay gives (unwound put kept_then t) (take (length all_starts) all) ≡ Some after)
+  go_given {t} done all all_starts e f before was =
       let given = done.given in
-      (t, cc sound_replay, go_replays done all e n whole)
+      (t, cc sound_replay, go_replays done all all_starts e f)
 
   -- after the next change ahead
   pub forth_sound : {t : S} {c : C} {kept_then : List O} {from : ℕ} → IsDone gives keeps put state t c kept kept_then from →
-      cursor < length changes → c ≡ get_or changes cursor c →
-      IsSound gives keeps put t kept_then changes (set starts cursor from) (cursor + 1)
-  forth_sound {t} {c} {kept_then} {from} done below next =
-      let more : take (cursor + 1) changes ≡ take cursor changes ++ c ∷ [] = rw (← next) at (take_more changes cursor c below) in
-      let more_starts : take (cursor + 1) (set starts cursor from) ≡ take cursor starts ++ from ∷ [] =
-      take_more_set starts cursor from (omega (arith, sound.paired)) in
-      let rest : drop cursor changes ≡ c ∷ drop (cursor + 1) changes =
-      let h = rw (← next) at (drop-cons changes cursor c below) in rw add-one h in
+      length starts < length changes → c ≡ get_or changes (length starts) c → (all_starts : List ℕ) → all_starts ≡ starts ++ from ∷ [] →
+      IsSound gives keeps put t kept_then changes all_starts
+  forth_sound {t} {c} {kept_then} {from} done below next all_starts f =
+      let many : length all_starts ≡ length starts + 1 = ap length f ∙ length-append starts (from ∷ []) in
+      let more : take (length all_starts) changes ≡ take (length starts) changes ++ c ∷ [] =
+      rw many (rw (← next) at (take_more changes (length starts) c below)) in
+      let rest : drop (length starts) changes ≡ c ∷ drop (length all_starts) changes =
+      let h = rw (← next) at (drop-cons changes (length starts) c below) in rw (many, add-one) h in
       record {
         within = omega arith;
-        paired = length-set starts cursor from ∙ sound.paired;
-        done = done_leads done (take (cursor + 1) changes) (take (cursor + 1) (set starts cursor from)) more more_starts;
+        done = done_leads done (take (length all_starts) changes) all_starts more f;
         ahead = rw (rest, done.given) at sound.ahead;
       }
 
-  last_or : (d : C) (n start : ℕ) → n + 1 ≡ cursor → start ≡ get_or starts n start →
-      (before : S) × IsLast gives keeps put state kept changes starts n start before (get_or changes n d)
-  last_or d n start last here =
-      let below : n < length changes = omega (arith, sound.within) in
-      let more : take cursor changes ≡ take n changes ++ get_or changes n d ∷ [] = rw last at (take_more changes n d below) in
-      let more_starts : take cursor starts ≡ take n starts ++ start ∷ [] =
-      let h = rw last at (take_more starts n start (omega (arith, sound.paired))) in rw (← here) at h in
+  last_or : (d : C) (rest : List ℕ) (start : ℕ) → starts ≡ rest ++ start ∷ [] →
+      (before : S) × IsLast gives keeps put state kept changes rest start before (get_or changes (length rest) d)
+  last_or d rest start last =
+      let many : length starts ≡ length rest + 1 = ap length last ∙ length-append rest (start ∷ []) in
+      let below : length rest < length changes = omega (arith, sound.within) in
+      let more : take (length starts) changes ≡ take (length rest) changes ++ get_or changes (length rest) d ∷ [] =
+      rw many (take_more changes (length rest) d below) in
       let done = rw (
         more,
-        more_starts,
-        reverse-append_last (take n changes) (get_or changes n d),
-        reverse-append_last (take n starts) start,
+        last,
+        reverse-append_last (take (length rest) changes) (get_or changes (length rest) d),
+        reverse-append_last rest start,
       ) at sound.done in (
         done.0,
         record {
           newest = done.1;
           older = done.2;
-          next = rw add-one (drop-cons changes n d below);
+          next = rw add-one (drop-cons changes (length rest) d below);
           fits = rw done.1.values done.1.undone;
         },
       )
 
   -- where a change is left there is a last one
-  pub last_of : (n start : ℕ) → n + 1 ≡ cursor → start ≡ get_or starts n start →
-      (before : S) × (c : C) × IsLast gives keeps put state kept changes starts n start before c
-  last_of n start last here =
-      let d : C = item_of changes (omega (arith, sound.within)) in
-      let l = last_or d n start last here in
-      (l.0, get_or changes n d, l.1)
+  pub last_of : (rest : List ℕ) (start : ℕ) → starts ≡ rest ++ start ∷ [] →
+      (before : S) × (c : C) × IsLast gives keeps put state kept changes rest start before c
+  last_of rest start last =
+      let d : C = item_of changes (omega (arith, sound.within, ap length last, length-append rest (start ∷ []))) in
+      let l = last_or d rest start last in
+      (l.0, get_or changes (length rest) d, l.1)
 
   -- after the last change is taken back, which leaves the first state
-  pub back_sound : (n start : ℕ) → n + 1 ≡ cursor → start ≡ get_or starts n start →
+  pub back_sound : (rest : List ℕ) (start : ℕ) → starts ≡ rest ++ start ∷ [] →
       (s : S) (kept_then : List O) → put_back put (drop start kept) state ≡ Some s → kept_then ≡ take start kept →
-      IsSound gives keeps put s kept_then changes starts n × (unwound put kept_then s ≡ unwound put kept state)
-  back_sound n start last here s kept_then back cut =
-      let l = last_of n start last here in
+      IsSound gives keeps put s kept_then changes rest × (unwound put kept_then s ≡ unwound put kept state)
+  back_sound rest start last s kept_then back cut =
+      let l = last_of rest start last in
+      let many : length starts ≡ length rest + 1 = ap length last ∙ length-append rest (start ∷ []) in
       let same : s ≡ l.0 = cc l.2.fits in
       let first : unwound put (take start kept) l.0 ≡ unwound put kept state =
       unwound_some put (take start kept) l.0 (unwound put kept state)
-      (leads-put_back gives keeps put (unwound put kept state) (reverse (take n changes)) (reverse (take n starts)) (take start kept)
+      (leads-put_back gives keeps put (unwound put kept state) (reverse (take (length rest) changes)) (reverse rest) (take start kept)
       l.0 l.2.older) in (
         rw (same, cut) (record {
           within = omega (arith, sound.within);
-          paired = sound.paired;
           done = rw first l.2.older;
-          ahead = rw (l.2.next, l.2.newest.given) (rw (← last) at sound.ahead);
+          ahead = rw (l.2.next, l.2.newest.given) (rw many at sound.ahead);
         }),
         rw (same, cut) first,
       )

@@ -20,10 +20,9 @@ Leads {S} gives keeps put first (change ∷ changes) (start ∷ starts) kept now
     (before : S) × IsNewest gives keeps put change start kept before now
     × Leads gives keeps put first changes starts (take start kept) before
 
--- what stands before the cursor leads from the first state to this one, and what stands ahead can be done
+-- the changes done, one for each start, lead from the first state to this one, and those after them can be done
 pub record IsSound {S C O F : Type 0} (gives : S → C → Result S F) (keeps : S → C → List O) (put : S → O → Option S)
-    (state : S) (kept : List O) (changes : List C) (starts : List ℕ) (cursor : ℕ) : Type 0 where
-  pub within : cursor ≤ length changes
-  pub paired : length starts ≡ length changes
-  pub done : Leads gives keeps put (unwound put kept state) (reverse (take cursor changes)) (reverse (take cursor starts)) kept state
-  pub ahead : IsSome (replay gives state (drop cursor changes))
+    (state : S) (kept : List O) (changes : List C) (starts : List ℕ) : Type 0 where
+  pub within : length starts ≤ length changes
+  pub done : Leads gives keeps put (unwound put kept state) (reverse (take (length starts) changes)) (reverse starts) kept state
+  pub ahead : IsSome (replay gives state (drop (length starts) changes))

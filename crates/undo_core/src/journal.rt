@@ -15,25 +15,23 @@ pub struct Journal<S: Undo> {
     state: S,
     // The old values of the changes done, one change after the other.
     kept: Vec<S::Old>,
-    // The changes done and, from the cursor on, those ahead.
+    // The changes done, as many as there are starts, and after them those ahead.
     changes: Vec<S::Change>,
     // Where in `kept` the values of each change done start.
     starts: Vec<usize>,
-    // How many changes are done.
-    cursor: usize,
 }
 
 impl<S: Undo> Model for Journal<S> {
-    ghost use Rattle.std.specs.Prelude.{take, drop};
+    ghost use Rattle.std.specs.Prelude.{length, take, drop};
     ghost use Rattle.undo_core.specs.History.{History};
     ghost use Rattle.undo_core.specs.Replay.{unwound};
     ghost use Rattle.undo_core.specs.Leads.{IsSound};
 
     ghost Value = { History S S.Change };
 
-    ghost view = { λ j. record { first = unwound S.put j.kept.items j.state; changes = take j.cursor j.changes.items; ahead = drop j.cursor j.changes.items } };
+    ghost view = { λ j. record { first = unwound S.put j.kept.items j.state; changes = take (length j.starts.items) j.changes.items; ahead = drop (length j.starts.items) j.changes.items } };
 
-    ghost invariant = { λ j. IsSound S.gives S.keeps S.put j.state j.kept.items j.changes.items j.starts.items j.cursor };
+    ghost invariant = { λ j. IsSound S.gives S.keeps S.put j.state j.kept.items j.changes.items j.starts.items };
 }
 
 // Puts an item in the place of all from this one on. There is room for it.
@@ -57,7 +55,6 @@ impl<S: Undo> Journal<S> {
             kept: Vec::new(alloc),
             changes: Vec::new(alloc),
             starts: Vec::new(alloc),
-            cursor: 0,
         }
     }
 
@@ -80,10 +77,8 @@ impl<S: Undo> Journal<S> {
         self.starts.reserve(1)?;
         let from = self.kept.len();
         self.state.apply(&change, &mut self.kept)?;
-        put_last(&mut self.changes, self.cursor, change);
-        let done = self.changes.len();
-        put_last(&mut self.starts, self.cursor, from);
-        self.cursor = done;
+        put_last(&mut self.changes, self.starts.len(), change);
+        self.starts.push_reserved(from);
         Ok(())
     }
 
@@ -96,11 +91,10 @@ impl<S: Undo> Journal<S> {
         ensures all { self.new.changes ++ self.new.ahead ≡ self.old.changes ++ self.old.ahead }
         ensures none { OnFalse result (self.new ≡ self.old) }
     {
-        if self.cursor == 0 {
+        let Some(start) = self.starts.pop() else {
             return false;
-        }
-        self.cursor -= 1;
-        self.state.revert(&mut self.kept, self.starts[self.cursor]);
+        };
+        self.state.revert(&mut self.kept, start);
         true
     }
 
@@ -115,18 +109,17 @@ impl<S: Undo> Journal<S> {
         ensures err { OnErr result (self.new ≡ self.old) }
         ensures some { OnErr result (0 < length self.old.ahead) }
     {
-        if self.cursor == self.changes.len() {
+        if self.starts.len() == self.changes.len() {
             return Ok(false);
         }
+        self.starts.reserve(1)?;
         let from = self.kept.len();
-        let change = self.changes[self.cursor];
+        let change = self.changes[self.starts.len()];
         match self.state.apply(&change, &mut self.kept) {
-            Ok(()) => {}
+            Ok(()) => self.starts.push_reserved(from),
             Err(Refused::Memory) => return Err(Memory),
             Err(Refused::Fault(_)) => unreachable!(),
         }
-        self.starts[self.cursor] = from;
-        self.cursor += 1;
         Ok(true)
     }
 
@@ -141,14 +134,14 @@ impl<S: Undo> Journal<S> {
     pub fn changes(&self) -> &[S::Change]
         ensures { result.now ≡ self.now.changes }
     {
-        &self.changes[..self.cursor]
+        &self.changes[..self.starts.len()]
     }
 
     /// How many changes stand ahead. It takes no memory.
     pub fn ahead(&self) -> usize
         ensures { result ≡ length self.now.ahead }
     {
-        self.changes.len() - self.cursor
+        self.changes.len() - self.starts.len()
     }
 
     /// How many old values the changes done keep. It takes no memory.

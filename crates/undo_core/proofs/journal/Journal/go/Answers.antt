@@ -16,8 +16,7 @@ invariant_of-self-2 g c =
       kept_is = c.in_ok-apply.ensures.kept;
       from_is = c.len-from.ensures ∙ c.self.inside.kept.ok.0;
     })
-    _ _ (rw c.reserve.ensures.items at c.put_last.ensures) (rw c.reserve-2.ensures.items at c.put_last-2.ensures)
-    _ (c.len-done.ensures ∙ c.put_last.new.items.ok.0)
+    _ _ (rw (c.reserve.ensures.items, c.len.ensures ∙ c.reserve-2.ensures.len ∙ c.self.inside.starts.ok.0) at c.put_last.ensures) (rw c.reserve-2.ensures.items at c.push_reserved.ensures.items)
 
 pub returns-clause-first : goal.returns-clause-first
 returns-clause-first g c =
@@ -36,7 +35,7 @@ returns-clause-given g c =
       kept_is = c.in_ok-apply.ensures.kept;
       from_is = c.len-from.ensures ∙ c.self.inside.kept.ok.0;
     })
-    _ (rw c.reserve.ensures.items at c.put_last.ensures) _ (c.len-done.ensures ∙ c.put_last.new.items.ok.0))
+    _ _ (rw (c.reserve.ensures.items, c.len.ensures ∙ c.reserve-2.ensures.len ∙ c.self.inside.starts.ok.0) at c.put_last.ensures) (rw c.reserve-2.ensures.items at c.push_reserved.ensures.items))
 
 pub returns-in_err-reserve-clause-stands : goal.returns-in_err-reserve-clause-stands
 returns-in_err-reserve-clause-stands g c = rw (← c.self.view_is) (ap is_some (sound_replay c.self.invariant))
