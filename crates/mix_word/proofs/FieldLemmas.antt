@@ -1,7 +1,12 @@
 -- bits taken out of a number and put into it, by masks and shifts
-use Rattle.std.proofs.Common.{◌≡◌, ℕ, zero, suc, ◌+◌, ◌*◌, ◌-◌, ◌/◌, ◌%◌, ◌^◌, ◌<◌, ◌≤◌, arith, refl, ap, ◌∙◌, sym, subst, bit_and}
+use Rattle.std.proofs.Common.{◌≡◌, ℕ, zero, suc, ◌+◌, ◌*◌, ◌-◌, ◌/◌, ◌%◌, ◌^◌, ◌<◌, ◌≤◌, arith, refl, ap, ◌∙◌, sym, subst, bit_and, Bool, true, ◌==◌, ◌&&◌}
 use Rattle.std.proofs.lemmas.Nat.{pow-add, one_shl, and_mask, and-not, shl_whole, pow_pos, mod_below, shr_split, shr_below, mul-add-lt, and_comm, mod-pow-add}
 use Rattle.std.proofs.lemmas.Nat.Bits.{and_high}
+use Rattle.std.proofs.lemmas.Bool.Decides.{nat_tests}
+use Rattle.mix_word.specs.declared.word.Sign.{Sign}
+use Rattle.mix_word.specs.Word.{WordValue, word}
+use Rattle.mix_word.specs.Packed.{word_of_bits, bits_of_word}
+use Rattle.mix_word.specs.Field.{FieldValue, field, put_field_of}
 use Rattle.mix_word.proofs.Powers.{six_bits}
 
 pub mask_is : (bits : ℕ) → bits ≤ 30 → (1 * 2 ^ bits) % 2 ^ 32 - 1 ≡ 2 ^ bits - 1
@@ -52,6 +57,19 @@ new_fits m v below bits within bound =
     let product : 2 ^ 30 ≡ 2 ^ (30 - (bits + below)) * 2 ^ (bits + below) =
     ap (λ (n : ℕ). 2 ^ n) (sym rest) ∙ pow-add 2 (30 - (bits + below)) (bits + below) in
     omega (arith, all, product, shr_split m (bits + below), mod-pow-add m bits below)
+
+-- in the field of the whole word a store leaves what is stored
+whole_of : (s t : Sign) (m n l r : ℕ) → l ≡ 0 → r ≡ 5 → m < 2 ^ 30 → n < 2 ^ 30 → word t n ≡ put_field_of (word s m) (field l r) (word t n)
+whole_of s t m n l r left right old new = rw (left, right) (ap (word t) (omega arith))
+
+pub fits : (v : WordValue) → word_of_bits (bits_of_word v) ≡ v → v.magnitude < 2 ^ 30
+fits v e = omega (arith, ap (λ (w : WordValue). w.magnitude) e)
+
+pub whole_put : (w v : WordValue) (f : FieldValue) (b : Bool) → b ≡ true → b ≡ (f.left == 0 && f.right == 5) → w.magnitude < 2 ^ 30 → v.magnitude < 2 ^ 30 → v ≡ put_field_of w f v
+whole_put w v f b is_true e old new =
+    let left : f.left ≡ 0 = grind (arith, nat_tests) in
+    let right : f.right ≡ 5 = grind (arith, nat_tests) in
+    whole_of w.sign v.sign w.magnitude v.magnitude f.left f.right left right old new
 
 pub ruleset masks = (mask_is, and_mask_at, one_shl, pow_pos)
 

@@ -1,5 +1,5 @@
 -- each operation stands in its row of the list, and a column of the table is what it says of the operations
-use Rattle.std.proofs.Common.{◌≡◌, ℕ, ◌+◌, ◌*◌, ◌<◌, List, map, Some, get_or, length, refl, ap, ◌∙◌, sym}
+use Rattle.std.proofs.Common.{◌≡◌, ℕ, ◌<◌, List, map, Some, get_or, length, refl, ap, ◌∙◌, sym}
 use Rattle.std.specs.List.{slice_get}
 use Rattle.std.proofs.lemmas.List.{length-map}
 use Rattle.std.specs.Option.{option_map}
