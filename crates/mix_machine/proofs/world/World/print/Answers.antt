@@ -1,5 +1,4 @@
 use Rattle.std.proofs.Common.{◌≡◌, ◌++◌, ◌∷◌, [], ap, sym, refl, ◌∙◌}
-use Rattle.mix_machine.specs.World.{WorldState}
 use Rattle.mix_machine.specs.View.{view_of}
 use Rattle.mix_machine.specs.Write.{print, written, words_out, set_value}
 use Rattle.mix_machine.specs.units.Kind.{has_medium}
