@@ -1,16 +1,17 @@
 -- A block moved between a unit and the cells: the place and the time of the unit, and then the words.
-use Rattle.std.proofs.Common.{ℕ, suc, ◌+◌, ◌-◌, ◌≡◌, ◌<◌, ◌≤◌, ◌++◌, ◌∙◌, Bool, true, false, cond, IsTrue, List, [], ◌∷◌, length, take, drop, length-append, sym, ap, arith, append_assoc, refl}
+use Rattle.std.proofs.Common.{ℕ, suc, ◌+◌, ◌-◌, ◌≡◌, ◌<◌, ◌≤◌, ◌++◌, ◌∙◌, Bool, true, false, cond, IsTrue, List, [], ◌∷◌, length, nat_lt, take, drop, length-append, sym, ap, arith, append_assoc, refl}
 use Rattle.std.specs.Prelude.{slice_index_or}
+use Rattle.std.proofs.lemmas.Bool.Decides.{nat_tests}
 use Rattle.mix_word.specs.Word.{WordValue, zero_word}
 use Rattle.mix_machine.specs.World.{WorldState, IsWorld, unit_at}
 use Rattle.mix_machine.specs.units.Kind.{block_length, has_place, has_medium}
 use Rattle.mix_machine.specs.declared.units.kind.Kind.{Kind}
 use Rattle.mix_machine.specs.UnitAction.{transfer_end}
-use Rattle.mix_machine.specs.units.Row.{RowState}
+use Rattle.mix_machine.specs.units.Row.{RowState, row_of}
 use Rattle.mix_machine.specs.units.Unit.{UnitState, most_entries}
 use Rattle.mix_machine.specs.units.Units.{UnitsState, add_blocks, add_row, length_of, length_at}
 use Rattle.mix_machine.specs.units.Keep.{keep-add_blocks, keep-add_row}
-use Rattle.mix_machine.specs.Write.{Write, set, write_all, kept_by, set_value, value_at, each, from_cell, fits, place_after, words_out}
+use Rattle.mix_machine.specs.Write.{Write, set, write_all, kept_by, set_value, value_at, each, from_cell, fits, place_after, words_out, row_writes, replace_writes, append_writes, output_writes}
 use Rattle.mix_machine.specs.law.Fits.{with-units}
 use Rattle.mix_machine.specs.law.Plans.{OutputFits, ready, fits-place-in}
 use Rattle.mix_machine.specs.declared.plan.Transfer.{Transfer}
@@ -88,6 +89,21 @@ to-grown v w us t kind blocks from size cells eu ev eb ef es ec =
     let n : t.cell + block_length kind - t.cell ≡ block_length kind = omega arith in
     rw (eu, ec, ev, eb, ef, es, n) refl
 
+-- and as a new row
+pub to-printed : (v w : WorldState) (us : UnitsState) (t : Transfer) (kind : Kind) (from size : ℕ) (cells : List WordValue) →
+    us ≡ add_row v.units t.unit (row_of (take (from + size - from) (drop from cells))) → v ≡ w → from ≡ t.cell → size ≡ block_length kind →
+    cells ≡ v.cells → us ≡ add_row w.units t.unit (row_of (words_out kind w t))
+to-printed v w us t kind from size cells eu ev ef es ec =
+    let n : t.cell + block_length kind - t.cell ≡ block_length kind = omega arith in
+    rw (eu, ec, ev, ef, es, n) refl
+
+pub rows-room : (v w : WorldState) (n : ℕ) → v ≡ w → length (unit_at w n).rows < most_entries → length (unit_at v n).rows < most_entries
+rows-room v w n e h = rw e h
+
+pub printed-kept : (w w1 : WorldState) (o l : Old) (ks k0 k1 : List Old) → w1 ≡ w → k0 ≡ ks ++ l ∷ [] → k1 ≡ k0 ++ value_at w1 o ∷ [] →
+    k1 ≡ ks ++ l ∷ value_at w o ∷ []
+printed-kept w w1 o l ks k0 k1 e g0 g1 = rw (g1, g0, e) (append_assoc ks (l ∷ []) _)
+
 -- after what the unit holds more
 pub grown-kept : (w w1 : WorldState) (ps : List Write) (o l : Old) (ks k0 k1 k2 : List Old) → w1 ≡ write_all w ps → k0 ≡ ks ++ l ∷ [] →
     k1 ≡ k0 ++ kept_by w ps → k2 ≡ k1 ++ value_at w1 o ∷ [] → k2 ≡ ks ++ l ∷ kept_by w (ps ++ set o ∷ [])
@@ -123,3 +139,20 @@ cells-same size n w w1 w2 kind t e1 e2 s =
 
 pub with-grown : (v w : WorldState) (us vs : UnitsState) → v ≡ w → us ≡ vs → record v { units = us } ≡ record w { units = vs }
 with-grown v w us vs e g = rw (e, g) refl
+
+-- what OUT writes to each kind of unit
+pub out-row : (w : WorldState) (t : Transfer) (k : Kind) → k ≡ (unit_at w t.unit).kind → has_medium k ≡ false →
+    output_writes (unit_at w t.unit).kind w t ≡ row_writes k w t
+out-row w t k e m = rw (← e, m) refl
+
+pub out-replace : (w : WorldState) (t : Transfer) (k : Kind) → k ≡ (unit_at w t.unit).kind → has_medium k ≡ true →
+    t.block < length (unit_at w t.unit).blocks → output_writes (unit_at w t.unit).kind w t ≡ replace_writes k w t
+out-replace w t k e m h =
+    let there : nat_lt t.block (length (unit_at w t.unit).blocks) ≡ true = grind (arith, nat_tests) in
+    rw (there, ← e, m) refl
+
+pub out-append : (w : WorldState) (t : Transfer) (k : Kind) → k ≡ (unit_at w t.unit).kind → has_medium k ≡ true →
+    length (unit_at w t.unit).blocks ≤ t.block → output_writes (unit_at w t.unit).kind w t ≡ append_writes k w t
+out-append w t k e m h =
+    let past : nat_lt t.block (length (unit_at w t.unit).blocks) ≡ false = grind (arith, nat_tests) in
+    rw (past, ← e, m) refl

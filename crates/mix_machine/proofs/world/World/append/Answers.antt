@@ -1,4 +1,4 @@
-use Rattle.std.proofs.Common.{◌≡◌, ◌+◌, ◌-◌, ◌≤◌, ◌++◌, ◌∷◌, [], length, ap, sym, subst, refl, ◌∙◌}
+use Rattle.std.proofs.Common.{◌≡◌, ◌+◌, ◌-◌, ◌++◌, ◌∷◌, [], length, ap, sym, subst, refl, ◌∙◌}
 use Rattle.mix_machine.specs.World.{WorldState, IsWorld, unit_at}
 use Rattle.mix_machine.specs.View.{view_of}
 use Rattle.mix_machine.specs.UnitAction.{transfer_end}

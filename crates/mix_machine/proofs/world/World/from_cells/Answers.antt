@@ -1,4 +1,4 @@
-use Rattle.std.proofs.Common.{◌≡◌, ◌+◌, ◌-◌, ◌<◌, ◌∙◌, IsTrue, arith}
+use Rattle.std.proofs.Common.{◌≡◌, ◌+◌, ◌-◌, ◌∙◌, IsTrue, arith}
 use Rattle.mix_machine.specs.World.{cell_of}
 use Rattle.mix_machine.specs.Write.{fits, from_cell}
 use Rattle.mix_machine.specs.units.Units.{fits_item}

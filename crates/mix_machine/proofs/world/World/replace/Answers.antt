@@ -1,7 +1,7 @@
-use Rattle.std.proofs.Common.{◌≡◌, ◌++◌, ◌∙◌, ap, sym, subst}
-use Rattle.mix_machine.specs.World.{IsWorld, unit_at}
+use Rattle.std.proofs.Common.{◌≡◌, ◌∙◌, ap, sym, subst}
+use Rattle.mix_machine.specs.World.{IsWorld}
 use Rattle.mix_machine.specs.UnitAction.{transfer_end}
-use Rattle.mix_machine.specs.Write.{busy, each, from_cell, place_after, set_value, write_all, kept_by}
+use Rattle.mix_machine.specs.Write.{busy, each, from_cell, place_after, set_value}
 use Rattle.mix_machine.specs.units.Kind.{block_length, has_medium}
 use Rattle.mix_machine.specs.declared.old.Old.TheVariants.{Until}
 use Rattle.mix_machine.specs.law.Plans.{fits-until-in, items-ready}
