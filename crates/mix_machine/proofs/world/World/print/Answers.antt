@@ -41,8 +41,8 @@ returns-clause-state c =
     let printed = to-printed (view_of c.self.inside) w _ t c.args.kind _ _ _ c.in_ok-add_words.ensures.added c.self.view_is c.from-from.ensures size c.deref.ensures.value in
     let state = written w (print t.unit (row_of (words_out c.args.kind w t))) in
     let grown = record (view_of c.self.inside) { units = c.add_words.new.self } in
-    let timed : c.write.new.self ≡ set_value grown (Until t.unit (transfer_end w t.unit)) =
-    c.write.ensures.state ∙ ap (λ e. set_value grown (Until t.unit e)) c.end_at-until.ensures in
+    let timed : c.write_until.new.self ≡ set_value grown (Until t.unit (transfer_end w t.unit)) =
+    c.write_until.ensures.state ∙ ap (λ e. set_value grown (Until t.unit e)) c.end_at-until.ensures in
     three-state state _ _ _ [] [] [] (Until t.unit (transfer_end w t.unit)) (with-grown (view_of c.self.inside) w _ _ c.self.view_is printed) timed refl refl
 
 pub returns-clause-kept : goal.returns-clause-kept
@@ -54,7 +54,7 @@ returns-clause-kept c =
     let len = length-of w _ t.unit _ _ c.len-len.ensures c.unit.ensures c.self.view_is in
     let old = c.push_reserved.ensures.items ∙ ap (λ k. c.args.kept.now.items ++ Len t.unit k ∷ []) len in
     printed-kept (written w (print t.unit (row_of (words_out c.args.kind w t)))) _ (Until t.unit (transfer_end w t.unit)) _ c.args.kept.now.items _ _
-    (with-grown (view_of c.self.inside) w _ _ c.self.view_is printed) old c.write.ensures.kept
+    (with-grown (view_of c.self.inside) w _ _ c.self.view_is printed) old c.write_until.ensures.kept
 
 pub returns-clause-capacity : goal.returns-clause-capacity
 returns-clause-capacity c = c.write_until.ensures.capacity ∙ c.push_reserved.ensures.capacity
