@@ -59,7 +59,7 @@ impl fmt::Display for ToolFault {
 }
 
 /// Why a command is refused: C1 to C5, in the order of their numbers.
-#[derive(Clone, Copy, PartialEq, Eq)]
+#[derive(Clone, Copy)]
 pub enum Refusal {
     NoSuchCommand,
     BadArgument,

@@ -82,18 +82,17 @@ impl Names for NoNames {
     }
 }
 
-// Whether a line asks for the unit of this number, or is refused so where there is no such unit.
-fn is_asked_for(line: &str, number: u8, refusal: Refusal) -> bool {
-    match read_request(line.as_bytes(), &NoNames, Word::ZERO) {
-        Ok(Request::Show(Topic::Unit(unit))) => unit.number() == number,
-        Ok(_) => false,
-        Err(told) => UnitNo::of(number).is_none() && told == refusal,
-    }
-}
-
 #[test]
 fn units_are_asked_for(rt: HostRuntime) {
     for (line, number, refusal) in REQUESTS {
-        assert!(rt; is_asked_for(line, number, refusal), "{line}");
+        let request = match UnitNo::of(number) {
+            Some(unit) => Ok(Request::Show(Topic::Unit(unit))),
+            None => Err(refusal),
+        };
+        assert_eq!(rt;
+            read_request(line.as_bytes(), &NoNames, Word::ZERO),
+            request,
+            "{line}"
+        );
     }
 }
