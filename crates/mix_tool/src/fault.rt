@@ -59,7 +59,7 @@ impl fmt::Display for ToolFault {
 }
 
 /// Why a command is refused: C1 to C5, in the order of their numbers.
-#[derive(Clone, Copy)]
+#[derive(Clone, Copy, Debug, PartialEq, Eq)]
 pub enum Refusal {
     NoSuchCommand,
     BadArgument,

@@ -12,7 +12,7 @@ use mix_machine::{Change, Place, UnitNo, Word};
 use mixal_text::{Names, expression, w_value};
 
 /// What a line of the script asks for.
-#[derive(Clone, Copy)]
+#[derive(Clone, Copy, Debug, PartialEq, Eq)]
 pub(crate) enum Request {
     Nothing,
     Step(u32),
@@ -26,7 +26,7 @@ pub(crate) enum Request {
 }
 
 /// What is to be shown.
-#[derive(Clone, Copy)]
+#[derive(Clone, Copy, Debug, PartialEq, Eq)]
 pub(crate) enum Topic {
     Registers,
     Cells(Place, Place),
