@@ -10,7 +10,7 @@ import sys
 from running import Count, folder
 
 SOURCE = b" JMP *\n END 0\n%SCRIPT\n"
-KEPT, VALUE_BYTES, CHANGE_BYTES, START_BYTES = 3, 16, 8, 8
+KEPT, VALUE_BYTES, CHANGE_BYTES, START_BYTES = 3, 12, 8, 8
 STEP_BYTES = KEPT * VALUE_BYTES + CHANGE_BYTES + START_BYTES
 MORE = 4 << 20  # beside the journal: the script, and what the process has anyway
 
