@@ -1,7 +1,7 @@
 //! The words that the program takes, and the help on them.
 
 ghost use Rattle.std.specs.Prelude.{◌≡◌, IfOk, codes, false};
-ghost use Rattle.clap.specs.Words.{app_of, new_app, rule_of, with_rule};
+ghost use Rattle.clap.specs.Words.{app_of, new_app, rule_of, with_rule, with_subcommand};
 ghost use Rattle.mix_cli.specs.Program.{bare_app, debug_app, devices_option, list_app, mixrev, required_word};
 
 use clap::{Arg, Command};
@@ -81,13 +81,20 @@ fn devices<'a>(alloc: Global) -> Arg<'a>
         .help("The deck: what stands on tapes, disks and cards; without it all are empty")
 }
 
+// The source and the script.
+fn of_script<'a>(alloc: Global) -> Result<Command<'a>, AllocError>
+    ensures app { IfOk result (λ c. app_of c ≡ with_rule (with_rule (new_app (codes "debug")) (required_word (codes "SOURCE"))) (required_word (codes "SCRIPT"))) }
+{
+    of_source(alloc, "debug")?.arg(script(alloc))
+}
+
 fn debug<'a>(alloc: Global) -> Result<Command<'a>, AllocError>
     ensures app { IfOk result (λ c. app_of c ≡ debug_app) }
 {
-    let command = of_source(alloc, "debug")?
+    of_script(alloc)?
         .about("Executes a script of commands on the program of a source")
-        .after_help(MORE_ON_DEBUG);
-    command.arg(script(alloc))?.arg(devices(alloc))
+        .after_help(MORE_ON_DEBUG)
+        .arg(devices(alloc))
 }
 
 fn bare<'a>(alloc: Global) -> Command<'a>
@@ -100,11 +107,17 @@ fn bare<'a>(alloc: Global) -> Command<'a>
         .disable_help_subcommand(true)
 }
 
+fn with_list<'a>(alloc: Global) -> Result<Command<'a>, AllocError>
+    ensures app { IfOk result (λ c. app_of c ≡ with_subcommand bare_app list_app.top) }
+{
+    let list = list(alloc)?;
+    bare(alloc).subcommand(list)
+}
+
 /// What clap reads the words by.
 pub(crate) fn program<'a>(alloc: Global) -> Result<Command<'a>, AllocError>
     ensures app { IfOk result (λ c. app_of c ≡ mixrev) }
 {
-    let list = list(alloc)?;
     let debug = debug(alloc)?;
-    bare(alloc).subcommand(list)?.subcommand(debug)
+    with_list(alloc)?.subcommand(debug)
 }

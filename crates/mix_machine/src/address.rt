@@ -15,7 +15,7 @@ pub(crate) struct Address {
 }
 
 impl Model for Address {
-    ghost use Rattle.std.specs.Prelude.{◌<◌};
+    ghost use Rattle.std.specs.Prelude.{◌<◌, refl};
     ghost use Rattle.mix_word.specs.Word.{WordValue, word};
 
     ghost Value = { WordValue };
@@ -25,6 +25,8 @@ impl Model for Address {
     ghost invariant = { λ a. a.magnitude < 8192 };
 
     ghost inverse = { λ v. record { sign = v.sign; magnitude = v.magnitude } };
+
+    ghost inverse_ok = { λ a h. refl };
 }
 
 impl Address {

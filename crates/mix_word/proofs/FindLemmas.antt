@@ -1,6 +1,7 @@
 -- what `find` gives: nothing where no element passes, and else an element that passes
-use Rattle.std.proofs.Common.{◌≡◌, Bool, true, false, cond, List, [], ◌∷◌, Some, None, refl, subst}
+use Rattle.std.proofs.Common.{◌≡◌, Bool, true, false, cond, List, [], ◌∷◌, map, Some, None, refl, subst, sym, ap}
 use Rattle.std.specs.List.{find}
+use Rattle.std.specs.Option.{option_map}
 
 pub find-none : {X : Type 0} (p : X → Bool) (xs : List X) → ((x : X) → p x ≡ false) → find p xs ≡ None
 find-none p [] h = refl
@@ -13,3 +14,18 @@ find-passes p (x ∷ xs) y e =
       | true ↦ λ t q. let same : x ≡ y = cc in subst (λ (z : _). p z ≡ true) same t
       | false ↦ λ t q. find-passes p xs y q
     ] refl e
+
+-- looked up in a column g of rows whose column f is the list: what stands there says h of each element
+pub find-column : {R X Y : Type 0} (f : R → X) (g : R → Y) (h : X → Y) (t : Y → Bool) (rows : List R) (xs : List X) → map f rows ≡ xs → map g rows ≡ map h xs → option_map f (find (λ r. t (g r)) rows) ≡ find (λ x. t (h x)) xs
+find-column f g h t [] xs same column = rw (sym same) refl
+find-column f g h t (r ∷ rows) [] same column = absurd (cc)
+find-column f g h t (r ∷ rows) (x ∷ xs) same column =
+    let here : f r ≡ x = cc in
+    let says : g r ≡ h x = cc in
+    let others : map f rows ≡ xs = cc in
+    let say : map g rows ≡ map h xs = cc in
+    rw says
+    (elim (t (h x)) as (λ b. option_map f (cond b (Some r) (find (λ y. t (g y)) rows)) ≡ cond b (Some x) (find (λ y. t (h y)) xs)) [
+      | true ↦ ap Some here
+      | false ↦ find-column f g h t rows xs others say
+    ])

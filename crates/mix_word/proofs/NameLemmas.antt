@@ -1,9 +1,10 @@
 -- each operation is found by its own name, and what is found has the name
-use Rattle.std.proofs.Common.{◌≡◌, ◌↔◌, ℕ, List, Option, Some, refl, subst, ap, ◌∙◌, sym}
+use Rattle.std.proofs.Common.{◌≡◌, ◌↔◌, ℕ, List, map, Option, Some, refl, subst, ◌∙◌, sym}
 use Rattle.std.specs.List.{find}
+use Rattle.std.specs.Option.{option_map}
 use Rattle.std.specs.Str.{bytes_eq}
 use Rattle.std.proofs.lemmas.Slice.Eq.{bytes_eq-Decides}
-use Rattle.mix_word.proofs.FindLemmas.{find-passes}
+use Rattle.mix_word.proofs.FindLemmas.{find-passes, find-column}
 use Rattle.mix_word.specs.declared.register.DataReg.{DataReg}
 use Rattle.mix_word.specs.declared.register.DataReg.TheVariants.{A, I1, I2, I3, I4, I5, I6, X}
 use Rattle.mix_word.specs.declared.operation.ShiftKind.{ShiftKind}
@@ -136,9 +137,10 @@ pub named_law : (name : List ℕ) (r : Option Operation) → r ≡ operation_nam
 named_law name r e op =
     (λ q. found_name name op (sym e ∙ q), λ h. e ∙ subst (λ (n : List ℕ). operation_named n ≡ Some op) h (own_name op))
 
-pub found_among : (name : List ℕ) (xs : List Operation) (r : Option Operation) → xs ≡ operations → r ≡ find (λ op. bytes_eq (name_of op) name) xs → r ≡ operation_named name
+pub found_among : {R : Type 0} (f : R → Operation) (g : R → List ℕ) (name : List ℕ) (rows : List R) (r : Option Operation) → map f rows ≡ operations → map g rows ≡ map name_of operations → r ≡ option_map f (find (λ x. bytes_eq (g x) name) rows) → r ≡ operation_named name
 unfolding operation_named
-found_among name xs r same e = e ∙ ap (λ (ys : List Operation). find (λ op. bytes_eq (name_of op) name) ys) same
+found_among f g name rows r same names e =
+    e ∙ find-column f g name_of (λ (n : List ℕ). bytes_eq n name) rows operations same names
 
 pub own_text : (op : Operation) (name : List ℕ) → name ≡ name_of op → operation_named name ≡ Some op
 own_text op name e = subst (λ (n : List ℕ). operation_named n ≡ Some op) (sym e) (own_name op)

@@ -1,5 +1,5 @@
 -- The table of operations as a list (1.3.1), looked up by a pair (C, F) and by a name.
-use Rattle.std.specs.Prelude.{◌≡◌, ℕ, ◌+◌, ◌*◌, ◌==◌, Bool, false, not, ◌&&◌, ◌||◌, nat_lt, IsTrue, List, [], ◌∷◌, ◌++◌, map, Option, Some, None, if◌then◌else◌}
+use Rattle.std.specs.Prelude.{◌≡◌, ℕ, ◌==◌, Bool, false, not, ◌&&◌, ◌||◌, nat_lt, IsTrue, List, [], ◌∷◌, ◌++◌, map, Option, Some, None, if◌then◌else◌}
 use Rattle.std.specs.List.{find, flat_map}
 use Rattle.std.specs.Str.{bytes_eq}
 use Rattle.mix_word.specs.declared.register.DataReg.{DataReg}
@@ -13,8 +13,7 @@ use Rattle.mix_word.specs.declared.operation.Operation.{Operation}
 use Rattle.mix_word.specs.declared.operation.Operation.TheVariants.{Nop, Add, Sub, Mul, Div, Num, Char, Hlt, Shift, Move, Load, LoadNegated, Store, StoreJ, StoreZero, Jbus, Ioc, In, Out, Jred, Jump, RegisterJump, Increase, Decrease, Enter, EnterNegated, Compare}
 use Rattle.mix_word.specs.declared.decoding.Decoded.{Decoded}
 use Rattle.mix_word.specs.declared.decoding.Decoded.TheVariants.{Named, Floating, Unknown}
-use Rattle.mix_word.specs.Register.{offset_of}
-use Rattle.mix_word.specs.Operation.{operation_code, normal_f_of, is_by_f, number_of_shift, number_of_jump, number_of_condition}
+use Rattle.mix_word.specs.Operation.{operation_code, normal_f_of, is_by_f}
 use Rattle.mix_word.specs.Names.{name_of}
 
 abbrev pub data_registers : List DataReg
@@ -45,36 +44,6 @@ operations =
     ++ flat_map register_jumps_of data_registers
     ++ flat_map address_transfers_of data_registers
     ++ map Compare data_registers
-
--- the row of an operation in that order
-abbrev pub row_of : Operation → ℕ
-row_of Nop = 0
-row_of Add = 1
-row_of Sub = 2
-row_of Mul = 3
-row_of Div = 4
-row_of Num = 5
-row_of Char = 6
-row_of Hlt = 7
-row_of (Shift kind) = 8 + number_of_shift kind
-row_of Move = 14
-row_of (Load r) = 15 + offset_of r
-row_of (LoadNegated r) = 23 + offset_of r
-row_of (Store r) = 31 + offset_of r
-row_of StoreJ = 39
-row_of StoreZero = 40
-row_of Jbus = 41
-row_of Ioc = 42
-row_of In = 43
-row_of Out = 44
-row_of Jred = 45
-row_of (Jump kind) = 46 + number_of_jump kind
-row_of (RegisterJump r condition) = 56 + 6 * offset_of r + number_of_condition condition
-row_of (Increase r) = 104 + 4 * offset_of r
-row_of (Decrease r) = 105 + 4 * offset_of r
-row_of (Enter r) = 106 + 4 * offset_of r
-row_of (EnterNegated r) = 107 + 4 * offset_of r
-row_of (Compare r) = 136 + offset_of r
 
 -- the pairs of the floating-point attachment: FADD, FSUB, FMUL, FDIV, FLOT and FCMP by F = 6, FIX by F = 7
 abbrev pub is_floating : ℕ → ℕ → Bool

@@ -13,7 +13,6 @@ mod laws;
 mod naming;
 mod needs;
 mod operation;
-mod operations;
 mod place;
 mod register;
 mod rows;

@@ -1,13 +1,14 @@
 //! The names of the operations (1.3.1), and an operation by its name.
 ghost use Rattle.std.specs.Prelude.{◌≡◌, ◌<◌, ◌≤◌, ◌↔◌, Some, None, length};
 ghost use Rattle.std.specs.List.{find};
+ghost use Rattle.std.specs.Option.{option_map};
 ghost use Rattle.std.specs.Str.{bytes_eq};
 ghost use Rattle.mix_word.specs.declared.operation.Operation.{Operation};
 ghost use Rattle.mix_word.specs.Names.{name_of};
-ghost use Rattle.mix_word.specs.Table.{operations, operation_named};
+ghost use Rattle.mix_word.specs.Table.{operation_named};
 
 use crate::operation::Operation;
-use crate::operations::OPERATIONS;
+use crate::rows::{Row, rows};
 
 /// How many capitals and digits the longest names have (1.3.1).
 pub const LONGEST_NAME: usize = 4;
@@ -18,42 +19,29 @@ pub fn named(name: &[u8]) -> Option<Operation>
     ensures law { (op : Operation) → (result ≡ Some op) ↔ (name_of op ≡ name.now) }
     ensures long { LONGEST_NAME < length name.now → result ≡ None }
 {
-    first_named(Operation::all(), name)
+    first_named(rows(), name)
 }
 
-fn first_named(operations: &[Operation], name: &[u8]) -> Option<Operation>
-    ensures { result ≡ find (λ op. bytes_eq (name_of op) name.now) operations.now }
+fn first_named(rows: &[Row], name: &[u8]) -> Option<Operation>
+    ensures { result ≡ option_map (λ r. r.0) (find (λ r. bytes_eq r.1.now name.now) rows.now) }
 {
-    operations.iter().copied().find(|op| op.is_named(name))
+    let row = row_named(rows, name)?;
+    Some(row.0)
+}
+
+fn row_named(rows: &[Row], name: &[u8]) -> Option<Row>
+    ensures { result ≡ find (λ r. bytes_eq r.1.now name.now) rows.now }
+{
+    rows.iter().copied().find(|row| row.1.as_bytes() == name)
 }
 
 impl Operation {
-    /// All operations (1.3.1), each once, in the order of their codes and then of F.
-    #[tactic(auto, unfolding(crate::specs::Table::operations))]
-    pub fn all() -> &'static [Operation]
-        ensures { result.now ≡ operations }
-    {
-        &OPERATIONS
-    }
-
-    fn is_named(self, name: &[u8]) -> bool
-        ensures { result ≡ bytes_eq (name_of self) name.now }
-    {
-        self.letters().as_bytes() == name
-    }
-
     /// The name (1.3.1), two to four capitals and digits.
     pub fn name(self) -> &'static str
         ensures is { result.now ≡ name_of self }
         ensures named { operation_named result.now ≡ Some self }
         ensures longest { length result.now ≤ LONGEST_NAME }
     {
-        self.letters()
-    }
-
-    fn letters(self) -> &'static str
-        ensures { result.now ≡ name_of self }
-    {
-        self.row().0
+        self.row().1
     }
 }

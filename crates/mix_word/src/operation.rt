@@ -1,8 +1,9 @@
 //! The table of operations (1.3.1): their codes, the F that goes with each, names and times.
-ghost use Rattle.std.specs.Prelude.{◌≡◌, ◌<◌, ◌≤◌};
+ghost use Rattle.std.specs.Prelude.{◌≡◌, ◌<◌, Some};
+ghost use Rattle.std.specs.List.{slice_get};
 ghost use Rattle.mix_word.specs.Operation.{operation_code, normal_f_of, time_of, number_of_shift, number_of_jump, number_of_condition};
 ghost use Rattle.mix_word.specs.Names.{name_of};
-ghost use Rattle.mix_word.specs.Table.{decode_of, row_of};
+ghost use Rattle.mix_word.specs.Table.{operations, decode_of};
 
 use crate::decoding::Decoded;
 use crate::register::DataReg;
@@ -107,7 +108,7 @@ impl Operation {
         ensures is { result ≡ operation_code self }
         ensures bound { result < 64 }
     {
-        self.row().1
+        self.row().2
     }
 
     /// The F that an assembler puts where none is written, 0 to 9; an operation by F has no other.
@@ -116,21 +117,22 @@ impl Operation {
         ensures bound { result < 10 }
         ensures decodes { decode_of (operation_code self) result ≡ Decoded.Named self }
     {
-        self.row().2
+        self.row().3
     }
 
-    // Its name, C and normal F.
+    // Its row of the table.
     pub(crate) fn row(self) -> Row
-        ensures name { result.0.now ≡ name_of self }
-        ensures code { result.1 ≡ operation_code self }
-        ensures f { result.2 ≡ normal_f_of self }
+        ensures name { result.1.now ≡ name_of self }
+        ensures code { result.2 ≡ operation_code self }
+        ensures f { result.3 ≡ normal_f_of self }
     {
         rows()[usize::from(self.row_number())]
     }
 
     // The number of its row.
+    #[tactic(auto, unfolding(crate::specs::Table::operations))]
     fn row_number(self) -> u8
-        ensures { result ≡ row_of self }
+        ensures { slice_get operations result ≡ Some self }
     {
         match self {
             Operation::Nop => 0,

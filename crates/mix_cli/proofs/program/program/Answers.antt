@@ -6,12 +6,9 @@ use Rattle.mix_cli.proofs.program.program.Goals as goal
 
 pub returns : goal.returns
 returns c =
-    let list_is = c.in_ok-list.ensures.app in
     let debug_is = c.in_ok-debug.ensures.app in
-    let list_local = (plain_fields c.in_ok-list.list (ap (λ (a : App). a.top.is_plain) list_is)).globals in
     let debug_local = (plain_fields c.in_ok-debug.debug (ap (λ (a : App). a.top.is_plain) debug_is)).globals in
-    let with_list = c.in_ok-subcommand.ensures.shape list_local ∙ ap₂ with_subcommand c.bare.ensures.app (ap (λ (a : App). a.top) list_is) in
     record {
-      app = IfOk-weaker c.subcommand-2.result _ _ (λ r h. h.shape debug_local ∙ ap₂ with_subcommand with_list (ap (λ (a : App). a.top) debug_is))
-          c.subcommand-2.ensures;
+      app = IfOk-weaker c.subcommand.result _ _ (λ r h. h.shape debug_local ∙ ap₂ with_subcommand c.in_ok-with_list.ensures.app (ap (λ (a : App). a.top) debug_is))
+          c.subcommand.ensures;
     }
