@@ -81,7 +81,7 @@ fn devices<'a>(alloc: Global) -> Arg<'a>
         .help("The deck: what stands on tapes, disks and cards; without it all are empty")
 }
 
-// The source and the script.
+// The subcommand `debug` with its two required words, SOURCE and SCRIPT.
 fn of_script<'a>(alloc: Global) -> Result<Command<'a>, AllocError>
     ensures app { IfOk result (λ c. app_of c ≡ with_rule (with_rule (new_app (codes "debug")) (required_word (codes "SOURCE"))) (required_word (codes "SCRIPT"))) }
 {

@@ -1,6 +1,6 @@
 //! A plan is done: its files are opened, the run is made on them, and a fault is told on the error output.
 
-ghost use Rattle.std.specs.Prelude.{◌≡◌, ◌≢◌, ◌<◌, ◌≤◌, ◌-◌, ◌^◌, ℕ, List, Some, Ok, IfOk, IfErr, IfSome, option_map, ◌⊎◌, OnErr, OnOk, Result, MatchResult, string_bytes};
+ghost use Rattle.std.specs.Prelude.{◌≡◌, ◌≢◌, ◌<◌, ◌≤◌, ◌-◌, ◌^◌, ℕ, List, Some, Ok, IfOk, IfErr, IfSome, MatchOption, [], option_map, ◌⊎◌, OnErr, OnOk, Result, MatchResult, string_bytes};
 ghost use Rattle.mix_tool.specs.Ending.{Runs, Tells, TellsRun, Wrote, memory_line, not_opened, report, status_of_run};
 ghost use Rattle.mix_tool.specs.Output.{IsStatus, Meets, bundle_output, list_output, output};
 ghost use Rattle.mix_cli.specs.declared.words.Plan.{Plan};
@@ -197,6 +197,9 @@ fn run_opened<F: Read + Drop, W: Out, E: Out>(
     requires script { opened.script.count ≡ 0 }
     requires out_count { W.failed out.old < 2 ^ 64 - 1 }
     requires errors_count { E.failed errors.old < 2 ^ 64 - 1 }
+    ensures output { (s d t : List ℕ) → F.remaining opened.source.inner ≡ Some s
+        → MatchOption opened.deck (d ≡ []) (λ c. F.remaining c.inner ≡ Some d) → F.remaining opened.script.inner ≡ Some t
+        → Runs (output s d t) result (W.told out.old) (W.told out.new) (E.told errors.old) (E.told errors.new) (E.failed errors.old) (E.failed errors.new) }
     ensures range { result ≤ 3 }
     ensures quiet { result ≢ 2 → (errors.new ≡ errors.old) × (W.failed out.new ≡ W.failed out.old) }
 {

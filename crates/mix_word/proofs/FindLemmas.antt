@@ -1,4 +1,4 @@
--- what `find` gives: nothing where no element passes, and else an element that passes
+-- `find` gives nothing where no element passes, and else an element that passes; in a table it finds by one column what stands in another
 use Rattle.std.proofs.Common.{◌≡◌, Bool, true, false, cond, List, [], ◌∷◌, map, Some, None, refl, subst, sym, ap}
 use Rattle.std.specs.List.{find}
 use Rattle.std.specs.Option.{option_map}
@@ -15,7 +15,8 @@ find-passes p (x ∷ xs) y e =
       | false ↦ λ t q. find-passes p xs y q
     ] refl e
 
--- looked up in a column g of rows whose column f is the list: what stands there says h of each element
+-- A table has a column f, which is the list xs, and a column g, which has h x in the row of x. The first row whose g passes a test has in its column f
+-- the first x of the list whose h x passes it.
 pub find-column : {R X Y : Type 0} (f : R → X) (g : R → Y) (h : X → Y) (t : Y → Bool) (rows : List R) (xs : List X) → map f rows ≡ xs → map g rows ≡ map h xs → option_map f (find (λ r. t (g r)) rows) ≡ find (λ x. t (h x)) xs
 find-column f g h t [] xs same column = rw (sym same) refl
 find-column f g h t (r ∷ rows) [] same column = absurd (cc)
