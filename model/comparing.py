@@ -210,18 +210,3 @@ def compare(one, count):
     tell(seen, one.wanted)
     print("%d %s, 0 differences (seed %s)" % (count, "listings" if one.lists else "bundles", one.seed))
     return 0
-
-
-def main(name, drawn, words, needs=(), may_list=False, look=None, wanted=None):
-    """What a comparison does with the words of its command line."""
-    words = parts.from_words(words)
-    parts.take(*needs)
-    lists = may_list and "--list" in words
-    if lists:
-        words.remove("--list")
-    if len(words) != 3 or not words[1].isdigit():
-        sys.exit("usage: model/%s%s [--parts LIST] BINARY N SEED" % (name, " [--list]" if may_list else ""))
-    program = os.path.abspath(words[0])
-    if not os.access(program, os.X_OK):
-        sys.exit("no program: " + program)
-    return compare(Comparison(drawn, program, words[2], lists, look, wanted), int(words[1]))

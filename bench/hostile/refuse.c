@@ -1,13 +1,30 @@
 /* In front of the C library's: the allocation of the number REFUSED_ALLOCATION is refused, REFUSED_COUNT of them in all (1), and the file
-   REFUSED_TO is then there. */
+   REFUSED_TO is then there. The bytes of each that is asked for are written to the file ASKED_TO, a line each; each read of standard input and each
+   write of standard output to the file CALLED_TO, with what it gave. */
 #define _GNU_SOURCE
 #include <dlfcn.h>
 #include <fcntl.h>
+#include <stdio.h>
 #include <stdlib.h>
+#include <unistd.h>
 
 static long asked = 0, first = -1, last = -1;
 
-static int refused(void) {
+static void tell(size_t size) {
+    static int file = -2;
+    char line[24];
+    int at = sizeof line;
+    if (file == -2) {
+        const char *name = getenv("ASKED_TO");
+        file = name ? open(name, O_CREAT | O_WRONLY | O_APPEND | O_CLOEXEC, 0600) : -1;
+    }
+    if (file < 0) return;
+    for (line[--at] = '\n'; size > 0 || at == sizeof line - 1; size /= 10) line[--at] = '0' + size % 10;
+    if (write(file, line + at, sizeof line - at) < 0) abort();
+}
+
+static int refused(size_t size) {
+    tell(size);
     if (first < 0) {
         const char *number = getenv("REFUSED_ALLOCATION"), *count = getenv("REFUSED_COUNT");
         first = number ? atol(number) : 0;
@@ -22,23 +39,47 @@ static int refused(void) {
 void *malloc(size_t size) {
     static void *(*next)(size_t);
     if (!next) next = (void *(*)(size_t))dlsym(RTLD_NEXT, "malloc");
-    return refused() ? NULL : next(size);
+    return refused(size) ? NULL : next(size);
 }
 
 void *realloc(void *at, size_t size) {
     static void *(*next)(void *, size_t);
     if (!next) next = (void *(*)(void *, size_t))dlsym(RTLD_NEXT, "realloc");
-    return refused() ? NULL : next(at, size);
+    return refused(size) ? NULL : next(at, size);
 }
 
 void *aligned_alloc(size_t alignment, size_t size) {
     static void *(*next)(size_t, size_t);
     if (!next) next = (void *(*)(size_t, size_t))dlsym(RTLD_NEXT, "aligned_alloc");
-    return refused() ? NULL : next(alignment, size);
+    return refused(size) ? NULL : next(alignment, size);
 }
 
 int posix_memalign(void **to, size_t alignment, size_t size) {
     static int (*next)(void **, size_t, size_t);
     if (!next) next = (int (*)(void **, size_t, size_t))dlsym(RTLD_NEXT, "posix_memalign");
-    return refused() ? 12 : next(to, alignment, size);
+    return refused(size) ? 12 : next(to, alignment, size);
+}
+
+typedef ssize_t (*Write)(int, const void *, size_t);
+
+static void called(const char *what, ssize_t gave) {
+    static int file = -2;
+    char line[40];
+    if (file == -2) {
+        const char *name = getenv("CALLED_TO");
+        file = name ? open(name, O_CREAT | O_WRONLY | O_APPEND | O_CLOEXEC, 0600) : -1;
+    }
+    if (file >= 0 && ((Write)dlsym(RTLD_NEXT, "write"))(file, line, snprintf(line, sizeof line, "%s %zd\n", what, gave)) < 0) abort();
+}
+
+ssize_t read(int from, void *to, size_t size) {
+    ssize_t gave = ((ssize_t (*)(int, void *, size_t))dlsym(RTLD_NEXT, "read"))(from, to, size);
+    if (from == 0) called("read", gave);
+    return gave;
+}
+
+ssize_t write(int to, const void *from, size_t size) {
+    ssize_t gave = ((Write)dlsym(RTLD_NEXT, "write"))(to, from, size);
+    if (to == 1) called("write", gave);
+    return gave;
 }

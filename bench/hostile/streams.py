@@ -3,10 +3,12 @@ written is a beginning of what is due."""
 
 import os
 import pty
+import shutil
 import subprocess
 import threading
 
 from cuts import GREETED, HELLO
+from memory import library
 from running import SECONDS, Count, bundle, folder, lines, takes_words
 
 TEXT = bundle(HELLO, GREETED)
@@ -56,6 +58,37 @@ def closed_pipe(program, name, taken):
         return begun, errors, child.wait(SECONDS)
 
 
+def calls(program, place, count):
+    """How often a read and a write are called, by a library in front of the C library's."""
+    told = os.path.join(place, "called")
+    name = os.path.join(place, "calls")
+
+    def run(stdin):
+        if os.path.exists(told):
+            os.unlink(told)
+        answer = subprocess.run([program], stdin=stdin, capture_output=True, timeout=SECONDS, env={**os.environ, "LD_PRELOAD": library(place), "CALLED_TO": told})
+        with open(told) as file:
+            return (answer.stdout, answer.stderr, answer.returncode), file.read().splitlines()
+
+    # nothing is there to be read yet, and the writer is still there: it is no end, and to try again would be to wait
+    ours, theirs = os.pipe2(os.O_NONBLOCK)
+    count.same("a read that would block", run(ours), ((b"", T2, 2), ["read -1"]))
+    os.write(theirs, TEXT)
+    count.same("a read that would block after some were good", run(ours), ((b"", T2, 2), ["read %d" % len(TEXT), "read -1"]))
+    os.close(ours)
+    os.close(theirs)
+    # 22 bytes a cell, 1,200,036 bytes a full tape
+    tape = (b" ".join([b"+0102030405"] * 100) + b"\n") * 1000
+    text = bundle(b" END 0\n", lines("show cells 0 2978", "show unit 0", "show all"), b"".join(b"%%UNIT %d\n" % unit + tape for unit in range(4)))
+    with open(name, "wb") as file:
+        file.write(text)
+    with open(name, "rb") as file:
+        (output, _, status), called = run(file)
+    sizes = [2979 * 22, 1200036, len(output) - 2979 * 22 - 1200036]
+    count.same("replies of 64 KiB, of 1 MB and of over 4 MiB are each written by one call", ([line for line in called if line.startswith("write")], status, sizes[2] > 4 << 20),
+               (["write %d" % size for size in sizes], 0, True))
+
+
 def by_files(program, place, count):
     """Files that cannot be opened or read, and outputs that fail, of a program that reads a command line."""
     source, script = os.path.join(place, "source"), os.path.join(place, "script")
@@ -101,6 +134,8 @@ def rows(program, workers, quick=False):
 
         if takes_words(program):
             by_files(program, place, count)
+        if shutil.which("cc"):
+            calls(program, place, count)
         for text in (b" END 0\n", TEXT) if os.path.exists("/dev/ptmx") else ():
             count.same("a terminal that goes away", vanishing_terminal(program, text), (b"", T2, 2))
         for at, answer in [(0, (b"line 1: A13 no END\n", b"", 1)), (len(HELLO) - 6, (b"line 9: A13 no END\n", b"", 1))]:

@@ -37,12 +37,15 @@ impl From<AllocError> for LineFault {
     }
 }
 
+/// The status where the tool itself fails, or the words are a mistake.
+pub const FAILED: u8 = 2;
+
 /// The status that the program ends with: 0 where help was asked for, and else 2.
 pub fn line_status(fault: &LineFault) -> u8
     ensures { result ≡ status_of_fault fault.now }
 {
     match fault {
         LineFault::Line(error) if error.kind() == ErrorKind::DisplayHelp => 0,
-        LineFault::Line(_) | LineFault::Memory => 2,
+        LineFault::Line(_) | LineFault::Memory => FAILED,
     }
 }

@@ -5,7 +5,7 @@ mod fault;
 mod program;
 mod words;
 
-pub use fault::{LineFault, line_status};
+pub use fault::{FAILED, LineFault, line_status};
 pub use words::{Plan, read_words};
 
 #[cfg(test)]

@@ -52,7 +52,7 @@ fn of_source<'a>(alloc: Global, name: &'a str) -> Result<Command<'a>, AllocError
     Command::new(alloc, name).arg(source)
 }
 
-fn list<'a>(alloc: Global) -> Result<Command<'a>, AllocError>
+fn list_command<'a>(alloc: Global) -> Result<Command<'a>, AllocError>
     ensures app { IfOk result (λ c. app_of c ≡ list_app) }
 {
     let command = of_source(alloc, "list")?
@@ -71,7 +71,7 @@ fn script<'a>(alloc: Global) -> Arg<'a>
         .help("The file with the commands, one a line")
 }
 
-fn devices<'a>(alloc: Global) -> Arg<'a>
+fn devices_option<'a>(alloc: Global) -> Arg<'a>
     ensures rule { rule_of result ≡ devices_option }
     ensures local { result.global ≡ false }
 {
@@ -88,13 +88,13 @@ fn of_script<'a>(alloc: Global) -> Result<Command<'a>, AllocError>
     of_source(alloc, "debug")?.arg(script(alloc))
 }
 
-fn debug<'a>(alloc: Global) -> Result<Command<'a>, AllocError>
+fn debug_command<'a>(alloc: Global) -> Result<Command<'a>, AllocError>
     ensures app { IfOk result (λ c. app_of c ≡ debug_app) }
 {
     of_script(alloc)?
         .about("Executes a script of commands on the program of a source")
         .after_help(MORE_ON_DEBUG)
-        .arg(devices(alloc))
+        .arg(devices_option(alloc))
 }
 
 fn bare<'a>(alloc: Global) -> Command<'a>
@@ -110,7 +110,7 @@ fn bare<'a>(alloc: Global) -> Command<'a>
 fn with_list<'a>(alloc: Global) -> Result<Command<'a>, AllocError>
     ensures app { IfOk result (λ c. app_of c ≡ with_subcommand bare_app list_app.top) }
 {
-    let list = list(alloc)?;
+    let list = list_command(alloc)?;
     bare(alloc).subcommand(list)
 }
 
@@ -118,6 +118,6 @@ fn with_list<'a>(alloc: Global) -> Result<Command<'a>, AllocError>
 pub(crate) fn program<'a>(alloc: Global) -> Result<Command<'a>, AllocError>
     ensures app { IfOk result (λ c. app_of c ≡ mixrev) }
 {
-    let debug = debug(alloc)?;
+    let debug = debug_command(alloc)?;
     with_list(alloc)?.subcommand(debug)
 }

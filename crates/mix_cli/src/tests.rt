@@ -5,68 +5,31 @@ use clap::error::ErrorKind;
 use std::alloc::Global;
 use std::test::Fail;
 
-struct Row {
-    words: &'static [&'static str],
-    plan: &'static str,
-}
-
+// Words, and the plan that they give.
 const PLANS: [Row; 14] = [
-    Row {
-        words: &[],
-        plan: "bundle",
-    },
-    Row {
-        words: &["mixrev"],
-        plan: "bundle",
-    },
-    Row {
-        words: &["list"],
-        plan: "bundle",
-    },
-    Row {
-        words: &["mixrev", "list", "a.mix"],
-        plan: "list a.mix",
-    },
-    Row {
-        words: &["./mixrev", "list", "list"],
-        plan: "list list",
-    },
-    Row {
-        words: &["mixrev", "list", "--", "--help"],
-        plan: "list --help",
-    },
-    Row {
-        words: &["mixrev", "list", ""],
-        plan: "list ",
-    },
-    Row {
-        words: &["mixrev", "list", "-"],
-        plan: "list -",
-    },
-    Row {
-        words: &["mixrev", "debug", "a.mix", "b.txt"],
-        plan: "debug a.mix b.txt",
-    },
-    Row {
-        words: &["mixrev", "debug", "a", "b", "--devices", "c"],
-        plan: "debug a b with c",
-    },
-    Row {
-        words: &["mixrev", "debug", "--devices", "c", "a", "b"],
-        plan: "debug a b with c",
-    },
-    Row {
-        words: &["mixrev", "debug", "a", "--devices=c", "b"],
-        plan: "debug a b with c",
-    },
-    Row {
-        words: &["mixrev", "debug", "list", "debug"],
-        plan: "debug list debug",
-    },
-    Row {
-        words: &["mixrev", "debug", "söurce", "b"],
-        plan: "debug söurce b",
-    },
+    (&[], "bundle"),
+    (&["mixrev"], "bundle"),
+    (&["list"], "bundle"),
+    (&["mixrev", "list", "a.mix"], "list a.mix"),
+    (&["./mixrev", "list", "list"], "list list"),
+    (&["mixrev", "list", "--", "--help"], "list --help"),
+    (&["mixrev", "list", ""], "list "),
+    (&["mixrev", "list", "-"], "list -"),
+    (&["mixrev", "debug", "a.mix", "b.txt"], "debug a.mix b.txt"),
+    (
+        &["mixrev", "debug", "a", "b", "--devices", "c"],
+        "debug a b with c",
+    ),
+    (
+        &["mixrev", "debug", "--devices", "c", "a", "b"],
+        "debug a b with c",
+    ),
+    (
+        &["mixrev", "debug", "a", "--devices=c", "b"],
+        "debug a b with c",
+    ),
+    (&["mixrev", "debug", "list", "debug"], "debug list debug"),
+    (&["mixrev", "debug", "söurce", "b"], "debug söurce b"),
 ];
 
 fn told(alloc: Global, plan: &Plan) -> Result<String, std::alloc::AllocError> {
@@ -89,165 +52,100 @@ fn told(alloc: Global, plan: &Plan) -> Result<String, std::alloc::AllocError> {
 #[test]
 fn each_line_has_its_plan(rt: HostRuntime) {
     for row in &PLANS {
-        let plan = read_words(rt.alloc(), row.words).expect(&rt, row.plan);
+        let plan = read_words(rt.alloc(), row.0).expect(&rt, row.1);
         let told = told(rt.alloc(), &plan).expect(&rt, "memory");
-        assert!(rt; told.as_str() == row.plan, "{told}, not {}", row.plan);
+        assert!(rt; told.as_str() == row.1, "{told}, not {}", row.1);
     }
 }
 
-struct Mistake {
-    words: &'static [&'static str],
-    kind: ErrorKind,
-    names: &'static str,
-}
+// Words, and words of the text that answers them.
+type Row = (&'static [&'static str], &'static str);
 
-const MISTAKES: [Mistake; 19] = [
-    Mistake {
-        words: &["mixrev", "jump"],
-        kind: ErrorKind::InvalidSubcommand,
-        names: "'jump'",
-    },
-    Mistake {
-        words: &["mixrev", "help"],
-        kind: ErrorKind::InvalidSubcommand,
-        names: "'help'",
-    },
-    Mistake {
-        words: &["mixrev", "LIST", "a"],
-        kind: ErrorKind::InvalidSubcommand,
-        names: "'LIST'",
-    },
-    Mistake {
-        words: &["mixrev", "a.mix"],
-        kind: ErrorKind::InvalidSubcommand,
-        names: "'a.mix'",
-    },
-    Mistake {
-        words: &["mixrev", "--"],
-        kind: ErrorKind::MissingSubcommand,
-        names: "requires a subcommand",
-    },
-    Mistake {
-        words: &["mixrev", "-x"],
-        kind: ErrorKind::UnknownArgument,
-        names: "'-x'",
-    },
-    Mistake {
-        words: &["mixrev", "--version"],
-        kind: ErrorKind::UnknownArgument,
-        names: "'--version'",
-    },
-    Mistake {
-        words: &["mixrev", "--devices", "c"],
-        kind: ErrorKind::UnknownArgument,
-        names: "'--devices'",
-    },
-    Mistake {
-        words: &["mixrev", "list"],
-        kind: ErrorKind::MissingRequiredArgument,
-        names: "<SOURCE>",
-    },
-    Mistake {
-        words: &["mixrev", "list", "a", "b"],
-        kind: ErrorKind::UnknownArgument,
-        names: "'b'",
-    },
-    Mistake {
-        words: &["mixrev", "list", "a", "--devices", "c"],
-        kind: ErrorKind::UnknownArgument,
-        names: "'--devices'",
-    },
-    Mistake {
-        words: &["mixrev", "debug"],
-        kind: ErrorKind::MissingRequiredArgument,
-        names: "<SOURCE>",
-    },
-    Mistake {
-        words: &["mixrev", "debug", "a"],
-        kind: ErrorKind::MissingRequiredArgument,
-        names: "<SCRIPT>",
-    },
-    Mistake {
-        words: &["mixrev", "debug", "--devices", "c", "a"],
-        kind: ErrorKind::MissingRequiredArgument,
-        names: "<SCRIPT>",
-    },
-    Mistake {
-        words: &["mixrev", "debug", "a", "b", "c"],
-        kind: ErrorKind::UnknownArgument,
-        names: "'c'",
-    },
-    Mistake {
-        words: &["mixrev", "debug", "a", "b", "--devices"],
-        kind: ErrorKind::InvalidValue,
-        names: "'--devices <FILE>'",
-    },
-    Mistake {
-        words: &[
-            "mixrev",
-            "debug",
-            "a",
-            "b",
-            "--devices",
-            "c",
-            "--devices",
-            "d",
+// The mistakes of each kind, and where help is asked for.
+const ANSWERS: [(ErrorKind, &[Row]); 7] = [
+    (
+        ErrorKind::InvalidSubcommand,
+        &[
+            (&["mixrev", "jump"], "'jump'"),
+            (&["mixrev", "help"], "'help'"),
+            (&["mixrev", "LIST", "a"], "'LIST'"),
+            (&["mixrev", "a.mix"], "'a.mix'"),
         ],
-        kind: ErrorKind::ArgumentConflict,
-        names: "'--devices <FILE>'",
-    },
-    Mistake {
-        words: &["mixrev", "debug", "a", "b", "--tapes", "c"],
-        kind: ErrorKind::UnknownArgument,
-        names: "'--tapes'",
-    },
-    Mistake {
-        words: &["mixrev", "--jump", "--help"],
-        kind: ErrorKind::UnknownArgument,
-        names: "'--jump'",
-    },
-];
-
-const HELP: [Mistake; 6] = [
-    Mistake {
-        words: &["mixrev", "--help"],
-        kind: ErrorKind::DisplayHelp,
-        names: "Usage: mixrev <COMMAND>",
-    },
-    Mistake {
-        words: &["mixrev", "-h"],
-        kind: ErrorKind::DisplayHelp,
-        names: "mixrev debug primes.mix session.txt",
-    },
-    Mistake {
-        words: &["mixrev", "list", "--help"],
-        kind: ErrorKind::DisplayHelp,
-        names: "Usage: mixrev list <SOURCE>",
-    },
-    Mistake {
-        words: &["mixrev", "debug", "--help"],
-        kind: ErrorKind::DisplayHelp,
-        names: "Usage: mixrev debug [OPTIONS] <SOURCE> <SCRIPT>",
-    },
-    Mistake {
-        words: &["mixrev", "debug", "-h"],
-        kind: ErrorKind::DisplayHelp,
-        names: "--devices <FILE>",
-    },
-    Mistake {
-        words: &["mixrev", "debug", "a", "--help"],
-        kind: ErrorKind::DisplayHelp,
-        names: "run 1000",
-    },
+    ),
+    (
+        ErrorKind::MissingSubcommand,
+        &[(&["mixrev", "--"], "requires a subcommand")],
+    ),
+    (
+        ErrorKind::UnknownArgument,
+        &[
+            (&["mixrev", "-x"], "'-x'"),
+            (&["mixrev", "--version"], "'--version'"),
+            (&["mixrev", "--devices", "c"], "'--devices'"),
+            (&["mixrev", "list", "a", "b"], "'b'"),
+            (&["mixrev", "list", "a", "--devices", "c"], "'--devices'"),
+            (&["mixrev", "debug", "a", "b", "c"], "'c'"),
+            (&["mixrev", "debug", "a", "b", "--tapes", "c"], "'--tapes'"),
+            (&["mixrev", "--jump", "--help"], "'--jump'"),
+        ],
+    ),
+    (
+        ErrorKind::MissingRequiredArgument,
+        &[
+            (&["mixrev", "list"], "<SOURCE>"),
+            (&["mixrev", "debug"], "<SOURCE>"),
+            (&["mixrev", "debug", "a"], "<SCRIPT>"),
+            (&["mixrev", "debug", "--devices", "c", "a"], "<SCRIPT>"),
+        ],
+    ),
+    (
+        ErrorKind::InvalidValue,
+        &[(
+            &["mixrev", "debug", "a", "b", "--devices"],
+            "'--devices <FILE>'",
+        )],
+    ),
+    (
+        ErrorKind::ArgumentConflict,
+        &[(
+            &[
+                "mixrev",
+                "debug",
+                "a",
+                "b",
+                "--devices",
+                "c",
+                "--devices",
+                "d",
+            ],
+            "'--devices <FILE>'",
+        )],
+    ),
+    (
+        ErrorKind::DisplayHelp,
+        &[
+            (&["mixrev", "--help"], "Usage: mixrev <COMMAND>"),
+            (&["mixrev", "-h"], "mixrev debug primes.mix session.txt"),
+            (&["mixrev", "list", "--help"], "Usage: mixrev list <SOURCE>"),
+            (
+                &["mixrev", "debug", "--help"],
+                "Usage: mixrev debug [OPTIONS] <SOURCE> <SCRIPT>",
+            ),
+            (&["mixrev", "debug", "-h"], "--devices <FILE>"),
+            (&["mixrev", "debug", "a", "--help"], "run 1000"),
+        ],
+    ),
 ];
 
 // Whether a line is answered by this kind of text, with these words in it, and ends with the status.
-fn is_answered(alloc: Global, row: &Mistake, status: u8) -> bool {
-    match read_words(alloc, row.words) {
+fn is_answered(alloc: Global, row: Row, kind: ErrorKind) -> bool {
+    let (words, names) = row;
+    let status = if kind == ErrorKind::DisplayHelp { 0 } else { 2 };
+    match read_words(alloc, words) {
         Err(fault) => match &fault {
             LineFault::Line(error) => match format!(in alloc; "{error}") {
-                Ok(text) => error.kind() == row.kind
-                    && text.as_str().contains(row.names)
+                Ok(text) => error.kind() == kind
+                    && text.as_str().contains(names)
                     && line_status(&fault) == status,
                 Err(_) => false,
             },
@@ -259,11 +157,10 @@ fn is_answered(alloc: Global, row: &Mistake, status: u8) -> bool {
 
 #[test]
 fn each_mistake_is_named(rt: HostRuntime) {
-    for row in &MISTAKES {
-        assert!(rt; is_answered(rt.alloc(), row, 2), "{}", row.names);
-    }
-    for row in &HELP {
-        assert!(rt; is_answered(rt.alloc(), row, 0), "{}", row.names);
+    for (kind, rows) in ANSWERS {
+        for row in rows {
+            assert!(rt; is_answered(rt.alloc(), *row, kind), "{}", row.1);
+        }
     }
     assert!(rt; line_status(&LineFault::Memory) == 2);
 }

@@ -41,7 +41,7 @@ fn required(alloc: Global, words: &ArgMatches<'_>, id: &str) -> Result<String, A
     String::from_str(alloc, first(words, id).unwrap())
 }
 
-fn list(alloc: Global, words: &ArgMatches<'_>) -> Result<Plan, AllocError>
+fn list_plan(alloc: Global, words: &ArgMatches<'_>) -> Result<Plan, AllocError>
     requires { IsSome (list_planned (rows_of (found_of words.now))) }
     ensures { IfOk result (λ p. list_planned (rows_of (found_of words.now)) ≡ Some (planned_of p)) }
 {
@@ -49,7 +49,7 @@ fn list(alloc: Global, words: &ArgMatches<'_>) -> Result<Plan, AllocError>
 }
 
 // The deck, if one is named.
-fn devices(alloc: Global, words: &ArgMatches<'_>) -> Result<Option<String>, AllocError>
+fn deck_name(alloc: Global, words: &ArgMatches<'_>) -> Result<Option<String>, AllocError>
     ensures { IfOk result (λ o. first_of (codes "devices") (rows_of (found_of words.now)) ≡ option_map string_bytes o) }
 {
     match first(words, "devices") {
@@ -58,14 +58,14 @@ fn devices(alloc: Global, words: &ArgMatches<'_>) -> Result<Option<String>, Allo
     }
 }
 
-fn debug(alloc: Global, words: &ArgMatches<'_>) -> Result<Plan, AllocError>
+fn debug_plan(alloc: Global, words: &ArgMatches<'_>) -> Result<Plan, AllocError>
     requires { IsSome (debug_planned (rows_of (found_of words.now))) }
     ensures { IfOk result (λ p. debug_planned (rows_of (found_of words.now)) ≡ Some (planned_of p)) }
 {
     Ok(Plan::Debug {
         source: required(alloc, words, "SOURCE")?,
         script: required(alloc, words, "SCRIPT")?,
-        devices: devices(alloc, words)?,
+        devices: deck_name(alloc, words)?,
     })
 }
 
@@ -75,9 +75,9 @@ fn subcommand(alloc: Global, name: &str, words: &ArgMatches<'_>) -> Result<Plan,
     ensures { IfOk result (λ p. subcommand_planned (name.now, rows_of (found_of words.now)) ≡ Some (planned_of p)) }
 {
     if name == "list" {
-        list(alloc, words)
+        list_plan(alloc, words)
     } else {
-        debug(alloc, words)
+        debug_plan(alloc, words)
     }
 }
 

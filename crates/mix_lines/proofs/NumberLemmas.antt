@@ -31,13 +31,13 @@ digit-at text i h l =
     let range = and_parts _ _ (digits-at text i (and_parts _ _ h).1 l) in
     (leb-true _ _ range.0, leb-true _ _ range.1)
 
--- one digit more makes a number less than ten times the bound
+-- one digit more makes the bound ten times as much
 pub power-more : (i : ℕ) → 10 ^ (i + 1) ≡ 10 ^ i * 10
 power-more i = rw add-one (pow-suc 10 i)
 
-pub power-bound : (i n : ℕ) → i ≤ 10 → n < 10 ^ i → n < 10 ^ 10
-power-bound i n le lt =
-    let most : 10 ^ i ≤ 10 ^ 10 = pow-le-pow_right (omega arith) le in
+pub power-bound : (i k n : ℕ) → i ≤ k → n < 10 ^ i → n < 10 ^ k
+power-bound i k n le lt =
+    let most : 10 ^ i ≤ 10 ^ k = pow-le-pow_right (omega arith) le in
     omega arith
 
 pub value-more : (text : List ℕ) (i value digit : ℕ) → is_digits text ≡ true → i < length text

@@ -6,5 +6,5 @@ mod numbers;
 mod words;
 
 pub use lines::{is_blank, is_comment, line_text, split_line, split_whole_line};
-pub use numbers::{Signed, all_digits, number, signed_number};
+pub use numbers::{all_digits, long_number, number};
 pub use words::{Words, next_word};

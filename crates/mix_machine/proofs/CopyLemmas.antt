@@ -1,44 +1,38 @@
--- One word of MOVE copied: what is left to copy leads to the same state and the same kept values.
-use Rattle.std.proofs.Common.{ℕ, suc, ◌+◌, ◌-◌, ◌<◌, ◌≡◌, ◌++◌, ◌∙◌, List, [], ◌∷◌, sym, ap, arith, append_assoc, refl}
-use Rattle.std.proofs.lemmas.List.{append-nil}
+-- One word of MOVE copied after the others.
+use Rattle.std.proofs.Common.{ℕ, zero, suc, ◌+◌, ◌<◌, ◌≡◌, ◌++◌, ◌∙◌, List, [], ◌∷◌, length, Vec, sym, ap, subst, refl, arith}
 use Rattle.mix_word.specs.Word.{WordValue}
 use Rattle.mix_machine.specs.World.{WorldState, cell_of}
-use Rattle.mix_machine.specs.Write.{set, write_all, kept_by, copies, set_value, value_at}
+use Rattle.mix_machine.specs.Write.{Write, set, written, write_all, copies}
+use Rattle.mix_machine.specs.law.Wrote.{HasRoom, Wrote}
 use Rattle.mix_machine.specs.declared.old.Old.{Old}
 use Rattle.mix_machine.specs.declared.old.Old.TheVariants.{Cell}
+use Rattle.mix_machine.proofs.WriteLemmas.{joined, length-copies}
 
-abbrev first-copy : ℕ → ℕ → WorldState → Old
-first-copy from to w = Cell to (cell_of w from)
+copies-last : (n from to : ℕ) (w : WorldState) (m p q : ℕ) → m ≡ n + 1 → p ≡ to + n → q ≡ from + n →
+    copies m from to w ≡ copies n from to w ++ set (Cell p (cell_of (write_all w (copies n from to w)) q)) ∷ []
+copies-last zero from to w m p q e ep eq =
+    let one : m ≡ 1 = omega arith in
+    let into : p ≡ to = omega arith in
+    let out : q ≡ from = omega arith in
+    rw (one, into, out) refl
+copies-last (suc n) from to w m p q e ep eq =
+    let more : m ≡ suc (suc n) = omega arith in
+    let first = set (Cell to (cell_of w from)) in
+    rw more (ap (λ xs. first ∷ xs) (copies-last n (from + 1) (to + 1) (written w first) (suc n) p q (omega arith) (omega arith) (omega arith)))
 
-copies-next : (n m from to from2 to2 : ℕ) (w : WorldState) → n ≡ suc m → from2 ≡ from + 1 → to2 ≡ to + 1 →
-    copies n from to w ≡ set (first-copy from to w) ∷ copies m from2 to2 (set_value w (first-copy from to w))
-copies-next n m from to from2 to2 w e f t = rw (e, f, t) refl
+pub copy-written : {Z : Type 0} (i from to p q : ℕ) (word : WordValue) (w v u : WorldState) (ks ls ms : Vec Old Z) → Wrote (copies i from to w) w v ks ls →
+    Wrote (set (Cell p word) ∷ []) v u ls ms → p ≡ to + i → q ≡ from + i → word ≡ cell_of v q → Wrote (copies (i + 1) from to w) w u ks ms
+copy-written i from to p q word w v u ks ls ms a b ep eq ew =
+    let read : word ≡ cell_of (write_all w (copies i from to w)) q = ew ∙ ap (λ (s : WorldState). cell_of s q) a.state in
+    let one = subst (λ x. Wrote (set (Cell p x) ∷ []) v u ls ms) read b in
+    rw (copies-last i from to w (i + 1) p q refl ep eq) (joined (copies i from to w) (set (Cell p _) ∷ []) w v u ks ls ms a one)
 
-pub copied-state : (count i from to p q : ℕ) (w w2 : WorldState) (v : WordValue) → i < count → p ≡ to + i → q ≡ from + i → v ≡ cell_of w q →
-    w2 ≡ set_value w (Cell p v) →
-    write_all w2 (copies (count - (i + 1)) (from + (i + 1)) (to + (i + 1)) w2) ≡ write_all w (copies (count - i) (from + i) (to + i) w)
-copied-state count i from to p q w w2 v h ep eq ev ew =
-    let n : count - i ≡ suc (count - (i + 1)) = omega arith in
-    let f : from + (i + 1) ≡ from + i + 1 = omega arith in
-    let t : to + (i + 1) ≡ to + i + 1 = omega arith in
-    let next = copies-next (count - i) (count - (i + 1)) (from + i) (to + i) (from + (i + 1)) (to + (i + 1)) w n f t in
-    rw (ew, ev, ep, eq) (sym (ap (write_all w) next))
-
-pub copied-values : (count i from to p q : ℕ) (w w2 : WorldState) (v : WordValue) (ks ks2 : List Old) → i < count → p ≡ to + i → q ≡ from + i →
-    v ≡ cell_of w q → w2 ≡ set_value w (Cell p v) → ks2 ≡ ks ++ value_at w (Cell p v) ∷ [] →
-    ks2 ++ kept_by w2 (copies (count - (i + 1)) (from + (i + 1)) (to + (i + 1)) w2) ≡ ks ++ kept_by w (copies (count - i) (from + i) (to + i) w)
-copied-values count i from to p q w w2 v ks ks2 h ep eq ev ew ek =
-    let n : count - i ≡ suc (count - (i + 1)) = omega arith in
-    let f : from + (i + 1) ≡ from + i + 1 = omega arith in
-    let t : to + (i + 1) ≡ to + i + 1 = omega arith in
-    let next = copies-next (count - i) (count - (i + 1)) (from + i) (to + i) (from + (i + 1)) (to + (i + 1)) w n f t in
-    rw (ek, ew, ev, ep, eq) (append_assoc ks _ _ ∙ sym (ap (λ xs. ks ++ kept_by w xs) next))
-
--- nothing is left to copy
-pub copied-all-state : (n from to : ℕ) (w v : WorldState) → n ≡ 0 → write_all w (copies n from to w) ≡ v → w ≡ v
-copied-all-state n from to w v e h =
-    let none : write_all w (copies n from to w) ≡ w = rw e refl in sym none ∙ h
-
-pub copied-all-values : (n from to : ℕ) (w : WorldState) (ks ls : List Old) → n ≡ 0 → ks ++ kept_by w (copies n from to w) ≡ ls → ks ≡ ls
-copied-all-values n from to w ks ls e h =
-    let none : ks ++ kept_by w (copies n from to w) ≡ ks = rw e (append-nil ks) in sym none ∙ h
+-- there is room for it
+pub copy-room : {Z : Type 0} (count i from to : ℕ) (x : Write) (w v : WorldState) (ks ls : Vec Old Z) → HasRoom ks (copies count from to w) →
+    Wrote (copies i from to w) w v ks ls → i < count → HasRoom ls (x ∷ [])
+copy-room count i from to x w v ks ls h a l =
+    let all = length-copies count from to w in
+    let some = length-copies i from to w in
+    let len = a.len in
+    let capacity = a.capacity in
+    omega arith

@@ -1,45 +1,42 @@
--- One of many values written: what is left to write leads to the same state and the same kept values.
-use Rattle.std.proofs.Common.{ℕ, zero, suc, ◌+◌, ◌-◌, ◌<◌, ◌≤◌, ◌≡◌, ◌++◌, ◌∙◌, List, [], ◌∷◌, length, sym, ap, arith, append_assoc, refl}
-use Rattle.std.proofs.lemmas.List.{append-nil}
+-- One of many values written after the others.
+use Rattle.std.proofs.Common.{ℕ, zero, suc, ◌+◌, ◌<◌, ◌≤◌, ◌≡◌, ◌++◌, List, [], ◌∷◌, length, Vec, sym, ap, subst, refl, arith}
 use Rattle.mix_machine.specs.World.{WorldState}
-use Rattle.mix_machine.specs.Write.{set, write_all, kept_by, each, set_value, value_at}
+use Rattle.mix_machine.specs.Write.{Write, set, each}
+use Rattle.mix_machine.specs.law.Wrote.{HasRoom, Wrote}
 use Rattle.mix_machine.specs.declared.old.Old.{Old}
+use Rattle.mix_machine.proofs.WriteLemmas.{joined}
 
-each-next : (n m j k : ℕ) (f : ℕ → Old) → n ≡ suc m → k ≡ j + 1 → each n j f ≡ set (f j) ∷ each m k f
-each-next n m j k f e g = rw (e, g) refl
-
-pub each-state : (count j : ℕ) (f : ℕ → Old) (o : Old) (w v : WorldState) → j < count → o ≡ f j → v ≡ set_value w o →
-    write_all v (each (count - (j + 1)) (j + 1) f) ≡ write_all w (each (count - j) j f)
-each-state count j f o w v h eo e =
-    let n : count - j ≡ suc (count - (j + 1)) = omega arith in
-    rw (e, eo) (sym (ap (write_all w) (each-next (count - j) (count - (j + 1)) j (j + 1) f n refl)))
-
-pub each-kept : (count j : ℕ) (f : ℕ → Old) (o : Old) (w v : WorldState) (ks ls : List Old) → j < count → o ≡ f j → v ≡ set_value w o →
-    ls ≡ ks ++ value_at w o ∷ [] →
-    ls ++ kept_by v (each (count - (j + 1)) (j + 1) f) ≡ ks ++ kept_by w (each (count - j) j f)
-each-kept count j f o w v ks ls h eo e l =
-    let n : count - j ≡ suc (count - (j + 1)) = omega arith in
-    rw (l, e, eo) (append_assoc ks _ _ ∙ sym (ap (λ xs. ks ++ kept_by w xs) (each-next (count - j) (count - (j + 1)) j (j + 1) f n refl)))
+each-last : (n k m i : ℕ) (f : ℕ → Old) → m ≡ n + 1 → i ≡ k + n → each m k f ≡ each n k f ++ set (f i) ∷ []
+each-last zero k m i f e g = let one : m ≡ 1 = omega arith in let same : i ≡ k = omega arith in rw (one, same) refl
+each-last (suc n) k m i f e g =
+    let more : m ≡ suc (suc n) = omega arith in
+    rw more (ap (λ xs. set (f k) ∷ xs) (each-last n (k + 1) (suc n) i f (omega arith) (omega arith)))
 
 pub length-each : (n j : ℕ) (f : ℕ → Old) → length (each n j f) ≡ n
 length-each zero j f = refl
 length-each (suc n) j f = ap suc (length-each n (j + 1) f)
 
--- nothing is left to write
-pub each-none : (n j : ℕ) (f : ℕ → Old) (w : WorldState) (ks ls : List Old) → n ≡ 0 → ks ++ kept_by w (each n j f) ≡ ls → ks ≡ ls
-each-none n j f w ks ls e h =
-    let none : ks ++ kept_by w (each n j f) ≡ ks = rw e (append-nil ks) in sym none ∙ h
+pub each-written : {Z : Type 0} (j : ℕ) (f : ℕ → Old) (o : Old) (w v u : WorldState) (ks ls ms : Vec Old Z) → Wrote (each j 0 f) w v ks ls →
+    Wrote (set o ∷ []) v u ls ms → o ≡ f j → Wrote (each (j + 1) 0 f) w u ks ms
+each-written j f o w v u ks ls ms a b e =
+    let one = subst (λ p. Wrote (set p ∷ []) v u ls ms) e b in
+    rw (each-last j 0 (j + 1) j f refl (omega arith)) (joined (each j 0 f) (set (f j) ∷ []) w v u ks ls ms a one)
 
-pub each-done : (n j : ℕ) (f : ℕ → Old) (w v : WorldState) → n ≡ 0 → write_all w (each n j f) ≡ v → w ≡ v
-each-done n j f w v e h =
-    let none : write_all w (each n j f) ≡ w = rw e refl in sym none ∙ h
+-- there is room for it
+pub each-room : {Z : Type 0} (size j : ℕ) (f : ℕ → Old) (x : Write) (w v : WorldState) (ks ls : Vec Old Z) → HasRoom ks (each size 0 f) →
+    Wrote (each j 0 f) w v ks ls → j < size → HasRoom ls (x ∷ [])
+each-room size j f x w v ks ls h a l =
+    let all = length-each size 0 f in
+    let some = length-each j 0 f in
+    let len = a.len in
+    let capacity = a.capacity in
+    omega arith
 
--- the next one is there, and there is room for it
+-- the last one is written
+pub each-done : {Z : Type 0} (size j : ℕ) (f : ℕ → Old) (w v : WorldState) (ks ls : Vec Old Z) → Wrote (each j 0 f) w v ks ls → j ≡ size →
+    Wrote (each size 0 f) w v ks ls
+each-done size j f w v ks ls a e = subst (λ n. Wrote (each n 0 f) w v ks ls) e a
+
+-- the cell is there
 pub cell-below : (at number j size : ℕ) → number ≡ j → j < size → at + size ≤ 4000 → at + number < 4000
 cell-below at number j size e h l = omega arith
-
-pub room-left : (l c len cap j size : ℕ) → l ≡ len + j → c ≡ cap → j < size → len + size ≤ cap → l < c
-room-left l c len cap j size el ec h r = omega arith
-
-pub len-all : (l len j size : ℕ) → l ≡ len + j → j ≤ size → size ≤ j → l ≡ len + size
-len-all l len j size e h g = omega arith

@@ -3,7 +3,6 @@ pub mod BreakLemmas
 pub mod CopyLemmas
 pub mod Counting
 pub mod DeckLemmas
-pub mod DelayLemmas
 pub mod EachLemmas
 pub mod Halting
 pub mod RegisterLemmas

@@ -1,5 +1,5 @@
 -- A block moved between a unit and the cells: the place and the time of the unit, and then the words.
-use Rattle.std.proofs.Common.{ℕ, suc, ◌+◌, ◌-◌, ◌≡◌, ◌<◌, ◌≤◌, ◌++◌, ◌∙◌, Bool, true, false, cond, IsTrue, List, [], ◌∷◌, length, nat_lt, take, drop, length-append, sym, ap, arith, append_assoc, refl}
+use Rattle.std.proofs.Common.{ℕ, suc, ◌+◌, ◌-◌, ◌≡◌, ◌<◌, ◌≤◌, ◌++◌, ◌∙◌, Bool, true, false, cond, IsTrue, List, [], ◌∷◌, length, nat_lt, take, drop, Vec, sym, ap, subst, arith, refl}
 use Rattle.std.specs.Prelude.{slice_index_or}
 use Rattle.std.proofs.lemmas.Bool.Decides.{nat_tests}
 use Rattle.mix_word.specs.Word.{WordValue, zero_word}
@@ -11,40 +11,23 @@ use Rattle.mix_machine.specs.units.Row.{RowState, row_of}
 use Rattle.mix_machine.specs.units.Unit.{UnitState, most_entries}
 use Rattle.mix_machine.specs.units.Units.{UnitsState, add_blocks, add_row, length_of, length_at}
 use Rattle.mix_machine.specs.units.Keep.{keep-add_blocks, keep-add_row}
-use Rattle.mix_machine.specs.Write.{Write, set, write_all, kept_by, set_value, value_at, each, from_cell, fits, place_after, words_out, row_writes, replace_writes, append_writes, output_writes}
+use Rattle.mix_machine.specs.Write.{Write, set, busy, write_all, set_value, each, from_block, from_cell, fits, place_after, words_out, row_writes, replace_writes, append_writes, output_writes}
 use Rattle.mix_machine.specs.law.Fits.{with-units}
-use Rattle.mix_machine.specs.law.Plans.{OutputFits, ready, fits-place-in}
+use Rattle.mix_machine.specs.law.Plans.{InputFits, OutputFits, ready, world-place, fits-place-in}
+use Rattle.mix_machine.specs.law.Units.{unit-with}
 use Rattle.mix_machine.specs.declared.plan.Transfer.{Transfer}
 use Rattle.mix_machine.specs.declared.old.Old.{Old}
-use Rattle.mix_machine.specs.declared.old.Old.TheVariants.{At, Item, Until}
-use Rattle.mix_machine.proofs.WriteLemmas.{write_all-append, kept_by-append}
+use Rattle.mix_machine.specs.declared.old.Old.TheVariants.{At, Cell, Item, Until}
+use Rattle.mix_machine.specs.law.Wrote.{Wrote}
+use Rattle.mix_machine.proofs.WriteLemmas.{joined}
 
-pub three-state : (w w1 w2 w3 : WorldState) (ps xs ys : List Write) (o : Old) → w1 ≡ write_all w ps → w2 ≡ set_value w1 o → w3 ≡ write_all w2 ys →
-    ys ≡ xs → w3 ≡ write_all w (ps ++ set o ∷ xs)
-three-state w w1 w2 w3 ps xs ys o e1 e2 e3 e = rw (e3, e, e2, e1) (sym (write_all-append w ps (set o ∷ xs)))
-
-pub three-kept : (w w1 w2 : WorldState) (ps xs ys : List Write) (o : Old) (ks k1 k2 k3 : List Old) → w1 ≡ write_all w ps → w2 ≡ set_value w1 o →
-    k1 ≡ ks ++ kept_by w ps → k2 ≡ k1 ++ value_at w1 o ∷ [] → k3 ≡ k2 ++ kept_by w2 ys → ys ≡ xs → k3 ≡ ks ++ kept_by w (ps ++ set o ∷ xs)
-three-kept w w1 w2 ps xs ys o ks k1 k2 k3 e1 e2 g1 g2 g3 e =
-    rw (g3, e, g2, g1, e2, e1) (
-    append_assoc (ks ++ kept_by w ps) (value_at (write_all w ps) o ∷ []) _ ∙ append_assoc ks (kept_by w ps) _
-    ∙ sym (ap (λ xs. ks ++ xs) (kept_by-append w ps (set o ∷ xs)))
-    )
-
--- there is room for each of them, and so many are kept
-pub room-first : (ps xs : List Write) (x : Write) (len cap : ℕ) → len + length (ps ++ x ∷ xs) ≤ cap → len + length ps ≤ cap
-room-first ps xs x len cap h = let all = length-append ps (x ∷ xs) in omega arith
-
-pub room-second : (ps xs : List Write) (x : Write) (len cap l1 c1 : ℕ) → len + length (ps ++ x ∷ xs) ≤ cap → l1 ≡ len + length ps → c1 ≡ cap → l1 < c1
-room-second ps xs x len cap l1 c1 h el ec = let all = length-append ps (x ∷ xs) in omega arith
-
-pub room-third : (ps xs : List Write) (x : Write) (len cap l1 c1 l2 c2 size : ℕ) → len + length (ps ++ x ∷ xs) ≤ cap → l1 ≡ len + length ps → c1 ≡ cap →
-    l2 ≡ l1 + 1 → c2 ≡ c1 → length xs ≡ size → l2 + size ≤ c2
-room-third ps xs x len cap l1 c1 l2 c2 size h el ec fl fc s = let all = length-append ps (x ∷ xs) in omega arith
-
-pub three-len : (ps xs : List Write) (x : Write) (len l1 l2 l3 size : ℕ) → l1 ≡ len + length ps → l2 ≡ l1 + 1 → l3 ≡ l2 + size → length xs ≡ size →
-    l3 ≡ len + length (ps ++ x ∷ xs)
-three-len ps xs x len l1 l2 l3 size e f g s = let all = length-append ps (x ∷ xs) in omega arith
+-- the place, the time and the words
+pub transferred : {Z : Type 0} (v w w1 w2 w3 : WorldState) (n end : ℕ) (ps xs ys : List Write) (ks k1 k2 k3 : Vec Old Z) → Wrote ps w w1 ks k1 →
+    Wrote (set (Until n end) ∷ []) w1 w2 k1 k2 → Wrote ys w2 w3 k2 k3 → end ≡ transfer_end v n → ys ≡ xs → Wrote (ps ++ busy v n ∷ xs) w w3 ks k3
+transferred v w w1 w2 w3 n end ps xs ys ks k1 k2 k3 a b c e g =
+    let time = subst (λ k. Wrote (set (Until n k) ∷ []) w1 w2 k1 k2) e b in
+    let words = subst (λ zs. Wrote zs w2 w3 k2 k3) g c in
+    joined ps (busy v n ∷ xs) w w1 w3 ks k1 k3 a (joined (busy v n ∷ []) xs w1 w2 w3 k1 k2 k3 time words)
 
 -- the place and the time of the unit set
 pub to-ready : (w w1 w2 : WorldState) (t : Transfer) (k : Kind) (end : ℕ) → k ≡ (unit_at w t.unit).kind → w1 ≡ write_all w (place_after k t) →
@@ -55,25 +38,44 @@ pub fits-place-after : (w : WorldState) (t : Transfer) (k : Kind) → t.unit < 2
     k ≡ (unit_at w t.unit).kind → has_place k ≡ true → IsTrue (fits w (At t.unit (t.block + 1)))
 fits-place-after w t k l h e p = fits-place-in w t.unit (t.block + 1) l (ap has_place (sym e) ∙ p) (omega arith)
 
+-- the blocks of the unit are those before
+unit-placed : (b : Bool) (w : WorldState) (t : Transfer) → IsWorld w → t.unit < 21 →
+    ((unit_at (write_all w (cond b (set (At t.unit (t.block + 1)) ∷ []) [])) t.unit).blocks ≡ (unit_at w t.unit).blocks)
+    × ((unit_at (write_all w (cond b (set (At t.unit (t.block + 1)) ∷ []) [])) t.unit).kind ≡ (unit_at w t.unit).kind)
+unit-placed true w t h l =
+    let same = unit-with w.units t.unit (record (unit_at w t.unit) { place = t.block + 1 }) h.units l in
+    (ap (λ (u : UnitState). u.blocks) same, ap (λ (u : UnitState). u.kind) same)
+unit-placed false w t h l = (refl, refl)
+
+pub unit-ready : (w : WorldState) (t : Transfer) → IsWorld w → InputFits w t →
+    ((unit_at (ready w t) t.unit).blocks ≡ (unit_at w t.unit).blocks) × ((unit_at (ready w t) t.unit).kind ≡ (unit_at w t.unit).kind)
+unit-ready w t h f =
+    let kind = (unit_at w t.unit).kind in
+    let block = f.block in
+    let world = world-place (has_place kind) w t h (λ p. fits-place-in w t.unit (t.block + 1) f.unit p (omega arith)) in
+    let placed = write_all w (place_after kind t) in
+    let same = unit-with placed.units t.unit (record (unit_at placed t.unit) { until = transfer_end w t.unit }) world.units f.unit in
+    let before = unit-placed (has_place kind) w t h f.unit in
+    (ap (λ (u : UnitState). u.blocks) same ∙ before.0, ap (λ (u : UnitState). u.kind) same ∙ before.1)
+
+pub same-words : (size : ℕ) (w v : WorldState) (t : Transfer) → (unit_at v t.unit).blocks ≡ (unit_at w t.unit).blocks →
+    each size 0 (from_block v t) ≡ each size 0 (from_block w t)
+same-words size w v t e =
+    ap (λ (bs : List (List WordValue)). each size 0 (λ j. Cell (t.cell + j) (slice_index_or (slice_index_or bs t.block []) j zero_word))) e
+
 -- what is read of a unit
-pub kind-of : (w v : WorldState) (n : ℕ) (u : UnitState) (k : Kind) → k ≡ u.kind → u ≡ unit_at v n → v ≡ w → k ≡ (unit_at w n).kind
-kind-of w v n u k ek eu ev = rw (ek, eu, ev) refl
+pub kind-of : (w : WorldState) (n : ℕ) (u : UnitState) (k : Kind) → k ≡ u.kind → u ≡ unit_at w n → k ≡ (unit_at w n).kind
+kind-of w n u k ek eu = rw (ek, eu) refl
 
-pub blocks-of : (w v : WorldState) (n : ℕ) (u : UnitState) (k : ℕ) → k ≡ length u.blocks → u ≡ unit_at v n → v ≡ w → k ≡ length (unit_at w n).blocks
-blocks-of w v n u k ek eu ev = rw (ek, eu, ev) refl
+pub blocks-of : (w : WorldState) (n : ℕ) (u : UnitState) (k : ℕ) → k ≡ length u.blocks → u ≡ unit_at w n → k ≡ length (unit_at w n).blocks
+blocks-of w n u k ek eu = rw (ek, eu) refl
 
-pub length-of : (w v : WorldState) (n : ℕ) (u : UnitState) (k : ℕ) → k ≡ length_of u → u ≡ unit_at v n → v ≡ w → k ≡ length_at w.units n
-length-of w v n u k ek eu ev = rw (ek, eu, ev) refl
+pub length-of : (w : WorldState) (n : ℕ) (u : UnitState) (k : ℕ) → k ≡ length_of u → u ≡ unit_at w n → k ≡ length_at w.units n
+length-of w n u k ek eu = rw (ek, eu) refl
 
 -- there is room after what the unit holds more
 pub room-now : (len cap n : ℕ) → len + suc n ≤ cap → len < cap
 room-now len cap n h = omega arith
-
-pub room-next : (len cap l1 c1 n : ℕ) → len + suc n ≤ cap → l1 ≡ len + 1 → c1 ≡ cap → l1 + n ≤ c1
-room-next len cap l1 c1 n h e f = omega arith
-
-pub grown-len : (ps : List Write) (x : Write) (len l0 l1 l2 : ℕ) → l0 ≡ len + 1 → l1 ≡ l0 + length ps → l2 ≡ l1 + 1 → l2 ≡ len + suc (length (ps ++ x ∷ []))
-grown-len ps x len l0 l1 l2 e f g = let all = length-append ps (x ∷ []) in omega arith
 
 pub room-grown : (v w : WorldState) (t : Transfer) (blocks : ℕ) → v ≡ w → OutputFits w t → has_medium (unit_at w t.unit).kind ≡ true →
     length (unit_at w t.unit).blocks ≤ t.block → blocks ≡ length (unit_at w t.unit).blocks →
@@ -99,19 +101,6 @@ to-printed v w us t kind from size cells eu ev ef es ec =
 
 pub rows-room : (v w : WorldState) (n : ℕ) → v ≡ w → length (unit_at w n).rows < most_entries → length (unit_at v n).rows < most_entries
 rows-room v w n e h = rw e h
-
-pub printed-kept : (w w1 : WorldState) (o l : Old) (ks k0 k1 : List Old) → w1 ≡ w → k0 ≡ ks ++ l ∷ [] → k1 ≡ k0 ++ value_at w1 o ∷ [] →
-    k1 ≡ ks ++ l ∷ value_at w o ∷ []
-printed-kept w w1 o l ks k0 k1 e g0 g1 = rw (g1, g0, e) (append_assoc ks (l ∷ []) _)
-
--- after what the unit holds more
-pub grown-kept : (w w1 : WorldState) (ps : List Write) (o l : Old) (ks k0 k1 k2 : List Old) → w1 ≡ write_all w ps → k0 ≡ ks ++ l ∷ [] →
-    k1 ≡ k0 ++ kept_by w ps → k2 ≡ k1 ++ value_at w1 o ∷ [] → k2 ≡ ks ++ l ∷ kept_by w (ps ++ set o ∷ [])
-grown-kept w w1 ps o l ks k0 k1 k2 e1 g0 g1 g2 =
-    rw (g2, g1, g0, e1) (
-    append_assoc (ks ++ l ∷ []) (kept_by w ps) (value_at (write_all w ps) o ∷ []) ∙ append_assoc ks (l ∷ []) _
-    ∙ sym (ap (λ xs. ks ++ l ∷ xs) (kept_by-append w ps (set o ∷ [])))
-    )
 
 pub world-grown : (v w : WorldState) (us : UnitsState) (t : Transfer) (gap : ℕ) (block : List WordValue) → v ≡ w → IsWorld v → OutputFits w t →
     has_medium (unit_at w t.unit).kind ≡ true → length (unit_at w t.unit).blocks ≤ t.block → gap ≡ t.block - length (unit_at w t.unit).blocks →

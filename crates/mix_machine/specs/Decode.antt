@@ -1,13 +1,13 @@
 -- The instruction at the location and what it gives to its operation: I, M and F (1.3.1, "Instruction format").
-use Rattle.std.specs.Prelude.{ℕ, Bool, ◌==◌, ◌||◌, ◌&&◌, nat_lt, unwrap_or}
+use Rattle.std.specs.Prelude.{ℕ, Bool, ◌&&◌, nat_lt, unwrap_or}
 use Rattle.std.specs.Option.{is_some}
-use Rattle.mix_word.specs.Word.{WordValue, word, parts_of}
+use Rattle.mix_word.specs.Word.{WordValue, word, parts_of, is_natural}
 use Rattle.mix_word.specs.Arithmetic.{sum_of}
 use Rattle.mix_word.specs.Field.{FieldValue, field, field_of, field_value_of}
 use Rattle.mix_word.specs.Table.{decode_of}
 use Rattle.mix_word.specs.declared.word.Parts.{Parts}
 use Rattle.mix_word.specs.declared.decoding.Decoded.{Decoded}
-use Rattle.mix_machine.specs.Registers.{is_plus, index_in}
+use Rattle.mix_machine.specs.Registers.{index_in}
 use Rattle.mix_machine.specs.World.{WorldState, cell_of}
 use Rattle.mix_machine.specs.declared.decode.Arguments.{Arguments}
 
@@ -32,10 +32,6 @@ arguments_of w p = record { index = p.index; m = address_of w p; f = p.f }
 
 abbrev pub arguments_at : WorldState → Arguments
 arguments_at w = arguments_of w (instruction w)
-
--- whether a word's number is 0 or more, as that of -0 is
-abbrev pub is_natural : WordValue → Bool
-is_natural m = is_plus m.sign || m.magnitude == 0
 
 -- whether a word's number is that of a cell, 0 to 3999
 abbrev pub is_cell : WordValue → Bool

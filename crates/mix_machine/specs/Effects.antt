@@ -1,7 +1,7 @@
 -- What each operation writes beside the location and the clock, and whether it jumps to M, all read from the
 -- state before the step (1.3.1, "MIX operators").
 use Rattle.std.specs.Prelude.{ℕ, ◌+◌, Bool, true, false, not, ◌||◌, ◌&&◌, ◌==◌, nat_le, Option, Some, None, if◌then◌else◌}
-use Rattle.mix_word.specs.Word.{WordValue, plus, zero_word, negation_of}
+use Rattle.mix_word.specs.Word.{WordValue, plus, zero_word, negation_of, is_natural}
 use Rattle.mix_word.specs.Arithmetic.{sum_of, product_of, quotient_of}
 use Rattle.mix_word.specs.Conversion.{num_of, digit_characters_of}
 use Rattle.mix_word.specs.Shift.{shift_of}
@@ -15,8 +15,12 @@ use Rattle.mix_word.specs.declared.operation.ShiftKind.{ShiftKind}
 use Rattle.mix_word.specs.declared.operation.ShiftKind.TheVariants.{Sla, Sra, Slax, Srax, Slc, Src}
 use Rattle.mix_word.specs.declared.operation.Operation.{Operation}
 use Rattle.mix_word.specs.declared.operation.Operation.TheVariants.{Nop, Add, Sub, Mul, Div, Num, Char, Hlt, Shift, Move, Load, LoadNegated, Store, StoreJ, StoreZero, Jbus, Ioc, In, Out, Jred, Jump, RegisterJump, Increase, Decrease, Enter, EnterNegated, Compare}
+use Rattle.mix_word.specs.declared.uses.Uses.{Uses}
+use Rattle.mix_word.specs.declared.uses.Uses.TheVariants as uses
+use Rattle.mix_word.specs.declared.uses.UnitUse.TheVariants as unit
+use Rattle.mix_word.specs.Uses.{uses_of}
 use Rattle.mix_machine.specs.World.{WorldState, register_of, cell_of, unit_at}
-use Rattle.mix_machine.specs.Decode.{is_natural, is_cell, field_at, operand}
+use Rattle.mix_machine.specs.Decode.{is_cell, field_at, operand}
 use Rattle.mix_machine.specs.Jump.{is_taken, is_met, return_address, jump_writes}
 use Rattle.mix_machine.specs.UnitAction.{is_busy, block_at, wound}
 use Rattle.mix_machine.specs.units.Kind.{block_length}
@@ -126,33 +130,18 @@ effects (Compare r) w a =
 abbrev pub is_row : WordValue → ℕ → Bool
 is_row m f = is_natural m && nat_le (m.magnitude + f) 4000
 
--- whether there is each cell that an operation uses: the operand, the cells of MOVE or of a block, the target of a
--- jump taken
+-- whether there is each cell that is used: the operand, the cells of MOVE or of a block, M where the operation jumps there
+abbrev pub has_cells : Uses → Bool → WorldState → Arguments → Bool
+has_cells uses.Nothing jumps w a = true
+has_cells uses.FAlone jumps w a = true
+has_cells uses.Address jumps w a = not jumps || is_cell a.m
+has_cells uses.Count jumps w a = true
+has_cells uses.Operand jumps w a = is_cell a.m
+has_cells uses.Cells jumps w a = a.f == 0 || (is_row a.m a.f && is_row w.registers.i1 a.f)
+has_cells (uses.Unit unit.Looks) jumps w a = not jumps || is_cell a.m
+has_cells (uses.Unit unit.Controls) jumps w a = true
+has_cells (uses.Unit unit.Reads) jumps w a = is_row a.m (block_length (unit_at w a.f).kind)
+has_cells (uses.Unit unit.Writes) jumps w a = is_row a.m (block_length (unit_at w a.f).kind)
+
 abbrev pub reaches : Operation → WorldState → Arguments → Bool
-reaches Nop w a = true
-reaches Add w a = is_cell a.m
-reaches Sub w a = is_cell a.m
-reaches Mul w a = is_cell a.m
-reaches Div w a = is_cell a.m
-reaches Num w a = true
-reaches Char w a = true
-reaches Hlt w a = true
-reaches (Shift kind) w a = true
-reaches Move w a = a.f == 0 || (is_row a.m a.f && is_row w.registers.i1 a.f)
-reaches (Load r) w a = is_cell a.m
-reaches (LoadNegated r) w a = is_cell a.m
-reaches (Store r) w a = is_cell a.m
-reaches StoreJ w a = is_cell a.m
-reaches StoreZero w a = is_cell a.m
-reaches Jbus w a = not (is_busy w a.f) || is_cell a.m
-reaches Ioc w a = true
-reaches In w a = is_row a.m (block_length (unit_at w a.f).kind)
-reaches Out w a = is_row a.m (block_length (unit_at w a.f).kind)
-reaches Jred w a = is_busy w a.f || is_cell a.m
-reaches (Jump kind) w a = not (is_taken kind w) || is_cell a.m
-reaches (RegisterJump r condition) w a = not (is_met condition (register_of w (reg_of r))) || is_cell a.m
-reaches (Increase r) w a = true
-reaches (Decrease r) w a = true
-reaches (Enter r) w a = true
-reaches (EnterNegated r) w a = true
-reaches (Compare r) w a = is_cell a.m
+reaches op w a = has_cells (uses_of op) (effects op w a).jumps w a

@@ -1,57 +1,32 @@
 -- When each fault applies to a step, and in which order they are tested.
 use Rattle.std.specs.Prelude.{ℕ, Bool, true, false, not, ◌&&◌, ◌==◌, nat_le, nat_lt, if◌then◌else◌, List, [], ◌∷◌, ◌+◌, Result, Ok, Err}
 use Rattle.mix_word.specs.Operation.{time_of}
-use Rattle.mix_word.specs.Needs.{needs_address, needs_operand, needs_unit}
+use Rattle.mix_word.specs.Uses.{Needs, needs}
 use Rattle.mix_word.specs.declared.decoding.Decoded.{Decoded}
 use Rattle.mix_word.specs.declared.decoding.Decoded.TheVariants.{Named, Floating, Unknown}
 use Rattle.mix_word.specs.declared.operation.Operation.{Operation}
-use Rattle.mix_word.specs.declared.operation.Operation.TheVariants.{Nop, Add, Sub, Mul, Div, Num, Char, Hlt, Shift, Move, Load, LoadNegated, Store, StoreJ, StoreZero, Jbus, Ioc, In, Out, Jred, Jump, RegisterJump, Increase, Decrease, Enter, EnterNegated, Compare}
+use Rattle.mix_word.specs.declared.operation.Operation.TheVariants.{Nop}
 use Rattle.mix_machine.specs.Registers.{fits_register}
 use Rattle.mix_machine.specs.World.{WorldState, unit_at, last_clock}
 use Rattle.mix_machine.specs.Decode.{is_field}
 use Rattle.mix_machine.specs.Jump.{is_negative}
 use Rattle.mix_machine.specs.Effects.{effects, reaches}
-use Rattle.mix_machine.specs.UnitAction.{use_of, start_of, wrong_direction, bad_control, no_block, unit_full}
+use Rattle.mix_machine.specs.UnitAction.{use_of, needs_unit, start_of, wrong_direction, bad_control, no_block, unit_full}
 use Rattle.mix_machine.specs.declared.decode.Arguments.{Arguments}
 use Rattle.mix_machine.specs.declared.plan.Writes.{Writes}
 use Rattle.mix_machine.specs.declared.plan.Writes.TheVariants.{Nothing, Register, RegisterAndToggle, Pair, PairAndToggle, Cell, Indicator, Copy, Input, Output, Control}
 use Rattle.mix_machine.specs.declared.fault.MixFault.{MixFault}
 use Rattle.mix_machine.specs.declared.fault.MixFault.TheVariants.{NoOperation, FloatingOperation, IndexOverSix, LargeAddress, NoCell, NoField, IndexOverflow, NegativeShift, NoUnit, WrongDirection, NoBlock, BadControl, UnitFull, ClockFull, NoCellAtLocation}
 
-abbrev pub is_shift : Operation → Bool
-is_shift Nop = false
-is_shift Add = false
-is_shift Sub = false
-is_shift Mul = false
-is_shift Div = false
-is_shift Num = false
-is_shift Char = false
-is_shift Hlt = false
-is_shift (Shift kind) = true
-is_shift Move = false
-is_shift (Load r) = false
-is_shift (LoadNegated r) = false
-is_shift (Store r) = false
-is_shift StoreJ = false
-is_shift StoreZero = false
-is_shift Jbus = false
-is_shift Ioc = false
-is_shift In = false
-is_shift Out = false
-is_shift Jred = false
-is_shift (Jump kind) = false
-is_shift (RegisterJump r condition) = false
-is_shift (Increase r) = false
-is_shift (Decrease r) = false
-is_shift (Enter r) = false
-is_shift (EnterNegated r) = false
-is_shift (Compare r) = false
-
 -- the operation that is named; where none is, the first faults refuse the step
 abbrev pub operation_or_nop : Decoded → Operation
 operation_or_nop (Named op) = op
 operation_or_nop Floating = Nop
 operation_or_nop Unknown = Nop
+
+-- what the operation that is named asks of its instruction
+abbrev pub needs_at : Decoded → Needs
+needs_at d = needs (operation_or_nop d)
 
 abbrev pub has_operation : Decoded → Bool
 has_operation (Named op) = true
@@ -86,12 +61,12 @@ clock_after op w a = start_of (use_of op) w a.f + time_of op a.f
 abbrev pub applies : Decoded → WorldState → Arguments → MixFault → Bool
 applies d w a NoOperation = not (has_operation d)
 applies d w a FloatingOperation = is_floating d
-applies d w a IndexOverSix = needs_address (operation_or_nop d) && nat_lt 6 a.index
-applies d w a LargeAddress = needs_address (operation_or_nop d) && nat_le 4096 a.m.magnitude
+applies d w a IndexOverSix = (needs_at d).address && nat_lt 6 a.index
+applies d w a LargeAddress = (needs_at d).address && nat_le 4096 a.m.magnitude
 applies d w a NoCell = not (reaches (operation_or_nop d) w a)
-applies d w a NoField = needs_operand (operation_or_nop d) && not (is_field a.f)
+applies d w a NoField = (needs_at d).operand && not (is_field a.f)
 applies d w a IndexOverflow = not (all_fit (effects (operation_or_nop d) w a).writes)
-applies d w a NegativeShift = is_shift (operation_or_nop d) && is_negative a.m
+applies d w a NegativeShift = (needs_at d).bytes && is_negative a.m
 applies d w a NoUnit = needs_unit (operation_or_nop d) && nat_lt 20 a.f
 applies d w a WrongDirection = wrong_direction (use_of (operation_or_nop d)) (unit_at w a.f).kind
 applies d w a NoBlock = no_block (use_of (operation_or_nop d)) w a.f

@@ -1,10 +1,9 @@
 -- The nine registers (1.3.1): what each holds, and what it can hold.
-use Rattle.std.specs.Prelude.{ℕ, ◌≡◌, ◌<◌, Bool, true, false, ◌==◌, ◌&&◌, nat_lt, List, slice_index_or, if◌then◌else◌}
-use Rattle.mix_word.specs.Word.{WordValue, zero_word}
+use Rattle.std.specs.Prelude.{ℕ, ◌≡◌, ◌<◌, Bool, true, ◌==◌, ◌&&◌, nat_lt, List, slice_index_or, if◌then◌else◌}
+use Rattle.mix_word.specs.Word.{WordValue, zero_word, is_plus}
 use Rattle.mix_word.specs.declared.register.Reg.{Reg}
 use Rattle.mix_word.specs.declared.register.Reg.TheVariants.{A, X, I1, I2, I3, I4, I5, I6, J}
-use Rattle.mix_word.specs.declared.word.Sign.{Sign}
-use Rattle.mix_word.specs.declared.word.Sign.TheVariants.{Plus, Minus}
+use Rattle.mix_word.specs.declared.word.Sign.TheVariants.{Plus}
 
 -- what each of them holds
 pub record RegistersState : Type 0 where
@@ -81,11 +80,6 @@ blank_registers =
       i6 = zero_word;
       j = zero_word;
     }
-
--- whether a sign is +
-abbrev pub is_plus : Sign → Bool
-is_plus Plus = true
-is_plus Minus = false
 
 -- whether a register can hold a word: an index register has two bytes, and rJ the sign + besides
 abbrev pub fits_register : Reg → WordValue → Bool

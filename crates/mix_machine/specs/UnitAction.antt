@@ -1,54 +1,26 @@
 -- What the operations of the units use of a unit, and when each fault of a unit applies (1.3.1, "Input-output
 -- operators").
-use Rattle.std.specs.Prelude.{ℕ, ◌+◌, ◌-◌, max, Bool, true, false, not, ◌&&◌, ◌||◌, ◌==◌, nat_le, nat_lt, length, if◌then◌else◌}
-use Rattle.mix_word.specs.Word.{WordValue}
+use Rattle.std.specs.Prelude.{ℕ, ◌+◌, ◌-◌, max, Bool, true, false, not, ◌&&◌, ◌||◌, ◌==◌, nat_le, nat_lt, length, Option, Some, None, if◌then◌else◌}
+use Rattle.std.specs.Option.{is_some}
+use Rattle.mix_word.specs.Word.{WordValue, is_plus, is_natural}
 use Rattle.mix_word.specs.declared.operation.Operation.{Operation}
-use Rattle.mix_word.specs.declared.operation.Operation.TheVariants.{Nop, Add, Sub, Mul, Div, Num, Char, Hlt, Shift, Move, Load, LoadNegated, Store, StoreJ, StoreZero, Jbus, Ioc, In, Out, Jred, Jump, RegisterJump, Increase, Decrease, Enter, EnterNegated, Compare}
-use Rattle.mix_machine.specs.Registers.{is_plus}
+use Rattle.mix_word.specs.declared.uses.UnitUse.{UnitUse}
+use Rattle.mix_word.specs.declared.uses.UnitUse.TheVariants.{Looks, Controls, Reads, Writes}
+use Rattle.mix_word.specs.Uses.{needs}
 use Rattle.mix_machine.specs.World.{WorldState, unit_at}
-use Rattle.mix_machine.specs.Decode.{is_natural}
 use Rattle.mix_machine.specs.Jump.{is_positive}
 use Rattle.mix_machine.specs.units.Kind.{has_place, has_medium, has_output}
 use Rattle.mix_machine.specs.units.Unit.{UnitState, most_entries}
 use Rattle.mix_machine.specs.declared.units.kind.Kind.{Kind}
 use Rattle.mix_machine.specs.declared.units.kind.Kind.TheVariants.{Tape, Disk, CardReader, CardPunch, Printer, Typewriter, PaperTape}
 
--- what an operation does with the unit F: nothing, it looks whether the unit is busy, or it is IOC, IN or OUT
-pub data UnitUse : Type 0 where
-  unused : UnitUse
-  looks : UnitUse
-  controls : UnitUse
-  reads : UnitUse
-  writes : UnitUse
+-- what is done with the unit F, if anything
+abbrev pub use_of : Operation → Option UnitUse
+use_of op = (needs op).unit
 
-abbrev pub use_of : Operation → UnitUse
-use_of Nop = unused
-use_of Add = unused
-use_of Sub = unused
-use_of Mul = unused
-use_of Div = unused
-use_of Num = unused
-use_of Char = unused
-use_of Hlt = unused
-use_of (Shift kind) = unused
-use_of Move = unused
-use_of (Load r) = unused
-use_of (LoadNegated r) = unused
-use_of (Store r) = unused
-use_of StoreJ = unused
-use_of StoreZero = unused
-use_of Jbus = looks
-use_of Ioc = controls
-use_of In = reads
-use_of Out = writes
-use_of Jred = looks
-use_of (Jump kind) = unused
-use_of (RegisterJump r condition) = unused
-use_of (Increase r) = unused
-use_of (Decrease r) = unused
-use_of (Enter r) = unused
-use_of (EnterNegated r) = unused
-use_of (Compare r) = unused
+-- F has to be a unit
+abbrev pub needs_unit : Operation → Bool
+needs_unit op = is_some (use_of op)
 
 -- whether the last transfer of a unit takes beyond the clock
 abbrev pub is_busy : WorldState → ℕ → Bool
@@ -58,12 +30,12 @@ is_busy w n = nat_lt w.clock (unit_at w n).until
 abbrev pub transfer_start : WorldState → ℕ → ℕ
 transfer_start w n = max w.clock (unit_at w n).until
 
-abbrev pub start_of : UnitUse → WorldState → ℕ → ℕ
-start_of unused w n = w.clock
-start_of looks w n = w.clock
-start_of controls w n = transfer_start w n
-start_of reads w n = transfer_start w n
-start_of writes w n = transfer_start w n
+abbrev pub start_of : Option UnitUse → WorldState → ℕ → ℕ
+start_of None w n = w.clock
+start_of (Some Looks) w n = w.clock
+start_of (Some Controls) w n = transfer_start w n
+start_of (Some Reads) w n = transfer_start w n
+start_of (Some Writes) w n = transfer_start w n
 
 -- the time until which a transfer takes: that of its step, and the delay of the unit
 abbrev pub transfer_end : WorldState → ℕ → ℕ
@@ -88,12 +60,12 @@ wound u m =
     if is_plus m.sign then u.place + m.magnitude else u.place - m.magnitude
 
 -- IN needs something to read, and OUT something to write on
-abbrev pub wrong_direction : UnitUse → Kind → Bool
-wrong_direction unused kind = false
-wrong_direction looks kind = false
-wrong_direction controls kind = false
-wrong_direction reads kind = not (has_place kind || has_medium kind)
-wrong_direction writes kind = not (has_medium kind || has_output kind)
+abbrev pub wrong_direction : Option UnitUse → Kind → Bool
+wrong_direction None kind = false
+wrong_direction (Some Looks) kind = false
+wrong_direction (Some Controls) kind = false
+wrong_direction (Some Reads) kind = not (has_place kind || has_medium kind)
+wrong_direction (Some Writes) kind = not (has_medium kind || has_output kind)
 
 -- a tape isn't wound past its last block; on disk, printer and paper tape M is 0; the others are not controlled
 abbrev pub bad_order : Kind → UnitState → WordValue → Bool
@@ -105,20 +77,20 @@ bad_order Printer u m = not (m.magnitude == 0)
 bad_order Typewriter u m = true
 bad_order PaperTape u m = not (m.magnitude == 0)
 
-abbrev pub bad_control : UnitUse → UnitState → WordValue → Bool
-bad_control unused u m = false
-bad_control looks u m = false
-bad_control controls u m = bad_order u.kind u m
-bad_control reads u m = false
-bad_control writes u m = false
+abbrev pub bad_control : Option UnitUse → UnitState → WordValue → Bool
+bad_control None u m = false
+bad_control (Some Looks) u m = false
+bad_control (Some Controls) u m = bad_order u.kind u m
+bad_control (Some Reads) u m = false
+bad_control (Some Writes) u m = false
 
 -- there is no block to read, or none of this number to write
-abbrev pub no_block : UnitUse → WorldState → ℕ → Bool
-no_block unused w n = false
-no_block looks w n = false
-no_block controls w n = false
-no_block reads w n = not (names_block w n && nat_lt (block_at w n) (length (unit_at w n).blocks))
-no_block writes w n = not (names_block w n)
+abbrev pub no_block : Option UnitUse → WorldState → ℕ → Bool
+no_block None w n = false
+no_block (Some Looks) w n = false
+no_block (Some Controls) w n = false
+no_block (Some Reads) w n = not (names_block w n && nat_lt (block_at w n) (length (unit_at w n).blocks))
+no_block (Some Writes) w n = not (names_block w n)
 
 -- IOC writes on the printer alone: the mark of a page
 abbrev pub marks_page : Kind → Bool
@@ -131,11 +103,11 @@ marks_page Typewriter = false
 marks_page PaperTape = false
 
 -- what is written would be one entry more than a unit holds
-abbrev pub unit_full : UnitUse → WorldState → ℕ → Bool
-unit_full unused w n = false
-unit_full looks w n = false
-unit_full controls w n = marks_page (unit_at w n).kind && nat_le most_entries (length (unit_at w n).rows)
-unit_full reads w n = false
-unit_full writes w n =
+abbrev pub unit_full : Option UnitUse → WorldState → ℕ → Bool
+unit_full None w n = false
+unit_full (Some Looks) w n = false
+unit_full (Some Controls) w n = marks_page (unit_at w n).kind && nat_le most_entries (length (unit_at w n).rows)
+unit_full (Some Reads) w n = false
+unit_full (Some Writes) w n =
     if has_medium (unit_at w n).kind then nat_le most_entries (block_at w n) else
     nat_le most_entries (length (unit_at w n).rows)

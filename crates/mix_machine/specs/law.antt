@@ -7,3 +7,4 @@ pub mod Plans
 pub mod Stages
 pub mod Undone
 pub mod Units
+pub mod Wrote

@@ -94,10 +94,9 @@ impl Address {
         ensures valid { IsSome result ↔ IsTrue (is_cell self) }
         ensures value { IfSome result (λ p. p ≡ self.magnitude) }
     {
-        if self.sign == Sign::Plus || self.magnitude == 0 {
-            Place::of(self.magnitude)
-        } else {
-            None
+        match self.word().natural() {
+            Some(number) => Place::of(number as u16),
+            None => None,
         }
     }
 }

@@ -1,6 +1,5 @@
 //! The instruction at the location: its operation, and its I, M and F (1.3.1).
 ghost use Rattle.std.specs.Prelude.{◌≡◌, ◌<◌};
-ghost use Rattle.mix_word.specs.Word.{parts_of};
 ghost use Rattle.mix_machine.specs.World.{IsWorld};
 ghost use Rattle.mix_machine.specs.Decode.{index_of, address_of, arguments_of};
 
@@ -14,17 +13,6 @@ pub(crate) struct Arguments {
     pub(crate) index: u8,
     pub(crate) m: Address,
     pub(crate) f: u8,
-}
-
-/// An instruction word in its parts; its address is below 4096.
-pub(crate) fn instruction(word: Word) -> Parts
-    ensures is { result ≡ parts_of word }
-    ensures bound { result.address < 4096 }
-    ensures f { result.f < 64 }
-{
-    // (the proof knows the range of the word where its magnitude is read)
-    let _magnitude = word.magnitude();
-    word.parts()
 }
 
 impl World {

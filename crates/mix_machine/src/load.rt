@@ -11,7 +11,7 @@ use mix_word::{Cmp, Place, Sign, Word};
 use std::alloc::Global;
 use undo_core::Memory;
 
-const CELLS: usize = 4000;
+const CELLS: usize = mix_word::CELLS as usize;
 
 impl World {
     /// The machine before its first step (1.3.2), with words put at their places in order, so that a later one wins, and the location at

@@ -1,8 +1,9 @@
 //! A plan carried out: its values written in their order, and those that they replace kept.
-ghost use Rattle.std.specs.Prelude.{◌≡◌, ◌<◌, ◌≤◌, ◌++◌, ◌+◌, vec_len, vec_capacity, length, IsTrue, OnOk, OnErr};
+ghost use Rattle.std.specs.Prelude.{◌≡◌, ◌<◌, ◌≤◌, ◌+◌, IsTrue};
 ghost use Rattle.mix_machine.specs.Order.{all_fit};
-ghost use Rattle.mix_machine.specs.Write.{write_all, kept_by, copies, writes_in, writes_of};
+ghost use Rattle.mix_machine.specs.Write.{copies, writes_in, writes_of};
 ghost use Rattle.mix_machine.specs.law.Plans.{plan_fits, PlanFits, UnitFits};
+ghost use Rattle.mix_machine.specs.law.Wrote.{HasRoom, Wrote, Tried};
 
 use crate::old::Old;
 use crate::plan::{Plan, Writes};
@@ -18,11 +19,8 @@ impl World {
     pub(crate) fn perform(&mut self, plan: Plan, kept: &mut Vec<Old>) -> Result<(), Memory>
         requires fits { IsTrue (plan_fits self.old plan) }
         requires units { PlanFits self.old plan }
-        requires room { vec_len kept.old + length (writes_of self.old plan) ≤ vec_capacity kept.old }
-        ensures state { OnOk result (self.new ≡ write_all self.old (writes_of self.old plan)) }
-        ensures kept { OnOk result (kept.new.items ≡ kept.old.items ++ kept_by self.old (writes_of self.old plan)) }
-        ensures same { OnErr result (self.new ≡ self.old) }
-        ensures same_kept { OnErr result (kept.new.items ≡ kept.old.items) }
+        requires room { HasRoom kept.old (writes_of self.old plan) }
+        ensures { Tried (writes_of self.old plan) self.old self.new kept.old kept.new result }
     {
         match plan {
             Plan::Value(value) => self.write(value, kept),
@@ -41,13 +39,8 @@ impl World {
     fn write_in(&mut self, writes: Writes, kept: &mut Vec<Old>) -> Result<(), Memory>
         requires fits { IsTrue (all_fit writes) }
         requires units { UnitFits self.old writes }
-        requires room { vec_len kept.old + length (writes_in self.old writes) ≤ vec_capacity kept.old }
-        ensures state { OnOk result (self.new ≡ write_all self.old (writes_in self.old writes)) }
-        ensures kept { OnOk result (kept.new.items ≡ kept.old.items ++ kept_by self.old (writes_in self.old writes)) }
-        ensures len { OnOk result (vec_len kept.new ≡ vec_len kept.old + length (writes_in self.old writes)) }
-        ensures capacity { OnOk result (vec_capacity kept.new ≡ vec_capacity kept.old) }
-        ensures same { OnErr result (self.new ≡ self.old) }
-        ensures same_kept { OnErr result (kept.new.items ≡ kept.old.items) }
+        requires room { HasRoom kept.old (writes_in self.old writes) }
+        ensures { Tried (writes_in self.old writes) self.old self.new kept.old kept.new result }
     {
         match writes {
             Writes::Nothing => {}
@@ -67,7 +60,10 @@ impl World {
                 self.copy(words.count, words.from, words.to, kept);
                 self.write_register(Reg::I1, words.index, kept);
             }
-            Writes::Input(transfer) => self.input(transfer, kept),
+            Writes::Input(transfer) => {
+                let kind = self.unit(transfer.unit).kind();
+                self.input(transfer, kind, kept);
+            }
             Writes::Output(transfer) => return self.output(transfer, kept),
             Writes::Control(unit, place) => return self.control(unit, place, kept),
         }
@@ -77,11 +73,8 @@ impl World {
     // Words into rA and rX.
     #[inline(always)]
     fn write_pair(&mut self, upper: Word, lower: Word, kept: &mut Vec<Old>)
-        requires room { vec_len kept.old + 2 ≤ vec_capacity kept.old }
-        ensures state { self.new ≡ write_all self.old (writes_in self.old (Writes.Pair upper lower)) }
-        ensures kept { kept.new.items ≡ kept.old.items ++ kept_by self.old (writes_in self.old (Writes.Pair upper lower)) }
-        ensures len { vec_len kept.new ≡ vec_len kept.old + 2 }
-        ensures capacity { vec_capacity kept.new ≡ vec_capacity kept.old }
+        requires room { HasRoom kept.old (writes_in self.old (Writes.Pair upper lower)) }
+        ensures { Wrote (writes_in self.old (Writes.Pair upper lower)) self.old self.new kept.old kept.new }
     {
         self.write_register(Reg::A, upper, kept);
         self.write_register(Reg::X, lower, kept);
@@ -91,11 +84,8 @@ impl World {
     fn copy(&mut self, count: u8, from: u16, to: u16, kept: &mut Vec<Old>)
         requires there { from + count ≤ 4000 }
         requires into { to + count ≤ 4000 }
-        requires room { vec_len kept.old + count ≤ vec_capacity kept.old }
-        ensures state { self.new ≡ write_all self.old (copies count from to self.old) }
-        ensures kept { kept.new.items ≡ kept.old.items ++ kept_by self.old (copies count from to self.old) }
-        ensures len { vec_len kept.new ≡ vec_len kept.old + count }
-        ensures capacity { vec_capacity kept.new ≡ vec_capacity kept.old }
+        requires room { HasRoom kept.old (copies count from to self.old) }
+        ensures { Wrote (copies count from to self.old) self.old self.new kept.old kept.new }
     {
         // (a list that nothing else can reach, so that the compiler need not read its place and length again for each word)
         let alloc = *kept.allocator();

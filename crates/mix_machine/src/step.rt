@@ -16,7 +16,7 @@ mod operand;
 mod transfer;
 mod unit;
 
-use crate::decode::{Arguments, instruction};
+use crate::decode::Arguments;
 use crate::fault::MixFault;
 use crate::old::{Change, Old};
 use crate::plan::Writes;
@@ -45,8 +45,9 @@ impl World {
         requires cell { self.old.loc < 4000 }
         ensures { Carried (step_or_fault (decode_of (parts_of word).code (parts_of word).f) self.old (arguments_of self.old (parts_of word))) self.old self.new kept.old.items kept.new.items result }
     {
-        let parts = instruction(word);
+        let parts = word.parts();
         let arguments = self.arguments(parts);
+        // (a copy, since the checker covers no struct that is passed by value twice)
         let given = arguments;
         match self.fault_of_address(word, given) {
             Some(fault) => Err(Refused::Fault(fault)),
@@ -94,7 +95,7 @@ impl World {
     fn fault_of_odd_address(&self, word: Word) -> Option<MixFault>
         ensures { result ≡ fault_among (applies (decode_of (parts_of word).code (parts_of word).f) self.now (arguments_of self.now (parts_of word))) of_address }
     {
-        let parts = instruction(word);
+        let parts = word.parts();
         let a = self.arguments(parts);
         match decode(parts.code, parts.f) {
             Decoded::Named(operation) => {
@@ -124,6 +125,7 @@ impl World {
         requires served { fault_among (applies (Decoded.Named operation) self.old a) of_address ≡ None }
         ensures { Carried (step_or_fault (Decoded.Named operation) self.old a) self.old self.new kept.old.items kept.new.items result }
     {
+        // (a copy, since the checker covers no struct that is passed by value twice)
         let given = a;
         match operation {
             Operation::Nop => self.finish(Operation::Nop, Ok(goes_on(Writes::Nothing)), a, kept),

@@ -1,5 +1,5 @@
 //! A time of the clock, as an old value keeps it.
-ghost use Rattle.std.specs.Prelude.{◌≡◌, ◌<◌, ◌^◌};
+ghost use Rattle.std.specs.Prelude.{◌≡◌};
 
 use std::marker::Model;
 
@@ -32,7 +32,7 @@ impl Model for Time {
 impl Time {
     /// The time of this number.
     #[inline(always)]
-    pub(crate) fn of(number: u64) -> Time
+    pub fn of(number: u64) -> Time
         ensures { result ≡ number }
     {
         Time {
@@ -43,7 +43,7 @@ impl Time {
 
     /// Its number, in u.
     #[inline(always)]
-    pub(crate) fn number(self) -> u64
+    pub fn number(self) -> u64
         ensures { result ≡ self }
     {
         u64::from(self.high) * HALF + u64::from(self.low)

@@ -1,13 +1,14 @@
 //! What IN, OUT and IOC write (1.3.1, "Input-output operators"): a block moved between a unit and the cells, the place and the time of the
 //! unit, and what it holds more.
-ghost use Rattle.std.specs.Prelude.{◌≡◌, ◌<◌, ◌≤◌, ◌++◌, ℕ, ◌+◌, ◌^◌, true, false, vec_len, vec_capacity, length, IsTrue, OnOk, OnErr};
+ghost use Rattle.std.specs.Prelude.{◌≡◌, ◌<◌, ◌≤◌, ℕ, ◌+◌, ◌^◌, true, false, length, IsTrue, OnErr};
 ghost use Rattle.mix_machine.specs.World.{unit_at};
 ghost use Rattle.mix_machine.specs.UnitAction.{transfer_start, transfer_end, marks_page};
-ghost use Rattle.mix_machine.specs.Write.{fits, write_all, kept_by, each, from_block, from_cell, place_after, input_writes, replace_writes, append_writes, row_writes, output_writes, control_writes};
+ghost use Rattle.mix_machine.specs.Write.{fits, each, from_block, from_cell, place_after, input_writes, replace_writes, append_writes, row_writes, output_writes, control_writes};
 ghost use Rattle.mix_machine.specs.units.Kind.{block_length, has_place, has_medium};
 ghost use Rattle.mix_machine.specs.units.Unit.{last_until};
 ghost use Rattle.mix_machine.specs.units.Units.{fits_item};
 ghost use Rattle.mix_machine.specs.law.Plans.{InputFits, OutputFits, ControlFits};
+ghost use Rattle.mix_machine.specs.law.Wrote.{HasRoom, Wrote, Tried};
 
 use crate::old::Old;
 use crate::perform::place;
@@ -22,7 +23,7 @@ impl World {
         ensures is { result ≡ transfer_start self.now n }
         ensures bound { result < 2 ^ 63 }
     {
-        let until = self.units.unit(n).until();
+        let until = self.unit(n).until();
         if until > self.clock {
             until
         } else {
@@ -35,21 +36,21 @@ impl World {
         requires { transfer_end self.now n ≤ last_until }
         ensures { result ≡ transfer_end self.now n }
     {
-        self.start_at(n) + 1 + self.units.unit(n).delay()
+        self.start_at(n) + 1 + self.unit(n).delay()
     }
 
-    /// What IN writes.
+    /// What IN writes, of a unit of this kind.
     #[inline(never)]
-    pub(crate) fn input(&mut self, t: Transfer, kept: &mut Vec<Old>)
+    pub(crate) fn input(&mut self, t: Transfer, kind: Kind, kept: &mut Vec<Old>)
         requires fits { InputFits self.old t }
-        requires room { vec_len kept.old + length (input_writes (unit_at self.old t.unit).kind self.old t) ≤ vec_capacity kept.old }
-        ensures state { self.new ≡ write_all self.old (input_writes (unit_at self.old t.unit).kind self.old t) }
-        ensures kept { kept.new.items ≡ kept.old.items ++ kept_by self.old (input_writes (unit_at self.old t.unit).kind self.old t) }
-        ensures len { vec_len kept.new ≡ vec_len kept.old + length (input_writes (unit_at self.old t.unit).kind self.old t) }
-        ensures capacity { vec_capacity kept.new ≡ vec_capacity kept.old }
+        requires kind { kind ≡ (unit_at self.old t.unit).kind }
+        requires room { HasRoom kept.old (input_writes kind self.old t) }
+        ensures { Wrote (input_writes kind self.old t) self.old self.new kept.old kept.new }
     {
+        // (the proof knows the ranges of the machine where a field of it is named)
+        let _ = &self.loc;
+        // (a copy, since the borrow checker's part of the proof does not cover a unit read out of `t` before and after `t` is passed on)
         let (n, given) = (t.unit, t);
-        let kind = self.units.unit(n).kind();
         let until = self.end_at(n);
         self.move_on(kind, given, kept);
         self.write_until(n, until, kept);
@@ -60,16 +61,11 @@ impl World {
     #[inline(never)]
     pub(crate) fn output(&mut self, t: Transfer, kept: &mut Vec<Old>) -> Result<(), Memory>
         requires fits { OutputFits self.old t }
-        requires room { vec_len kept.old + length (output_writes (unit_at self.old t.unit).kind self.old t) ≤ vec_capacity kept.old }
-        ensures state { OnOk result (self.new ≡ write_all self.old (output_writes (unit_at self.old t.unit).kind self.old t)) }
-        ensures kept { OnOk result (kept.new.items ≡ kept.old.items ++ kept_by self.old (output_writes (unit_at self.old t.unit).kind self.old t)) }
-        ensures len { OnOk result (vec_len kept.new ≡ vec_len kept.old + length (output_writes (unit_at self.old t.unit).kind self.old t)) }
-        ensures capacity { OnOk result (vec_capacity kept.new ≡ vec_capacity kept.old) }
-        ensures same { OnErr result (self.new ≡ self.old) }
-        ensures same_kept { OnErr result (kept.new.items ≡ kept.old.items) }
+        requires room { HasRoom kept.old (output_writes (unit_at self.old t.unit).kind self.old t) }
+        ensures tried { Tried (output_writes (unit_at self.old t.unit).kind self.old t) self.old self.new kept.old kept.new result }
         ensures more { OnErr result (has_medium (unit_at self.old t.unit).kind ≡ true → length (unit_at self.old t.unit).blocks ≤ t.block) }
     {
-        let (block, unit) = (t.block, self.units.unit(t.unit));
+        let (block, unit) = (t.block, self.unit(t.unit));
         let (kind, blocks) = (unit.kind(), unit.blocks());
         if !kind.has_medium() {
             return self.print(t, kind, kept);
@@ -88,14 +84,12 @@ impl World {
         requires kind { kind ≡ (unit_at self.old t.unit).kind }
         requires medium { has_medium kind ≡ true }
         requires block { t.block < length (unit_at self.old t.unit).blocks }
-        requires room { vec_len kept.old + length (replace_writes kind self.old t) ≤ vec_capacity kept.old }
-        ensures state { self.new ≡ write_all self.old (replace_writes kind self.old t) }
-        ensures kept { kept.new.items ≡ kept.old.items ++ kept_by self.old (replace_writes kind self.old t) }
-        ensures len { vec_len kept.new ≡ vec_len kept.old + length (replace_writes kind self.old t) }
-        ensures capacity { vec_capacity kept.new ≡ vec_capacity kept.old }
+        requires room { HasRoom kept.old (replace_writes kind self.old t) }
+        ensures { Wrote (replace_writes kind self.old t) self.old self.new kept.old kept.new }
     {
         // (the proof knows the ranges of the machine where a field of it is named)
         let _ = &self.loc;
+        // (a copy, since the borrow checker's part of the proof does not cover a unit read out of `t` before and after `t` is passed on)
         let (n, given) = (t.unit, t);
         let until = self.end_at(n);
         self.move_on(kind, given, kept);
@@ -109,17 +103,12 @@ impl World {
         requires kind { kind ≡ (unit_at self.old t.unit).kind }
         requires medium { has_medium kind ≡ true }
         requires block { length (unit_at self.old t.unit).blocks ≤ t.block }
-        requires room { vec_len kept.old + length (append_writes kind self.old t) ≤ vec_capacity kept.old }
-        ensures state { OnOk result (self.new ≡ write_all self.old (append_writes kind self.old t)) }
-        ensures kept { OnOk result (kept.new.items ≡ kept.old.items ++ kept_by self.old (append_writes kind self.old t)) }
-        ensures len { OnOk result (vec_len kept.new ≡ vec_len kept.old + length (append_writes kind self.old t)) }
-        ensures capacity { OnOk result (vec_capacity kept.new ≡ vec_capacity kept.old) }
-        ensures same { OnErr result (self.new ≡ self.old) }
-        ensures same_kept { OnErr result (kept.new.items ≡ kept.old.items) }
+        requires room { HasRoom kept.old (append_writes kind self.old t) }
+        ensures { Tried (append_writes kind self.old t) self.old self.new kept.old kept.new result }
     {
         let n = t.unit;
         let until = self.end_at(n);
-        let unit = self.units.unit(n);
+        let unit = self.unit(n);
         let (len, gap) = (unit.len(), t.block - unit.blocks());
         let (from, size) = (usize::from(t.cell), usize::from(kind.block_length()));
         self.units
@@ -135,17 +124,12 @@ impl World {
         requires fits { OutputFits self.old t }
         requires kind { kind ≡ (unit_at self.old t.unit).kind }
         requires medium { has_medium kind ≡ false }
-        requires room { vec_len kept.old + length (row_writes kind self.old t) ≤ vec_capacity kept.old }
-        ensures state { OnOk result (self.new ≡ write_all self.old (row_writes kind self.old t)) }
-        ensures kept { OnOk result (kept.new.items ≡ kept.old.items ++ kept_by self.old (row_writes kind self.old t)) }
-        ensures len { OnOk result (vec_len kept.new ≡ vec_len kept.old + length (row_writes kind self.old t)) }
-        ensures capacity { OnOk result (vec_capacity kept.new ≡ vec_capacity kept.old) }
-        ensures same { OnErr result (self.new ≡ self.old) }
-        ensures same_kept { OnErr result (kept.new.items ≡ kept.old.items) }
+        requires room { HasRoom kept.old (row_writes kind self.old t) }
+        ensures { Tried (row_writes kind self.old t) self.old self.new kept.old kept.new result }
     {
         let n = t.unit;
         let until = self.end_at(n);
-        let len = self.units.unit(n).len();
+        let len = self.unit(n).len();
         let (from, size) = (usize::from(t.cell), usize::from(kind.block_length()));
         self.units.add_words(n, &self.cells[from..from + size])?;
         kept.push_reserved(Old::Len(n, len));
@@ -157,17 +141,12 @@ impl World {
     #[inline(never)]
     pub(crate) fn control(&mut self, n: UnitNo, at: u16, kept: &mut Vec<Old>) -> Result<(), Memory>
         requires fits { ControlFits self.old n at }
-        requires room { vec_len kept.old + length (control_writes (unit_at self.old n).kind self.old n at) ≤ vec_capacity kept.old }
-        ensures state { OnOk result (self.new ≡ write_all self.old (control_writes (unit_at self.old n).kind self.old n at)) }
-        ensures kept { OnOk result (kept.new.items ≡ kept.old.items ++ kept_by self.old (control_writes (unit_at self.old n).kind self.old n at)) }
-        ensures len { OnOk result (vec_len kept.new ≡ vec_len kept.old + length (control_writes (unit_at self.old n).kind self.old n at)) }
-        ensures capacity { OnOk result (vec_capacity kept.new ≡ vec_capacity kept.old) }
-        ensures same { OnErr result (self.new ≡ self.old) }
-        ensures same_kept { OnErr result (kept.new.items ≡ kept.old.items) }
+        requires room { HasRoom kept.old (control_writes (unit_at self.old n).kind self.old n at) }
+        ensures tried { Tried (control_writes (unit_at self.old n).kind self.old n at) self.old self.new kept.old kept.new result }
         ensures page { OnErr result (marks_page (unit_at self.old n).kind ≡ true) }
     {
         let until = self.end_at(n);
-        let unit = self.units.unit(n);
+        let unit = self.unit(n);
         let (kind, len) = (unit.kind(), unit.len());
         match kind {
             Kind::Tape | Kind::PaperTape => {
@@ -189,15 +168,13 @@ impl World {
     fn move_on(&mut self, kind: Kind, t: Transfer, kept: &mut Vec<Old>)
         requires few { t.block < 1000 }
         requires fits { has_place kind ≡ true → IsTrue (fits self.old (Old.At t.unit (t.block + 1))) }
-        requires room { vec_len kept.old + length (place_after kind t) ≤ vec_capacity kept.old }
-        ensures state { self.new ≡ write_all self.old (place_after kind t) }
-        ensures kept { kept.new.items ≡ kept.old.items ++ kept_by self.old (place_after kind t) }
-        ensures len { vec_len kept.new ≡ vec_len kept.old + length (place_after kind t) }
-        ensures capacity { vec_capacity kept.new ≡ vec_capacity kept.old }
+        requires room { HasRoom kept.old (place_after kind t) }
+        ensures { Wrote (place_after kind t) self.old self.new kept.old kept.new }
     {
-        if kind.has_place() {
-            self.write(Old::At(t.unit, t.block + 1), kept);
+        if !kind.has_place() {
+            return;
         }
+        self.write(Old::At(t.unit, t.block + 1), kept);
     }
 
     // The words of a block into cells.
@@ -205,14 +182,11 @@ impl World {
         requires size { size ≡ block_length (unit_at self.old t.unit).kind }
         requires block { t.block < length (unit_at self.old t.unit).blocks }
         requires cells { t.cell + size ≤ 4000 }
-        requires room { vec_len kept.old + size ≤ vec_capacity kept.old }
-        ensures state { self.new ≡ write_all self.old (each size 0 (from_block self.old t)) }
-        ensures kept { kept.new.items ≡ kept.old.items ++ kept_by self.old (each size 0 (from_block self.old t)) }
-        ensures len { vec_len kept.new ≡ vec_len kept.old + size }
-        ensures capacity { vec_capacity kept.new ≡ vec_capacity kept.old }
+        requires room { HasRoom kept.old (each size 0 (from_block self.old t)) }
+        ensures { Wrote (each size 0 (from_block self.old t)) self.old self.new kept.old kept.new }
     {
         for j in 0..size {
-            let word = self.units.unit(t.unit).word(t.block, j);
+            let word = self.unit(t.unit).word(t.block, j);
             self.write(Old::Cell(place(t.cell + u16::from(j)), word), kept);
         }
     }
@@ -221,11 +195,8 @@ impl World {
     fn from_cells(&mut self, t: Transfer, size: u8, kept: &mut Vec<Old>)
         requires cells { t.cell + size ≤ 4000 }
         requires block { (j : ℕ) → j < size → IsTrue (fits_item self.old.units t.unit t.block j) }
-        requires room { vec_len kept.old + size ≤ vec_capacity kept.old }
-        ensures state { self.new ≡ write_all self.old (each size 0 (from_cell self.old t)) }
-        ensures kept { kept.new.items ≡ kept.old.items ++ kept_by self.old (each size 0 (from_cell self.old t)) }
-        ensures len { vec_len kept.new ≡ vec_len kept.old + size }
-        ensures capacity { vec_capacity kept.new ≡ vec_capacity kept.old }
+        requires room { HasRoom kept.old (each size 0 (from_cell self.old t)) }
+        ensures { Wrote (each size 0 (from_cell self.old t)) self.old self.new kept.old kept.new }
     {
         // (the proof knows the ranges of the machine where a field of it is named)
         let _ = &self.loc;

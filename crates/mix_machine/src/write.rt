@@ -1,6 +1,7 @@
 //! One value of the state set, and the one that it replaces kept.
-ghost use Rattle.std.specs.Prelude.{◌≡◌, ◌<◌, ◌++◌, ◌∷◌, [], ◌+◌, IsTrue, vec_len, vec_capacity};
-ghost use Rattle.mix_machine.specs.Write.{set_value, value_at, fits};
+ghost use Rattle.std.specs.Prelude.{◌≡◌, ◌∷◌, [], IsTrue};
+ghost use Rattle.mix_machine.specs.Write.{set_value, value_at, fits, set};
+ghost use Rattle.mix_machine.specs.law.Wrote.{HasRoom, Wrote};
 
 use crate::old::Old;
 use crate::time::Time;
@@ -13,12 +14,10 @@ impl World {
     #[inline(always)]
     pub(crate) fn write(&mut self, value: Old, kept: &mut Vec<Old>)
         requires fits { IsTrue (fits self.old value) }
-        requires room { vec_len kept.old < vec_capacity kept.old }
-        ensures state { self.new ≡ set_value self.old value }
-        ensures kept { kept.new.items ≡ kept.old.items ++ value_at self.old value ∷ [] }
-        ensures len { vec_len kept.new ≡ vec_len kept.old + 1 }
-        ensures capacity { vec_capacity kept.new ≡ vec_capacity kept.old }
+        requires room { HasRoom kept.old (set value ∷ []) }
+        ensures { Wrote (set value ∷ []) self.old self.new kept.old kept.new }
     {
+        // (a copy, since the borrow checker's part of the proof does not cover a value that is passed on twice)
         let next = value;
         kept.push_reserved(self.value_at(value));
         self.set_value(next);
@@ -28,11 +27,8 @@ impl World {
     #[inline(always)]
     pub(crate) fn write_register(&mut self, r: Reg, word: Word, kept: &mut Vec<Old>)
         requires fits { IsTrue (fits self.old (Old.Reg r word)) }
-        requires room { vec_len kept.old < vec_capacity kept.old }
-        ensures state { self.new ≡ set_value self.old (Old.Reg r word) }
-        ensures kept { kept.new.items ≡ kept.old.items ++ value_at self.old (Old.Reg r word) ∷ [] }
-        ensures len { vec_len kept.new ≡ vec_len kept.old + 1 }
-        ensures capacity { vec_capacity kept.new ≡ vec_capacity kept.old }
+        requires room { HasRoom kept.old (set (Old.Reg r word) ∷ []) }
+        ensures { Wrote (set (Old.Reg r word) ∷ []) self.old self.new kept.old kept.new }
     {
         kept.push_reserved(Old::Reg(r, self.registers.get(r)));
         self.registers.set(r, word);
@@ -42,11 +38,8 @@ impl World {
     #[inline(always)]
     pub(crate) fn write_cell(&mut self, place: Place, word: Word, kept: &mut Vec<Old>)
         requires fits { IsTrue (fits self.old (Old.Cell place word)) }
-        requires room { vec_len kept.old < vec_capacity kept.old }
-        ensures state { self.new ≡ set_value self.old (Old.Cell place word) }
-        ensures kept { kept.new.items ≡ kept.old.items ++ value_at self.old (Old.Cell place word) ∷ [] }
-        ensures len { vec_len kept.new ≡ vec_len kept.old + 1 }
-        ensures capacity { vec_capacity kept.new ≡ vec_capacity kept.old }
+        requires room { HasRoom kept.old (set (Old.Cell place word) ∷ []) }
+        ensures { Wrote (set (Old.Cell place word) ∷ []) self.old self.new kept.old kept.new }
     {
         let at = usize::from(place.number());
         kept.push_reserved(Old::Cell(place, self.cells[at]));
@@ -57,11 +50,8 @@ impl World {
     #[inline(always)]
     pub(crate) fn write_over(&mut self, over: bool, kept: &mut Vec<Old>)
         requires fits { IsTrue (fits self.old (Old.Over over)) }
-        requires room { vec_len kept.old < vec_capacity kept.old }
-        ensures state { self.new ≡ set_value self.old (Old.Over over) }
-        ensures kept { kept.new.items ≡ kept.old.items ++ value_at self.old (Old.Over over) ∷ [] }
-        ensures len { vec_len kept.new ≡ vec_len kept.old + 1 }
-        ensures capacity { vec_capacity kept.new ≡ vec_capacity kept.old }
+        requires room { HasRoom kept.old (set (Old.Over over) ∷ []) }
+        ensures { Wrote (set (Old.Over over) ∷ []) self.old self.new kept.old kept.new }
     {
         kept.push_reserved(Old::Over(self.over));
         self.over = over;
@@ -71,11 +61,8 @@ impl World {
     #[inline(always)]
     pub(crate) fn write_cmp(&mut self, cmp: Cmp, kept: &mut Vec<Old>)
         requires fits { IsTrue (fits self.old (Old.Cmp cmp)) }
-        requires room { vec_len kept.old < vec_capacity kept.old }
-        ensures state { self.new ≡ set_value self.old (Old.Cmp cmp) }
-        ensures kept { kept.new.items ≡ kept.old.items ++ value_at self.old (Old.Cmp cmp) ∷ [] }
-        ensures len { vec_len kept.new ≡ vec_len kept.old + 1 }
-        ensures capacity { vec_capacity kept.new ≡ vec_capacity kept.old }
+        requires room { HasRoom kept.old (set (Old.Cmp cmp) ∷ []) }
+        ensures { Wrote (set (Old.Cmp cmp) ∷ []) self.old self.new kept.old kept.new }
     {
         kept.push_reserved(Old::Cmp(self.cmp));
         self.cmp = cmp;
@@ -85,11 +72,8 @@ impl World {
     #[inline(always)]
     pub(crate) fn write_loc(&mut self, loc: u16, kept: &mut Vec<Old>)
         requires fits { IsTrue (fits self.old (Old.Loc loc)) }
-        requires room { vec_len kept.old < vec_capacity kept.old }
-        ensures state { self.new ≡ set_value self.old (Old.Loc loc) }
-        ensures kept { kept.new.items ≡ kept.old.items ++ value_at self.old (Old.Loc loc) ∷ [] }
-        ensures len { vec_len kept.new ≡ vec_len kept.old + 1 }
-        ensures capacity { vec_capacity kept.new ≡ vec_capacity kept.old }
+        requires room { HasRoom kept.old (set (Old.Loc loc) ∷ []) }
+        ensures { Wrote (set (Old.Loc loc) ∷ []) self.old self.new kept.old kept.new }
     {
         kept.push_reserved(Old::Loc(self.loc));
         self.loc = loc;
@@ -99,11 +83,8 @@ impl World {
     #[inline(always)]
     pub(crate) fn write_clock(&mut self, clock: u64, kept: &mut Vec<Old>)
         requires fits { IsTrue (fits self.old (Old.Clock clock)) }
-        requires room { vec_len kept.old < vec_capacity kept.old }
-        ensures state { self.new ≡ set_value self.old (Old.Clock clock) }
-        ensures kept { kept.new.items ≡ kept.old.items ++ value_at self.old (Old.Clock clock) ∷ [] }
-        ensures len { vec_len kept.new ≡ vec_len kept.old + 1 }
-        ensures capacity { vec_capacity kept.new ≡ vec_capacity kept.old }
+        requires room { HasRoom kept.old (set (Old.Clock clock) ∷ []) }
+        ensures { Wrote (set (Old.Clock clock) ∷ []) self.old self.new kept.old kept.new }
     {
         kept.push_reserved(Old::Clock(Time::of(self.clock)));
         self.clock = clock;
@@ -112,11 +93,8 @@ impl World {
     /// Sets the time until which a unit is busy, and keeps the one before.
     pub(crate) fn write_until(&mut self, n: UnitNo, until: u64, kept: &mut Vec<Old>)
         requires fits { IsTrue (fits self.old (Old.Until n until)) }
-        requires room { vec_len kept.old < vec_capacity kept.old }
-        ensures state { self.new ≡ set_value self.old (Old.Until n until) }
-        ensures kept { kept.new.items ≡ kept.old.items ++ value_at self.old (Old.Until n until) ∷ [] }
-        ensures len { vec_len kept.new ≡ vec_len kept.old + 1 }
-        ensures capacity { vec_capacity kept.new ≡ vec_capacity kept.old }
+        requires room { HasRoom kept.old (set (Old.Until n until) ∷ []) }
+        ensures { Wrote (set (Old.Until n until) ∷ []) self.old self.new kept.old kept.new }
     {
         self.write(Old::Until(n, Time::of(until)), kept);
     }

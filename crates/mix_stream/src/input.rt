@@ -2,10 +2,12 @@
 
 ghost use Rattle.std.specs.Prelude.{◌≡◌, ◌<◌, ◌≤◌, ◌+◌, ◌-◌, ◌^◌, ℕ, List, Option, Some, Ok, Err, IfOk, OnOk, OnErr, length, take, drop, vec_len};
 ghost use Rattle.std.specs.Io.KnownBytes.{ReadConsumes};
+ghost use Rattle.mix_refused.specs.Refused.{IsFault};
 ghost use Rattle.mix_stream.specs.Stream.{ConsumesAtMost, CountsRead};
 
 use crate::counted::{Counted, Failed};
-use std::alloc::{AllocError, Global};
+use mix_refused::Refused;
+use std::alloc::Global;
 use std::io::Read;
 
 /// A reader that counts its failed reads.
@@ -47,32 +49,13 @@ impl<T: Read> In for Counted<T> {
     }
 }
 
-/// Why bytes could not be read.
-#[derive(Clone, Copy, Debug, PartialEq, Eq)]
-pub enum ReadFault {
-    /// Out of memory.
-    Memory,
-    /// A read failed.
-    Failed,
-}
+impl From<Failed> for Refused<Failed> {
+    ghost use Rattle.mix_refused.specs.declared.refused.Refused.{Refused};
 
-impl From<AllocError> for ReadFault {
-    ghost use Rattle.mix_stream.specs.declared.input.ReadFault.{ReadFault};
+    ghost from_gives = { λ failed fault. fault ≡ Refused.Fault failed };
 
-    ghost from_gives = { λ _ fault. fault ≡ ReadFault.Memory };
-
-    fn from(_: AllocError) -> ReadFault {
-        ReadFault::Memory
-    }
-}
-
-impl From<Failed> for ReadFault {
-    ghost use Rattle.mix_stream.specs.declared.input.ReadFault.{ReadFault};
-
-    ghost from_gives = { λ _ fault. fault ≡ ReadFault.Failed };
-
-    fn from(_: Failed) -> ReadFault {
-        ReadFault::Failed
+    fn from(failed: Failed) -> Refused<Failed> {
+        Refused::Fault(failed)
     }
 }
 
@@ -81,13 +64,17 @@ const CHUNK: usize = 4096;
 /// The bytes of a reader up to its end or up to a limit; it never takes more than that from the reader. It fails where memory is
 /// refused, and at the first failed read.
 #[tactic(auto, using(crate::proofs::StreamLemmas::reads))]
-pub fn read_up_to<R: In>(alloc: Global, source: &mut R, most: usize) -> Result<Vec<u8>, ReadFault>
+pub fn read_up_to<R: In>(
+    alloc: Global,
+    source: &mut R,
+    most: usize,
+) -> Result<Vec<u8>, Refused<Failed>>
     requires { R.failed source.old < 2 ^ 64 - 1 }
     ensures whole { (s : List ℕ) → R.rest source.old ≡ Some s
         → IfOk result (λ v. (v.items ≡ take most s) × (R.rest source.new ≡ Some (drop most s))) }
     ensures within { ConsumesAtMost (R.rest source.old) (R.rest source.new) most }
     ensures length { IfOk result (λ v. vec_len v ≤ most) }
-    ensures failed { CountsRead (result ≡ Err ReadFault.Failed) (R.failed source.old) (R.failed source.new) }
+    ensures failed { CountsRead (IsFault result) (R.failed source.old) (R.failed source.new) }
 {
     let mut bytes = Vec::new(alloc);
     let mut buffer = [0; CHUNK];

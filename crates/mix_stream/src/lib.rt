@@ -7,7 +7,7 @@ mod input;
 mod output;
 
 pub use counted::{Counted, Failed};
-pub use input::{In, ReadFault, read_up_to};
+pub use input::{In, read_up_to};
 pub use output::{Out, write_all};
 
 #[cfg(test)]

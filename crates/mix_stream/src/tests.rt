@@ -1,5 +1,6 @@
 use crate::fake::{Chunks, Sink};
-use crate::{Counted, Failed, In, Out, ReadFault, read_up_to, write_all};
+use crate::{Counted, Failed, In, Out, read_up_to, write_all};
+use mix_refused::Refused;
 use std::io;
 use std::test::Fail;
 
@@ -43,7 +44,10 @@ fn reports_each_failed_read(rt: HostRuntime) -> Result<(), Fail> {
     for call in 1..12 {
         let mut source = Chunks::of(TEXT, 1, call);
         let outcome = read_up_to(rt.alloc(), &mut source, 99);
-        assert!(rt; matches!(&outcome, Err(ReadFault::Failed)), "call {call}");
+        assert!(rt;
+            matches!(&outcome, Err(Refused::Fault(Failed))),
+            "call {call}"
+        );
         assert_eq!(rt; source.failures(), 1, "call {call}");
     }
     let mut source = Chunks::of(TEXT, 1, 12);

@@ -1,9 +1,1 @@
-mod CommandLemmas
-mod CutLemmas
 mod EndingLemmas
-mod RunLemmas
-mod ShowLemmas
-mod TimelineLemmas
-mod Truncation
-mod UnitLemmas
-mod Written

@@ -2,9 +2,9 @@
 use Rattle.std.specs.Prelude.{◌≡◌, ◌⊎◌, ◌+◌, ℕ, Option, List, [], ◌∷◌, ◌++◌, Result, Ok, Err, codes}
 use Rattle.std.specs.Io.KnownBytes.{Appends, Keeps}
 use Rattle.mix_stream.specs.Stream.{AppendsFront}
-use Rattle.mix_tool.specs.Fault.{tool_fault_text}
-use Rattle.mix_tool.specs.Output.{Meets, Outcome}
-use Rattle.mix_tool.specs.declared.fault.ToolFault.{ToolFault}
+use Rattle.mix_session.specs.Fault.{tool_fault_text}
+use Rattle.mix_run.specs.Output.{Meets, Outcome}
+use Rattle.mix_session.specs.declared.fault.ToolFault.{ToolFault}
 
 -- `mixrev: T2 read failed`
 abbrev pub report : ToolFault → List ℕ

@@ -1,15 +1,1 @@
-pub mod Bundle
-pub mod Command
 pub mod Ending
-pub mod Fault
-pub mod Keyword
-pub mod Output
-pub mod Reply
-pub mod Request
-pub mod Session
-pub mod Show
-pub mod ShowUnit
-pub mod Then
-pub mod Timeline
-pub mod Wrapped
-pub mod law

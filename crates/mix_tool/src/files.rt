@@ -2,21 +2,17 @@
 
 ghost use Rattle.std.specs.Prelude.{◌≡◌, ◌≢◌, ◌<◌, ◌≤◌, ◌-◌, ◌^◌, ℕ, List, Some, Ok, IfOk, IfErr, IfSome, MatchOption, [], option_map, ◌⊎◌, OnErr, OnOk, Result, MatchResult, string_bytes};
 ghost use Rattle.mix_tool.specs.Ending.{Runs, Tells, TellsRun, Wrote, memory_line, not_opened, report, status_of_run};
-ghost use Rattle.mix_tool.specs.Output.{IsStatus, Meets, bundle_output, list_output, output};
+ghost use Rattle.mix_run.specs.Output.{IsStatus, Meets, bundle_output, output};
 ghost use Rattle.mix_cli.specs.declared.words.Plan.{Plan};
 
-use crate::fault::ToolFault;
-use crate::list::run_list;
-use crate::run::{run_bundle, run_debug};
-use mix_cli::Plan;
+use mix_cli::{FAILED, Plan};
+use mix_run::{run_bundle, run_debug, run_list};
+use mix_session::ToolFault;
 use mix_stream::{Counted, In, Out, write_all};
 use std::alloc::{AllocError, Global};
 use std::io::Read;
 use std::rt::Files;
 use std::{fs, io};
-
-/// The status where the tool itself fails.
-const FAILED: u8 = 2;
 
 /// What is told where memory is refused for a longer line.
 const OUT_OF_MEMORY: &str = "mixrev: T1 out of memory\n";
@@ -45,7 +41,7 @@ fn write_line<E: Out>(line: &str, errors: &mut E)
     }
 }
 
-// A line, or where memory is refused for it a line on that.
+// A line, or where memory is refused for it the line that says so.
 fn tell<E: Out>(line: Result<String, AllocError>, errors: &mut E)
     requires { E.failed errors.old < 2 ^ 64 - 1 }
     ensures { MatchResult line
@@ -81,37 +77,6 @@ fn status<E: Out>(alloc: Global, outcome: Result<u8, ToolFault>, errors: &mut E)
             FAILED
         }
     }
-}
-
-// A bundle from the input.
-fn run_input<R: In, W: Out, E: Out>(alloc: Global, input: &mut R, out: &mut W, errors: &mut E) -> u8
-    requires input_count { R.failed input.old < 2 ^ 64 - 1 }
-    requires out_count { W.failed out.old < 2 ^ 64 - 1 }
-    requires errors_count { E.failed errors.old < 2 ^ 64 - 1 }
-    ensures output { (b : List ℕ) → R.rest input.old ≡ Some b
-        → Runs (bundle_output b) result (W.told out.old) (W.told out.new) (E.told errors.old) (E.told errors.new) (E.failed errors.old) (E.failed errors.new) }
-    ensures range { result ≤ 3 }
-    ensures quiet { result ≢ 2 → (errors.new ≡ errors.old) × (W.failed out.new ≡ W.failed out.old) }
-{
-    status(alloc, run_bundle(alloc, input, out), errors)
-}
-
-// The listing of a source.
-fn run_source<S: In, W: Out, E: Out>(
-    alloc: Global,
-    source: &mut S,
-    out: &mut W,
-    errors: &mut E,
-) -> u8
-    requires source_count { S.failed source.old < 2 ^ 64 - 1 }
-    requires out_count { W.failed out.old < 2 ^ 64 - 1 }
-    requires errors_count { E.failed errors.old < 2 ^ 64 - 1 }
-    ensures output { (s : List ℕ) → S.rest source.old ≡ Some s
-        → Runs (list_output s) result (W.told out.old) (W.told out.new) (E.told errors.old) (E.told errors.new) (E.failed errors.old) (E.failed errors.new) }
-    ensures range { result ≤ 3 }
-    ensures quiet { result ≢ 2 → (errors.new ≡ errors.old) × (W.failed out.new ≡ W.failed out.old) }
-{
-    status(alloc, run_list(alloc, source, out), errors)
 }
 
 // A session of a source, a deck and a script.
@@ -233,7 +198,7 @@ fn list_file<F: Files, W: Out, E: Out>(
     match open(rt, name) {
         Ok(file) => {
             let mut source = file;
-            run_source(alloc, &mut source, out, errors)
+            status(alloc, run_list(alloc, &mut source, out), errors)
         }
         Err(fault) => tell_not_opened(alloc, fault.name, errors),
     }
@@ -269,7 +234,7 @@ pub fn run_plan<F: Files, R: In, W: Out, E: Out>(
     ensures quiet { result ≢ 2 → (errors.new ≡ errors.old) × (W.failed out.new ≡ W.failed out.old) }
 {
     match plan {
-        Plan::Bundle => run_input(alloc, input, out, errors),
+        Plan::Bundle => status(alloc, run_bundle(alloc, input, out), errors),
         Plan::List(source) => list_file(rt, alloc, source, out, errors),
         Plan::Debug {
             source,

@@ -1,29 +1,11 @@
-//! The tool: it cuts its input into source, deck and script, assembles the source, executes the script and writes replies.
+//! The tool: what a plan asks for is done on its files, and a fault is told.
 #![tactic(auto)]
 
-mod bundle;
-mod command;
-mod fault;
 mod files;
-mod keyword;
-mod laws;
-mod list;
-mod reply;
-mod request;
-mod run;
-mod session;
-mod show;
 
-pub use fault::ToolFault;
 pub use files::run_plan;
-pub use laws::back_and_forth_law;
-pub use list::run_list;
-pub use mix_cli::{LineFault, Plan, line_status, read_words};
-pub use mix_machine::{DeckFault, DeckKind};
-pub use mixal_asm::{AsmFault, AsmKind, Counted, Failed, In, Out};
-pub use reply::Told;
-pub use run::{run_bundle, run_debug};
-pub use session::Session;
-
-#[cfg(test)]
-mod tests;
+pub use mix_cli::{FAILED, LineFault, Plan, line_status, read_words};
+pub use mix_run::{
+    AsmFault, AsmKind, Counted, DeckFault, DeckKind, Failed, In, Out, Refusal, Session, Told,
+    ToolFault, back_and_forth_law, run_bundle, run_debug, run_list,
+};

@@ -5,103 +5,68 @@ use Rattle.std.proofs.lemmas.Bool.Decides.{nat_tests}
 use Rattle.mix_word.specs.Register.{offset_of}
 use Rattle.mix_word.specs.declared.register.DataReg.{DataReg}
 use Rattle.mix_word.specs.declared.register.DataReg.TheVariants.{A, I1, I2, I3, I4, I5, I6, X}
-use Rattle.mix_word.specs.declared.operation.ShiftKind.{ShiftKind}
 use Rattle.mix_word.specs.declared.operation.ShiftKind.TheVariants.{Sla}
-use Rattle.mix_word.specs.declared.operation.JumpKind.{JumpKind}
 use Rattle.mix_word.specs.declared.operation.JumpKind.TheVariants.{Jmp}
-use Rattle.mix_word.specs.declared.operation.Condition.{Condition}
 use Rattle.mix_word.specs.declared.operation.Condition.TheVariants.{Negative}
 use Rattle.mix_word.specs.declared.operation.Operation.{Operation}
 use Rattle.mix_word.specs.declared.operation.Operation.TheVariants.{Num, Char, Hlt, Shift, Load, LoadNegated, Store, Jump, RegisterJump, Increase, Decrease, Enter, EnterNegated, Compare}
 use Rattle.mix_word.specs.declared.decoding.Decoded.{Decoded}
 use Rattle.mix_word.specs.declared.decoding.Decoded.TheVariants.{Named, Floating, Unknown}
-use Rattle.mix_word.specs.Operation.{operation_code, normal_f_of, is_by_f, number_of_shift, number_of_jump, number_of_condition}
-use Rattle.mix_word.specs.Table.{operations, is_floating, has_code, operation_at, decode_of, named_or_unknown, IsNamedBy}
+use Rattle.mix_word.specs.Operation.{operation_code, normal_f_of, is_by_f}
+use Rattle.mix_word.specs.Names.{name_of}
+use Rattle.mix_word.specs.Table.{operations, is_floating, has_code, operation_at, operation_named, decode_of, named_or_unknown, IsNamedBy}
 
--- ---- each operation is found by its own code and F
+-- ---- each operation is found by its own name, code and F
 
-at_shift : (k : ShiftKind) → operation_at 6 (number_of_shift k) ≡ Some (Shift k)
+-- by its own name, by its own C and F; and these are no floating pair
+pub own : (op : Operation) → (operation_named (name_of op) ≡ Some op)
+    × (operation_at (operation_code op) (normal_f_of op) ≡ Some op) × (is_floating (operation_code op) (normal_f_of op) ≡ false)
+unfolding operation_named operation_at operations
+own (Shift Sla) = (refl, refl, refl)
+own (Load A) = (refl, refl, refl)
+own (LoadNegated A) = (refl, refl, refl)
+own (Store A) = (refl, refl, refl)
+own (Jump Jmp) = (refl, refl, refl)
+own (RegisterJump A Negative) = (refl, refl, refl)
+own (RegisterJump I1 Negative) = (refl, refl, refl)
+own (RegisterJump I2 Negative) = (refl, refl, refl)
+own (RegisterJump I3 Negative) = (refl, refl, refl)
+own (RegisterJump I4 Negative) = (refl, refl, refl)
+own (RegisterJump I5 Negative) = (refl, refl, refl)
+own (RegisterJump I6 Negative) = (refl, refl, refl)
+own (RegisterJump X Negative) = (refl, refl, refl)
+own (Increase A) = (refl, refl, refl)
+own (Decrease A) = (refl, refl, refl)
+own (Enter A) = (refl, refl, refl)
+own (EnterNegated A) = (refl, refl, refl)
+own (Compare A) = (refl, refl, refl)
+own _ = (refl, refl, refl)
+
+at_any : (op : Operation) (f : ℕ) → is_by_f op ≡ false → operation_at (operation_code op) f ≡ Some op
 unfolding operation_at operations
-at_shift Sla = refl
-at_shift _ = refl
-
-at_jump : (k : JumpKind) → operation_at 39 (number_of_jump k) ≡ Some (Jump k)
-unfolding operation_at operations
-at_jump Jmp = refl
-at_jump _ = refl
-
-at_register_jump : (r : DataReg) (t : Condition) → operation_at (40 + offset_of r) (number_of_condition t) ≡ Some (RegisterJump r t)
-unfolding operation_at operations
-at_register_jump A Negative = refl
-at_register_jump I1 Negative = refl
-at_register_jump I2 Negative = refl
-at_register_jump I3 Negative = refl
-at_register_jump I4 Negative = refl
-at_register_jump I5 Negative = refl
-at_register_jump I6 Negative = refl
-at_register_jump X Negative = refl
-at_register_jump _ _ = refl
-
-at_increase : (r : DataReg) → operation_at (48 + offset_of r) 0 ≡ Some (Increase r)
-unfolding operation_at operations
-at_increase A = refl
-at_increase _ = refl
-
-at_decrease : (r : DataReg) → operation_at (48 + offset_of r) 1 ≡ Some (Decrease r)
-unfolding operation_at operations
-at_decrease A = refl
-at_decrease _ = refl
-
-at_enter : (r : DataReg) → operation_at (48 + offset_of r) 2 ≡ Some (Enter r)
-unfolding operation_at operations
-at_enter A = refl
-at_enter _ = refl
-
-at_enter_negated : (r : DataReg) → operation_at (48 + offset_of r) 3 ≡ Some (EnterNegated r)
-unfolding operation_at operations
-at_enter_negated A = refl
-at_enter_negated _ = refl
-
-at_load : (r : DataReg) (f : ℕ) → operation_at (8 + offset_of r) f ≡ Some (Load r)
-unfolding operation_at operations
-at_load A f = refl
-at_load _ f = refl
-
-at_load_negated : (r : DataReg) (f : ℕ) → operation_at (16 + offset_of r) f ≡ Some (LoadNegated r)
-unfolding operation_at operations
-at_load_negated A f = refl
-at_load_negated _ f = refl
-
-at_store : (r : DataReg) (f : ℕ) → operation_at (24 + offset_of r) f ≡ Some (Store r)
-unfolding operation_at operations
-at_store A f = refl
-at_store _ f = refl
-
-at_compare : (r : DataReg) (f : ℕ) → operation_at (56 + offset_of r) f ≡ Some (Compare r)
-unfolding operation_at operations
-at_compare A f = refl
-at_compare _ f = refl
+at_any (Load A) f h = refl
+at_any (LoadNegated A) f h = refl
+at_any (Store A) f h = refl
+at_any (Compare A) f h = refl
+at_any Num f h = absurd (cc)
+at_any Char f h = absurd (cc)
+at_any Hlt f h = absurd (cc)
+at_any (Shift k) f h = absurd (cc)
+at_any (Jump k) f h = absurd (cc)
+at_any (RegisterJump r t) f h = absurd (cc)
+at_any (Increase r) f h = absurd (cc)
+at_any (Decrease r) f h = absurd (cc)
+at_any (Enter r) f h = absurd (cc)
+at_any (EnterNegated r) f h = absurd (cc)
+at_any _ f h = refl
 
 -- an operation by F is found by its normal one, and any other by every F
 own_f : (op : Operation) (f : ℕ) → (is_by_f op ≡ true → normal_f_of op ≡ f) → operation_at (operation_code op) f ≡ Some op
-unfolding operation_at operations
-own_f Num f h = subst (λ (n : ℕ). operation_at 5 n ≡ Some Num) (h refl) refl
-own_f Char f h = subst (λ (n : ℕ). operation_at 5 n ≡ Some Char) (h refl) refl
-own_f Hlt f h = subst (λ (n : ℕ). operation_at 5 n ≡ Some Hlt) (h refl) refl
-own_f (Shift k) f h = subst (λ (n : ℕ). operation_at 6 n ≡ Some (Shift k)) (h refl) (at_shift k)
-own_f (Jump k) f h = subst (λ (n : ℕ). operation_at 39 n ≡ Some (Jump k)) (h refl) (at_jump k)
-own_f (RegisterJump r t) f h =
-    subst (λ (n : ℕ). operation_at (40 + offset_of r) n ≡ Some (RegisterJump r t)) (h refl) (at_register_jump r t)
-own_f (Increase r) f h = subst (λ (n : ℕ). operation_at (48 + offset_of r) n ≡ Some (Increase r)) (h refl) (at_increase r)
-own_f (Decrease r) f h = subst (λ (n : ℕ). operation_at (48 + offset_of r) n ≡ Some (Decrease r)) (h refl) (at_decrease r)
-own_f (Enter r) f h = subst (λ (n : ℕ). operation_at (48 + offset_of r) n ≡ Some (Enter r)) (h refl) (at_enter r)
-own_f (EnterNegated r) f h =
-    subst (λ (n : ℕ). operation_at (48 + offset_of r) n ≡ Some (EnterNegated r)) (h refl) (at_enter_negated r)
-own_f (Load r) f h = at_load r f
-own_f (LoadNegated r) f h = at_load_negated r f
-own_f (Store r) f h = at_store r f
-own_f (Compare r) f h = at_compare r f
-own_f _ f h = refl
+own_f op f h =
+    elim (is_by_f op) as (λ b. is_by_f op ≡ b → operation_at (operation_code op) f ≡ Some op) [
+      | true ↦ λ t. subst (λ (n : ℕ). operation_at (operation_code op) n ≡ Some op) (h t) (own op).1
+      | false ↦ λ t. at_any op f t
+    ] refl
 
 pub names : (op : Operation) (c f : ℕ) → operation_code op ≡ c → (is_by_f op ≡ true → normal_f_of op ≡ f) → is_floating c f ≡ false → decode_of c f ≡ Named op
 unfolding decode_of
@@ -195,14 +160,8 @@ pub names_exactly : (c f : ℕ) (r : Decoded) → r ≡ decode_of c f → (op : 
 names_exactly c f r e op =
     (λ q. law_found op c f (sym e ∙ q), λ h. e ∙ names op c f h.0 h.1 h.2)
 
--- ---- no operation's own pair is a floating one, so it leads back to the operation
-
-plain : (op : Operation) → is_floating (operation_code op) (normal_f_of op) ≡ false
-plain (Shift Sla) = refl
-plain (Jump Jmp) = refl
-plain (RegisterJump r Negative) = refl
-plain _ = refl
+-- ---- an operation's own pair leads back to it
 
 pub own_pair : (op : Operation) (f : ℕ) → f ≡ normal_f_of op → decode_of (operation_code op) f ≡ Named op
 own_pair op f e =
-    subst (λ (n : ℕ). decode_of (operation_code op) n ≡ Named op) (sym e) (names op (operation_code op) (normal_f_of op) refl (λ _. refl) (plain op))
+    subst (λ (n : ℕ). decode_of (operation_code op) n ≡ Named op) (sym e) (names op (operation_code op) (normal_f_of op) refl (λ _. refl) (own op).2)

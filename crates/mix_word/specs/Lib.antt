@@ -3,6 +3,7 @@ pub mod Packed
 pub mod Register
 pub mod Arithmetic
 pub mod Characters
+pub mod Uses
 pub mod Operation
 pub mod Names
 pub mod Table
@@ -11,4 +12,3 @@ pub mod Field
 pub mod Shift
 pub mod Conversion
 pub mod Comparison
-pub mod Needs

@@ -1,6 +1,7 @@
 -- The table of operations (1.3.1): to each its code C, the F that goes with it, and its time.
-use Rattle.std.specs.Prelude.{ℕ, ◌+◌, ◌*◌, Bool, true, false}
+use Rattle.std.specs.Prelude.{ℕ, ◌+◌, ◌*◌, Bool}
 use Rattle.mix_word.specs.Register.{offset_of}
+use Rattle.mix_word.specs.Uses.{needs}
 use Rattle.mix_word.specs.declared.operation.ShiftKind.{ShiftKind}
 use Rattle.mix_word.specs.declared.operation.ShiftKind.TheVariants.{Sla, Sra, Slax, Srax, Slc, Src}
 use Rattle.mix_word.specs.declared.operation.JumpKind.{JumpKind}
@@ -100,33 +101,7 @@ normal_f_of (Compare r) = 5
 
 -- several operations share one code, and F tells which is meant
 abbrev pub is_by_f : Operation → Bool
-is_by_f Num = true
-is_by_f Char = true
-is_by_f Hlt = true
-is_by_f (Shift kind) = true
-is_by_f (Jump kind) = true
-is_by_f (RegisterJump r condition) = true
-is_by_f (Increase r) = true
-is_by_f (Decrease r) = true
-is_by_f (Enter r) = true
-is_by_f (EnterNegated r) = true
-is_by_f Nop = false
-is_by_f Add = false
-is_by_f Sub = false
-is_by_f Mul = false
-is_by_f Div = false
-is_by_f Move = false
-is_by_f (Load r) = false
-is_by_f (LoadNegated r) = false
-is_by_f (Store r) = false
-is_by_f StoreJ = false
-is_by_f StoreZero = false
-is_by_f Jbus = false
-is_by_f Ioc = false
-is_by_f In = false
-is_by_f Out = false
-is_by_f Jred = false
-is_by_f (Compare r) = false
+is_by_f op = (needs op).by_f
 
 -- the time of an operation with this F, in units u
 abbrev pub time_of : Operation → ℕ → ℕ

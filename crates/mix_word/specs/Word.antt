@@ -1,5 +1,5 @@
 -- A word is a sign and a magnitude, whose five digits to the base 64 are its bytes (1.3.1).
-use Rattle.std.specs.Prelude.{ℕ, ◌+◌, ◌-◌, ◌*◌, ◌/◌, ◌%◌, ◌^◌, ℤ, pos, negsuc, neg_ℤ, suc, List, [], ◌∷◌}
+use Rattle.std.specs.Prelude.{ℕ, ◌+◌, ◌-◌, ◌*◌, ◌/◌, ◌%◌, ◌^◌, ◌==◌, Bool, true, false, ◌||◌, ℤ, pos, negsuc, neg_ℤ, suc, List, [], ◌∷◌, Option, Some, None, if◌then◌else◌}
 use Rattle.mix_word.specs.declared.word.Sign.{Sign}
 use Rattle.mix_word.specs.declared.word.Sign.TheVariants.{Plus, Minus}
 use Rattle.mix_word.specs.declared.word.Parts.{Parts}
@@ -21,6 +21,11 @@ minus m = word Minus m
 abbrev pub zero_word : WordValue
 zero_word = plus 0
 
+-- whether a sign is +
+abbrev pub is_plus : Sign → Bool
+is_plus Plus = true
+is_plus Minus = false
+
 abbrev pub opposite : Sign → Sign
 opposite Plus = Minus
 opposite Minus = Plus
@@ -32,6 +37,14 @@ signed Minus m = neg_ℤ (pos m)
 -- the number of a word, which is the same for +0 and -0
 abbrev pub number_of : WordValue → ℤ
 number_of w = signed w.sign w.magnitude
+
+-- whether a word's number is 0 or more, as that of -0 is
+abbrev pub is_natural : WordValue → Bool
+is_natural w = is_plus w.sign || w.magnitude == 0
+
+-- the number of a word where it is 0 or more
+abbrev pub natural_of : WordValue → Option ℕ
+natural_of w = if is_natural w then Some w.magnitude else None
 
 -- the word of a number whose magnitude fits one; 0 is +0
 abbrev pub word_of_number : ℤ → WordValue

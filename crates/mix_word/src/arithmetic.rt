@@ -3,9 +3,7 @@ ghost use Rattle.std.specs.Prelude.{◌≡◌, ◌+◌, ◌*◌, ◌/◌, ◌%�
 ghost use Rattle.mix_word.specs.Word.{negation_of};
 ghost use Rattle.mix_word.specs.Arithmetic.{sum_of, product_sign, product_of, quotient_of};
 
-use crate::word::{Sign, Word};
-
-const MAX: u32 = 0x3fff_ffff;
+use crate::word::{MAX_MAGNITUDE, Sign, Word};
 
 /// ADD: the sum (1.3.1), and whether it overflows: then it is the exact sum's magnitude modulo 64^5.
 /// A sum of zero has the sign of `a`.
@@ -15,7 +13,7 @@ pub fn add(a: Word, v: Word) -> (Word, bool)
     let (x, y) = (a.magnitude(), v.magnitude());
     if a.sign() == v.sign() {
         let sum = x + y;
-        (Word::of(a.sign(), sum & MAX), sum > MAX)
+        (Word::of(a.sign(), sum & MAX_MAGNITUDE), sum > MAX_MAGNITUDE)
     } else if y <= x {
         (Word::of(a.sign(), x - y), false)
     } else {
@@ -101,5 +99,5 @@ pub(crate) fn lower(number: u64) -> u32
     ensures is { result ≡ number % 64 ^ 5 }
     ensures bound { result < 64 ^ 5 }
 {
-    (number & 0x3fff_ffff) as u32
+    (number & u64::from(MAX_MAGNITUDE)) as u32
 }

@@ -3,7 +3,7 @@ ghost use Rattle.std.specs.Prelude.{◌≡◌, ◌+◌, ◌*◌, ◌%◌, ◌^�
 ghost use Rattle.mix_word.specs.Conversion.{digit_of, five_digits_of, num_of, digit_characters_of};
 
 use crate::arithmetic::lower;
-use crate::word::Word;
+use crate::word::{MAX_MAGNITUDE, Word};
 
 /// NUM: the number of ten decimal digits (1.3.1), each a byte of `a` and then of `x` modulo 10, with the sign of `a`;
 /// and whether it is 64^5 or more: then the number is modulo 64^5.
@@ -11,7 +11,10 @@ pub fn num(a: Word, x: Word) -> (Word, bool)
     ensures { result ≡ num_of a x }
 {
     let number = u64::from(five_digits(a)) * 100_000 + u64::from(five_digits(x));
-    (Word::of(a.sign(), lower(number)), number > 0x3fff_ffff)
+    (
+        Word::of(a.sign(), lower(number)),
+        number > u64::from(MAX_MAGNITUDE),
+    )
 }
 
 /// CHAR: the ten decimal digits of `a` (1.3.1) as the codes 30 to 39: five in each word, whose signs stay.

@@ -9,7 +9,7 @@ use crate::operation::{Condition, JumpKind, Operation, ShiftKind};
 use crate::register::DataReg;
 
 /// What a pair (C, F) names: an operation, one of the floating-point attachment, or none.
-#[derive(Clone, Copy, Debug, PartialEq, Eq, Hash)]
+#[derive(Clone, Copy, PartialEq, Eq)]
 pub enum Decoded {
     Named(Operation),
     Floating,

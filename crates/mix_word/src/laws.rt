@@ -4,7 +4,7 @@ ghost use Rattle.mix_word.specs.declared.operation.Operation.{Operation};
 ghost use Rattle.mix_word.specs.declared.decoding.Decoded.TheVariants.{Named};
 ghost use Rattle.mix_word.specs.Table.{decode_of, operation_named, IsNamedBy};
 
-use crate::naming::LONGEST_NAME;
+use crate::naming::MAX_LETTERS;
 
 /// A pair (C, F) names an operation (1.3.1) exactly where C is its code, F is its normal F where F tells operations apart, and the
 /// pair is no floating one.
@@ -12,7 +12,7 @@ pub fn decode_law()
     ensures { (c f : ℕ) (op : Operation) → (decode_of c f ≡ Named op) ↔ IsNamedBy op c f }
 {}
 
-/// No text of over `LONGEST_NAME` letters names an operation (1.3.1).
+/// No text of over `MAX_LETTERS` letters names an operation (1.3.1).
 pub fn long_name_law()
-    ensures { (name : List ℕ) → LONGEST_NAME < length name → operation_named name ≡ None }
+    ensures { (name : List ℕ) → MAX_LETTERS < length name → operation_named name ≡ None }
 {}

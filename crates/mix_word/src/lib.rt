@@ -11,7 +11,6 @@ mod display;
 mod field;
 mod laws;
 mod naming;
-mod needs;
 mod operation;
 mod place;
 mod register;
@@ -19,6 +18,7 @@ mod rows;
 mod shifting;
 #[cfg(test)]
 mod tests;
+mod uses;
 mod word;
 
 pub use arithmetic::{add, div, mul, sub};
@@ -29,9 +29,10 @@ pub use decoding::{Decoded, decode};
 pub use display::Short;
 pub use field::Field;
 pub use laws::{decode_law, long_name_law};
-pub use naming::{LONGEST_NAME, named};
+pub use naming::{MAX_LETTERS, named};
 pub use operation::{Condition, JumpKind, Operation, ShiftKind};
 pub use place::{CELLS, Place};
 pub use register::{DataReg, Reg};
 pub use shifting::shift;
+pub use uses::{UnitUse, Uses};
 pub use word::{Cmp, Parts, Sign, Word};

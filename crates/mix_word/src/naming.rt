@@ -11,13 +11,13 @@ use crate::operation::Operation;
 use crate::rows::{Row, rows};
 
 /// How many capitals and digits the longest names have (1.3.1).
-pub const LONGEST_NAME: usize = 4;
+pub const MAX_LETTERS: usize = 4;
 
 /// The operation of this name (1.3.1), in capitals as it is given, or none where no operation has it; floating operations have none.
 pub fn named(name: &[u8]) -> Option<Operation>
     ensures is { result ≡ operation_named name.now }
     ensures law { (op : Operation) → (result ≡ Some op) ↔ (name_of op ≡ name.now) }
-    ensures long { LONGEST_NAME < length name.now → result ≡ None }
+    ensures long { MAX_LETTERS < length name.now → result ≡ None }
 {
     first_named(rows(), name)
 }
@@ -40,7 +40,7 @@ impl Operation {
     pub fn name(self) -> &'static str
         ensures is { result.now ≡ name_of self }
         ensures named { operation_named result.now ≡ Some self }
-        ensures longest { length result.now ≤ LONGEST_NAME }
+        ensures longest { length result.now ≤ MAX_LETTERS }
     {
         self.row().1
     }

@@ -7,7 +7,7 @@ use std::marker::Model;
 pub const CELLS: u16 = 4000;
 
 /// The number of a cell, 0 to 3999 (1.3.1), in the order of the numbers.
-#[derive(Clone, Copy, Debug, PartialEq, Eq, PartialOrd, Ord, Hash)]
+#[derive(Clone, Copy, Debug, PartialEq, Eq, PartialOrd, Ord)]
 pub struct Place {
     number: u16,
 }

@@ -6,7 +6,7 @@ ghost use Rattle.mix_word.specs.declared.register.Reg.{Reg};
 ghost use Rattle.mix_word.specs.Register.{all_registers, number_of_register, name_of_register, register_named, reg_of, offset_of};
 
 /// A register: rA and rX of five bytes, rI1 to rI6 and rJ of two (1.3.1).
-#[derive(Clone, Copy, Debug, PartialEq, Eq, Hash)]
+#[derive(Clone, Copy, Debug, PartialEq, Eq)]
 pub enum Reg {
     A,
     X,
@@ -20,31 +20,15 @@ pub enum Reg {
 }
 
 /// A register that operations load, store and compare: any but rJ, in the order of the operation codes (1.3.1).
-#[derive(Clone, Copy, Debug, PartialEq, Eq, Hash)]
-pub enum DataReg {
-    A,
-    I1,
-    I2,
-    I3,
-    I4,
-    I5,
-    I6,
-    X,
-}
+#[rattlefmt::skip]
+#[derive(Clone, Copy, PartialEq, Eq)]
+pub enum DataReg { A, I1, I2, I3, I4, I5, I6, X }
 
 impl Reg {
     /// The nine registers (1.3.1), in the order in which the enum lists them: rA, rX, rI1 to rI6, rJ.
-    pub const ALL: [Reg; 9] = [
-        Reg::A,
-        Reg::X,
-        Reg::I1,
-        Reg::I2,
-        Reg::I3,
-        Reg::I4,
-        Reg::I5,
-        Reg::I6,
-        Reg::J,
-    ];
+    #[rattlefmt::skip]
+    pub const ALL: [Reg; 9] =
+        [Reg::A, Reg::X, Reg::I1, Reg::I2, Reg::I3, Reg::I4, Reg::I5, Reg::I6, Reg::J];
 
     /// The number of a register (1.3.1), 0 to 8, in the order of `ALL`: rA, rX, rI1 to rI6, rJ.
     pub fn number(self) -> u8
@@ -53,14 +37,6 @@ impl Reg {
         ensures bound { result < 9 }
     {
         self as u8
-    }
-
-    /// The register of a number (1.3.1), 0 to 8 in the order of `ALL`, or none where the number is 9 or more.
-    pub fn numbered(n: u8) -> Option<Reg>
-        ensures is { result ≡ slice_get all_registers n }
-        ensures law { (r : Reg) → (result ≡ Some r) ↔ (number_of_register r ≡ n) }
-    {
-        Reg::ALL.get(usize::from(n)).copied()
     }
 
     /// The name without the r that the book puts before it (1.3.1): `A`, `X`, `I1` to `I6`, `J`.
@@ -100,16 +76,9 @@ fn first_named(name: &[u8]) -> Option<Reg>
 }
 
 // The registers of a row of eight codes, in its order.
-static REGISTERS: [Reg; 8] = [
-    Reg::A,
-    Reg::I1,
-    Reg::I2,
-    Reg::I3,
-    Reg::I4,
-    Reg::I5,
-    Reg::I6,
-    Reg::X,
-];
+#[rattlefmt::skip]
+static REGISTERS: [Reg; 8] =
+    [Reg::A, Reg::I1, Reg::I2, Reg::I3, Reg::I4, Reg::I5, Reg::I6, Reg::X];
 
 impl DataReg {
     // The register of this number, 0 to 7: rA, rI1 to rI6, rX.

@@ -1,4 +1,5 @@
 //! Tests as rows. The values are from the book, or worked by hand from its rules.
+use crate::field::Field;
 use crate::word::{Sign, Word};
 
 mod arithmetic;
@@ -26,4 +27,9 @@ fn word(bytes: Bytes) -> Word {
 fn number(n: i32) -> Word {
     let sign = if n < 0 { Minus } else { Plus };
     Word::of(sign, n.unsigned_abs() % 0x4000_0000)
+}
+
+// The field of a code; where there is none, the whole word.
+fn field(code: u8) -> Field {
+    Field::of(code).unwrap_or(Field::whole())
 }

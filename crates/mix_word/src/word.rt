@@ -1,18 +1,18 @@
 //! A word: a sign and five bytes of 0 to 63 (1.3.1).
-ghost use Rattle.std.specs.Prelude.{◌≡◌, ◌<◌, ◌≤◌, ◌/◌, ◌%◌, ◌^◌, unsigned_abs};
-ghost use Rattle.mix_word.specs.Word.{word, zero_word, byte_of, negation_of, number_of, word_of_number, parts_of, word_of_parts, opposite};
+ghost use Rattle.std.specs.Prelude.{◌≡◌, ◌<◌, ◌≤◌, ◌/◌, ◌%◌, ◌^◌, IfSome, pos, unsigned_abs};
+ghost use Rattle.mix_word.specs.Word.{word, zero_word, byte_of, negation_of, number_of, natural_of, word_of_number, parts_of, word_of_parts, opposite};
 
 use std::marker::Model;
 
 /// The sign of a word (1.3.1).
-#[derive(Clone, Copy, Debug, PartialEq, Eq, Hash)]
+#[derive(Clone, Copy, Debug, PartialEq, Eq)]
 pub enum Sign {
     Plus,
     Minus,
 }
 
 /// What a comparison of two numbers gives, as the comparison indicator has it (1.3.1).
-#[derive(Clone, Copy, Debug, PartialEq, Eq, Hash)]
+#[derive(Clone, Copy, Debug, PartialEq, Eq)]
 pub enum Cmp {
     Less,
     Equal,
@@ -34,10 +34,13 @@ impl Sign {
 /// A word (1.3.1): a sign and a magnitude of five bytes, below 64^5. +0 and -0 are different words and equal numbers, so words have no
 /// order: compare their numbers.
 // Bits 0 to 29 are the magnitude, and bit 30 is set where the sign is -.
-#[derive(Clone, Copy, PartialEq, Eq, Hash)]
+#[derive(Clone, Copy, PartialEq, Eq)]
 pub struct Word {
     bits: u32,
 }
+
+// The largest magnitude, of five bytes.
+pub(crate) const MAX_MAGNITUDE: u32 = 0x3fff_ffff;
 
 const SIGN_BIT: u32 = 0x4000_0000;
 
@@ -61,7 +64,7 @@ impl Model for Word {
 }
 
 /// An instruction word in its parts (1.3.1): the sign, bytes 1 and 2 below 4096, and bytes 3, 4 and 5, each below 64.
-#[derive(Clone, Copy, Debug, PartialEq, Eq, Hash)]
+#[derive(Clone, Copy, PartialEq, Eq)]
 pub struct Parts {
     pub sign: Sign,
     pub address: u16,
@@ -103,7 +106,7 @@ impl Word {
         ensures is { result ≡ self.magnitude }
         ensures bound { result < 64 ^ 5 }
     {
-        self.bits & (SIGN_BIT - 1)
+        self.bits & MAX_MAGNITUDE
     }
 
     /// Byte `i`, 1 to 5 (1.3.1), from the most significant one on: below 64.
@@ -136,6 +139,21 @@ impl Word {
         }
     }
 
+    /// The number where it is 0 or more, as that of -0 is, or none (1.3.1).
+    #[inline(always)]
+    pub fn natural(self) -> Option<u32>
+        ensures is { result ≡ natural_of self }
+        ensures number { IfSome result (λ n. number_of self ≡ pos n) }
+        ensures bound { IfSome result (λ n. n < 64 ^ 5) }
+    {
+        let magnitude = self.magnitude();
+        if self.sign() == Sign::Plus || magnitude == 0 {
+            Some(magnitude)
+        } else {
+            None
+        }
+    }
+
     /// The word of a number whose magnitude is below 64^5 (1.3.1): +0 for 0.
     pub fn of_number(n: i32) -> Word
         requires { unsigned_abs n < 64 ^ 5 }
@@ -150,6 +168,10 @@ impl Word {
     pub fn parts(self) -> Parts
         ensures is { result ≡ parts_of self }
         ensures joins { word_of_parts result ≡ self }
+        ensures address { result.address < 4096 }
+        ensures index { result.index < 64 }
+        ensures f { result.f < 64 }
+        ensures code { result.code < 64 }
     {
         let m = self.magnitude();
         Parts {

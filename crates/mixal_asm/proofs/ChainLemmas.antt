@@ -7,7 +7,7 @@ use Rattle.std.proofs.lemmas.Option.{slice_get-map}
 use Rattle.std.proofs.lemmas.List.{length-map, map-append}
 use Rattle.mix_word.specs.Word.{WordValue}
 use Rattle.mixal_asm.specs.declared.key.Key.{Key}
-use Rattle.mixal_asm.specs.declared.chain.Entry.{Entry}
+use Rattle.mixal_asm.specs.declared.words.Entry.{Entry}
 use Rattle.mixal_asm.specs.Key.{same_key, same_key_decides, same_key_equivalence}
 use Rattle.mixal_asm.specs.PassOne.{waits_for, is_awaited, with_address}
 use Rattle.mixal_asm.specs.Assembly.{with_use, first_uses}

@@ -4,7 +4,7 @@ use Rattle.std.specs.Prelude.{nat_le, is_some}
 use Rattle.std.specs.Option.{option_or}
 use Rattle.mix_word.specs.Word.{WordValue}
 use Rattle.mixal_asm.specs.declared.key.Key.{Key}
-use Rattle.mixal_asm.specs.declared.emitted.Emitted.{Emitted}
+use Rattle.mixal_asm.specs.declared.words.Emitted.{Emitted}
 use Rattle.mixal_text.specs.declared.label.Label.{Label}
 use Rattle.mixal_text.specs.declared.label.Label.TheVariants as label
 use Rattle.mixal_asm.specs.declared.key.Key.TheVariants.{Name, Literal}

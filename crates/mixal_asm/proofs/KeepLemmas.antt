@@ -3,8 +3,6 @@ use Rattle.std.proofs.Common.{◌≡◌, ℕ, suc, ◌+◌, ◌<◌, ◌&&◌, B
 use Rattle.std.specs.Prelude.{nat_lt, nat_le, Result, Ok, Err}
 use Rattle.mix_word.specs.Word.{WordValue, plus}
 use Rattle.mixal_text.specs.declared.label.Label.{Label}
-use Rattle.mixal_text.specs.declared.op.Op.{Op}
-use Rattle.mixal_text.specs.declared.op.Op.TheVariants.{Machine, Equ, Orig, Con, Alf, End}
 use Rattle.mixal_text.specs.Steps.{◌>>=◌}
 use Rattle.mixal_text.specs.WValue.{w_value_of}
 use Rattle.mixal_text.specs.Address as apart
@@ -16,8 +14,6 @@ use Rattle.mixal_asm.specs.declared.row.Shows.TheVariants as shows
 use Rattle.mixal_asm.specs.declared.key.Key.{Key}
 use Rattle.mixal_asm.specs.declared.key.Key.TheVariants as key
 use Rattle.mixal_asm.specs.PassOne.{Before, Line, with_name, with_loc, with_word, with_instruction, with_address, instruction, with_line, number_after, name_of, is_awaited, names_at, of_text, location_of, locals_in, machine_line, equ_line, orig_line, con_line, alf_line}
-use Rattle.mixal_asm.specs.Program.{ProgramValue}
-use Rattle.mixal_asm.specs.Assembly.{More, Done, more, done, answer_of_op, end_line}
 use Rattle.mixal_asm.specs.Draft.{HasNoLiteral, IsReady}
 use Rattle.mixal_asm.proofs.LineLemmas.{no_literal_loc}
 
@@ -76,7 +72,7 @@ instruction_kept b next word (apart.Literal text) ok =
 
 -- ---- the lines
 
-record IsNext (b next : Before) : Type 0 where
+pub record IsNext (b next : Before) : Type 0 where
   unplaced : HasNoLiteral next.names
   lines : length next.rows ≡ suc (length b.rows)
 
@@ -93,7 +89,7 @@ rowed b next last number text shown rows none is =
       lines = sym (ap (λ (d : Before). length d.rows) whole) ∙ length-append next.rows _ ∙ add-one (length next.rows) ∙ ap (λ (n : ℕ). suc n) (ap length rows);
     }
 
-machine_next : (b last : Before) (text : List ℕ) (loc : Option Label) (code f : ℕ) (address : List ℕ) → machine_line b text loc code f address ≡ Ok last
+pub machine_next : (b last : Before) (text : List ℕ) (loc : Option Label) (code f : ℕ) (address : List ℕ) → machine_line b text loc code f address ≡ Ok last
     → HasNoLiteral b.names → IsNext b last
 unfolding machine_line
 machine_next b last text loc code f address is none =
@@ -104,7 +100,7 @@ machine_next b last text loc code f address is none =
     rowed b next.0 last (number_after b) text (shows.Word (length b.emitted)) (kept.rows ∙ loc_rows b named.0 loc (plus b.here) named.1)
     (rw kept.names (no_literal_loc b named.0 loc (plus b.here) named.1 none)) next.2
 
-equ_next : (b last : Before) (text : List ℕ) (loc : Option Label) (address : List ℕ) → equ_line b text loc address ≡ Ok last → HasNoLiteral b.names → IsNext b last
+pub equ_next : (b last : Before) (text : List ℕ) (loc : Option Label) (address : List ℕ) → equ_line b text loc address ≡ Ok last → HasNoLiteral b.names → IsNext b last
 unfolding equ_line
 equ_next b last text loc address is none =
     let value = bind_ok (of_text (w_value_of (names_at b.names b.names) (plus b.here) address)) _ last is in
@@ -112,7 +108,7 @@ equ_next b last text loc address is none =
     rowed b named.0 last (number_after b) text (shows.Value value.0) (loc_rows b named.0 loc value.0 named.1)
     (no_literal_loc b named.0 loc value.0 named.1 none) named.2
 
-orig_next : (b last : Before) (text : List ℕ) (loc : Option Label) (address : List ℕ) → orig_line b text loc address ≡ Ok last → HasNoLiteral b.names → IsNext b last
+pub orig_next : (b last : Before) (text : List ℕ) (loc : Option Label) (address : List ℕ) → orig_line b text loc address ≡ Ok last → HasNoLiteral b.names → IsNext b last
 unfolding orig_line
 orig_next b last text loc address is none =
     let named = bind_ok (with_loc b loc (plus b.here)) _ last is in
@@ -121,7 +117,7 @@ orig_next b last text loc address is none =
     rowed b (record named.0 { here = here.0 }) last (number_after b) text shows.Nothing (loc_rows b named.0 loc (plus b.here) named.1)
     (no_literal_loc b named.0 loc (plus b.here) named.1 none) here.2
 
-con_next : (b last : Before) (text : List ℕ) (loc : Option Label) (address : List ℕ) → con_line b text loc address ≡ Ok last → HasNoLiteral b.names → IsNext b last
+pub con_next : (b last : Before) (text : List ℕ) (loc : Option Label) (address : List ℕ) → con_line b text loc address ≡ Ok last → HasNoLiteral b.names → IsNext b last
 unfolding con_line
 con_next b last text loc address is none =
     let named = bind_ok (with_loc b loc (plus b.here)) _ last is in
@@ -131,7 +127,7 @@ con_next b last text loc address is none =
     rowed b next.0 last (number_after b) text (shows.Word (length b.emitted)) (kept.rows ∙ loc_rows b named.0 loc (plus b.here) named.1)
     (rw kept.names (no_literal_loc b named.0 loc (plus b.here) named.1 none)) next.2
 
-alf_next : (b last : Before) (text : List ℕ) (loc : Option Label) (word : WordValue) → alf_line b text loc word ≡ Ok last → HasNoLiteral b.names → IsNext b last
+pub alf_next : (b last : Before) (text : List ℕ) (loc : Option Label) (word : WordValue) → alf_line b text loc word ≡ Ok last → HasNoLiteral b.names → IsNext b last
 unfolding alf_line
 alf_next b last text loc word is none =
     let named = bind_ok (with_loc b loc (plus b.here)) _ last is in
@@ -140,32 +136,7 @@ alf_next b last text loc word is none =
     rowed b next.0 last (number_after b) text (shows.Word (length b.emitted)) (kept.rows ∙ loc_rows b named.0 loc (plus b.here) named.1)
     (rw kept.names (no_literal_loc b named.0 loc (plus b.here) named.1 none)) next.2
 
--- a line that goes on
-more_is : (r : Result Before AsmKind) (last : Before) → more r ≡ Ok (More last) → r ≡ Ok last
-more_is (Ok b) last is = let same : More b ≡ More last = cc in let inner : b ≡ last = cc in ap (λ (d : Before). Ok d) inner
-more_is (Err kind) last is = cc
-
-done_is_no_more : (r : Result ProgramValue AsmKind) (last : Before) → done r ≡ Ok (More last) → ⊥
-done_is_no_more (Ok p) last is = let clash : Done p ≡ More last = cc in cc
-done_is_no_more (Err kind) last is = cc
-
-is_next : (b last : Before) (text : List ℕ) (loc : Option Label) (op : Op) (address : List ℕ) → answer_of_op b text loc op address ≡ Ok (More last)
-    → HasNoLiteral b.names → IsNext b last
-is_next b last text loc (Machine code f) address is none = machine_next b last text loc code f address (more_is _ last is) none
-is_next b last text loc Equ address is none = equ_next b last text loc address (more_is _ last is) none
-is_next b last text loc Orig address is none = orig_next b last text loc address (more_is _ last is) none
-is_next b last text loc Con address is none = con_next b last text loc address (more_is _ last is) none
-is_next b last text loc (Alf word) address is none = alf_next b last text loc word (more_is _ last is) none
-is_next b last text loc End address is none = absurd (done_is_no_more (end_line b text loc address) last is)
-
-pub ready_after : (b last : Before) (text : List ℕ) (loc : Option Label) (op : Op) (address : List ℕ) → length b.rows < 20000 → HasNoLiteral b.names
-    → answer_of_op b text loc op address ≡ Ok (More last) → IsReady last
-ready_after b last text loc op address below none is =
-    let next = is_next b last text loc op address is none in
-    record { unplaced = next.unplaced; lines = let size = next.lines in omega arith }
-
-pub ready_after_remark : (b : Before) (text : List ℕ) → length b.rows < 20000 → HasNoLiteral b.names → IsReady (with_line b (number_after b) text shows.Nothing)
-ready_after_remark b text below none = record {
-  unplaced = none;
-  lines = let size = length-append b.rows (record { source = Line (number_after b) text; shown = shows.Nothing } ∷ []) in omega arith;
-}
+-- a line that is not the last
+pub ready_by : (b last next : Before) → length b.rows < 20000 → IsNext b next → last ≡ next → IsReady last
+ready_by b last next below kept same =
+    rw same (record { unplaced = kept.unplaced; lines = let size = kept.lines in omega arith })

@@ -1,8 +1,11 @@
 -- A line by the steps that the code takes: LOC, what its ADDRESS says, and the rest.
 use Rattle.std.proofs.Common.{◌≡◌, ℕ, Bool, true, false, ◌&&◌, List, [], ◌∷◌, ◌++◌, Option, Some, None, length, refl, sym, ap, subst, ◌∙◌}
 use Rattle.std.specs.Prelude.{nat_le, OnOk}
-use Rattle.undo_core.specs.declared.refused.Refused.{Refused}
-use Rattle.undo_core.specs.Refused.{IfFault}
+use Rattle.std.specs.Result.{IsErrAnd}
+use Rattle.mix_refused.specs.declared.refused.Refused.{Refused}
+use Rattle.mix_refused.specs.declared.refused.Refused.TheVariants as refused
+use Rattle.mix_refused.specs.Refused.{IfFault}
+use Rattle.std.proofs.lemmas.Result.{err_from_is_err_and}
 use Rattle.mixal_asm.specs.declared.key.Key.{Key}
 use Rattle.mixal_asm.specs.declared.fault.AsmKind.TheVariants.{AddressTooLarge}
 use Rattle.mixal_asm.proofs.DraftLemmas.{no_literal_more}
@@ -20,7 +23,7 @@ use Rattle.std.specs.List.{list_any}
 use Rattle.std.proofs.Common.{map}
 use Rattle.mixal_text.specs.declared.fault.TextFault.TheVariants.{NoSuchLocalSymbol}
 use Rattle.mixal_asm.specs.declared.fault.AsmKind.TheVariants.{Text}
-use Rattle.mixal_asm.specs.declared.emitted.Emitted.{Emitted}
+use Rattle.mixal_asm.specs.declared.words.Emitted.{Emitted}
 use Rattle.mixal_asm.specs.PassOne.{NamesSoFar}
 use Rattle.mixal_asm.specs.Assembly.{is_unmet, first_uses, end_value, start_of, program_at, ended, words_of, finished_word, answer_of, answer_of_line}
 use Rattle.mixal_text.specs.declared.fault.TextFault.{TextFault}
@@ -57,6 +60,13 @@ machine_is b named text loc code f address here own read is_here ok scope is = r
 pub fault_of : {T A : Type 0} (result : Result T (Refused AsmKind)) (a b : Result A AsmKind) → a ≡ b
     → IfFault result (λ kind. b ≡ Err kind) → IfFault result (λ kind. a ≡ Err kind)
 fault_of {T} {A} result a b same h = subst (λ (x : Result A AsmKind). IfFault result (λ kind. x ≡ Err kind)) (sym same) h
+
+-- the same at the exit of a `?`
+pub fault_by : {T A : Type 0} (result : Result T (Refused AsmKind)) (kind : AsmKind) (a : Result A AsmKind)
+    → IsErrAnd result (λ r. r ≡ refused.Fault kind) → a ≡ Err kind → IfFault result (λ k. a ≡ Err k)
+fault_by result kind a is same =
+    let p = err_from_is_err_and result is in
+    rw (p.1, p.2) same
 
 pub ok_of : {T : Type 0} (result : Result T (Refused AsmKind)) (a b : Result Before AsmKind) (new : Before) → a ≡ b
     → OnOk result (b ≡ Ok new) → OnOk result (a ≡ Ok new)

@@ -18,7 +18,7 @@ use Rattle.mixal_asm.specs.declared.fault.AsmKind.TheVariants.{Text, DefinedTwic
 use Rattle.mixal_asm.specs.declared.fault.AsmFault.{AsmFault}
 use Rattle.mixal_asm.specs.declared.key.Key.{Key}
 use Rattle.mixal_asm.specs.declared.key.Key.TheVariants.{Name, Local, Literal}
-use Rattle.mixal_asm.specs.declared.emitted.Emitted.{Emitted}
+use Rattle.mixal_asm.specs.declared.words.Emitted.{Emitted}
 use Rattle.mixal_asm.specs.declared.row.Shows.TheVariants as shows
 use Rattle.mixal_asm.specs.Key.{same_key}
 use Rattle.mixal_asm.specs.Program.{ProgramValue}

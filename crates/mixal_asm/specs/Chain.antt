@@ -4,8 +4,8 @@ use Rattle.std.specs.Prelude.{◌≡◌, ℕ, zero, suc, Bool, false, List, [], 
 use Rattle.std.specs.Map.{lookup, keys_of}
 use Rattle.mix_word.specs.Word.{WordValue}
 use Rattle.mixal_asm.specs.declared.key.Key.{Key}
-use Rattle.mixal_asm.specs.declared.emitted.Emitted.{Emitted}
-use Rattle.mixal_asm.specs.declared.chain.Entry.{Entry}
+use Rattle.mixal_asm.specs.declared.words.Emitted.{Emitted}
+use Rattle.mixal_asm.specs.declared.words.Entry.{Entry}
 use Rattle.mixal_asm.specs.Key.{same_key}
 use Rattle.mixal_asm.specs.PassOne.{waits_for, with_address}
 use Rattle.mixal_asm.specs.Assembly.{with_use}

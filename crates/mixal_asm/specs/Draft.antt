@@ -3,13 +3,11 @@ use Rattle.std.specs.Prelude.{◌≡◌, ℕ, ◌≤◌, nat_eq, Bool, true, fal
 use Rattle.mix_word.specs.Word.{WordValue}
 use Rattle.mixal_text.specs.declared.label.Label.{Label}
 use Rattle.mixal_text.specs.declared.label.Label.TheVariants as label
-use Rattle.mixal_text.specs.declared.op.Op.{Op}
-use Rattle.mixal_text.specs.declared.op.Op.TheVariants as op
 use Rattle.mixal_text.specs.Names.{NamesValue}
 use Rattle.mixal_asm.specs.declared.key.Key.{Key}
 use Rattle.mixal_text.specs.Address.{APartValue, Value, Name, Ahead, Literal}
 use Rattle.mixal_asm.specs.declared.key.Key.TheVariants as key
-use Rattle.mixal_asm.specs.declared.emitted.Emitted.{Emitted}
+use Rattle.mixal_asm.specs.declared.words.Emitted.{Emitted}
 use Rattle.mixal_asm.specs.declared.scope.Own.{Own}
 use Rattle.mixal_text.specs.Steps.{◌>>=◌}
 use Rattle.std.specs.Prelude.{Result, Ok, length}
@@ -87,12 +85,3 @@ answer_at b (Some start) = Done (program_at b start)
 abbrev pub WaitsFor : Option ℕ → Before → Type 0
 WaitsFor None b = IsReady b
 WaitsFor (Some start) b = Unit {0}
-
--- whether lines come after one with this OP: after END none do
-abbrev pub goes_on : Op → Bool
-goes_on (op.Machine code f) = true
-goes_on op.Equ = true
-goes_on op.Orig = true
-goes_on op.Con = true
-goes_on (op.Alf word) = true
-goes_on op.End = false

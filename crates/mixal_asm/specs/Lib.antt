@@ -9,3 +9,4 @@ pub mod Chain
 pub mod Draft
 pub mod Fed
 pub mod Listing
+pub mod Source

@@ -2,8 +2,8 @@
 use Rattle.std.specs.Prelude.{ℕ, ◌-◌, ◌/◌, ◌%◌, Bool, true, false, List, [], ◌∷◌, ◌++◌, length, replicate, slice_get, count_by, Option, Some, None, Result, Ok, Err, codes, decimal}
 use Rattle.mix_word.specs.Word.{WordValue}
 use Rattle.mix_word.specs.Text.{word_text}
-use Rattle.undo_core.specs.declared.refused.Refused.{Refused}
-use Rattle.undo_core.specs.declared.refused.Refused.TheVariants.{Fault, Memory}
+use Rattle.mix_refused.specs.declared.refused.Refused.{Refused}
+use Rattle.mix_refused.specs.declared.refused.Refused.TheVariants.{Fault, Memory}
 use Rattle.mixal_asm.specs.declared.key.Key.{Key}
 use Rattle.mixal_asm.specs.declared.key.Key.TheVariants.{Name, Local, Literal}
 use Rattle.mixal_asm.specs.declared.row.Shows.{Shows}

@@ -3,20 +3,20 @@ use Rattle.std.specs.Prelude.{ℕ, ◌+◌, ◌&&◌, nat_lt, nat_le, Bool, fals
 use Rattle.std.specs.List.{list_any}
 use Rattle.std.specs.Map.{lookup}
 use Rattle.mix_word.specs.declared.word.Sign.TheVariants.{Plus}
-use Rattle.mix_word.specs.Word.{WordValue, plus, number_of, word_of_parts, parts_of}
+use Rattle.mix_word.specs.Word.{WordValue, plus, natural_of, word_of_parts, parts_of}
 use Rattle.mixal_text.specs.declared.fault.TextFault.{TextFault}
 use Rattle.mixal_text.specs.declared.label.Label.{Label}
 use Rattle.mixal_text.specs.declared.label.Label.TheVariants as label
 use Rattle.mixal_text.specs.Steps.{◌>>=◌}
 use Rattle.mixal_text.specs.Names.{NamesValue}
-use Rattle.mixal_text.specs.Part.{natural_of, up_to}
+use Rattle.mixal_text.specs.Part.{up_to}
 use Rattle.mixal_text.specs.Address.{APartValue, Value, Name, Ahead, Literal, OperandValue, address_of}
 use Rattle.mixal_text.specs.WValue.{w_value_of}
 use Rattle.mixal_asm.specs.declared.fault.AsmKind.{AsmKind}
 use Rattle.mixal_asm.specs.declared.fault.AsmKind.TheVariants.{Text, AddressTooLarge, LocationOutOfRange}
 use Rattle.mixal_asm.specs.declared.key.Key.{Key}
 use Rattle.mixal_asm.specs.declared.key.Key.TheVariants as key
-use Rattle.mixal_asm.specs.declared.emitted.Emitted.{Emitted}
+use Rattle.mixal_asm.specs.declared.words.Emitted.{Emitted}
 use Rattle.mixal_asm.specs.declared.row.Shows.{Shows}
 use Rattle.mixal_asm.specs.declared.row.Shows.TheVariants as shows
 use Rattle.mixal_asm.specs.Key.{same_key, is_local}
@@ -167,7 +167,7 @@ equ_line b text loc address = do
 
 -- the location that ORIG sets
 abbrev pub location_of : WordValue → Result ℕ AsmKind
-location_of value = ok_or (option_and_then (up_to 4000) (natural_of (number_of value))) LocationOutOfRange
+location_of value = ok_or (option_and_then (up_to 4000) (natural_of value)) LocationOutOfRange
 
 unfoldable pub orig_line : Before → List ℕ → Option Label → List ℕ → Result Before AsmKind
 orig_line b text loc address = do

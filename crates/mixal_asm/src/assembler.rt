@@ -1,20 +1,20 @@
 //! The assembler, one line at a time (1.3.2).
 ghost use Rattle.std.specs.Prelude.{◌≡◌, ◌<◌, length, true, false, Ok, Err, IfOk};
-ghost use Rattle.undo_core.specs.Refused.{IfFault};
-ghost use Rattle.mixal_text.specs.Line.{HasBytes, IsOfBytes, Remark, value_of_line};
-ghost use Rattle.mixal_asm.specs.PassOne.{at_first, number_after, is_taken};
-ghost use Rattle.mixal_asm.specs.Assembly.{answer_of, answer_of_line, answer_of_op, waiting_in};
-ghost use Rattle.mixal_asm.specs.Draft.{HasNoLiteral, IsReady, WaitsFor, answer_at, goes_on};
+ghost use Rattle.mix_refused.specs.Refused.{IfFault};
+ghost use Rattle.mixal_text.specs.Line.{HasBytes, value_of_line};
+ghost use Rattle.mixal_asm.specs.PassOne.{at_first, number_after};
+ghost use Rattle.mixal_asm.specs.Assembly.{answer_of, answer_of_line, waiting_in};
+ghost use Rattle.mixal_asm.specs.Draft.{HasNoLiteral, IsReady, WaitsFor, answer_at};
 ghost use Rattle.mixal_asm.specs.Fed.{answer_of_fed};
 
 use crate::draft::Draft;
 use crate::fault::{AsmFault, AsmKind};
 use crate::fed::Fed;
+use mix_refused::Refused;
 use mix_word::Place;
-use mixal_text::{Label, Line, Op, read_line};
+use mixal_text::{Line, read_line};
 use std::alloc::Global;
 use std::marker::Model;
-use undo_core::Refused;
 
 /// The assembler of one source (1.3.2), seen as what the lines so far give. It goes once over the lines: a word whose address is
 /// not known yet waits for its name, and is finished where the name gets its value.
@@ -56,10 +56,9 @@ impl<'s> Assembler<'s> {
     {
         let alloc = self.alloc;
         let mut draft = self.draft;
-        match add_line(&mut draft, text) {
-            Ok(None) => Ok(Fed::More(Assembler { draft, alloc })),
-            Ok(Some(start)) => Ok(Fed::Done(draft.into_program(alloc, start)?)),
-            Err(refused) => Err(refused),
+        match add_line(&mut draft, text)? {
+            None => Ok(Fed::More(Assembler { draft, alloc })),
+            Some(start) => Ok(Fed::Done(draft.into_program(alloc, start)?)),
         }
     }
 
@@ -120,70 +119,15 @@ fn answer_line<'s>(
     ensures ready { IfOk result (λ end. WaitsFor end draft.new) }
 {
     match line {
-        Line::Remark => answer_remark(draft, text),
+        Line::Remark => {
+            draft.remark(text)?;
+            Ok(None)
+        }
         Line::Code { loc, op, address } => {
             if draft.is_taken(&loc) {
                 return Err(Refused::Fault(AsmKind::DefinedTwice));
             }
-            answer_code(draft, text, &loc, op, address)
+            draft.code_line(text, &loc, op, address)
         }
     }
-}
-
-fn answer_remark<'s>(
-    draft: &mut Draft<'s>,
-    text: &'s [u8],
-) -> Result<Option<Place>, Refused<AsmKind>>
-    requires lines { length draft.old.rows < 20000 }
-    requires unplaced { HasNoLiteral draft.old.names }
-    ensures ok { IfOk result (λ end. answer_of_line draft.old text.now Remark ≡ Ok (answer_at draft.new end)) }
-    ensures fault { IfFault result (λ kind. answer_of_line draft.old text.now Remark ≡ Err kind) }
-    ensures ready { IfOk result (λ end. WaitsFor end draft.new) }
-{
-    draft.remark(text)?;
-    Ok(None)
-}
-
-fn answer_code<'s>(
-    draft: &mut Draft<'s>,
-    text: &'s [u8],
-    loc: &Option<Label>,
-    op: Op,
-    address: &'s [u8],
-) -> Result<Option<Place>, Refused<AsmKind>>
-    requires lines { length draft.old.rows < 20000 }
-    requires unplaced { HasNoLiteral draft.old.names }
-    requires bytes { IsOfBytes op }
-    requires untaken { is_taken draft.old.names loc.now ≡ false }
-    ensures ok { IfOk result (λ end. answer_of_op draft.old text.now loc.now op address.now ≡ Ok (answer_at draft.new end)) }
-    ensures fault { IfFault result (λ kind. answer_of_op draft.old text.now loc.now op address.now ≡ Err kind) }
-    ensures ready { IfOk result (λ end. WaitsFor end draft.new) }
-{
-    match op {
-        Op::End => {
-            let start = draft.end_line(text, loc, address)?;
-            Ok(Some(start))
-        }
-        _ => answer_more(draft, text, loc, op, address),
-    }
-}
-
-fn answer_more<'s>(
-    draft: &mut Draft<'s>,
-    text: &'s [u8],
-    loc: &Option<Label>,
-    op: Op,
-    address: &'s [u8],
-) -> Result<Option<Place>, Refused<AsmKind>>
-    requires op { goes_on op ≡ true }
-    requires lines { length draft.old.rows < 20000 }
-    requires unplaced { HasNoLiteral draft.old.names }
-    requires bytes { IsOfBytes op }
-    requires untaken { is_taken draft.old.names loc.now ≡ false }
-    ensures ok { IfOk result (λ end. answer_of_op draft.old text.now loc.now op address.now ≡ Ok (answer_at draft.new end)) }
-    ensures fault { IfFault result (λ kind. answer_of_op draft.old text.now loc.now op address.now ≡ Err kind) }
-    ensures ready { IfOk result (λ end. WaitsFor end draft.new) }
-{
-    draft.code_line(text, loc, op, address)?;
-    Ok(None)
 }

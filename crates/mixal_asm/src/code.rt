@@ -1,23 +1,24 @@
 //! A line of the source by its OP (1.3.2).
 ghost use Rattle.std.specs.Prelude.{◌≡◌, ◌<◌, nat_le, true, false, length, Ok, Err, OnOk, IfOk};
-ghost use Rattle.undo_core.specs.Refused.{IfFault};
+ghost use Rattle.mix_refused.specs.Refused.{IfFault};
 ghost use Rattle.mixal_text.specs.Line.{IsOfBytes};
 ghost use Rattle.mixal_asm.specs.PassOne.{is_taken, is_defined, with_line, number_after};
 ghost use Rattle.mixal_asm.specs.declared.row.Shows.TheVariants.{Nothing};
-ghost use Rattle.mixal_asm.specs.Assembly.{max_lines, More, answer_of_op, waiting_in};
+ghost use Rattle.mixal_asm.specs.Assembly.{max_lines, answer_of_op, waiting_in};
 
 use crate::draft::Draft;
 use crate::fault::AsmKind;
 use crate::key::Key;
 use crate::row::{Shows, Source};
+use mix_refused::{Memory, Refused};
+use mix_word::Place;
 use mixal_text::{Label, Op};
-use undo_core::{Memory, Refused};
 
 /// The most lines that a source may have.
 const MAX_LINES: usize = 20_000;
 
 impl<'s> Draft<'s> {
-    ghost use Rattle.mixal_asm.specs.Draft.{HasNoLiteral, goes_on};
+    ghost use Rattle.mixal_asm.specs.Draft.{HasNoLiteral, WaitsFor, answer_at};
 
     /// Whether a LOC is a symbol that has a value already.
     pub(crate) fn is_taken(&self, loc: &Option<Label>) -> bool
@@ -52,29 +53,30 @@ impl<'s> Draft<'s> {
         self.add_row(Source::Line(number, text), Shows::Nothing)
     }
 
-    /// A line by its OP, which is not END.
+    /// A line by its OP. At END it answers the start of the program.
     pub(crate) fn code_line(
         &mut self,
         text: &'s [u8],
         loc: &Option<Label>,
         op: Op,
         address: &'s [u8],
-    ) -> Result<(), Refused<AsmKind>>
-        requires op { goes_on op ≡ true }
+    ) -> Result<Option<Place>, Refused<AsmKind>>
         requires bytes { IsOfBytes op }
         requires lines { length self.old.rows < 20000 }
         requires untaken { is_taken self.old.names loc.now ≡ false }
         requires unplaced { HasNoLiteral self.old.names }
-        ensures ok { OnOk result (answer_of_op self.old text.now loc.now op address.now ≡ Ok (More self.new)) }
+        ensures ok { IfOk result (λ end. answer_of_op self.old text.now loc.now op address.now ≡ Ok (answer_at self.new end)) }
         ensures fault { IfFault result (λ kind. answer_of_op self.old text.now loc.now op address.now ≡ Err kind) }
+        ensures ready { IfOk result (λ end. WaitsFor end self.new) }
     {
         match op {
-            Op::Machine { code, f } => self.machine_line(text, loc, code, f, address),
-            Op::Equ => self.equ_line(text, loc, address),
-            Op::Orig => self.orig_line(text, loc, address),
-            Op::Con => self.con_line(text, loc, address),
-            Op::Alf(word) => self.alf_line(text, loc, word),
-            Op::End => unreachable!(),
+            Op::Machine { code, f } => self.machine_line(text, loc, code, f, address)?,
+            Op::Equ => self.equ_line(text, loc, address)?,
+            Op::Orig => self.orig_line(text, loc, address)?,
+            Op::Con => self.con_line(text, loc, address)?,
+            Op::Alf(word) => self.alf_line(text, loc, word)?,
+            Op::End => return Ok(Some(self.end_line(text, loc, address)?)),
         }
+        Ok(None)
     }
 }

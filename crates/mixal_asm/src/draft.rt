@@ -1,21 +1,20 @@
 //! What the lines so far give (1.3.2), and the two steps of which lines are made.
 ghost use Rattle.std.specs.Prelude.{◌≡◌, ◌<◌, ◌≤◌, ◌&&◌, nat_le, ◌++◌, [], ◌∷◌, length, false, Ok, Err, OnOk, OnErr, IfOk, ◌+◌};
-ghost use Rattle.undo_core.specs.Refused.{IfFault};
+ghost use Rattle.mix_refused.specs.Refused.{IfFault};
 ghost use Rattle.mix_word.specs.Word.{plus};
 ghost use Rattle.mixal_asm.specs.PassOne.{at_first, is_awaited, with_name, with_word, with_loc, with_row, is_taken, names_at, number_after};
 
-use crate::emitted::Emitted;
 use crate::fault::AsmKind;
 use crate::key::Key;
 use crate::names::NameTable;
 use crate::row::{Row, Shows, Source};
 use crate::scope::{Own, own_of};
-use crate::words::WordList;
+use crate::words::{Emitted, WordList};
+use mix_refused::{Memory, Refused};
 use mix_word::{Place, Sign, Word};
 use mixal_text::Label;
 use std::alloc::Global;
 use std::marker::Model;
-use undo_core::{Memory, Refused};
 
 /// What the lines so far give: the location, the names, the words, the texts of the literals, and the rows of the listing.
 #[derive(Drop)]

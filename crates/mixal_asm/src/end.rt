@@ -2,20 +2,21 @@
 ghost use Rattle.std.specs.Prelude.{◌≡◌, ◌<◌, slice_get, false, length, Ok, Err, OnOk, IfOk};
 ghost use Rattle.std.specs.List.{list_any};
 ghost use Rattle.mix_word.specs.Word.{plus};
-ghost use Rattle.undo_core.specs.Refused.{IfFault};
+ghost use Rattle.mix_refused.specs.Refused.{IfFault};
 ghost use Rattle.mixal_asm.specs.PassOne.{is_taken};
-ghost use Rattle.mixal_asm.specs.Assembly.{is_unmet, program_at, end_value, start_of, first_uses, inserted, ended, end_line};
+ghost use Rattle.mixal_asm.specs.Assembly.{is_unmet, is_label, program_at, end_value, start_of, first_uses, inserted, ended, end_line};
 
 use crate::draft::Draft;
 use crate::fault::AsmKind;
+use crate::key::Key;
+use crate::names::NameTable;
 use crate::program::Program;
 use crate::row::{Shows, Source};
 use crate::scope::Own;
-use crate::unmet::is_unmet;
+use mix_refused::{Memory, Refused};
 use mix_word::{Place, Word};
 use mixal_text::{Label, TextFault};
 use std::alloc::Global;
-use undo_core::{Memory, Refused};
 
 // The start, which is 0 to 3999, or else A15.
 fn start_of(value: Word) -> Result<Place, AsmKind>
@@ -24,6 +25,26 @@ fn start_of(value: Word) -> Result<Place, AsmKind>
     match Place::of((value.magnitude() % 4096) as u16) {
         Some(start) => Ok(start),
         None => Err(AsmKind::StartOutOfRange),
+    }
+}
+
+// Whether a name is this LOC.
+fn is_label(names: &NameTable, loc: &Option<Label>, name: &Key) -> bool
+    ensures { result ≡ is_label names.now loc.now name.now }
+{
+    match loc {
+        Some(loc) => names.name_of(loc) == *name,
+        None => false,
+    }
+}
+
+// Whether a name is a dF that no dH meets, that of END included.
+fn is_unmet(names: &NameTable, loc: &Option<Label>, name: &Key) -> bool
+    ensures { result ≡ is_unmet names.now loc.now name.now }
+{
+    match name {
+        Key::Local(..) => names.value(name).is_none() && !is_label(names, loc, name),
+        Key::Name(_) | Key::Literal(_) => false,
     }
 }
 
@@ -78,17 +99,10 @@ impl<'s> Draft<'s> {
             return Err(Refused::Fault(AsmKind::Text(TextFault::NoSuchLocalSymbol)));
         }
         let own = self.label(loc, self.here_word())?;
-        let value = match self.read_end(own, address) {
-            Ok(value) => value,
-            Err(kind) => return Err(Refused::Fault(kind)),
-        };
-        match start_of(value) {
-            Ok(start) => {
-                self.add_row(Source::Line(number, text), Shows::Start)?;
-                Ok(start)
-            }
-            Err(kind) => Err(Refused::Fault(kind)),
-        }
+        let value = self.read_end(own, address)?;
+        let start = start_of(value)?;
+        self.add_row(Source::Line(number, text), Shows::Start)?;
+        Ok(start)
     }
 
     // Whether any dF meets no dH, that of END included.

@@ -1,7 +1,9 @@
 //! The faults of a source: a number and a text each, and the line of the source.
 ghost use Rattle.std.specs.Prelude.{◌≡◌, Some};
+ghost use Rattle.mix_refused.specs.declared.refused.Refused.TheVariants.{Fault};
 ghost use Rattle.mixal_asm.specs.Fault.{kind_number, kind_text, kind_line, asm_fault_line};
 
+use mix_refused::Refused;
 use mixal_text::TextFault;
 use std::fmt;
 
@@ -53,6 +55,14 @@ impl AsmKind {
             AsmKind::StartOutOfRange => "start outside 0 to 3999",
             AsmKind::SourceTooLong => "source too long",
         }
+    }
+}
+
+impl From<AsmKind> for Refused<AsmKind> {
+    ghost from_gives = { λ kind refused. refused ≡ Fault kind };
+
+    fn from(kind: AsmKind) -> Refused<AsmKind> {
+        Refused::Fault(kind)
     }
 }
 

@@ -1,6 +1,6 @@
 //! The lines that are inserted before END (1.3.2): the literals, and the symbols that no LOC defines.
 ghost use Rattle.std.specs.Prelude.{◌≡◌, ℕ, List, ◌+◌, ◌<◌, drop, ◌||◌, [], ◌∷◌, ◌++◌, length, false, slice_get, option_copied, Some, None, Ok, Err, OnOk};
-ghost use Rattle.undo_core.specs.Refused.{IfFault};
+ghost use Rattle.mix_refused.specs.Refused.{IfFault};
 ghost use Rattle.mix_word.specs.Word.{plus};
 ghost use Rattle.mixal_asm.specs.declared.key.Key.TheVariants.{Name, Literal};
 ghost use Rattle.mixal_asm.specs.PassOne.{value_of, is_defined, is_taken};
@@ -10,9 +10,9 @@ use crate::draft::Draft;
 use crate::fault::AsmKind;
 use crate::key::Key;
 use crate::row::Source;
+use mix_refused::Refused;
 use mix_word::Word;
 use mixal_text::{Label, Symbol};
-use undo_core::Refused;
 
 // Whether a symbol is this LOC.
 fn is_own(loc: &Option<Label>, symbol: &Symbol) -> bool
@@ -38,10 +38,7 @@ impl<'s> Draft<'s> {
         ensures others { (symbol : List ℕ) → OnOk result (value_of self.new.names (Name symbol) ≡ value_of self.old.names (Name symbol)) }
     {
         let count = self.word_count();
-        let value = match self.read_value(None, text) {
-            Ok(value) => value,
-            Err(kind) => return Err(Refused::Fault(kind)),
-        };
+        let value = self.read_value(None, text)?;
         self.define(Key::Literal(j), self.here_word())?;
         self.emit_shown(Source::Literal(text), count, value)
     }
@@ -149,10 +146,7 @@ impl<'s> Draft<'s> {
         ensures others { (symbol : List ℕ) → OnOk result (value_of self.new.names (Name symbol) ≡ value_of self.old.names (Name symbol)) }
     {
         for j in 0..self.literals.len() {
-            match self.literal_at(j) {
-                Ok(()) => {}
-                Err(refused) => return Err(refused),
-            }
+            self.literal_at(j)?;
         }
         Ok(())
     }
@@ -164,10 +158,7 @@ impl<'s> Draft<'s> {
         ensures untaken { is_taken self.old.names loc.now ≡ false → OnOk result (is_taken self.new.names loc.now ≡ false) }
     {
         for i in 0..self.words.use_count() {
-            match self.zero_line_at(loc, i) {
-                Ok(()) => {}
-                Err(refused) => return Err(refused),
-            }
+            self.zero_line_at(loc, i)?;
         }
         Ok(())
     }

@@ -2,11 +2,8 @@
 #![tactic(auto)]
 
 mod assembler;
-mod chain;
-mod close;
 mod code;
 mod draft;
-mod emitted;
 mod end;
 mod fault;
 mod fed;
@@ -20,9 +17,9 @@ mod read;
 mod row;
 mod scope;
 mod source;
+mod symbols;
 #[cfg(test)]
 mod tests;
-mod unmet;
 mod words;
 
 pub use assembler::Assembler;
@@ -30,4 +27,6 @@ pub use fault::{AsmFault, AsmKind};
 pub use fed::Fed;
 pub use mix_stream::{Counted, Failed, In, Out};
 pub use program::Program;
+pub use row::Source;
 pub use source::{MAX_SOURCE_BYTES, assemble};
+pub use symbols::Symbols;

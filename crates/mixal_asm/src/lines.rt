@@ -1,20 +1,20 @@
 //! The lines of a source but END, by OP (1.3.2).
 ghost use Rattle.std.specs.Prelude.{◌≡◌, ◌<◌, ◌≤◌, ◌++◌, [], ◌∷◌, length, map, false, Some, None, Ok, Err, OnOk, IfOk};
-ghost use Rattle.undo_core.specs.Refused.{IfFault};
+ghost use Rattle.mix_refused.specs.Refused.{IfFault};
 ghost use Rattle.mix_word.specs.Word.{number_of, word_of_parts};
 ghost use Rattle.mix_word.specs.declared.word.Sign.TheVariants.{Plus};
 ghost use Rattle.mixal_text.specs.Address.{value_of_a_part};
 ghost use Rattle.mixal_asm.specs.declared.key.Key.TheVariants.{Literal};
 ghost use Rattle.mixal_asm.specs.PassOne.{with_word, with_instruction, is_taken, machine_line, equ_line, orig_line, con_line, alf_line, location_of, instruction};
 
-use crate::chain::with_address;
 use crate::draft::Draft;
 use crate::fault::AsmKind;
 use crate::key::Key;
 use crate::row::{Shows, Source};
+use crate::words::with_address;
+use mix_refused::Refused;
 use mix_word::{Parts, Sign, Word};
 use mixal_text::{APart, Label, Op};
-use undo_core::Refused;
 
 /// An instruction whose address is +0 so far.
 fn instruction_word(code: u8, index: u8, f: u8) -> Word
@@ -37,11 +37,9 @@ fn location_of(value: Word) -> Result<u16, AsmKind>
     ensures is { result ≡ location_of value }
     ensures bound { IfOk result (λ here. here ≤ 4000) }
 {
-    let number = value.number();
-    if number >= 0 && number <= 4000 {
-        Ok(number as u16)
-    } else {
-        Err(AsmKind::LocationOutOfRange)
+    match value.natural() {
+        Some(number) if number <= 4000 => Ok(number as u16),
+        _ => Err(AsmKind::LocationOutOfRange),
     }
 }
 
@@ -140,10 +138,7 @@ impl<'s> Draft<'s> {
         let number = self.number();
         let count = self.word_count();
         let own = self.label(loc, self.here_word())?;
-        let operand = match self.read_operand(own, Op::Machine { code, f }, address) {
-            Ok(operand) => operand,
-            Err(kind) => return Err(Refused::Fault(kind)),
-        };
+        let operand = self.read_operand(own, Op::Machine { code, f }, address)?;
         let word = instruction_word(code, operand.index, operand.f);
         self.instruction_shown(Source::Line(number, text), count, word, operand.a)
     }
@@ -162,10 +157,7 @@ impl<'s> Draft<'s> {
         ensures fault { IfFault result (λ kind. equ_line self.old text.now loc.now address.now ≡ Err kind) }
     {
         let number = self.number();
-        let value = match self.read_value(None, address) {
-            Ok(value) => value,
-            Err(kind) => return Err(Refused::Fault(kind)),
-        };
+        let value = self.read_value(None, address)?;
         self.label(loc, value)?;
         self.add_row(Source::Line(number, text), Shows::Value(value))?;
         Ok(())
@@ -186,14 +178,8 @@ impl<'s> Draft<'s> {
     {
         let number = self.number();
         let own = self.label(loc, self.here_word())?;
-        let value = match self.read_value(own, address) {
-            Ok(value) => value,
-            Err(kind) => return Err(Refused::Fault(kind)),
-        };
-        let here = match location_of(value) {
-            Ok(here) => here,
-            Err(kind) => return Err(Refused::Fault(kind)),
-        };
+        let value = self.read_value(own, address)?;
+        let here = location_of(value)?;
         self.go_to(here);
         self.add_row(Source::Line(number, text), Shows::Nothing)?;
         Ok(())
@@ -215,10 +201,7 @@ impl<'s> Draft<'s> {
         let number = self.number();
         let count = self.word_count();
         let own = self.label(loc, self.here_word())?;
-        let value = match self.read_value(own, address) {
-            Ok(value) => value,
-            Err(kind) => return Err(Refused::Fault(kind)),
-        };
+        let value = self.read_value(own, address)?;
         self.emit_shown(Source::Line(number, text), count, value)
     }
 

@@ -10,12 +10,12 @@ use crate::key::Key;
 use crate::names::NameTable;
 use crate::program::Program;
 use crate::row::{Row, Shows, Source};
+use mix_refused::{Memory, Refused};
 use mix_stream::{Failed, Out, write_all};
 use mix_word::{Place, Word};
 use mixal_text::Symbol;
 use std::alloc::Global;
 use std::fmt;
-use undo_core::{Memory, Refused};
 
 /// The places in which a symbol stands left.
 const SYMBOL_PLACES: usize = 10;

@@ -8,11 +8,11 @@ ghost use Rattle.mixal_asm.specs.Listing.{is_symbol, symbols_in};
 use crate::key::Key;
 use indexmap::IndexMap;
 use indexmap::map::Iter;
+use mix_refused::Memory;
 use mix_word::Word;
 use mixal_text::Label;
 use std::alloc::Global;
 use std::marker::Model;
-use undo_core::Memory;
 
 /// Of a digit d, how many dH there are, and the value of the last one.
 #[derive(Clone, Copy)]
@@ -93,6 +93,7 @@ impl NameTable {
         ensures is { result ≡ Local d (locals_in d self.now) }
         ensures open { value_of self.now result ≡ None }
     {
+        // (the proof knows what holds of the names where a field of theirs is named)
         let _ = &self.values;
         Key::Local(d, self.locals(d))
     }

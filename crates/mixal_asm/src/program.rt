@@ -1,11 +1,15 @@
 //! An assembled source (1.3.2): what it gives to the machine, and what its names mean.
 ghost use Rattle.std.specs.Prelude.{◌≡◌};
 ghost use Rattle.mixal_asm.specs.declared.key.Key.TheVariants.{Name};
+ghost use Rattle.std.specs.Option.{option_map};
 ghost use Rattle.mixal_asm.specs.PassOne.{value_of, names_at};
+ghost use Rattle.mixal_asm.specs.Row.{source_value, row_value};
+ghost use Rattle.mixal_asm.specs.Source.{place_of, stands_at, source_at, place_in, cell_from, symbols_of};
 
 use crate::key::Key;
 use crate::names::NameTable;
-use crate::row::Row;
+use crate::row::{Row, Shows, Source};
+use crate::symbols::Symbols;
 use mix_word::{Place, Word};
 use mixal_text::{Names, Symbol};
 use std::marker::Model;
@@ -69,6 +73,70 @@ impl<'s> Program<'s> {
         ensures { result ≡ value_of self.now.names (Name symbol.now) }
     {
         self.names.value(&Key::Name(symbol.copied()))
+    }
+
+    /// Where the last word that was put at a place comes from (1.3.2): a line of the source, or one that was inserted before END;
+    /// none where no word was put. It takes no memory.
+    pub fn source_at(&self, place: Place) -> Option<&Source<'s>>
+        ensures { option_map (λ source. source_value source.now) result ≡ source_at self.now place }
+    {
+        let mut found = None;
+        for row in self.rows.iter() {
+            if self.stands_at(place, row.shows) {
+                found = Some(&row.source);
+            }
+        }
+        found
+    }
+
+    /// The place of the first word that the lines of the source from this number on emit, if they emit any: no inserted line
+    /// counts. It takes no memory.
+    pub fn cell_from(&self, number: u32) -> Option<Place>
+        ensures { result ≡ cell_from self.now number }
+    {
+        for row in self.rows.iter() {
+            if let Some(place) = self.place_in(number, row) {
+                return Some(place);
+            }
+        }
+        None
+    }
+
+    /// The symbols with their values, in the order in which they got them, as the listing ends with them. It takes no memory.
+    pub fn symbols(&self) -> Symbols<'_>
+        ensures { result ≡ symbols_of self.now.names }
+    {
+        Symbols::of(&self.names)
+    }
+
+    // Whether the word that a row shows stands at this place.
+    fn stands_at(&self, place: Place, shows: Shows) -> bool
+        ensures { result ≡ stands_at self.now place shows }
+    {
+        match self.place_of(shows) {
+            Some(other) => other == place,
+            None => false,
+        }
+    }
+
+    // The place of the word of a row, if it is of a line of the source from this number on.
+    fn place_in(&self, number: u32, row: &Row<'s>) -> Option<Place>
+        ensures { result ≡ place_in self.now number (row_value row.now) }
+    {
+        match row.source {
+            Source::Line(n, _) if number <= n => self.place_of(row.shows),
+            Source::Line(..) | Source::Literal(_) | Source::Name(_) => None,
+        }
+    }
+
+    // The place of the word that a row shows.
+    fn place_of(&self, shows: Shows) -> Option<Place>
+        ensures { result ≡ place_of self.now shows }
+    {
+        match shows {
+            Shows::Word(i) => self.words.get(i).map(|word| word.0),
+            Shows::Nothing | Shows::Value(_) | Shows::Start => None,
+        }
     }
 
     /// How many future references the source has (1.3.2): those of undefined symbols are among them, literals are not. It

@@ -13,10 +13,10 @@ pub(crate) enum Shows {
     Start,
 }
 
-/// Where a row comes from: a line of the source by its number and its text, a literal as it stands between its equals signs, or
-/// an undefined symbol. The last two are lines that are inserted before END.
+/// Where a row of the listing comes from (1.3.2): a line of the source by its number and its text, a literal as it stands between
+/// its equals signs, or an undefined symbol. The last two are lines that are inserted before END.
 #[derive(Drop)]
-pub(crate) enum Source<'s> {
+pub enum Source<'s> {
     Line(u32, &'s [u8]),
     Literal(&'s [u8]),
     Name(Symbol),

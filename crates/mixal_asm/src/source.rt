@@ -1,6 +1,6 @@
 //! A whole source (1.3.2).
 ghost use Rattle.std.specs.Prelude.{◌≡◌, Ok, Err, IfOk};
-ghost use Rattle.undo_core.specs.Refused.{IfFault};
+ghost use Rattle.mix_refused.specs.Refused.{IfFault};
 ghost use Rattle.mix_lines.specs.Lines.{lines};
 ghost use Rattle.mixal_asm.specs.Assembly.{assembly, program_from, program_at};
 ghost use Rattle.mixal_asm.specs.Draft.{IsReady};
@@ -10,9 +10,9 @@ use crate::draft::Draft;
 use crate::fault::{AsmFault, AsmKind};
 use crate::program::Program;
 use mix_lines::split_line;
+use mix_refused::Refused;
 use mix_word::Place;
 use std::alloc::Global;
-use undo_core::Refused;
 
 /// The most bytes that a source may have.
 pub const MAX_SOURCE_BYTES: usize = 1_048_576;
@@ -28,10 +28,8 @@ pub fn assemble<'s>(alloc: Global, text: &'s [u8]) -> Result<Program<'s>, Refuse
         return Err(fault_at(1, AsmKind::SourceTooLong));
     }
     let mut draft = Draft::new(alloc);
-    match add_lines(&mut draft, text) {
-        Ok(start) => Ok(draft.into_program(alloc, start)?),
-        Err(refused) => Err(refused),
-    }
+    let start = add_lines(&mut draft, text)?;
+    Ok(draft.into_program(alloc, start)?)
 }
 
 // The lines of a text up to END, which gives the start of their program.
@@ -43,10 +41,9 @@ fn add_lines<'s>(draft: &mut Draft<'s>, text: &'s [u8]) -> Result<Place, Refused
     let mut rest = text;
     while !rest.is_empty() {
         let (line, after) = split_line(rest);
-        match add_line(draft, line) {
-            Ok(None) => rest = after,
-            Ok(Some(start)) => return Ok(start),
-            Err(refused) => return Err(refused),
+        match add_line(draft, line)? {
+            None => rest = after,
+            Some(start) => return Ok(start),
         }
     }
     Err(fault_at(draft.number(), AsmKind::NoEnd))

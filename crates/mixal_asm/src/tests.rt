@@ -4,4 +4,5 @@ mod limits;
 mod listings;
 mod names;
 mod programs;
+mod sources;
 mod waiting;

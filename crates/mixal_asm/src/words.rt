@@ -1,19 +1,34 @@
-//! The emitted words (1.3.2), those that wait for a name included.
-ghost use Rattle.std.specs.Prelude.{◌≡◌, ◌<◌, ◌≤◌, ◌+◌, ◌++◌, [], ◌∷◌, length, map, slice_get, count_by, option_copied, IsTrue, IfOk, OnOk, OnErr, vec_len, vec_capacity};
-ghost use Rattle.mixal_asm.specs.PassOne.{is_awaited};
+//! The emitted words (1.3.2). Those that wait for a name are linked into its chain.
+ghost use Rattle.std.specs.Prelude.{◌≡◌, ◌<◌, ◌≤◌, ◌+◌, ◌++◌, [], ◌∷◌, length, map, slice_get, count_by, option_copied, IfSome, IsTrue, IfOk, OnOk, OnErr, vec_len, vec_capacity};
+ghost use Rattle.mixal_asm.specs.PassOne.{is_awaited, with_address};
 ghost use Rattle.mixal_asm.specs.Assembly.{first_uses, references_in, is_reference, is_waiting};
-ghost use Rattle.mixal_asm.specs.Chain.{IsUsed, last_use};
+ghost use Rattle.mixal_asm.specs.Chain.{IsLinked, IsUsed, closed, last_below, last_use, links_of};
 
-use crate::chain::Entry;
-use crate::close::close;
-use crate::emitted::Emitted;
 use crate::key::Key;
 use crate::names::NameTable;
 use indexmap::IndexMap;
-use mix_word::{Place, Word};
+use mix_refused::Memory;
+use mix_word::{Parts, Place, Word};
 use std::alloc::{AllocError, Global};
 use std::marker::Model;
-use undo_core::Memory;
+
+/// A word that a line emits (1.3.2): its place, the word, and the name whose value is its address, where that was not known
+/// on its line. Until then the address is +0.
+#[derive(Drop)]
+pub(crate) struct Emitted {
+    pub place: Place,
+    pub word: Word,
+    pub awaits: Option<Key>,
+}
+
+/// An emitted word: as it was emitted, as it is by the names that have a value, and which word before it waits for the same
+/// name, if it waits for one.
+#[derive(Drop)]
+pub(crate) struct Entry {
+    pub emitted: Emitted,
+    pub word: Word,
+    pub before: Option<usize>,
+}
 
 /// The emitted words in the order of their lines, each finished as far as names have values.
 pub(crate) struct WordList {
@@ -138,6 +153,33 @@ impl WordList {
             .iter()
             .filter(|entry| is_waiting(names, &entry.emitted.awaits))
             .count()
+    }
+}
+
+/// An instruction with this value as its address, which fits two bytes.
+pub(crate) fn with_address(word: Word, value: Word) -> Word
+    requires { value.magnitude < 4096 }
+    ensures { result ≡ with_address word value }
+{
+    Word::join(Parts {
+        sign: value.sign(),
+        address: value.magnitude() as u16,
+        ..word.parts()
+    })
+}
+
+// Gives all words that wait for a name its value as their address, from the last one back along the links.
+fn close(entries: &mut Vec<Entry>, name: &Key, last: Option<usize>, value: Word)
+    requires linked { IsLinked (links_of entries.old.items) }
+    requires last { last ≡ last_below name.now (links_of entries.old.items) (length entries.old.items) }
+    requires fits { IfSome last (λ _. value.magnitude < 4096) }
+    ensures { entries.new.items ≡ map (closed name.now value) entries.old.items }
+{
+    let mut next = last;
+    while let Some(at) = next {
+        let entry = &mut entries[at];
+        entry.word = with_address(entry.emitted.word, value);
+        next = entry.before;
     }
 }
 

@@ -1,8 +1,8 @@
 -- The numbers that stand beside an expression (1.3.2): an index, an F, a field. Each is an expression of its own.
-use Rattle.std.specs.Prelude.{ℕ, ◌==◌, nat_le, Bool, ℤ, pos, negsuc, List, [], ◌∷◌, Option, Some, None, option_and_then, ok_or, Result, Ok, Err, if◌then◌else◌}
+use Rattle.std.specs.Prelude.{ℕ, ◌==◌, nat_le, Bool, List, [], ◌∷◌, Option, Some, None, option_and_then, ok_or, Result, Ok, Err, if◌then◌else◌}
 use Rattle.std.specs.List.{list_any, before_first, after_first, position_or_len}
 use Rattle.std.specs.Prelude.{drop}
-use Rattle.mix_word.specs.Word.{WordValue, number_of}
+use Rattle.mix_word.specs.Word.{WordValue, natural_of}
 use Rattle.mixal_text.specs.declared.fault.TextFault.{TextFault}
 use Rattle.mixal_text.specs.declared.fault.TextFault.TheVariants.{BadExpression, PartOutOfRange}
 use Rattle.mixal_text.specs.Steps.{◌>>=◌}
@@ -23,18 +23,13 @@ is_comma byte = byte == 44
 abbrev pub from_first : (ℕ → Bool) → List ℕ → List ℕ
 from_first test text = drop (position_or_len test text) text
 
--- a number that is not negative; -0 counts as 0
-abbrev pub natural_of : ℤ → Option ℕ
-natural_of (pos n) = Some n
-natural_of (negsuc n) = None
-
 -- a number from 0 to a limit
 abbrev pub up_to : ℕ → ℕ → Option ℕ
 up_to limit n = if nat_le n limit then Some n else None
 
 -- what a part makes of the number of a value, or a part out of range
 abbrev pub part_or_fault : {A : Type 0} → (ℕ → Option A) → WordValue → Result A TextFault
-part_or_fault takes value = ok_or (option_and_then takes (natural_of (number_of value))) PartOutOfRange
+part_or_fault takes value = ok_or (option_and_then takes (natural_of value)) PartOutOfRange
 
 -- a text that may only be empty; what is left over is a bad expression
 abbrev pub nothing_left : {A : Type 0} → List ℕ → A → Result A TextFault

@@ -52,13 +52,10 @@ fn value_after_sign(sign: Option<Sign>, value: Word) -> Word
     }
 }
 
-/// The value of a text that is one expression and nothing else; what is left over is A5.
+/// The value of a text that is one expression and nothing else (1.3.2). The first fault of the expression is the answer; what
+/// is left over after it is A5.
 #[tactic(auto, unfolding(crate::specs::Expression::whole_expression))]
-pub(crate) fn whole_expression<N: Names>(
-    text: &[u8],
-    names: &N,
-    here: Word,
-) -> Result<Word, TextFault>
+pub fn whole_expression<N: Names>(text: &[u8], names: &N, here: Word) -> Result<Word, TextFault>
     ensures { result ≡ whole_expression (N.names names.now) here text.now }
 {
     let (value, used) = expression(text, names, here)?;

@@ -21,7 +21,7 @@ mod w_values;
 mod words;
 
 pub use addresses::{APart, Operand, address};
-pub use expressions::expression;
+pub use expressions::{expression, whole_expression};
 pub use fault::TextFault;
 pub use label::Label;
 pub use line::{Line, read_line};

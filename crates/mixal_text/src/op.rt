@@ -3,7 +3,7 @@ ghost use Rattle.std.specs.Prelude.{◌≡◌};
 ghost use Rattle.std.specs.Str.{str_to_ascii_uppercase};
 ghost use Rattle.mixal_text.specs.Op.{mnemonic_of, is_without_operand};
 
-use mix_word::{LONGEST_NAME, Operation, Word, long_name_law, named};
+use mix_word::{MAX_LETTERS, Operation, Uses, Word, long_name_law, named};
 
 /// What a line does (1.3.2): a symbolic operation of MIX, by its code C and the F that it has where none is written, both
 /// 0 to 63; or a pseudo-operation, ALF with the word of its five characters.
@@ -33,11 +33,11 @@ impl Mnemonic {
     pub(crate) fn of(name: &[u8]) -> Option<Mnemonic>
         ensures { result ≡ mnemonic_of (str_to_ascii_uppercase name.now) }
     {
-        if name.len() > LONGEST_NAME {
+        if name.len() > MAX_LETTERS {
             long_name_law();
             return None;
         }
-        let mut letters = [0; LONGEST_NAME];
+        let mut letters = [0; MAX_LETTERS];
         let capitals = &mut letters[..name.len()];
         capitals.copy_from_slice(name);
         capitals.make_ascii_uppercase();
@@ -63,5 +63,5 @@ impl Mnemonic {
 pub(crate) fn is_without_operand(operation: Operation) -> bool
     ensures { result ≡ is_without_operand operation }
 {
-    matches!(operation, Operation::Num | Operation::Char | Operation::Hlt)
+    matches!(operation.uses(), Uses::FAlone)
 }

@@ -1,14 +1,13 @@
 //! The numbers that stand beside an expression (1.3.2): an index, an F, a field.
 ghost use Rattle.std.specs.Prelude.{◌≡◌, ◌≤◌, IfOk, MatchOption, MatchResult, Ok, Err, [], length, option_map, position};
 ghost use Rattle.std.specs.List.{after_first, before_first, list_any, position_or_len};
-ghost use Rattle.mix_word.specs.Word.{number_of};
 ghost use Rattle.mix_word.specs.Field.{field_of};
-ghost use Rattle.mixal_text.specs.Part.{is_open, is_close, natural_of, up_to, part_or_fault, from_first, value_before_close, nothing_left};
+ghost use Rattle.mixal_text.specs.Part.{is_open, is_close, up_to, part_or_fault, from_first, value_before_close, nothing_left};
 
 use crate::expressions::whole_expression;
 use crate::fault::TextFault;
 use crate::names::Names;
-use mix_word::{Field, Sign, Word};
+use mix_word::{Field, Word};
 
 /// The value of an expression that a closing bracket ends. No bracket is A5.
 #[tactic(auto, using(crate::proofs::PartLemmas::cuts), unfolding(crate::specs::Part::value_before_close))]
@@ -67,7 +66,7 @@ fn open_in(text: &[u8]) -> Option<usize>
 pub(crate) fn field_of_value(value: Word) -> Result<Field, TextFault>
     ensures { result ≡ part_or_fault field_of value }
 {
-    match natural(value) {
+    match value.natural() {
         Some(code) if code <= 63 => Field::of(code as u8).ok_or(TextFault::PartOutOfRange),
         _ => Err(TextFault::PartOutOfRange),
     }
@@ -78,24 +77,9 @@ pub(crate) fn number_up_to(limit: u8, value: Word) -> Result<u8, TextFault>
     ensures value { result ≡ part_or_fault (up_to limit) value }
     ensures bound { IfOk result (λ n. n ≤ limit) }
 {
-    match natural(value) {
+    match value.natural() {
         Some(n) if n <= u32::from(limit) => Ok(n as u8),
         _ => Err(TextFault::PartOutOfRange),
-    }
-}
-
-fn natural(value: Word) -> Option<u32>
-    ensures { result ≡ natural_of (number_of value) }
-{
-    match value.sign() {
-        Sign::Plus => Some(value.magnitude()),
-        Sign::Minus => {
-            if value.magnitude() == 0 {
-                Some(0)
-            } else {
-                None
-            }
-        }
     }
 }
 

@@ -1,12 +1,9 @@
 //! The program: what its words ask for, from files or standard input to standard output.
 #![tactic(auto)]
 
-use mix_tool::{Counted, LineFault, ToolFault, line_status, read_words, run_plan};
+use mix_tool::{Counted, FAILED, LineFault, ToolFault, line_status, read_words, run_plan};
 use std::process::ExitCode;
 use std::{env, fmt, io};
-
-/// The status of words that cannot be read.
-const FAILED: u8 = 2;
 
 fn main(rt: HostRuntime) -> ExitCode {
     match words(&rt) {
@@ -39,22 +36,18 @@ fn run(rt: &HostRuntime, words: &[String]) -> ExitCode {
             let status = run_plan(rt, rt.alloc(), &plan, &mut input, &mut output, &mut errors);
             ExitCode::from(status)
         }
-        Err(fault) => {
-            tell(rt, &fault);
-            ExitCode::from(line_status(&fault))
-        }
+        Err(fault) => tell(rt, &fault),
     }
 }
 
 // Help goes to standard output, a mistake to standard error; where the write fails, the status alone says so.
-fn tell(rt: &HostRuntime, fault: &LineFault) {
+fn tell(rt: &HostRuntime, fault: &LineFault) -> ExitCode {
     match fault {
         LineFault::Line(error) => {
             let _ = error.print(rt);
+            ExitCode::from(line_status(fault))
         }
-        LineFault::Memory => {
-            let _ = eprintln!(rt; "mixrev: {}", ToolFault::Memory);
-        }
+        LineFault::Memory => report(rt, ToolFault::Memory),
     }
 }
 

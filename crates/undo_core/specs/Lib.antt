@@ -1,4 +1,3 @@
 pub mod History
 pub mod Leads
-pub mod Refused
 pub mod Replay

@@ -1,11 +1,11 @@
 //! The changes done on a state, each of which can be taken back and done again.
 ghost use Rattle.std.specs.Prelude.{◌≡◌, ◌+◌, ◌-◌, ◌<◌, ◌↔◌, ◌++◌, [], ◌∷◌, length, take, drop, vec_len, vec_capacity, Some, Ok, Err, IsSome, IsTrue, OnOk, OnErr, IfOk};
 ghost use Rattle.std.specs.Bool.{OnFalse};
-ghost use Rattle.undo_core.specs.Refused.{IfFault};
+ghost use Rattle.mix_refused.specs.Refused.{IfFault};
 ghost use Rattle.undo_core.specs.Replay.{replay, count_kept};
 
-use crate::refused::{Memory, Refused};
 use crate::undo::Undo;
+use mix_refused::{Memory, Refused};
 use std::alloc::Global;
 use std::marker::Model;
 

@@ -2,11 +2,10 @@
 #![tactic(auto)]
 
 mod journal;
-mod refused;
 mod undo;
 
 pub use journal::Journal;
-pub use refused::{Memory, Refused};
+pub use mix_refused::{Memory, Refused};
 pub use undo::Undo;
 
 #[cfg(test)]

@@ -3,7 +3,6 @@ ghost use Rattle.std.specs.Prelude.{◌≡◌, ◌+◌, [], ◌∷◌, Some, Ok,
 ghost use Rattle.undo_core.specs.declared.tests.CounterFault.TheVariants.{PastNine};
 
 use crate::{Journal, Memory, Refused, Undo};
-use std::alloc::AllocError;
 use std::test::Fail;
 
 #[derive(Clone, Copy, Debug, PartialEq, Eq)]
@@ -153,11 +152,4 @@ fn many_changes(rt: HostRuntime) {
     }
     assert_eq!(rt; journal.kept_len(), 0);
     assert_eq!(rt; journal.ahead(), 100_000);
-}
-
-#[test]
-fn want_of_memory(rt: HostRuntime) {
-    assert_eq!(rt; Memory::from(AllocError), Memory);
-    assert_eq!(rt; Refused::<u8>::from(AllocError), Refused::Memory);
-    assert_eq!(rt; Refused::<u8>::from(Memory), Refused::Memory);
 }

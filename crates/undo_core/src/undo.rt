@@ -1,9 +1,9 @@
 //! A state whose changes can be taken back by the values that they overwrote.
 ghost use Rattle.std.specs.Prelude.{◌≡◌, ◌≤◌, ◌++◌, List, Option, Result, Some, Ok, Err, IsOk, IsSome, OnOk, OnErr, vec_len, take, drop};
-ghost use Rattle.undo_core.specs.Refused.{IfFault, IfMemory};
+ghost use Rattle.mix_refused.specs.Refused.{IfFault, IfMemory};
 ghost use Rattle.undo_core.specs.Replay.{put_back};
 
-use crate::refused::Refused;
+use mix_refused::Refused;
 
 /// A state, its changes, and the old values that take a change back.
 pub trait Undo: Drop {

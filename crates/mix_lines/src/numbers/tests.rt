@@ -23,6 +23,22 @@ fn reads_numbers_of_one_to_ten_digits(rt: HostRuntime) {
     }
 }
 
+const LONG: [(&[u8], Option<u64>); 6] = [
+    (b"0", Some(0)),
+    (b"00000000001", Some(1)),
+    (b"999999999999999999", Some(999_999_999_999_999_999)),
+    (b"0999999999999999999", None),
+    (b"12345678901234567/", None),
+    (b"", None),
+];
+
+#[test]
+fn reads_numbers_of_up_to_eighteen_digits(rt: HostRuntime) {
+    for (text, value) in LONG {
+        assert_eq!(rt; long_number(text), value, "{text:?}");
+    }
+}
+
 const DIGITS: [(&[u8], bool); 4] = [
     (b"", false),
     (b"0123456789", true),
@@ -34,30 +50,5 @@ const DIGITS: [(&[u8], bool); 4] = [
 fn knows_digits(rt: HostRuntime) {
     for (text, answer) in DIGITS {
         assert_eq!(rt; all_digits(text), answer, "{text:?}");
-    }
-}
-
-const SIGNED: [(&[u8], Option<(bool, u64)>); 14] = [
-    (b"0", Some((false, 0))),
-    (b"+0", Some((false, 0))),
-    (b"-0", Some((true, 0))),
-    (b"12", Some((false, 12))),
-    (b"+012", Some((false, 12))),
-    (b"-5", Some((true, 5))),
-    (b"-9999999999", Some((true, 9_999_999_999))),
-    (b"-00000000001", None),
-    (b"", None),
-    (b"+", None),
-    (b"-", None),
-    (b"--1", None),
-    (b"5-", None),
-    (b" -5", None),
-];
-
-#[test]
-fn reads_signed_numbers(rt: HostRuntime) {
-    for (text, value) in SIGNED {
-        let read = signed_number(text).map(|n| (n.negative, n.magnitude));
-        assert_eq!(rt; read, value, "{text:?}");
     }
 }

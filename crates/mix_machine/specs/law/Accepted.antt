@@ -4,7 +4,6 @@ use Rattle.std.proofs.Common.{ap, arith}
 use Rattle.std.proofs.lemmas.Bool.Decides.{nat_tests}
 use Rattle.mix_word.specs.Word.{WordValue, plus}
 use Rattle.mix_word.specs.Arithmetic.{sum_of}
-use Rattle.mix_word.specs.Needs.{needs_unit}
 use Rattle.mix_word.specs.declared.register.DataReg.{DataReg}
 use Rattle.mix_word.specs.declared.register.DataReg.TheVariants.{A, I1, I2, I3, I4, I5, I6, X}
 use Rattle.mix_word.specs.declared.operation.ShiftKind.{ShiftKind}
@@ -16,7 +15,7 @@ use Rattle.mix_word.specs.declared.operation.Operation.TheVariants.{Div, Num, Ad
 use Rattle.mix_machine.specs.World.{WorldState, IsWorld, unit_at, last_clock}
 use Rattle.mix_machine.specs.Jump.{jump_writes}
 use Rattle.mix_machine.specs.Effects.{effects, reaches, sum_into, shift_into, quotient_into, copy_of, transfer_of}
-use Rattle.mix_machine.specs.UnitAction.{use_of, transfer_start, transfer_end, block_at, wound, wrong_direction, bad_order, bad_control, no_block, unit_full, marks_page}
+use Rattle.mix_machine.specs.UnitAction.{use_of, needs_unit, transfer_start, transfer_end, block_at, wound, wrong_direction, bad_order, bad_control, no_block, unit_full, marks_page}
 use Rattle.mix_machine.specs.Order.{clock_after}
 use Rattle.mix_machine.specs.units.Kind.{block_length, has_medium, has_output}
 use Rattle.mix_machine.specs.units.Unit.{UnitState, IsUnit, most_entries, last_until}

@@ -39,26 +39,25 @@ pub record Passed (test : MixFault → Bool) : Type 0 where
   pub full : test UnitFull ≡ false
   pub clock : test ClockFull ≡ false
 
+named : (test : MixFault → Bool) → PassesAll test order → Passed test
+named test (location, (operation, (floating, (index, (address, (field, (shift, (unit, (direction, (control, (cell, (overflow, (block, (full, (clock, _))))))))))))))) =
+    record {
+      location = location;
+      operation = operation;
+      floating = floating;
+      index = index;
+      address = address;
+      field = field;
+      shift = shift;
+      unit = unit;
+      direction = direction;
+      control = control;
+      cell = cell;
+      overflow = overflow;
+      block = block;
+      full = full;
+      clock = clock;
+    }
+
 pub passed : {X : Type 0} (test : MixFault → Bool) (x y : X) → first_fault test order x ≡ Ok y → Passed test × (x ≡ y)
-passed test x y h =
-    let all = passes_all test order x y h in
-    let p = all.0 in (
-      record {
-        location = p.0;
-        operation = p.1.0;
-        floating = p.1.1.0;
-        index = p.1.1.1.0;
-        address = p.1.1.1.1.0;
-        field = p.1.1.1.1.1.0;
-        shift = p.1.1.1.1.1.1.0;
-        unit = p.1.1.1.1.1.1.1.0;
-        direction = p.1.1.1.1.1.1.1.1.0;
-        control = p.1.1.1.1.1.1.1.1.1.0;
-        cell = p.1.1.1.1.1.1.1.1.1.1.0;
-        overflow = p.1.1.1.1.1.1.1.1.1.1.1.0;
-        block = p.1.1.1.1.1.1.1.1.1.1.1.1.0;
-        full = p.1.1.1.1.1.1.1.1.1.1.1.1.1.0;
-        clock = p.1.1.1.1.1.1.1.1.1.1.1.1.1.1.0;
-      },
-      all.1,
-    )
+passed test x y h = let all = passes_all test order x y h in (named test all.0, all.1)

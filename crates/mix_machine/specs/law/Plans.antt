@@ -1,17 +1,17 @@
 -- The plan of an accepted change: its writes fit.
-use Rattle.std.specs.Prelude.{ℕ, zero, suc, ◌+◌, ◌-◌, true, false, Bool, not, ◌&&◌, cond, nat_le, nat_lt, List, [], ◌∷◌, ◌++◌, length, slice_index_or, None, ◌≡◌, ◌<◌, ◌≤◌, IsTrue, refl}
-use Rattle.std.proofs.Common.{ap, ◌∙◌, arith}
+use Rattle.std.specs.Prelude.{ℕ, zero, suc, ◌+◌, ◌-◌, true, false, Bool, not, ◌&&◌, cond, nat_le, nat_lt, List, [], ◌∷◌, ◌++◌, length, None, ◌≡◌, ◌<◌, ◌≤◌, IsTrue, refl}
+use Rattle.std.proofs.Common.{ap, arith}
 use Rattle.std.proofs.lemmas.Bool.Decides.{nat_tests}
-use Rattle.mix_word.specs.Word.{WordValue, zero_word}
+use Rattle.mix_word.specs.Word.{WordValue}
 use Rattle.mix_machine.specs.World.{WorldState, IsWorld, cell_of, unit_at, last_clock}
 use Rattle.mix_machine.specs.UnitAction.{transfer_end, marks_page}
 use Rattle.mix_machine.specs.units.Kind.{block_length, has_place, has_medium, has_output}
-use Rattle.mix_machine.specs.units.Unit.{UnitState, word_of, most_entries, last_until}
+use Rattle.mix_machine.specs.units.Unit.{word_of, most_entries, last_until}
 use Rattle.mix_machine.specs.units.Row.{RowState, row_of}
 use Rattle.mix_machine.specs.units.Units.{UnitsState, AreUnits, unit_of, fits_place, fits_item, fits_until, set_until}
 use Rattle.mix_machine.specs.declared.units.kind.Kind.{Kind}
 use Rattle.mix_machine.specs.declared.units.kind.Kind.TheVariants.{Tape, Disk, CardReader, CardPunch, Printer, Typewriter, PaperTape}
-use Rattle.mix_machine.specs.Write.{set_value, fits, Write, set, grow, print, written, write_all, each, busy, place_after, from_block, from_cell, copies, input_writes, words_out, replace_writes, append_writes, row_writes, output_writes, control_writes, writes_in, writes_of}
+use Rattle.mix_machine.specs.Write.{set_value, fits, Write, set, grow, print, written, write_all, each, busy, place_after, from_cell, copies, input_writes, words_out, replace_writes, append_writes, row_writes, output_writes, control_writes, writes_in, writes_of}
 use Rattle.mix_machine.specs.Order.{all_fit}
 use Rattle.mix_machine.specs.law.Fits.{is_length, write_fits, AllFit, world-set_value}
 use Rattle.mix_machine.specs.law.Units.{unit-with, fits-item-after, fits-item-moved, fits-place-grown}
@@ -118,7 +118,7 @@ items-placed : (b : Bool) (w : WorldState) (t : Transfer) (j : ℕ) → IsWorld 
 items-placed true w t j h l f = fits-item-moved w.units t.unit (t.block + 1) t.block j h.units l f
 items-placed false w t j h l f = f
 
-world-place : (b : Bool) (w : WorldState) (t : Transfer) → IsWorld w → (b ≡ true → IsTrue (fits w (At t.unit (t.block + 1)))) →
+pub world-place : (b : Bool) (w : WorldState) (t : Transfer) → IsWorld w → (b ≡ true → IsTrue (fits w (At t.unit (t.block + 1)))) →
     IsWorld (write_all w (cond b (set (At t.unit (t.block + 1)) ∷ []) []))
 world-place true w t h f = world-set_value w (At t.unit (t.block + 1)) h (f refl)
 world-place false w t h f = h
@@ -157,31 +157,6 @@ items-ready w t h f m block j l =
     let world = world-place (has_place kind) w t h (λ p. fits-place-in w t.unit (t.block + 1) f.unit p (omega arith)) in
     fits-item-timed (write_all w (place_after kind t)).units t.unit (transfer_end w t.unit) t.block j world.units f.unit
     (items-placed (has_place kind) w t j h f.unit (fits-item-in w t.unit t.block j f.unit m block l))
-
-unit-placed : (b : Bool) (w : WorldState) (t : Transfer) → IsWorld w → t.unit < 21 →
-    ((unit_at (write_all w (cond b (set (At t.unit (t.block + 1)) ∷ []) [])) t.unit).blocks ≡ (unit_at w t.unit).blocks)
-    × ((unit_at (write_all w (cond b (set (At t.unit (t.block + 1)) ∷ []) [])) t.unit).kind ≡ (unit_at w t.unit).kind)
-unit-placed true w t h l =
-    let same = unit-with w.units t.unit (record (unit_at w t.unit) { place = t.block + 1 }) h.units l in
-    (ap (λ (u : UnitState). u.blocks) same, ap (λ (u : UnitState). u.kind) same)
-unit-placed false w t h l = (refl, refl)
-
--- the blocks of the unit are those before
-pub unit-ready : (w : WorldState) (t : Transfer) → IsWorld w → InputFits w t →
-    ((unit_at (ready w t) t.unit).blocks ≡ (unit_at w t.unit).blocks) × ((unit_at (ready w t) t.unit).kind ≡ (unit_at w t.unit).kind)
-unit-ready w t h f =
-    let kind = (unit_at w t.unit).kind in
-    let block = f.block in
-    let world = world-place (has_place kind) w t h (λ p. fits-place-in w t.unit (t.block + 1) f.unit p (omega arith)) in
-    let placed = write_all w (place_after kind t) in
-    let same = unit-with placed.units t.unit (record (unit_at placed t.unit) { until = transfer_end w t.unit }) world.units f.unit in
-    let before = unit-placed (has_place kind) w t h f.unit in
-    (ap (λ (u : UnitState). u.blocks) same ∙ before.0, ap (λ (u : UnitState). u.kind) same ∙ before.1)
-
-pub same-words : (size : ℕ) (w v : WorldState) (t : Transfer) → (unit_at v t.unit).blocks ≡ (unit_at w t.unit).blocks →
-    each size 0 (from_block v t) ≡ each size 0 (from_block w t)
-same-words size w v t e =
-    ap (λ (bs : List (List WordValue)). each size 0 (λ j. Cell (t.cell + j) (slice_index_or (slice_index_or bs t.block []) j zero_word))) e
 
 -- OUT
 fit-replace : (w : WorldState) (t : Transfer) → IsWorld w → OutputFits w t → has_medium (unit_at w t.unit).kind ≡ true →

@@ -13,7 +13,7 @@ use crate::old::Old;
 use crate::plan::{Effects, Outcome, Plan};
 use crate::units::UnitNo;
 use crate::world::World;
-use mix_word::Operation;
+use mix_word::{Operation, UnitUse, Uses};
 use undo_core::Refused;
 
 const LAST_CLOCK: u64 = 1_000_000_000_000_000_000;
@@ -92,16 +92,12 @@ impl World {
         ensures is { result ≡ start_of (use_of operation) self.now f }
         ensures bound { result < 2 ^ 63 }
     {
-        match operation {
-            Operation::Ioc | Operation::In | Operation::Out => self.transfer_start(f),
-            Operation::Nop | Operation::Num | Operation::Char | Operation::Hlt => self.clock,
-            Operation::Add | Operation::Sub | Operation::Mul | Operation::Div => self.clock,
-            Operation::Shift(_) | Operation::Move | Operation::Jbus | Operation::Jred => self.clock,
-            Operation::Load(_) | Operation::LoadNegated(_) | Operation::Store(_) => self.clock,
-            Operation::StoreJ | Operation::StoreZero | Operation::Compare(_) => self.clock,
-            Operation::Jump(_) | Operation::RegisterJump(_, _) => self.clock,
-            Operation::Increase(_) | Operation::Decrease(_) => self.clock,
-            Operation::Enter(_) | Operation::EnterNegated(_) => self.clock,
+        match operation.uses() {
+            Uses::Unit(UnitUse::Controls | UnitUse::Reads | UnitUse::Writes) => {
+                self.transfer_start(f)
+            }
+            Uses::Unit(UnitUse::Looks) | Uses::Nothing | Uses::FAlone => self.clock,
+            Uses::Address | Uses::Count | Uses::Operand | Uses::Cells => self.clock,
         }
     }
 

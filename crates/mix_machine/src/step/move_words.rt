@@ -37,6 +37,8 @@ impl World {
 pub(crate) fn is_row(word: Word, count: u8) -> bool
     ensures { result ≡ is_row word count }
 {
-    let number = word.magnitude();
-    (word.sign() == Sign::Plus || number == 0) && number + u32::from(count) <= u32::from(CELLS)
+    match word.natural() {
+        Some(number) => number + u32::from(count) <= u32::from(CELLS),
+        None => false,
+    }
 }

@@ -1,7 +1,6 @@
 //! IN, OUT, IOC, JBUS and JRED (1.3.1, "Input-output operators"): what they ask of the unit F, and what they move.
 ghost use Rattle.std.specs.Prelude.{◌≡◌, ◌<◌, ◌≤◌, ◌↔◌, ◌==◌, not, ◌||◌, ◌&&◌, Ok, Err, IsTrue, IsSome, IfSome, length, nat_lt, nat_le, true, false, if◌then◌else◌};
 ghost use Rattle.mix_machine.specs.World.{unit_at};
-ghost use Rattle.mix_machine.specs.Decode.{is_natural};
 ghost use Rattle.mix_machine.specs.UnitAction.{is_busy, block_at, names_block, wound, bad_order};
 ghost use Rattle.mix_machine.specs.Effects.{effects};
 ghost use Rattle.mix_machine.specs.law.Stages.{outcome_of};
@@ -17,7 +16,7 @@ use crate::step::move_words::is_row;
 use crate::step::transfer::goes_on;
 use crate::units::{Kind, Unit, UnitNo};
 use crate::world::World;
-use mix_word::{Operation, Reg, Sign, Word};
+use mix_word::{Operation, Reg, Sign};
 
 // The most blocks, and the most rows, that a unit holds.
 const MOST_ENTRIES: u16 = 1000;
@@ -166,12 +165,7 @@ impl World {
         if !unit.kind().has_medium() {
             return Some(0);
         }
-        let x = self.register(Reg::X);
-        if x.sign() == Sign::Plus || x.magnitude() == 0 {
-            Some(x.magnitude())
-        } else {
-            None
-        }
+        self.register(Reg::X).natural()
     }
 }
 

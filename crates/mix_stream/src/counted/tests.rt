@@ -1,7 +1,8 @@
 //! What no clause says of a counted reader and writer: each call is one call of the inner one, and its answer is passed on.
 ghost use Rattle.std.specs.Prelude.{◌≡◌, IfOk};
 
-use crate::{Counted, Failed, In, Out, ReadFault, read_up_to, write_all};
+use crate::{Counted, Failed, In, Out, read_up_to, write_all};
+use mix_refused::Refused;
 use std::io;
 use std::io::{ErrorKind, Read, Write};
 use std::test::Fail;
@@ -146,7 +147,7 @@ fn a_failed_read_is_not_tried_again(rt: HostRuntime) {
     for (failing, calls) in CALLS {
         let mut source = Counted::of(Device::of(failing));
         let outcome = read_up_to(rt.alloc(), &mut source, 10_000);
-        let failed = matches!(&outcome, Err(ReadFault::Failed));
+        let failed = matches!(&outcome, Err(Refused::Fault(Failed)));
         assert_eq!(rt; failed, failing > 0, "{failing}");
         assert_eq!(rt; source.inner.calls, calls, "{failing}");
     }

@@ -1,9 +1,8 @@
-use super::{Bytes, Minus, Plus, number, word};
+use super::{Bytes, Minus, Plus, field, number, word};
 use crate::display::Short;
 use crate::field::Field;
 use crate::place::Place;
 use crate::word::{Parts, Sign, Word};
-use std::collections::HashSet;
 use std::test::Fail;
 
 // The cell 2000 of the book's examples of LDA, and its field of each code.
@@ -19,12 +18,13 @@ const LOADED: [(u8, Bytes); 6] = [
 ];
 
 #[test]
-fn field_values(rt: HostRuntime) -> Result<(), Fail> {
+fn field_values(rt: HostRuntime) {
     for (code, want) in LOADED {
-        let field = Field::of(code).ok_or("a field")?;
-        assert_eq!(rt; word(CELL).field_value(field), word(want), "field {code}");
+        assert!(rt;
+            word(CELL).field_value(field(code)) == word(want),
+            "field {code}"
+        );
     }
-    Ok(())
 }
 
 // The book's examples of STA: the cell - 1 2 3 4 5, and rA + 6 7 8 9 0.
@@ -38,14 +38,15 @@ const STORED: [(u8, Bytes); 6] = [
 ];
 
 #[test]
-fn fields_put(rt: HostRuntime) -> Result<(), Fail> {
+fn fields_put(rt: HostRuntime) {
     let cell = word((Minus, [1, 2, 3, 4, 5]));
     let value = word((Plus, [6, 7, 8, 9, 0]));
     for (code, want) in STORED {
-        let field = Field::of(code).ok_or("a field")?;
-        assert_eq!(rt; cell.put_field(field, value), word(want), "field {code}");
+        assert!(rt;
+            cell.put_field(field(code), value) == word(want),
+            "field {code}"
+        );
     }
-    Ok(())
 }
 
 const FIELDS: [(u8, Option<(u8, u8)>); 7] = [
@@ -61,10 +62,14 @@ const FIELDS: [(u8, Option<(u8, u8)>); 7] = [
 #[test]
 fn fields_of_codes(rt: HostRuntime) {
     for (code, want) in FIELDS {
-        let ends = Field::of(code).map(|f| (f.left(), f.right()));
-        assert_eq!(rt; ends, want, "code {code}");
+        assert!(rt; ends_of(code) == want, "code {code}");
     }
-    assert_eq!(rt; Some(Field::whole()), Field::of(5));
+    assert!(rt; Some(Field::whole()) == Field::of(5));
+}
+
+fn ends_of(code: u8) -> Option<(u8, u8)> {
+    let field = Field::of(code)?;
+    Some((field.left(), field.right()))
 }
 
 // The two ends, and the code of the field.
@@ -83,61 +88,41 @@ const ENDS: [(u8, u8, Option<u8>); 9] = [
 #[test]
 fn fields_of_ends(rt: HostRuntime) {
     for (left, right, want) in ENDS {
-        let code = Field::new(left, right).map(|f| f.code());
-        assert_eq!(rt; code, want, "({left}:{right})");
+        assert!(rt; code_between(left, right) == want, "({left}:{right})");
     }
 }
 
+fn code_between(left: u8, right: u8) -> Option<u8> {
+    Some(Field::new(left, right)?.code())
+}
+
+#[rattlefmt::skip]
 const PARTS: [(Parts, Bytes, u32); 2] = [
-    (
-        Parts {
-            sign: Plus,
-            address: 2000,
-            index: 2,
-            f: 3,
-            code: 8,
-        },
-        (Plus, [31, 16, 2, 3, 8]),
-        524_296_392,
-    ),
-    (
-        Parts {
-            sign: Minus,
-            address: 0,
-            index: 0,
-            f: 0,
-            code: 0,
-        },
-        (Minus, [0, 0, 0, 0, 0]),
-        0,
-    ),
+    (Parts { sign: Plus, address: 2000, index: 2, f: 3, code: 8 }, (Plus, [31, 16, 2, 3, 8]), 524_296_392),
+    (Parts { sign: Minus, address: 0, index: 0, f: 0, code: 0 }, (Minus, [0, 0, 0, 0, 0]), 0),
 ];
 
 #[test]
 fn parts_of_words(rt: HostRuntime) {
     for (parts, bytes, magnitude) in PARTS {
-        assert_eq!(rt; word(bytes).parts(), parts, "{bytes:?}");
-        assert_eq!(rt; word(bytes).magnitude(), magnitude, "{bytes:?}");
+        let value = word(bytes);
+        let read = value.parts() == parts && value.magnitude() == magnitude;
+        assert!(rt; read && is_join(value, parts), "{value}");
     }
 }
 
-#[test]
-fn words_of_parts(rt: HostRuntime) {
-    for (parts, bytes, _) in PARTS {
-        if parts.address < 4096 && parts.index < 64 && parts.f < 64 && parts.code < 64 {
-            assert_eq!(rt; Word::join(parts), word(bytes), "{parts:?}");
-        } else {
-            assert!(rt; false, "{parts:?}");
-        }
-    }
+fn is_join(value: Word, parts: Parts) -> bool {
+    let low = parts.index < 64 && parts.f < 64 && parts.code < 64;
+    parts.address < 4096 && low && Word::join(parts) == value
 }
 
 #[test]
 fn two_zeros(rt: HostRuntime) {
     let negative = Word::of(Minus, 0);
-    assert_ne!(rt; negative, Word::of(Plus, 0));
-    assert_eq!(rt; negative.negated(), Word::of(Plus, 0));
-    assert_eq!(rt; (negative.sign(), Sign::Plus.opposite()), (Minus, Minus));
+    assert!(rt; negative != Word::of(Plus, 0) && negative.negated() == Word::of(Plus, 0));
+    assert!(rt; negative.sign() == Minus && Sign::Plus.opposite() == Minus);
+    assert!(rt; (Word::ZERO, Word::ZERO.negated()) == (Word::of(Plus, 0), negative));
+    assert!(rt; negative.number() == 0 && negative.natural() == Some(0));
 }
 
 // Words and the numbers that they stand for.
@@ -153,42 +138,31 @@ const NUMBERS: [(Bytes, i32); 6] = [
 #[test]
 fn numbers_of_words(rt: HostRuntime) {
     for (bytes, n) in NUMBERS {
-        assert_eq!(rt; word(bytes).number(), n, "{bytes:?}");
-        if n.unsigned_abs() < 0x4000_0000 {
-            assert_eq!(rt; Word::of_number(n), word(bytes), "{bytes:?}");
-        } else {
-            assert!(rt; false, "{bytes:?}");
-        }
+        assert!(rt; is_word_of(word(bytes), n), "{n}");
     }
-    let zeros = (Word::ZERO, Word::ZERO.negated());
-    assert_eq!(rt; zeros, (Word::of(Plus, 0), Word::of(Minus, 0)));
-    assert_eq!(rt; zeros.1.number(), 0, "-0");
+}
+
+fn is_word_of(value: Word, n: i32) -> bool {
+    let natural = if n < 0 { None } else { Some(n.unsigned_abs()) };
+    let fits = n.unsigned_abs() < 0x4000_0000;
+    value.number() == n && value.natural() == natural && fits && Word::of_number(n) == value
 }
 
 #[test]
 fn words_of_bytes(rt: HostRuntime) {
     for (bytes, _) in NUMBERS {
-        assert_eq!(rt; word(bytes).bytes(), bytes.1, "{bytes:?}");
+        let value = word(bytes);
         let [a, b, c, d, e] = bytes.1;
         let low = [a % 64, b % 64, c % 64, d % 64, e % 64];
-        assert_eq!(rt; Word::from_bytes(bytes.0, low), word(bytes), "{bytes:?}");
+        let joined = Word::from_bytes(bytes.0, low);
+        assert!(rt; value.bytes() == bytes.1 && joined == value, "{value}");
     }
-}
-
-#[test]
-fn zeros_are_two_keys(rt: HostRuntime) -> Result<(), Fail> {
-    let mut words = HashSet::new(rt.alloc());
-    words.insert(Word::ZERO)?;
-    words.insert(Word::ZERO.negated())?;
-    words.insert(Word::of_number(0))?;
-    assert_eq!(rt; words.len(), 2);
-    Ok(())
 }
 
 #[test]
 fn bytes_from_the_left(rt: HostRuntime) {
     let cell = word(CELL);
-    assert_eq!(rt; (cell.byte(1), cell.byte(2), cell.byte(5)), (1, 16, 4));
+    assert!(rt; (cell.byte(1), cell.byte(2), cell.byte(5)) == (1, 16, 4));
 }
 
 const WRITTEN: [(Bytes, &str, &str); 3] = [
@@ -201,11 +175,9 @@ const WRITTEN: [(Bytes, &str, &str); 3] = [
 fn words_written(rt: HostRuntime) -> Result<(), Fail> {
     for (bytes, whole, short) in WRITTEN {
         let value = word(bytes);
-        let text = format!(in rt.alloc(); "{}|{}", value, Short(value))?;
-        let want = format!(in rt.alloc(); "{whole}|{short}")?;
-        assert_eq!(rt; text.as_str(), want.as_str(), "{whole}");
-        let debugged = format!(in rt.alloc(); "{value:?}")?;
-        assert_eq!(rt; debugged.as_str(), whole, "{whole}");
+        let text = format!(in rt.alloc(); "{value}|{}|{value:?}", Short(value))?;
+        let want = format!(in rt.alloc(); "{whole}|{short}|{whole}")?;
+        assert!(rt; text.as_str() == want.as_str(), "{whole}");
     }
     Ok(())
 }
@@ -219,19 +191,21 @@ fn every_byte_written(rt: HostRuntime) -> Result<(), Fail> {
         let (a, b) = (byte / 10, byte % 10);
         let (c, d) = (other / 10, other % 10);
         let want = format!(in rt.alloc(); "- {a}{b} {c}{d} {a}{b} {c}{d} {a}{b}")?;
-        assert_eq!(rt; text.as_str(), want.as_str(), "{byte}");
+        assert!(rt; text.as_str() == want.as_str(), "{byte}");
     }
     Ok(())
 }
 
 #[test]
-fn places(rt: HostRuntime) -> Result<(), Fail> {
-    assert_eq!(rt; Place::of(3999).ok_or("a place")?.number(), 3999);
-    assert_eq!(rt; Place::of(4000), None);
+fn places(rt: HostRuntime) {
+    assert!(rt; number_of(3999) == Some(3999) && number_of(4000) == None);
     assert!(rt;
         Place::of(9) < Place::of(10),
         "places in the order of their numbers"
     );
-    assert_eq!(rt; number(-5), Word::of(Minus, 5));
-    Ok(())
+    assert!(rt; number(-5) == Word::of(Minus, 5));
+}
+
+fn number_of(n: u16) -> Option<u16> {
+    Some(Place::of(n)?.number())
 }

@@ -1,43 +1,66 @@
 use super::table::{Row, table};
 use crate::decoding::{Decoded, decode};
 use crate::laws::{decode_law, long_name_law};
-use crate::naming::{LONGEST_NAME, named};
+use crate::naming::{MAX_LETTERS, named};
 use crate::operation::Operation;
 use crate::register::{DataReg, Reg};
 use crate::rows::rows;
-use std::process::Abort;
+use crate::uses::{UnitUse, Uses};
 use std::test::Fail;
 
 #[test]
 fn rows_of_the_table(rt: HostRuntime) {
     for row in table() {
         match named(row.0.as_bytes()) {
-            Some(op) => check_row(&rt, *row, op),
+            Some(op) => assert!(rt; is_row(*row, op), "{}", row.0),
             None => assert!(rt; false, "{}", row.0),
         }
     }
 }
 
-fn check_row(rt: &impl Abort, row: Row, op: Operation) {
+fn is_row(row: Row, op: Operation) -> bool {
     let (name, code, f, time) = row;
-    assert_eq!(rt; op.name(), name);
-    assert_eq!(rt; (op.code(), op.normal_f()), (code, f), "{name}");
-    assert_eq!(rt; op.time(f), time, "{name}");
-    assert_eq!(rt; decode(code, f), Decoded::Named(op), "{name}");
-    let operand = matches!(code, 1..=4 | 8..=33 | 56..=63);
-    assert_eq!(rt; op.needs_operand(), operand, "{name}");
-    assert_eq!(rt; op.needs_unit(), matches!(code, 34..=38), "{name}");
-    assert_eq!(rt; op.needs_address(), code != 0 && code != 5, "{name}");
+    let table = op.name() == name && op.code() == code && op.normal_f() == f && op.time(f) == time;
+    let uses = op.uses() == uses_with(code) && op.needs_address() == (code != 0 && code != 5);
+    table && uses && decode(code, f) == Decoded::Named(op)
 }
 
+// What the operations of a code use.
+fn uses_with(code: u8) -> Uses {
+    match code {
+        0 => Uses::Nothing,
+        5 => Uses::FAlone,
+        6 => Uses::Count,
+        7 => Uses::Cells,
+        34 | 38 => Uses::Unit(UnitUse::Looks),
+        35 => Uses::Unit(UnitUse::Controls),
+        36 => Uses::Unit(UnitUse::Reads),
+        37 => Uses::Unit(UnitUse::Writes),
+        39..=55 => Uses::Address,
+        _ => Uses::Operand,
+    }
+}
+
+#[rattlefmt::skip]
 const NO_NAMES: [&str; 12] = [
-    "", "lda", "LD", "LD7", "LDAX", "LDJ", "LDJN", "JJN", "FADD", "FLOT", "STZN", "NOP ",
+    "",
+    "lda",
+    "LD",
+    "LD7",
+    "LDAX",
+    "LDJ",
+    "LDJN",
+    "JJN",
+    "FADD",
+    "FLOT",
+    "STZN",
+    "NOP ",
 ];
 
 #[test]
 fn other_names(rt: HostRuntime) {
     for name in NO_NAMES {
-        assert_eq!(rt; named(name.as_bytes()), None, "{name}");
+        assert!(rt; named(name.as_bytes()) == None, "{name}");
     }
 }
 
@@ -61,15 +84,13 @@ fn is_floating(code: u8, f: u8) -> bool {
     }
 }
 
-fn check_pair(rt: &impl Abort, code: u8, f: u8) {
+fn is_pair(code: u8, f: u8) -> bool {
     let named = !is_floating(code, f) && f < names_with(code);
     match decode(code, f) {
-        Decoded::Floating => assert!(rt; is_floating(code, f), "{code} {f}"),
-        Decoded::Unknown => assert!(rt; !is_floating(code, f) && !named, "{code} {f}"),
+        Decoded::Floating => is_floating(code, f),
+        Decoded::Unknown => !is_floating(code, f) && !named,
         Decoded::Named(op) => {
-            assert!(rt; named, "{code} {f}");
-            assert_eq!(rt; op.code(), code, "{code} {f}");
-            assert!(rt; names_with(code) == 64 || op.normal_f() == f, "{code} {f}");
+            named && op.code() == code && (names_with(code) == 64 || op.normal_f() == f)
         }
     }
 }
@@ -78,30 +99,30 @@ fn check_pair(rt: &impl Abort, code: u8, f: u8) {
 fn all_pairs(rt: HostRuntime) {
     for code in 0..64u8 {
         for f in 0..64u8 {
-            check_pair(&rt, code, f);
+            assert!(rt; is_pair(code, f), "{code} {f}");
         }
     }
-    assert_eq!(rt; decode(64, 0), Decoded::Unknown);
-    assert_eq!(rt; decode(0, 64), Decoded::Named(Operation::Nop), "any F");
-    assert_eq!(rt;
-        (Operation::Move.time(0), Operation::Move.time(63)),
-        (1, 127)
-    );
+    assert!(rt; decode(64, 0) == Decoded::Unknown);
+    assert!(rt; decode(0, 64) == Decoded::Named(Operation::Nop), "any F");
+    assert!(rt; (Operation::Move.time(0), Operation::Move.time(63)) == (1, 127));
 }
 
 #[test]
 fn list_of_operations(rt: HostRuntime) -> Result<(), Fail> {
-    assert_eq!(rt; rows().len(), 144);
+    assert!(rt; rows().len() == 144);
     for (own, row) in rows().iter().zip(table().iter()) {
         let text = format!(in rt.alloc(); "{}", own.0)?;
-        assert_eq!(rt; text.as_str(), row.0, "in the order of the table");
+        assert!(rt;
+            text.as_str() == row.0,
+            "{}, in the order of the table",
+            row.0
+        );
     }
     decode_law();
     long_name_law();
-    assert_eq!(rt;
-        named(b"SLAXX"),
-        None,
-        "no name of over {LONGEST_NAME} letters"
+    assert!(rt;
+        named(b"SLAXX") == None,
+        "no name of over {MAX_LETTERS} letters"
     );
     Ok(())
 }
@@ -122,7 +143,7 @@ const OFFSETS: [(u8, Reg); 8] = [
 fn data_registers(rt: HostRuntime) {
     for (offset, reg) in OFFSETS {
         let data = DataReg::at_offset(offset % 8);
-        assert_eq!(rt; (data.offset(), data.reg()), (offset, reg));
+        assert!(rt; data.offset() == offset && data.reg() == reg, "{reg}");
     }
 }
 
@@ -142,22 +163,21 @@ const REGISTERS: [(u8, Reg, &str); 9] = [
 #[test]
 fn registers(rt: HostRuntime) {
     for (number, reg, name) in REGISTERS {
-        assert_eq!(rt; (reg.number(), reg.name()), (number, name), "{name}");
-        assert_eq!(rt; Reg::numbered(number), Some(reg), "{name}");
-        assert_eq!(rt; Reg::named(name.as_bytes()), Some(reg), "{name}");
-        assert_eq!(rt;
-            Reg::ALL.get(usize::from(number)).copied(),
-            Some(reg),
-            "{name}"
-        );
+        assert!(rt; is_register(number, reg, name), "{name}");
     }
+}
+
+fn is_register(number: u8, reg: Reg, name: &str) -> bool {
+    let listed = Reg::ALL.get(usize::from(number)).copied() == Some(reg);
+    let named = reg.name() == name && Reg::named(name.as_bytes()) == Some(reg);
+    listed && named && reg.number() == number
 }
 
 #[test]
 fn registers_written(rt: HostRuntime) -> Result<(), Fail> {
     for (_, reg, name) in REGISTERS {
         let text = format!(in rt.alloc(); "{reg}")?;
-        assert_eq!(rt; text.as_str(), name);
+        assert!(rt; text.as_str() == name, "{name}");
     }
     Ok(())
 }
@@ -167,7 +187,6 @@ const NO_REGISTERS: [&str; 8] = ["", "I", "I0", "I7", "a", "i1", "rA", "J1"];
 #[test]
 fn other_registers(rt: HostRuntime) {
     for name in NO_REGISTERS {
-        assert_eq!(rt; Reg::named(name.as_bytes()), None, "{name}");
+        assert!(rt; Reg::named(name.as_bytes()) == None, "{name}");
     }
-    assert_eq!(rt; (Reg::numbered(9), Reg::numbered(255)), (None, None));
 }

@@ -3,6 +3,7 @@ use crate::key::Key;
 use crate::names::NameTable;
 use crate::program::Program;
 use crate::row::{Row, Shows, Source};
+use mix_refused::{Memory, Refused};
 use mix_stream::fake::Sink;
 use mix_stream::{Failed, Out};
 use mix_word::{Place, Sign, Word};
@@ -10,7 +11,6 @@ use mixal_text::Symbol;
 use std::alloc::Global;
 use std::process::Abort;
 use std::test::Fail;
-use undo_core::{Memory, Refused};
 
 /// All of a listing in one call.
 const ALL: usize = 4096;

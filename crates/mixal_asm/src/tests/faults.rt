@@ -1,8 +1,8 @@
 //! Sources that are refused, with the line and the text of the first fault.
 use crate::fault::{AsmFault, AsmKind};
 use crate::source::assemble;
+use mix_refused::Refused;
 use std::test::Fail;
-use undo_core::Refused;
 
 const FAULTS: [(&str, &str); 45] = [
     ("", "line 1: A13 no END"),

@@ -1,9 +1,9 @@
 //! As many lines and bytes as a source may have, and one more.
 use crate::fault::AsmKind;
 use crate::source::assemble;
+use mix_refused::Refused;
 use std::alloc::{AllocError, Global};
 use std::test::Fail;
-use undo_core::Refused;
 
 // So many times one byte, and what follows it.
 fn repeated(alloc: Global, byte: u8, count: usize, end: &str) -> Result<Vec<u8>, AllocError> {
@@ -37,6 +37,38 @@ fn limits(rt: HostRuntime) -> Result<(), Fail> {
                 assert_eq!(rt; fault.line, line, "{count}");
                 assert_eq!(rt; fault.kind, AsmKind::SourceTooLong, "{count}");
             }
+        }
+    }
+    Ok(())
+}
+
+// Lines of a word each, with an ORIG 0 after each 3,999 of them, and END.
+fn words(alloc: Global, count: usize) -> Result<Vec<u8>, AllocError> {
+    let mut text = Vec::new(alloc);
+    for i in 0..count {
+        if i % 3999 == 0 {
+            text.extend_from_slice(b" ORIG 0\n")?;
+        }
+        text.extend_from_slice(b" JMP X\n")?;
+    }
+    text.extend_from_slice(b" END 0\n")?;
+    Ok(text)
+}
+
+/// How many words a source has: up to five times as many as there are cells.
+const COUNTS: [usize; 4] = [3999, 4001, 8000, 19_993];
+
+#[test]
+fn more_words_than_cells(rt: HostRuntime) -> Result<(), Fail> {
+    let alloc = rt.alloc();
+    for count in COUNTS {
+        let source = words(alloc, count)?;
+        match assemble(alloc, &source) {
+            Ok(program) => {
+                assert_eq!(rt; program.words().len(), count + 1, "{count}");
+                assert_eq!(rt; program.patches(), count, "{count}");
+            }
+            Err(refused) => assert!(rt; false, "{count}: {refused:?}"),
         }
     }
     Ok(())

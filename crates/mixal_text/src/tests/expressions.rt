@@ -1,6 +1,6 @@
 use super::known::Want::{Fault, Minus, Plus};
 use super::known::{Known, Want, check_word, here};
-use crate::expressions::expression;
+use crate::expressions::{expression, whole_expression};
 
 /// An expression that takes its whole text, where the location is 7, X is 5 and 2B is 9.
 const WHOLE: [(&str, Want); 47] = [
@@ -61,6 +61,12 @@ fn values(rt: HostRuntime) {
             assert_eq!(rt; used, text.len(), "{text}");
         }
         check_word(&rt, text, got.map(|(value, _)| value), want);
+        check_word(
+            &rt,
+            text,
+            whole_expression(text.as_bytes(), &Known, here()),
+            want,
+        );
     }
 }
 
@@ -125,5 +131,11 @@ fn beginnings(rt: HostRuntime) {
             }
             Err(fault) => assert!(rt; false, "{text}: {fault}"),
         }
+        check_word(
+            &rt,
+            text,
+            whole_expression(text.as_bytes(), &Known, here()),
+            Fault(5),
+        );
     }
 }

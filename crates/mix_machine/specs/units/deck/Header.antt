@@ -1,9 +1,9 @@
 -- The header of a unit in a deck: `%UNIT 19` or `%UNIT 19 delay 10`.
-use Rattle.std.specs.Prelude.{ℕ, Bool, ◌==◌, ◌&&◌, nat_le, List, [], ◌∷◌, length, Option, None, Some, codes, if◌then◌else◌}
+use Rattle.std.specs.Prelude.{ℕ, Bool, ◌==◌, nat_le, List, [], ◌∷◌, length, Option, None, Some, codes, if◌then◌else◌}
 use Rattle.std.specs.Option.{option_and_then, option_map}
 use Rattle.std.specs.Str.{str_eq_ignore_ascii_case}
 use Rattle.mix_lines.specs.Lines.{begins_with}
-use Rattle.mix_lines.specs.Number.{is_digits, value_of, decimal_number}
+use Rattle.mix_lines.specs.Number.{number_up_to, decimal_number}
 use Rattle.mix_machine.specs.declared.units.deck.header.Header.{Header}
 
 -- a line is a header, good or bad, where its first byte is a percent sign
@@ -20,7 +20,7 @@ unit_number text = if nat_le (length text) 2 then unit_of_value (decimal_number 
 
 -- a delay: 1 to 18 digits
 abbrev pub delay_of : List ℕ → Option ℕ
-delay_of text = if is_digits text && nat_le (length text) 18 then Some (value_of text) else None
+delay_of text = number_up_to 18 text
 
 abbrev pub header : ℕ → Option ℕ → Header
 header n delay = record { unit = n; delay = delay }

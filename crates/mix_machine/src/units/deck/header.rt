@@ -1,12 +1,11 @@
 //! The header of a unit in a deck: `%UNIT 19`, or `%UNIT 19 delay 10`.
-ghost use Rattle.std.specs.Prelude.{◌≡◌, ◌<◌, ◌≤◌, ◌^◌, ◌==◌, true, length, IfSome, codes};
+ghost use Rattle.std.specs.Prelude.{◌≡◌, ◌<◌, ◌^◌, ◌==◌, IfSome, codes};
 ghost use Rattle.std.specs.Str.{str_eq_ignore_ascii_case};
 ghost use Rattle.mix_lines.specs.Lines.{words};
-ghost use Rattle.mix_lines.specs.Number.{is_digits, value_of};
-ghost use Rattle.mix_machine.specs.units.deck.Header.{is_header, unit_number, delay_of, with_delay, after_number, after_keyword, header_of};
+ghost use Rattle.mix_machine.specs.units.deck.Header.{is_header, unit_number, with_delay, after_number, after_keyword, header_of};
 
 use crate::units::number::UnitNo;
-use mix_lines::{Words, all_digits, number};
+use mix_lines::{Words, long_number, number};
 
 /// What a header says: the unit, and its delay where one is given.
 #[derive(Clone, Copy)]
@@ -72,7 +71,7 @@ fn with_delay(unit: UnitNo, words: Words<'_>) -> Option<Header>
     if !words.is_end() {
         return None;
     }
-    let delay = delay_of(word)?;
+    let delay = long_number(word)?;
     Some(Header {
         unit,
         delay: Some(delay),
@@ -87,29 +86,4 @@ fn unit_number(text: &[u8]) -> Option<UnitNo>
     }
     let n = number(text)?;
     if n <= 20 { UnitNo::of(n as u8) } else { None }
-}
-
-fn delay_of(text: &[u8]) -> Option<u64>
-    ensures value { result ≡ delay_of text.now }
-    ensures bound { IfSome result (λ t. t < 10 ^ 18) }
-{
-    if all_digits(text) && text.len() <= 18 {
-        Some(value(text))
-    } else {
-        None
-    }
-}
-
-#[tactic(auto, using(crate::proofs::DelayLemmas::digits))]
-fn value(text: &[u8]) -> u64
-    requires digits { is_digits text.now ≡ true }
-    requires short { length text.now ≤ 18 }
-    ensures value { result ≡ value_of text.now }
-    ensures below { result < 10 ^ 18 }
-{
-    let mut value = 0;
-    for digit in text {
-        value = value * 10 + u64::from(*digit - b'0');
-    }
-    value
 }

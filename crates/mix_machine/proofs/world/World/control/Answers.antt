@@ -1,4 +1,4 @@
-use Rattle.std.proofs.Common.{◌≡◌, true, ap, sym, ◌∙◌, refl}
+use Rattle.std.proofs.Common.{◌≡◌, ap}
 use Rattle.mix_machine.specs.World.{unit_at}
 use Rattle.mix_machine.specs.View.{view_of}
 use Rattle.mix_machine.specs.UnitAction.{marks_page}

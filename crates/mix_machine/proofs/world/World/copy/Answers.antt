@@ -1,32 +1,28 @@
-use Rattle.std.proofs.Common.{◌≡◌, ◌+◌, ◌-◌, ◌∙◌, arith}
-use Rattle.mix_machine.proofs.CopyLemmas.{copied-state, copied-values, copied-all-state, copied-all-values}
-use Rattle.mix_machine.proofs.EachLemmas.{cell-below, room-left, len-all}
+use Rattle.std.proofs.Common.{◌≡◌, ◌+◌, subst, arith}
+use Rattle.mix_machine.specs.Write.{set, copies}
+use Rattle.mix_machine.specs.law.Wrote.{Wrote}
+use Rattle.mix_machine.specs.declared.old.Old.TheVariants.{Cell}
+use Rattle.mix_machine.proofs.WriteLemmas.{wrote-none}
+use Rattle.mix_machine.proofs.CopyLemmas.{copy-written, copy-room}
+use Rattle.mix_machine.proofs.EachLemmas.{cell-below}
 use Rattle.mix_machine.proofs.world.World.copy.Goals as goal
+
+pub loop-i-init : goal.loop-i-init
+loop-i-init c = wrote-none _ _
 
 pub loop-i-preserved : goal.loop-i-preserved
 loop-i-preserved c =
     let i = c.loop-i.i in
-    let w = c.loop-i.self in
-    let h = c.loop-i-test.true in
-    let p : c.place-in-loop-i.result ≡ c.args.to + i = cc in
-    let q : c.place.result ≡ c.args.from + i = cc in
-    let v = c.cell-word.ensures in
-    record {
-      state = copied-state c.args.count i c.args.from c.args.to _ _ w _ c.cell-word.result h p q v c.write_cell.ensures.state ∙ c.loop-i.invariant.state;
-      kept = copied-values c.args.count i c.args.from c.args.to _ _ w _ c.cell-word.result _ _ h p q v c.write_cell.ensures.state c.write_cell.ensures.kept
-          ∙ c.loop-i.invariant.kept;
-      len = omega arith;
-      capacity = c.write_cell.ensures.capacity ∙ c.loop-i.invariant.capacity;
-    }
+    let into : c.place-in-loop-i.result ≡ c.args.to + i = cc in
+    let out : c.place.result ≡ c.args.from + i = cc in
+    copy-written i c.args.from c.args.to _ _ c.cell-word.result c.args.self.now c.loop-i.self _ _ c.loop-i.list _ c.loop-i.invariant c.write_cell.ensures into out c.cell-word.ensures
 
-pub returns-clause-state : goal.returns-clause-state
-returns-clause-state c =
-    copied-all-state (c.args.count - c.loop-i.i) (c.args.from + c.loop-i.i) (c.args.to + c.loop-i.i) _ _ (omega arith) c.loop-i.invariant.state
-
-pub returns-clause-kept : goal.returns-clause-kept
-returns-clause-kept c =
-    let all = copied-all-values (c.args.count - c.loop-i.i) (c.args.from + c.loop-i.i) (c.args.to + c.loop-i.i) c.loop-i.self _ _ (omega arith) c.loop-i.invariant.kept in
-    rw c.replace-list.ensures.value at all
+pub returns : goal.returns
+returns c =
+    let w = c.args.self.now in
+    let done : c.loop-i.i ≡ c.args.count = omega arith in
+    let all = subst (λ ks. Wrote (copies c.loop-i.i c.args.from c.args.to w) w c.loop-i.self ks c.loop-i.list) c.replace-list.ensures.value c.loop-i.invariant in
+    subst (λ n. Wrote (copies n c.args.from c.args.to w) w c.loop-i.self c.args.kept.now c.loop-i.list) done all
 
 pub place-requires : goal.place-requires
 place-requires c = cell-below _ _ _ _ c.from.ensures c.loop-i-test.true c.requires.there
@@ -36,9 +32,7 @@ place-requires-in-loop-i c = cell-below _ _ _ _ c.from-in-loop-i.ensures c.loop-
 
 pub write_cell-requires-clause-room : goal.write_cell-requires-clause-room
 write_cell-requires-clause-room c =
-    room-left _ _ _ _ _ _ (rw c.replace-list.ensures.value at c.loop-i.invariant.len) (rw c.replace-list.ensures.value at c.loop-i.invariant.capacity)
-    c.loop-i-test.true c.requires.room
-
-pub returns-clause-len : goal.returns-clause-len
-returns-clause-len c =
-    len-all _ _ _ _ (rw c.replace-list.ensures.value at c.loop-i.invariant.len) c.loop-i.auto.i-end c.loop-i-test.false
+    let w = c.args.self.now in
+    let some = subst (λ ks. Wrote (copies c.loop-i.i c.args.from c.args.to w) w c.loop-i.self ks c.loop-i.list) c.replace-list.ensures.value c.loop-i.invariant in
+    copy-room c.args.count c.loop-i.i c.args.from c.args.to (set (Cell c.place-in-loop-i.result c.cell-word.result)) w c.loop-i.self c.args.kept.now c.loop-i.list
+    c.requires.room some c.loop-i-test.true

@@ -1,12 +1,14 @@
-use Rattle.std.proofs.Common.{◌≡◌, ◌++◌, ◌∷◌, [], ap, sym, refl, ◌∙◌}
+use Rattle.std.proofs.Common.{◌++◌, ◌∷◌, [], ap, sym, refl, ◌∙◌}
 use Rattle.mix_machine.specs.View.{view_of}
-use Rattle.mix_machine.specs.Write.{print, written, words_out, set_value}
+use Rattle.mix_machine.specs.Write.{busy, print, words_out}
+use Rattle.mix_machine.specs.law.Wrote.{Wrote}
 use Rattle.mix_machine.specs.units.Kind.{has_medium}
 use Rattle.mix_machine.specs.units.Row.{row_of}
-use Rattle.mix_machine.specs.declared.old.Old.TheVariants.{Len, Until}
+use Rattle.mix_machine.specs.declared.old.Old.TheVariants.{Len}
 use Rattle.mix_machine.specs.UnitAction.{transfer_end}
 use Rattle.mix_machine.specs.law.Plans.{fits-until-in}
-use Rattle.mix_machine.proofs.TransferLemmas.{world-printed, with-grown, to-printed, printed-kept, rows-room, room-now, room-next, three-state, length-of}
+use Rattle.mix_machine.proofs.TransferLemmas.{transferred, world-printed, with-grown, to-printed, rows-room, room-now, length-of}
+use Rattle.mix_machine.proofs.WriteLemmas.{wrote-none, room-rest}
 use Rattle.mix_machine.proofs.world.World.print.Goals as goal
 
 pub end_at-until-requires : goal.end_at-until-requires
@@ -31,30 +33,22 @@ write_until-requires-clause-fits c =
 
 pub write_until-requires-clause-room : goal.write_until-requires-clause-room
 write_until-requires-clause-room c =
-    room-now _ _ 0 (room-next _ _ _ _ 1 c.requires.room c.push_reserved.ensures.len c.push_reserved.ensures.capacity)
+    let busy_now = busy c.args.self.now c.args.t.unit in
+    room-rest busy_now (busy_now ∷ []) c.args.kept.now c.push_reserved.new.self c.requires.room c.push_reserved.ensures.len c.push_reserved.ensures.capacity
 
-pub returns-clause-state : goal.returns-clause-state
-returns-clause-state c =
+pub returns : goal.returns
+returns c =
     let w = c.args.self.now in
     let t = c.args.t in
+    let len = length-of w t.unit _ _ c.len-len.ensures c.unit.ensures in
     let size = c.from-size.ensures ∙ c.block_length.ensures.is in
     let printed = to-printed (view_of c.self.inside) w _ t c.args.kind _ _ _ c.in_ok-add_words.ensures.added c.self.view_is c.from-from.ensures size c.deref.ensures.value in
-    let state = written w (print t.unit (row_of (words_out c.args.kind w t))) in
-    let grown = record (view_of c.self.inside) { units = c.add_words.new.self } in
-    let timed : c.write_until.new.self ≡ set_value grown (Until t.unit (transfer_end w t.unit)) =
-    c.write_until.ensures.state ∙ ap (λ e. set_value grown (Until t.unit e)) c.end_at-until.ensures in
-    three-state state _ _ _ [] [] [] (Until t.unit (transfer_end w t.unit)) (with-grown (view_of c.self.inside) w _ _ c.self.view_is printed) timed refl refl
-
-pub returns-clause-kept : goal.returns-clause-kept
-returns-clause-kept c =
-    let w = c.args.self.now in
-    let t = c.args.t in
-    let size = c.from-size.ensures ∙ c.block_length.ensures.is in
-    let printed = to-printed (view_of c.self.inside) w _ t c.args.kind _ _ _ c.in_ok-add_words.ensures.added c.self.view_is c.from-from.ensures size c.deref.ensures.value in
-    let len = length-of w _ t.unit _ _ c.len-len.ensures c.unit.ensures c.self.view_is in
-    let old = c.push_reserved.ensures.items ∙ ap (λ k. c.args.kept.now.items ++ Len t.unit k ∷ []) len in
-    printed-kept (written w (print t.unit (row_of (words_out c.args.kind w t)))) _ (Until t.unit (transfer_end w t.unit)) _ c.args.kept.now.items _ _
-    (with-grown (view_of c.self.inside) w _ _ c.self.view_is printed) old c.write_until.ensures.kept
-
-pub returns-clause-capacity : goal.returns-clause-capacity
-returns-clause-capacity c = c.write_until.ensures.capacity ∙ c.push_reserved.ensures.capacity
+    let first = print t.unit (row_of (words_out c.args.kind w t)) in
+    let after = record (view_of c.self.inside) { units = c.add_words.new.self } in
+    let grew : Wrote (first ∷ []) w after c.args.kept.now c.push_reserved.new.self = record {
+      state = with-grown (view_of c.self.inside) w _ _ c.self.view_is printed;
+      kept = c.push_reserved.ensures.items ∙ ap (λ k. c.args.kept.now.items ++ Len t.unit k ∷ []) len;
+      len = c.push_reserved.ensures.len;
+      capacity = c.push_reserved.ensures.capacity;
+    } in
+    record { wrote = transferred w w after _ _ t.unit _ (first ∷ []) [] [] c.args.kept.now _ _ _ grew c.write_until.ensures (wrote-none _ _) c.end_at-until.ensures refl; same = tt; same_kept = tt }

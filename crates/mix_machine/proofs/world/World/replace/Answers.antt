@@ -1,12 +1,13 @@
-use Rattle.std.proofs.Common.{◌≡◌, ◌∙◌, ap, sym, subst}
+use Rattle.std.proofs.Common.{◌≡◌, ◌∙◌, ◌∷◌, length, ap, sym, subst}
 use Rattle.mix_machine.specs.World.{IsWorld}
 use Rattle.mix_machine.specs.UnitAction.{transfer_end}
-use Rattle.mix_machine.specs.Write.{busy, each, from_cell, place_after, set_value}
+use Rattle.mix_machine.specs.Write.{set, set_value, busy, each, from_cell, place_after}
 use Rattle.mix_machine.specs.units.Kind.{block_length, has_medium}
 use Rattle.mix_machine.specs.declared.old.Old.TheVariants.{Until}
 use Rattle.mix_machine.specs.law.Plans.{fits-until-in, items-ready}
 use Rattle.mix_machine.proofs.EachLemmas.{length-each}
-use Rattle.mix_machine.proofs.TransferLemmas.{three-state, three-kept, three-len, cells-same, room-first, room-second, room-third, to-ready, fits-place-after}
+use Rattle.mix_machine.proofs.WriteLemmas.{room-first, room-next, room-last}
+use Rattle.mix_machine.proofs.TransferLemmas.{transferred, cells-same, to-ready, fits-place-after}
 use Rattle.mix_machine.proofs.world.World.replace.Goals as goal
 
 pub end_at-until-requires : goal.end_at-until-requires
@@ -22,7 +23,7 @@ pub move_on-requires-clause-room : goal.move_on-requires-clause-room
 move_on-requires-clause-room c =
     let w = c.args.self.now in
     let t = c.args.t in
-    room-first (place_after c.args.kind t) (each (block_length c.args.kind) 0 (from_cell w t)) (busy w t.unit) _ _ c.requires.room
+    room-first (place_after c.args.kind t) (busy w t.unit ∷ each (block_length c.args.kind) 0 (from_cell w t)) c.args.kept.now c.requires.room
 
 pub write_until-requires-clause-fits : goal.write_until-requires-clause-fits
 write_until-requires-clause-fits c =
@@ -32,8 +33,18 @@ pub write_until-requires-clause-room : goal.write_until-requires-clause-room
 write_until-requires-clause-room c =
     let w = c.args.self.now in
     let t = c.args.t in
-    room-second (place_after c.args.kind t) (each (block_length c.args.kind) 0 (from_cell w t)) (busy w t.unit) _ _ _ _ c.requires.room
-    c.move_on.ensures.len c.move_on.ensures.capacity
+    room-next (place_after c.args.kind t) (each (block_length c.args.kind) 0 (from_cell w t)) (busy w t.unit) (set (Until t.unit c.end_at-until.result)) w _ c.args.kept.now _
+    c.requires.room c.move_on.ensures
+
+pub from_cells-requires-clause-room : goal.from_cells-requires-clause-room
+from_cells-requires-clause-room c =
+    let w = c.args.self.now in
+    let t = c.args.t in
+    let words = each (block_length c.args.kind) 0 (from_cell w t) in
+    let now = each c.block_length.result 0 (from_cell c.write_until.new.self t) in
+    let same : length now ≡ length words = length-each c.block_length.result 0 _ ∙ c.block_length.ensures.is ∙ sym (length-each (block_length c.args.kind) 0 _) in
+    room-last (place_after c.args.kind t) words now (busy w t.unit) (set (Until t.unit c.end_at-until.result)) w _ _ c.args.kept.now _ _
+    c.requires.room c.move_on.ensures c.write_until.ensures same
 
 pub from_cells-requires-clause-cells : goal.from_cells-requires-clause-cells
 from_cells-requires-clause-cells c = rw (c.block_length.ensures.is, c.requires.kind) c.requires.fits.cells
@@ -49,39 +60,11 @@ from_cells-requires-clause-block c =
     (rw (c.block_length.ensures.is, c.requires.kind) at l)
     )
 
-pub from_cells-requires-clause-room : goal.from_cells-requires-clause-room
-from_cells-requires-clause-room c =
+pub returns : goal.returns
+returns c =
     let w = c.args.self.now in
     let t = c.args.t in
-    rw c.block_length.ensures.is (
-    room-third (place_after c.args.kind t) (each (block_length c.args.kind) 0 (from_cell w t)) (busy w t.unit) _ _ _ _ _ _ _ c.requires.room
-    c.move_on.ensures.len c.move_on.ensures.capacity c.write_until.ensures.len c.write_until.ensures.capacity (length-each (block_length c.args.kind) 0 (from_cell w t))
-    )
-
-pub returns-clause-state : goal.returns-clause-state
-returns-clause-state c =
-    let w = c.args.self.now in
-    let t = c.args.t in
-    let place = place_after c.args.kind t in
-    let timed : c.write_until.new.self ≡ set_value c.move_on.new.self (Until t.unit (transfer_end w t.unit)) = cc in
+    let timed : c.write_until.new.self ≡ set_value c.move_on.new.self (Until t.unit (transfer_end w t.unit)) =
+    c.write_until.ensures.state ∙ ap (λ e. set_value c.move_on.new.self (Until t.unit e)) c.end_at-until.ensures in
     let words = cells-same c.block_length.result (block_length c.args.kind) w _ _ c.args.kind t c.move_on.ensures.state timed c.block_length.ensures.is in
-    three-state w _ _ _ place _ _ _ c.move_on.ensures.state timed c.from_cells.ensures.state words
-
-pub returns-clause-kept : goal.returns-clause-kept
-returns-clause-kept c =
-    let w = c.args.self.now in
-    let t = c.args.t in
-    let place = place_after c.args.kind t in
-    let timed : c.write_until.new.self ≡ set_value c.move_on.new.self (Until t.unit (transfer_end w t.unit)) = cc in
-    let words = cells-same c.block_length.result (block_length c.args.kind) w _ _ c.args.kind t c.move_on.ensures.state timed c.block_length.ensures.is in
-    three-kept w _ _ place _ _ _ c.args.kept.now.items _ _ _ c.move_on.ensures.state timed c.move_on.ensures.kept c.write_until.ensures.kept c.from_cells.ensures.kept words
-
-pub returns-clause-len : goal.returns-clause-len
-returns-clause-len c =
-    let w = c.args.self.now in
-    let t = c.args.t in
-    three-len (place_after c.args.kind t) (each (block_length c.args.kind) 0 (from_cell w t)) (busy w t.unit) _ _ _ _ _
-    c.move_on.ensures.len c.write_until.ensures.len (rw c.block_length.ensures.is at c.from_cells.ensures.len) (length-each (block_length c.args.kind) 0 (from_cell w t))
-
-pub returns-clause-capacity : goal.returns-clause-capacity
-returns-clause-capacity c = c.from_cells.ensures.capacity ∙ c.write_until.ensures.capacity ∙ c.move_on.ensures.capacity
+    transferred w w _ _ _ t.unit _ (place_after c.args.kind t) _ _ _ _ _ _ c.move_on.ensures c.write_until.ensures c.from_cells.ensures c.end_at-until.ensures words

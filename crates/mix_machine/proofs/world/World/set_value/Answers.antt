@@ -1,5 +1,5 @@
-use Rattle.std.proofs.Common.{◌≡◌, sym, ap, subst, IsTrue}
-use Rattle.mix_machine.specs.World.{WorldState, IsWorld}
+use Rattle.std.proofs.Common.{◌≡◌, IsTrue}
+use Rattle.mix_machine.specs.World.{WorldState}
 use Rattle.mix_machine.specs.View.{view_of}
 use Rattle.mix_machine.specs.Write.{fits}
 use Rattle.mix_machine.specs.law.Fits.{world-set_value}

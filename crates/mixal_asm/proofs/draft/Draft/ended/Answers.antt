@@ -1,18 +1,20 @@
 use Rattle.std.proofs.Common.{refl, sym, ◌∙◌}
-use Rattle.mixal_asm.proofs.LineLemmas.{ended_is}
+use Rattle.mixal_asm.proofs.LineLemmas.{ended_is, fault_by}
 use Rattle.mixal_asm.proofs.draft.Draft.ended.Goals as goal
 
-pub returns-in-Err-clause-fault : goal.returns-in-Err-clause-fault
-returns-in-Err-clause-fault c =
-    ended_is _ _ _ _ _ _ _ _ _ (sym c.has_unmet.ensures ∙ c.if-has_unmet.false) c.here_word.ensures c.in_ok-own.ensures.ok c.in_ok-own.ensures.own c.read_end.ensures
-    ∙ rw c.in-Err.is refl
+pub returns-in_err-value-clause-fault : goal.returns-in_err-value-clause-fault
+returns-in_err-value-clause-fault c =
+    fault_by _ _ _ c.from_residual-in_err-value.ensures.1
+    (ended_is _ _ _ _ _ _ _ _ _ (sym c.has_unmet.ensures ∙ c.if-has_unmet.false) c.here_word.ensures c.in_ok-own.ensures.ok c.in_ok-own.ensures.own c.read_end.ensures
+    ∙ rw c.in_err-value.was refl)
 
-pub returns-in-Err-start_of-clause-fault : goal.returns-in-Err-start_of-clause-fault
-returns-in-Err-start_of-clause-fault c =
-    ended_is _ _ _ _ _ _ _ _ _ (sym c.has_unmet.ensures ∙ c.if-has_unmet.false) c.here_word.ensures c.in_ok-own.ensures.ok c.in_ok-own.ensures.own c.read_end.ensures
-    ∙ rw (c.in-Ok.is, ← c.start_of.ensures, c.in-Err-start_of.is) refl
+pub returns-in_err-start-clause-fault : goal.returns-in_err-start-clause-fault
+returns-in_err-start-clause-fault c =
+    fault_by _ _ _ c.from_residual-in_err-start.ensures.1
+    (ended_is _ _ _ _ _ _ _ _ _ (sym c.has_unmet.ensures ∙ c.if-has_unmet.false) c.here_word.ensures c.in_ok-own.ensures.ok c.in_ok-own.ensures.own c.read_end.ensures
+    ∙ rw (c.in_ok-value.was, ← c.start_of.ensures, c.in_err-start.was) refl)
 
-pub returns-in_ok-add_row-in-Ok-start_of-clause-ok : goal.returns-in_ok-add_row-in-Ok-start_of-clause-ok
-returns-in_ok-add_row-in-Ok-start_of-clause-ok c =
+pub returns-clause-ok : goal.returns-clause-ok
+returns-clause-ok c =
     ended_is _ _ _ _ _ _ _ _ _ (sym c.has_unmet.ensures ∙ c.if-has_unmet.false) c.here_word.ensures c.in_ok-own.ensures.ok c.in_ok-own.ensures.own c.read_end.ensures
-    ∙ rw (c.in-Ok.is, ← c.start_of.ensures, c.in-Ok-start_of.is, c.in_ok-add_row-in-Ok-start_of.ensures) refl
+    ∙ rw (c.in_ok-value.was, ← c.start_of.ensures, c.in_ok-start.was, c.in_ok-add_row.ensures) refl

@@ -1,0 +1,129 @@
+"""What a session asks memory for: each allocation and its bytes, worked out from what each needs, so that room which is not needed is seen.
+
+What a command asks for is what a script asks for with it as the last line, beyond what the same script asks for with a remark of as many bytes there.
+
+- A list of std has room for four entries at first, and is doubled where it is full.
+- A change takes 8 bytes in the list of changes, and 8 in that of where its values begin. A kept value takes 12. A `set`, a `break` or a `clear` keeps one; a step
+  makes room for the 104 that the largest step keeps, since the room is made before the step is done.
+- A reply is a text: it begins with 8 bytes or more and is doubled. So of N bytes it asks for fewer than four times N in all, and 8.
+- `back`, `forth`, a refusal and what `show` writes need nothing but their reply; a blank line and a remark need nothing.
+- A change that is refused needs nothing, and may have made room in the two lists. What stands ahead stays until a new change is accepted, so that one may
+  make room beside it.
+- A text that is read whole by one read takes as many bytes as it has, at least 8."""
+
+import os
+
+from memory import library
+from running import Count, Runner, folder, lines
+
+FIRST = lines(" ENTA 5", " INCA 7", " STA 100", " HLT", " END 0")
+LOOP = lines(" JMP *", " END 0")
+MOVE = lines(" ENT1 101", " MOVE 100(63)", " END 0")
+CELLS = 4000 * 4
+CHANGES = STARTS = 8
+VALUE, MOST_KEPT = 12, 104
+LISTS = [4 * CHANGES, 4 * STARTS]  # of the first change
+STEP = [*LISTS, MOST_KEPT * VALUE]  # of the first step
+REFUSED = ([], LISTS)
+AHEAD = ([], [8 * CHANGES])
+
+
+def grown(entry, first, needed):
+    """What a list asks for that begins with room for so many entries and is doubled until it has what is needed."""
+    rooms = [first]
+    while rooms[-1] < needed:
+        rooms.append(2 * rooms[-1])
+    return [entry * room for room in rooms]
+
+
+# What it is, the source, the lines before, the line, what its change may ask for, and its reply.
+ROWS = [
+    ("a blank line", FIRST, b"", b"    ", [], b""),
+    ("a remark", FIRST, b"", b"*   ", [], b""),
+    ("a step that keeps three values", FIRST, b"", b"step", STEP, b"ran 1 to 0001 clock 1: limit\n"),
+    ("a step of a MOVE, where 101 rooms are left", MOVE, b"step\n", b"step", [2 * MOST_KEPT * VALUE], b"ran 1 to 0002 clock 128: limit\n"),
+    ("the third step, for which there is room", FIRST, b"step 2\n", b"step", [], b"ran 1 to 0003 clock 4: limit\n"),
+    ("four steps", FIRST, b"", b"step 4", [*STEP, 2 * MOST_KEPT * VALUE], b"ran 4 to 0004 clock 14: halt\n"),
+    ("the fifth change", LOOP, b"step 4\n", b"step", [8 * CHANGES, 8 * STARTS], b"ran 1 to 0000 clock 5: limit\n"),
+    ("a step that is at fault", lines(" STA 4000", " END 0"), b"", b"step", REFUSED, b"ran 0 to 0000 clock 0: fault M5 no such cell\n"),
+    ("back", FIRST, b"step 4\n", b"back 2", [], b"back 2 to 0002 clock 2\n"),
+    ("back all", FIRST, b"step 4\n", b"back all", [], b"back 4 to 0000 clock 0\n"),
+    ("back break", FIRST, b"step 4\n", b"back break", [], b"back 4 to 0000 clock 0\n"),
+    ("forth", FIRST, b"step 4\nback 2\n", b"forth 2", [], b"forth 2 to 0004 clock 14\n"),
+    ("a step again, where changes stand ahead", FIRST, b"step 4\nback 4\n", b"step", AHEAD, b"ran 1 to 0001 clock 1: limit\n"),
+    ("set", FIRST, b"", b"set A 5", [*LISTS, 4 * VALUE], b"ok\n"),
+    ("the second set", FIRST, b"set A 5\n", b"set X 5", [], b"ok\n"),
+    ("break", FIRST, b"", b"break 3", [*LISTS, 4 * VALUE], b"ok\n"),
+    ("set, refused", FIRST, b"", b"set J -1", REFUSED, b"? C5 refused by the machine: M7 index overflow\n"),
+    ("show clock", FIRST, b"", b"show clock", [], b"clock 0\n"),
+    ("show changes", FIRST, b"step 4\n", b"show changes", [], b"changes 4\n"),
+    ("show cells", FIRST, b"", b"show cells 0 0", [], b"0000 + 00 05 00 02 48\n"),
+    ("show breaks", FIRST, b"", b"show breaks", [], b"breaks\n"),
+    ("no command", FIRST, b"", b"jump", [], b"? C1 no such command\n"),
+    ("a bad argument", FIRST, b"", b"step 0 x", [], b"? C2 bad argument\n"),
+    ("a number out of range", FIRST, b"", b"step 0", [], b"? C3 number out of range\n"),
+    ("fewer changes than asked", FIRST, b"", b"back 1", [], b"? C4 fewer changes than asked\n"),
+]
+STEPS = 100000
+
+
+class Asking:
+    """Runs of a program, with the bytes of each allocation that it asks for."""
+
+    def __init__(self, program, place):
+        self.runner, self.library, self.told = Runner(program, place), library(place), os.path.join(place, "asked")
+
+    def run(self, text):
+        if os.path.exists(self.told):
+            os.unlink(self.told)
+        answer = self.runner.run(text, (), {"LD_PRELOAD": self.library, "ASKED_TO": self.told})
+        with open(self.told, "rb") as file:
+            return answer, [int(line) for line in file]
+
+    def beyond(self, source, before, line):
+        """What the last line writes, and what it asks for; None where what stands before it asks for something else than before a remark."""
+        start = source + b"%SCRIPT\n" + before
+        (output, _, _), asked = self.run(start + line + b"\n")
+        (less, _, _), known = self.run(start + b"*" * len(line) + b"\n")
+        return output[len(less):], asked[len(known):] if asked[:len(known)] == known else None
+
+
+def is_for_reply(asked, reply):
+    """Whether this much is what a text of such a reply asks for: at least twice as much each time, and no more than is needed."""
+    if not reply:
+        return asked == []
+    return asked != [] and all(2 * one <= two or two == asked[-1] == len(reply) for one, two in zip(asked, asked[1:])) and \
+        len(reply) <= asked[-1] and sum(asked) < 4 * len(reply) + 8
+
+
+def rows(program, workers, quick=False):
+    count = Count()
+    with folder() as place:
+        asking = Asking(program, place)
+        for name, source, before, line, needed, reply in ROWS:
+            output, asked = asking.beyond(source, before, line)
+            may = needed if isinstance(needed, tuple) else (needed,)
+            good = asked is not None and any(sorted(asked[:len(some)]) == sorted(some) and is_for_reply(asked[len(some):], reply) for some in may)
+            count.row("%s: what it asks for" % name, good, "%s and not %s and a text of %d bytes" % (asked, needed, len(reply)))
+            count.same("%s: its reply" % name, output, reply)
+        _, asked = asking.run(lines(" END 0"))
+        count.row("a journal and a session ask for nothing: the cells are asked for last", asked[-1:] == [CELLS] and asked.count(CELLS) == 1, repr(asked))
+        for size in (8, 100, 1000, 4000):
+            _, less = asking.run(lines(" END 0").ljust(size, b"*"))
+            _, more = asking.run(lines(" END 0").ljust(size + 1, b"*"))
+            differ = [pair for pair in zip(less, more) if pair[0] != pair[1]]
+            count.same("what a read of %d bytes asks for, and of one more" % size, (differ, len(more)), ([(size, size + 1)], len(less)))
+        # many steps: each list is doubled, nothing else is asked for, and nothing is asked for again where it was asked for before
+        (_, _, _), asked = asking.run(LOOP + b"%%SCRIPT\nrun %d\n" % STEPS)
+        after = asked[asked.index(CELLS) + 1:]
+        wanted = grown(CHANGES, 4, STEPS) + grown(STARTS, 4, STEPS) + grown(VALUE, MOST_KEPT, 3 * (STEPS - 1) + MOST_KEPT)
+        reply = b"ran %d to 0000 clock %d: limit\n" % (STEPS, STEPS)
+        rest = list(after)
+        for one in wanted:
+            if one in rest:
+                rest.remove(one)
+        count.row("%d steps ask for lists that are doubled" % STEPS, len(after) - len(rest) == len(wanted) and is_for_reply(rest, reply), repr(after))
+        _, asked = asking.beyond(LOOP, b"run %d\nback all\n" % STEPS, b"run %d" % STEPS)
+        count.row("and for nothing when they are done again", asked is not None and is_for_reply(asked, reply), repr(asked))
+        print("allocations: %d steps ask %d times, for %d bytes" % (STEPS, len(after), sum(after)))
+    return count

@@ -1,0 +1,9 @@
+//! Why a call was refused: a fault of its own, or out of memory.
+#![tactic(auto)]
+
+mod refused;
+
+pub use refused::{Memory, Refused};
+
+#[cfg(test)]
+mod tests;

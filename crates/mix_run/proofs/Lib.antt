@@ -1,0 +1,4 @@
+mod CutLemmas
+mod RunLemmas
+mod Truncation
+mod Written

@@ -1,0 +1,179 @@
+-- A script goes on by one line: what was written so far and the replies to the lines that are left stay the replies to all.
+use Rattle.std.proofs.Common.{◌≡◌, ℕ, List, [], ◌∷◌, ◌++◌, true, Option, None, Some, Result, Ok, Err, ◌-◌, ◌<◌, ◌≤◌, refl, sym, ap, ◌∙◌, append_assoc, length, eqb, take, arith}
+use Rattle.std.proofs.lemmas.Bool.{eqb-true, lt-ltb, le-ltb}
+use Rattle.std.proofs.lemmas.List.{append-nil}
+use Rattle.std.specs.Io.KnownBytes.{Appends, Keeps}
+use Rattle.mix_session.specs.Session.{SessionState, opened, effect_in}
+use Rattle.mix_session.specs.Command.{after, reply_of}
+use Rattle.mix_session.specs.Answer.{told_of}
+use Rattle.mix_lines.specs.Lines.{lines, lines-nil}
+use Rattle.mix_run.specs.Output.{Outcome, Meets, outcome_of, replies, outcome_of_script, bundle_output, output, list_output, list_outcome, status_of, TooLong, Ended}
+use Rattle.mix_stream.specs.Stream.{AppendsFront, ConsumesAtMost}
+use Rattle.mix_run.specs.Bundle.{cut_of}
+use Rattle.mixal_asm.specs.Assembly.{assembly}
+use Rattle.mixal_asm.specs.Fault.{asm_fault_line}
+use Rattle.mixal_asm.specs.Program.{ProgramValue}
+use Rattle.mixal_asm.specs.declared.fault.AsmFault.{AsmFault}
+use Rattle.mix_machine.specs.units.Units.{UnitsState}
+use Rattle.mix_machine.specs.units.deck.Deck.{deck_of}
+use Rattle.mix_session.specs.Wrapped.{fault_of_read}
+use Rattle.mix_machine.specs.declared.units.deck_fault.DeckFault.{DeckFault}
+use Rattle.mix_session.specs.declared.fault.ToolFault.{ToolFault}
+use Rattle.mix_session.specs.declared.fault.ToolFault.TheVariants as faults
+use Rattle.mix_refused.specs.declared.refused.Refused.{Refused as Refusal}
+use Rattle.mix_stream.specs.declared.counted.Failed.{Failed}
+use Rattle.mix_refused.specs.declared.refused.Refused.TheVariants as reads
+use Rattle.mix_run.proofs.Truncation.{limited-take, deck_of-take, assembly-take}
+use Rattle.mix_session.specs.Reply.{told_of_both}
+use Rattle.mix_session.specs.declared.reply.Told.{Told}
+use Rattle.mix_session.specs.declared.reply.Told.TheVariants.{Accepted, Refused}
+use Rattle.mix_run.proofs.Written.{Appends-then, Appends-same, Appends-nothing, AppendsFront-after}
+
+-- one line more is written
+pub written-next : (s next : SessionState) (line rest more : List ℕ) (a b c : Option (List ℕ)) (whole : List ℕ) →
+    lines rest ≡ line ∷ lines more → next ≡ record s { timeline = after (effect_in s line) } →
+    (done : List ℕ) × Appends a b done × (whole ≡ done ++ (replies s (lines rest)).bytes) → Appends b c (reply_of (effect_in s line)) →
+    (done : List ℕ) × Appends a c done × (whole ≡ done ++ (replies next (lines more)).bytes)
+written-next s next line rest more a b c whole split changed so_far reply =
+    let said = reply_of (effect_in s line) in
+    let rest_said : (replies s (lines rest)).bytes ≡ said ++ (replies next (lines more)).bytes = rw (split, changed) refl in (
+      so_far.0 ++ said,
+      Appends-then a b c so_far.0 said so_far.1 reply,
+      so_far.2 ∙ ap (λ bytes. so_far.0 ++ bytes) rest_said ∙ sym (append_assoc so_far.0 said (replies next (lines more)).bytes),
+    )
+
+-- a beginning of one line more is written
+pub begun-at : (s : SessionState) (line rest more : List ℕ) (a b c : Option (List ℕ)) (whole : List ℕ) → lines rest ≡ line ∷ lines more →
+    (done : List ℕ) × Appends a b done × (whole ≡ done ++ (replies s (lines rest)).bytes) → AppendsFront b c (reply_of (effect_in s line)) →
+    AppendsFront a c whole
+begun-at s line rest more a b c whole split so_far reply =
+    AppendsFront-after a b c so_far.0 (reply_of (effect_in s line)) (replies (record s { timeline = after (effect_in s line) }) (lines more)).bytes whole so_far.1 reply
+    (so_far.2 ∙ ap (λ bytes. so_far.0 ++ bytes) (rw split refl))
+
+both-assoc : (a b c : Told) → told_of_both (told_of_both a b) c ≡ told_of_both a (told_of_both b c)
+both-assoc Accepted b c = refl
+both-assoc Refused b c = refl
+
+both-accepted : (a : Told) → told_of_both a Accepted ≡ a
+both-accepted Accepted = refl
+both-accepted Refused = refl
+
+-- what was reported so far, and of the lines that are left, is reported of all; so it is after one line more
+pub told-next : (s next : SessionState) (line rest more : List ℕ) (so_far one whole : Told) → lines rest ≡ line ∷ lines more →
+    next ≡ record s { timeline = after (effect_in s line) } → told_of_both so_far (replies s (lines rest)).told ≡ whole → one ≡ told_of (effect_in s line).answer →
+    told_of_both (told_of_both so_far one) (replies next (lines more)).told ≡ whole
+told-next s next line rest more so_far one whole split changed before here =
+    let rest_told : (replies s (lines rest)).told ≡ told_of_both one (replies next (lines more)).told = rw (split, changed, here) refl in
+    both-assoc so_far one (replies next (lines more)).told ∙ ap (told_of_both so_far) (sym rest_told) ∙ before
+
+-- no line is left
+pub all-said : (s : SessionState) (a b : Option (List ℕ)) (whole rest : List ℕ) → rest ≡ [] →
+    (done : List ℕ) × Appends a b done × (whole ≡ done ++ (replies s (lines rest)).bytes) → Appends a b whole
+all-said s a b whole rest none so_far =
+    Appends-same a b so_far.0 whole (sym (so_far.2 ∙ (rw (none, lines-nil) (append-nil so_far.0)))) so_far.1
+
+pub all-told : (s : SessionState) (so_far whole : Told) (rest : List ℕ) → rest ≡ [] →
+    told_of_both so_far (replies s (lines rest)).told ≡ whole → so_far ≡ whole
+all-told s so_far whole rest none before =
+    sym (both-accepted so_far) ∙ (rw (none, lines-nil) at before)
+
+-- a list of length 0
+pub nil-from_length : (xs : List ℕ) → true ≡ eqb (length xs) 0 → xs ≡ []
+nil-from_length [] e = refl
+nil-from_length (x ∷ xs) e = absurd (omega (arith, eqb-true (length (x ∷ xs)) 0 (sym e)))
+
+-- a script is read from its first 1,048,577 bytes
+pub outcome_of_script-take : (s : SessionState) (script : List ℕ) → outcome_of_script s (take 1048577 script) ≡ outcome_of_script s script
+unfolding outcome_of_script
+outcome_of_script-take s script =
+    limited-take 1048576 TooLong (λ text. let all = replies s (lines text) in Ended all.bytes (status_of all.told)) script
+
+-- a bundle is read from its first 41,943,041 bytes
+pub bundle_output-take : (bundle : List ℕ) → bundle_output (take 41943041 bundle) ≡ bundle_output bundle
+unfolding bundle_output
+bundle_output-take bundle =
+    limited-take 41943040 TooLong (λ text. let parts = cut_of text in output parts.source parts.deck parts.script) bundle
+
+-- a script that was read up to one byte more than it may have
+pub Meets-script : (s : SessionState) (script read : List ℕ) (done : Result ℕ ToolFault) (old new : Option (List ℕ)) →
+    read ≡ take 1048577 script → Meets (outcome_of_script s read) done old new → Meets (outcome_of_script s script) done old new
+Meets-script s script read done old new e met =
+    let whole : outcome_of_script s read ≡ outcome_of_script s script = ap (outcome_of_script s) e ∙ outcome_of_script-take s script in
+    rw whole at met
+
+-- nothing was read
+pub ConsumesAtMost-none : (rest : Option (List ℕ)) (most : ℕ) → ConsumesAtMost rest rest most
+ConsumesAtMost-none None most = tt
+ConsumesAtMost-none (Some known) most =
+    let none : length known - length known ≡ 0 = omega arith in (rw none refl, omega arith)
+
+pub Keeps-same : (told : Option (List ℕ)) → Keeps told told
+Keeps-same None = tt
+Keeps-same (Some bytes) = refl
+
+-- nothing was written, and memory was refused or a read failed
+pub Meets-unread : (outcome : Outcome) (fault : Refusal Failed) (told : Option (List ℕ)) → Meets outcome (Err (fault_of_read fault)) told told
+Meets-unread outcome reads.Memory told = (0, omega arith, Appends-nothing told)
+Meets-unread outcome (reads.Fault _) told = Keeps-same told
+
+-- a deck that was read up to one byte more than it may have
+pub deck_of-read : (deck read : List ℕ) → read ≡ take 33554433 deck → deck_of read ≡ deck_of deck
+deck_of-read deck read e = ap deck_of e ∙ deck_of-take deck
+
+pub Meets-deck : (program : ProgramValue) (deck read script : List ℕ) (fault : DeckFault) (told : Option (List ℕ)) →
+    read ≡ take 33554433 deck → deck_of read ≡ Err fault → Meets (outcome_of (Ok program) (deck_of deck) script) (Err (faults.Deck fault)) told told
+unfolding outcome_of
+Meets-deck program deck read script fault told e f =
+    let refused : deck_of deck ≡ Err fault = sym (deck_of-read deck read e) ∙ f in
+    rw refused (refl, Keeps-same told)
+
+pub Meets-read : (program : ProgramValue) (units : UnitsState) (deck read script : List ℕ) (done : Result ℕ ToolFault) (old new : Option (List ℕ)) →
+    read ≡ take 33554433 deck → deck_of read ≡ Ok units →
+    Meets (outcome_of_script (opened program units) script) done old new → Meets (outcome_of (Ok program) (deck_of deck) script) done old new
+unfolding outcome_of
+Meets-read program units deck read script done old new e f met =
+    let taken : deck_of deck ≡ Ok units = sym (deck_of-read deck read e) ∙ f in
+    rw taken met
+
+-- a source that was read up to one byte more than it may have
+pub Meets-source : (source read deck script : List ℕ) (made : Result ProgramValue AsmFault) (done : Result ℕ ToolFault) (old new : Option (List ℕ)) →
+    read ≡ take 1048577 source → assembly read ≡ made → Meets (outcome_of made (deck_of deck) script) done old new → Meets (output source deck script) done old new
+unfolding output
+Meets-source source read deck script made done old new e f met =
+    let here : assembly source ≡ made = sym (ap assembly e ∙ assembly-take source) ∙ f in
+    rw here met
+
+-- the same of a listing
+pub Meets-listed : (source read : List ℕ) (made : Result ProgramValue AsmFault) (done : Result ℕ ToolFault) (old new : Option (List ℕ)) →
+    read ≡ take 1048577 source → assembly read ≡ made → Meets (list_outcome made) done old new → Meets (list_output source) done old new
+unfolding list_output
+Meets-listed source read made done old new e f met =
+    let here : assembly source ≡ made = sym (ap assembly e ∙ assembly-take source) ∙ f in
+    rw here met
+
+-- a refused source
+pub Meets-refused : (source read deck script : List ℕ) (fault : AsmFault) (done : Result ℕ ToolFault) (old new : Option (List ℕ)) →
+    read ≡ take 1048577 source → assembly read ≡ Err fault → Meets (Ended (asm_fault_line fault ++ 10 ∷ []) 1) done old new →
+    Meets (output source deck script) done old new
+unfolding outcome_of
+Meets-refused source read deck script fault done old new e f met = Meets-source source read deck script (Err fault) done old new e f met
+
+-- a bundle that was read up to one byte more than it may have
+pub Meets-bundle : (bundle read : List ℕ) (done : Result ℕ ToolFault) (old new : Option (List ℕ)) →
+    read ≡ take 41943041 bundle → Meets (bundle_output read) done old new → Meets (bundle_output bundle) done old new
+Meets-bundle bundle read done old new e met =
+    let whole : bundle_output read ≡ bundle_output bundle = ap bundle_output e ∙ bundle_output-take bundle in
+    rw whole at met
+
+-- one that is too long
+pub Meets-long : (read : List ℕ) (told : Option (List ℕ)) → 41943040 < length read → Meets (bundle_output read) (Err faults.Long) told told
+unfolding bundle_output
+Meets-long read told long = rw (lt-ltb 41943040 (length read) long) (refl, Keeps-same told)
+
+-- one that is not, by its parts
+pub Meets-parts : (read source deck script : List ℕ) (done : Result ℕ ToolFault) (old new : Option (List ℕ)) → length read ≤ 41943040 →
+    source ≡ (cut_of read).source → deck ≡ (cut_of read).deck → script ≡ (cut_of read).script →
+    Meets (output source deck script) done old new → Meets (bundle_output read) done old new
+unfolding bundle_output
+Meets-parts read source deck script done old new short e f g met =
+    rw (le-ltb 41943040 (length read) short) (rw (e, f, g) at met)

@@ -1,0 +1,104 @@
+-- What the tool writes and the status with which it ends: a function of the source, the deck and the script.
+use Rattle.std.specs.Prelude.{◌≡◌, ◌≢◌, ◌≤◌, ℕ, Option, List, [], ◌∷◌, ◌++◌, Result, Ok, Err, length, nat_lt, if◌then◌else◌}
+use Rattle.std.specs.Io.KnownBytes.{Appends, Keeps}
+use Rattle.mixal_asm.specs.Assembly.{assembly}
+use Rattle.mixal_asm.specs.Fault.{asm_fault_line}
+use Rattle.mixal_asm.specs.Listing.{listing}
+use Rattle.mixal_asm.specs.Program.{ProgramValue}
+use Rattle.mixal_asm.specs.declared.fault.AsmFault.{AsmFault}
+use Rattle.mix_session.specs.Session.{SessionState, opened, effect_in}
+use Rattle.mix_session.specs.Command.{after, reply_of}
+use Rattle.mix_session.specs.Answer.{told_of}
+use Rattle.mix_run.specs.Bundle.{cut_of}
+use Rattle.mix_machine.specs.units.Units.{UnitsState}
+use Rattle.mix_machine.specs.units.deck.Deck.{deck_of}
+use Rattle.mix_lines.specs.Lines.{lines}
+use Rattle.mix_stream.specs.Stream.{AppendsFront}
+use Rattle.mix_session.specs.Reply.{told_of_both}
+use Rattle.mix_machine.specs.declared.units.deck_fault.DeckFault.{DeckFault}
+use Rattle.mix_session.specs.declared.fault.ToolFault.{ToolFault}
+use Rattle.mix_session.specs.declared.fault.ToolFault.TheVariants as faults
+use Rattle.mix_session.specs.declared.reply.Told.{Told}
+use Rattle.mix_session.specs.declared.reply.Told.TheVariants.{Accepted, Refused}
+
+-- how many bytes a script may have
+abbrev pub max_script_bytes : ℕ
+max_script_bytes = 1048576
+
+-- how many bytes a bundle may have
+abbrev pub max_bundle_bytes : ℕ
+max_bundle_bytes = 41943040
+
+-- how a run ends: with these bytes and this status, or, with no byte written, for its deck or the length of its input
+pub data Outcome : Type 0 where
+  Ended : List ℕ → ℕ → Outcome
+  DeckRefused : DeckFault → Outcome
+  TooLong : Outcome
+
+-- the replies to a script, and whether each command is accepted
+pub record Replies : Type 0 where
+  pub bytes : List ℕ
+  pub told : Told
+
+-- the replies to the lines, one after the other, each in the session that the ones before it left
+abbrev pub replies : SessionState → List (List ℕ) → Replies
+replies s [] = record { bytes = []; told = Accepted }
+replies s (line ∷ rest) =
+    let effect = effect_in s line in
+    let more = replies (record s { timeline = after effect }) rest in
+    record { bytes = reply_of effect ++ more.bytes; told = told_of_both (told_of effect.answer) more.told }
+
+-- the status of a script: 0 where each command is accepted, else 3
+abbrev pub status_of : Told → ℕ
+status_of Accepted = 0
+status_of Refused = 3
+
+-- what a run that ends may answer: 2 is for the faults of the tool
+abbrev pub IsStatus : ℕ → Type 0
+IsStatus status = (status ≤ 3) × (status ≢ 2)
+
+-- a script in a session
+unfoldable pub outcome_of_script : SessionState → List ℕ → Outcome
+outcome_of_script s script =
+    if nat_lt max_script_bytes (length script) then TooLong
+    else (let all = replies s (lines script) in Ended all.bytes (status_of all.told))
+
+-- an assembled program, with its deck and its script
+unfoldable pub outcome_of : Result ProgramValue AsmFault → Result UnitsState DeckFault → List ℕ → Outcome
+outcome_of (Err fault) deck script = Ended (asm_fault_line fault ++ 10 ∷ []) 1
+outcome_of (Ok program) (Err fault) script = DeckRefused fault
+outcome_of (Ok program) (Ok units) script = outcome_of_script (opened program units) script
+
+-- source, deck and script
+unfoldable pub output : List ℕ → List ℕ → List ℕ → Outcome
+output source deck script = outcome_of (assembly source) (deck_of deck) script
+
+-- a bundle, cut into its parts
+unfoldable pub bundle_output : List ℕ → Outcome
+bundle_output input =
+    if nat_lt max_bundle_bytes (length input) then TooLong
+    else (let parts = cut_of input in output parts.source parts.deck parts.script)
+
+-- a listing, or the first fault of its source
+abbrev pub list_outcome : Result ProgramValue AsmFault → Outcome
+list_outcome (Err fault) = Ended (asm_fault_line fault ++ 10 ∷ []) 1
+list_outcome (Ok program) = Ended (listing program) 0
+
+unfoldable pub list_output : List ℕ → Outcome
+list_output source = list_outcome (assembly source)
+
+-- the bytes that an outcome writes
+abbrev pub bytes_of : Outcome → List ℕ
+bytes_of (Ended bytes status) = bytes
+bytes_of (DeckRefused fault) = []
+bytes_of TooLong = []
+
+-- What a call answers and writes is the outcome. Where memory is refused, or a write fails, a beginning of its bytes stands written;
+-- where a read fails, none.
+abbrev pub Meets : Outcome → Result ℕ ToolFault → Option (List ℕ) → Option (List ℕ) → Type 0
+Meets outcome (Ok status) old new = (outcome ≡ Ended (bytes_of outcome) status) × Appends old new (bytes_of outcome)
+Meets outcome (Err (faults.Deck fault)) old new = (outcome ≡ DeckRefused fault) × Keeps old new
+Meets outcome (Err faults.Long) old new = (outcome ≡ TooLong) × Keeps old new
+Meets outcome (Err faults.Memory) old new = AppendsFront old new (bytes_of outcome)
+Meets outcome (Err faults.Write) old new = AppendsFront old new (bytes_of outcome)
+Meets outcome (Err faults.Read) old new = Keeps old new

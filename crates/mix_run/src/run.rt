@@ -1,0 +1,321 @@
+//! The runs of the program: a source, a deck and a script, each from a reader of its own or all in one bundle.
+
+ghost use Rattle.std.specs.Prelude.{◌≡◌, ◌⊎◌, drop, ◌≢◌, ◌<◌, ◌≤◌, ◌+◌, ◌-◌, ◌^◌, ◌++◌, [], ◌∷◌, ℕ, List, Some, Ok, Err, IfOk, IfErr, string_bytes};
+ghost use Rattle.std.specs.Io.KnownBytes.{Appends, Keeps};
+ghost use Rattle.mixal_asm.specs.Fault.{asm_fault_line};
+ghost use Rattle.mixal_asm.specs.declared.fault.AsmFault.{AsmFault};
+ghost use Rattle.mix_machine.specs.declared.units.deck_fault.DeckFault.{DeckFault};
+ghost use Rattle.mix_lines.specs.Lines.{lines};
+ghost use Rattle.mixal_asm.specs.Assembly.{assembly, max_source_bytes};
+ghost use Rattle.mix_machine.specs.units.deck.Deck.{deck_of, max_deck_bytes};
+ghost use Rattle.mix_session.specs.Session.{opened, IsMemoryOrWrite};
+ghost use Rattle.mix_run.specs.Output.{Meets, Ended, IsStatus, output, outcome_of, bundle_output, outcome_of_script, replies, status_of, max_script_bytes, max_bundle_bytes};
+ghost use Rattle.mix_stream.specs.Stream.{AppendsFront, ConsumesAtMost, CountsRead, CountsWrite};
+
+use crate::bundle::cut;
+use mix_lines::split_line;
+use mix_machine::{MAX_DECK_BYTES, Units};
+use mix_refused::{Memory, Refused};
+use mix_session::{Session, Told, ToolFault};
+use mix_stream::{In, Out, read_up_to, write_all};
+use mixal_asm::{AsmFault, MAX_SOURCE_BYTES, Program, assemble};
+use std::alloc::Global;
+
+/// The most bytes that a script may have.
+const MAX_SCRIPT_BYTES: usize = 1_048_576;
+
+/// The most bytes that a bundle may have.
+const MAX_BUNDLE_BYTES: usize = 41_943_040;
+
+/// The status where the source is refused.
+const SOURCE_REFUSED: u8 = 1;
+
+/// The status where some command is refused.
+const COMMAND_REFUSED: u8 = 3;
+
+/// The first fault of a source is all that is written.
+pub(crate) fn refuse_source<W: Out>(
+    alloc: Global,
+    fault: AsmFault,
+    out: &mut W,
+) -> Result<u8, ToolFault>
+    requires { W.failed out.old < 2 ^ 64 - 1 }
+    ensures output { Meets (Ended (asm_fault_line fault ++ 10 ∷ []) 1) result (W.told out.old) (W.told out.new) }
+    ensures write { CountsWrite (result ≡ Err ToolFault.Write) (W.failed out.old) (W.failed out.new) }
+    ensures only { IfErr result IsMemoryOrWrite }
+    ensures ends { IfOk result IsStatus }
+{
+    let line = fault_line(alloc, fault)?;
+    write_all(out, line.as_bytes())?;
+    Ok(SOURCE_REFUSED)
+}
+
+fn fault_line(alloc: Global, fault: AsmFault) -> Result<String, Memory>
+    ensures { IfOk result (λ s. string_bytes s ≡ asm_fault_line fault ++ 10 ∷ []) }
+{
+    let text = format!(in alloc; "{fault}\n")?;
+    Ok(text)
+}
+
+// The lines of a script, one after the other; accepted where each is.
+fn execute_lines<W: Out>(
+    session: &mut Session,
+    script: &[u8],
+    out: &mut W,
+) -> Result<Told, ToolFault>
+    requires { W.failed out.old < 2 ^ 64 - 1 }
+    ensures replies { let all = replies session.old (lines script.now) in
+        IfOk result (λ told. (told ≡ all.told) × Appends (W.told out.old) (W.told out.new) all.bytes) }
+    ensures begun { AppendsFront (W.told out.old) (W.told out.new) (replies session.old (lines script.now)).bytes }
+    ensures write { CountsWrite (result ≡ Err ToolFault.Write) (W.failed out.old) (W.failed out.new) }
+    ensures only { IfErr result IsMemoryOrWrite }
+{
+    let mut told = Told::Accepted;
+    let mut rest = script;
+    while !rest.is_empty() {
+        let (line, after) = split_line(rest);
+        told = told.and(session.command(line, out)?);
+        rest = after;
+    }
+    Ok(told)
+}
+
+fn status(told: Told) -> u8
+    ensures { result ≡ status_of told }
+{
+    match told {
+        Told::Accepted => 0,
+        Told::Refused => COMMAND_REFUSED,
+    }
+}
+
+// A script in a session.
+#[tactic(auto, unfolding(crate::specs::Output::outcome_of_script))]
+fn execute<W: Out>(session: &mut Session, script: &[u8], out: &mut W) -> Result<u8, ToolFault>
+    requires { W.failed out.old < 2 ^ 64 - 1 }
+    ensures output { Meets (outcome_of_script session.old script.now) result (W.told out.old) (W.told out.new) }
+    ensures write { CountsWrite (result ≡ Err ToolFault.Write) (W.failed out.old) (W.failed out.new) }
+    ensures unread { result ≢ Err ToolFault.Read }
+    ensures status { result ≢ Ok 1 }
+    ensures deck { (f : DeckFault) → result ≢ Err (ToolFault.Deck f) }
+    ensures ends { IfOk result IsStatus }
+{
+    if script.len() > MAX_SCRIPT_BYTES {
+        return Err(ToolFault::Long);
+    }
+    let told = execute_lines(session, script, out)?;
+    Ok(status(told))
+}
+
+// A script on the machine that a program loads, with its units.
+fn open_and_execute<W: Out>(
+    alloc: Global,
+    program: Program,
+    units: Units,
+    script: &[u8],
+    out: &mut W,
+) -> Result<u8, ToolFault>
+    requires { W.failed out.old < 2 ^ 64 - 1 }
+    ensures output { Meets (outcome_of_script (opened program.entry units) script.now) result (W.told out.old) (W.told out.new) }
+    ensures write { CountsWrite (result ≡ Err ToolFault.Write) (W.failed out.old) (W.failed out.new) }
+    ensures unread { result ≢ Err ToolFault.Read }
+    ensures status { result ≢ Ok 1 }
+    ensures deck { (f : DeckFault) → result ≢ Err (ToolFault.Deck f) }
+    ensures ends { IfOk result IsStatus }
+{
+    let mut session = Session::open(alloc, program, units)?;
+    execute(&mut session, script, out)
+}
+
+// The deck and the script of an assembled source, read already.
+#[tactic(auto, unfolding(crate::specs::Output::outcome_of))]
+fn run_deck<W: Out>(
+    alloc: Global,
+    program: Program,
+    deck: &[u8],
+    script: &[u8],
+    out: &mut W,
+) -> Result<u8, ToolFault>
+    requires { W.failed out.old < 2 ^ 64 - 1 }
+    ensures output { Meets (outcome_of (Ok program.entry) (deck_of deck.now) script.now) result (W.told out.old) (W.told out.new) }
+    ensures write { CountsWrite (result ≡ Err ToolFault.Write) (W.failed out.old) (W.failed out.new) }
+    ensures unread { result ≢ Err ToolFault.Read }
+    ensures ends { IfOk result IsStatus }
+{
+    match Units::read(alloc, deck) {
+        Err(Refused::Memory) => Err(ToolFault::Memory),
+        Err(Refused::Fault(fault)) => Err(ToolFault::Deck(fault)),
+        Ok(units) => open_and_execute(alloc, program, units, script, out),
+    }
+}
+
+// A source, a deck and a script that are read already.
+#[tactic(auto, unfolding(crate::specs::Output::output, crate::specs::Output::outcome_of))]
+fn run_parts<W: Out>(
+    alloc: Global,
+    source: &[u8],
+    deck: &[u8],
+    script: &[u8],
+    out: &mut W,
+) -> Result<u8, ToolFault>
+    requires { W.failed out.old < 2 ^ 64 - 1 }
+    ensures output { Meets (output source.now deck.now script.now) result (W.told out.old) (W.told out.new) }
+    ensures write { CountsWrite (result ≡ Err ToolFault.Write) (W.failed out.old) (W.failed out.new) }
+    ensures unread { result ≢ Err ToolFault.Read }
+    ensures ends { IfOk result IsStatus }
+{
+    match assemble(alloc, source) {
+        Err(Refused::Memory) => Err(ToolFault::Memory),
+        Err(Refused::Fault(fault)) => refuse_source(alloc, fault, out),
+        Ok(program) => run_deck(alloc, program, deck, script, out),
+    }
+}
+
+// The script of an assembled source, with the units of its deck.
+fn run_script<C: In, W: Out>(
+    alloc: Global,
+    program: Program,
+    units: Units,
+    script: &mut C,
+    out: &mut W,
+) -> Result<u8, ToolFault>
+    requires script_count { C.failed script.old < 2 ^ 64 - 1 }
+    requires out_count { W.failed out.old < 2 ^ 64 - 1 }
+    ensures output { (t : List ℕ) → C.rest script.old ≡ Some t
+        → Meets (outcome_of_script (opened program.entry units) t) result (W.told out.old) (W.told out.new) }
+    ensures read { CountsRead (result ≡ Err ToolFault.Read) (C.failed script.old) (C.failed script.new) }
+    ensures write { CountsWrite (result ≡ Err ToolFault.Write) (W.failed out.old) (W.failed out.new) }
+    ensures unread { result ≡ Err ToolFault.Read → Keeps (W.told out.old) (W.told out.new) }
+    ensures script { ConsumesAtMost (C.rest script.old) (C.rest script.new) (max_script_bytes + 1) }
+    ensures status { result ≢ Ok 1 }
+    ensures deck { (f : DeckFault) → result ≢ Err (ToolFault.Deck f) }
+    ensures ends { IfOk result IsStatus }
+{
+    let commands = read_up_to(alloc, script, MAX_SCRIPT_BYTES + 1)?;
+    open_and_execute(alloc, program, units, &commands, out)
+}
+
+// The deck and the script of an assembled source.
+fn run_program<D: In, C: In, W: Out>(
+    alloc: Global,
+    program: Program,
+    deck: &mut D,
+    script: &mut C,
+    out: &mut W,
+) -> Result<u8, ToolFault>
+    requires deck_count { D.failed deck.old < 2 ^ 64 - 1 }
+    requires script_count { C.failed script.old < 2 ^ 64 - 1 }
+    requires out_count { W.failed out.old < 2 ^ 64 - 1 }
+    ensures output { (d t : List ℕ) → D.rest deck.old ≡ Some d → C.rest script.old ≡ Some t
+        → Meets (outcome_of (Ok program.entry) (deck_of d) t) result (W.told out.old) (W.told out.new) }
+    ensures read { CountsRead (result ≡ Err ToolFault.Read) (D.failed deck.old + C.failed script.old) (D.failed deck.new + C.failed script.new) }
+    ensures reads { (D.failed deck.old ≤ D.failed deck.new) × (C.failed script.old ≤ C.failed script.new) }
+    ensures write { CountsWrite (result ≡ Err ToolFault.Write) (W.failed out.old) (W.failed out.new) }
+    ensures unread { result ≡ Err ToolFault.Read → Keeps (W.told out.old) (W.told out.new) }
+    ensures deck { ConsumesAtMost (D.rest deck.old) (D.rest deck.new) (max_deck_bytes + 1) }
+    ensures script { ConsumesAtMost (C.rest script.old) (C.rest script.new) (max_script_bytes + 1) }
+    ensures status { result ≢ Ok 1 }
+    ensures deck_refused { (f : DeckFault) → result ≡ Err (ToolFault.Deck f) → script.new ≡ script.old }
+    ensures bad_deck { (d : List ℕ) (f : DeckFault) → D.rest deck.old ≡ Some d → deck_of d ≡ Err f → script.new ≡ script.old }
+    ensures deck_failed { D.failed deck.old < D.failed deck.new → script.new ≡ script.old }
+    ensures script_in_turn { (d : List ℕ) → D.rest deck.old ≡ Some d
+        → (script.new ≡ script.old) ⊎ (D.rest deck.new ≡ Some (drop (max_deck_bytes + 1) d)) }
+    ensures ends { IfOk result IsStatus }
+{
+    let devices = read_up_to(alloc, deck, MAX_DECK_BYTES + 1)?;
+    match Units::read(alloc, &devices) {
+        Err(Refused::Memory) => Err(ToolFault::Memory),
+        Err(Refused::Fault(fault)) => Err(ToolFault::Deck(fault)),
+        Ok(units) => run_script(alloc, program, units, script, out),
+    }
+}
+
+/// Assembles a source, reads a deck and a script, and executes the script on the loaded machine. The status is 0 where each command
+/// was accepted, 3 where one was refused, and 1 where the source is refused: then its first fault is written. At most 1,048,577
+/// bytes of the source are read, 33,554,433 of the deck and 1,048,577 of the script, all of them before the first byte is written;
+/// the deck is read after the source, and the script after the deck. After a refusal or a read that failed nothing else is read.
+///
+/// It fails with T1 where memory is refused, with T2 or T3 where a read or the write fails, with T5 where the deck is refused, and with
+/// T6 where the script is over 1,048,576 bytes. After T1 and T3 a beginning of the output stands written, after the others nothing.
+pub fn run_debug<S: In, D: In, C: In, W: Out>(
+    alloc: Global,
+    source: &mut S,
+    deck: &mut D,
+    script: &mut C,
+    out: &mut W,
+) -> Result<u8, ToolFault>
+    requires source_count { S.failed source.old < 2 ^ 64 - 1 }
+    requires deck_count { D.failed deck.old < 2 ^ 64 - 1 }
+    requires script_count { C.failed script.old < 2 ^ 64 - 1 }
+    requires out_count { W.failed out.old < 2 ^ 64 - 1 }
+
+    // The headline.
+    ensures output { (s d t : List ℕ) → S.rest source.old ≡ Some s → D.rest deck.old ≡ Some d → C.rest script.old ≡ Some t
+        → Meets (output s d t) result (W.told out.old) (W.told out.new) }
+
+    // A read or a write has failed exactly where that is answered.
+    ensures read { CountsRead (result ≡ Err ToolFault.Read) (S.failed source.old + D.failed deck.old + C.failed script.old)
+        (S.failed source.new + D.failed deck.new + C.failed script.new) }
+    ensures reads { (S.failed source.old ≤ S.failed source.new) × (D.failed deck.old ≤ D.failed deck.new) × (C.failed script.old ≤ C.failed script.new) }
+    ensures write { CountsWrite (result ≡ Err ToolFault.Write) (W.failed out.old) (W.failed out.new) }
+    ensures unread { result ≡ Err ToolFault.Read → Keeps (W.told out.old) (W.told out.new) }
+
+    // Never more is read.
+    ensures source { ConsumesAtMost (S.rest source.old) (S.rest source.new) (max_source_bytes + 1) }
+    ensures deck { ConsumesAtMost (D.rest deck.old) (D.rest deck.new) (max_deck_bytes + 1) }
+    ensures script { ConsumesAtMost (C.rest script.old) (C.rest script.new) (max_script_bytes + 1) }
+
+    // After a refusal nothing else is read.
+    ensures source_refused { result ≡ Ok 1 → (deck.new ≡ deck.old) × (script.new ≡ script.old) }
+    ensures deck_refused { (f : DeckFault) → result ≡ Err (ToolFault.Deck f) → script.new ≡ script.old }
+
+    // Nor is it after a source or a deck that is to be refused, whatever the call answers.
+    ensures bad_source { (s : List ℕ) (f : AsmFault) → S.rest source.old ≡ Some s → assembly s ≡ Err f → (deck.new ≡ deck.old) × (script.new ≡ script.old) }
+    ensures bad_deck { (d : List ℕ) (f : DeckFault) → D.rest deck.old ≡ Some d → deck_of d ≡ Err f → script.new ≡ script.old }
+
+    // Nor after a read that failed.
+    ensures source_failed { S.failed source.old < S.failed source.new → (deck.new ≡ deck.old) × (script.new ≡ script.old) }
+    ensures deck_failed { D.failed deck.old < D.failed deck.new → script.new ≡ script.old }
+
+    // Each is read when the one before it has been read up to its end or its limit.
+    ensures in_turn { (s : List ℕ) → S.rest source.old ≡ Some s
+        → ((deck.new ≡ deck.old) × (script.new ≡ script.old)) ⊎ (S.rest source.new ≡ Some (drop (max_source_bytes + 1) s)) }
+    ensures script_in_turn { (d : List ℕ) → D.rest deck.old ≡ Some d
+        → (script.new ≡ script.old) ⊎ (D.rest deck.new ≡ Some (drop (max_deck_bytes + 1) d)) }
+    ensures ends { IfOk result IsStatus }
+{
+    let text = read_up_to(alloc, source, MAX_SOURCE_BYTES + 1)?;
+    match assemble(alloc, &text) {
+        Err(Refused::Memory) => Err(ToolFault::Memory),
+        Err(Refused::Fault(fault)) => refuse_source(alloc, fault, out),
+        Ok(program) => run_program(alloc, program, deck, script, out),
+    }
+}
+
+/// The same of a bundle: the source, then the deck after a line `%DEVICES`, then the script after a line `%SCRIPT`; a part that is
+/// missing is empty. At most 41,943,041 bytes are read, all of them before the first byte is written. T6 is for a bundle over
+/// 41,943,040 bytes too.
+#[tactic(auto, unfolding(crate::specs::Output::bundle_output))]
+pub fn run_bundle<R: In, W: Out>(alloc: Global, input: &mut R, out: &mut W) -> Result<u8, ToolFault>
+    requires input_count { R.failed input.old < 2 ^ 64 - 1 }
+    requires out_count { W.failed out.old < 2 ^ 64 - 1 }
+
+    // The headline.
+    ensures output { (b : List ℕ) → R.rest input.old ≡ Some b → Meets (bundle_output b) result (W.told out.old) (W.told out.new) }
+
+    // A read or a write has failed exactly where that is answered.
+    ensures read { CountsRead (result ≡ Err ToolFault.Read) (R.failed input.old) (R.failed input.new) }
+    ensures write { CountsWrite (result ≡ Err ToolFault.Write) (W.failed out.old) (W.failed out.new) }
+    ensures unread { result ≡ Err ToolFault.Read → Keeps (W.told out.old) (W.told out.new) }
+
+    // Never more is read.
+    ensures input { ConsumesAtMost (R.rest input.old) (R.rest input.new) (max_bundle_bytes + 1) }
+    ensures ends { IfOk result IsStatus }
+{
+    let bundle = read_up_to(alloc, input, MAX_BUNDLE_BYTES + 1)?;
+    if bundle.len() > MAX_BUNDLE_BYTES {
+        return Err(ToolFault::Long);
+    }
+    let parts = cut(&bundle);
+    run_parts(alloc, parts.source, parts.deck, parts.script, out)
+}

@@ -1,0 +1,4 @@
+mod CommandLemmas
+mod ShowLemmas
+mod TimelineLemmas
+mod UnitLemmas

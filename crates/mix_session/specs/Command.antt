@@ -1,0 +1,158 @@
+-- What a request does to the timeline of a session, and what it answers. The machine is run anew, from its first state on the changes
+-- done, wherever something of it is asked; no value from before a `back` is left to be shown.
+use Rattle.std.specs.Prelude.{◌≡◌, ◌≤◌, ◌==◌, ◌&&◌, ℕ, zero, suc, List, [], length, Bool, true, false, Option, None, Some, Result, Ok, Err, is_some, unwrap_or, nat_lt, if◌then◌else◌}
+use Rattle.std.specs.Option.{option_or}
+use Rattle.mix_refused.specs.declared.refused.Memory.{Memory}
+use Rattle.mix_word.specs.Word.{plus}
+use Rattle.mixal_text.specs.Names.{NamesValue}
+use Rattle.mix_machine.specs.World.{WorldState}
+use Rattle.mix_machine.specs.Do.{does, is_halt_next}
+use Rattle.mix_machine.specs.declared.old.Change.{Change}
+use Rattle.mix_machine.specs.declared.old.Change.TheVariants.{Step}
+use Rattle.mix_machine.specs.declared.fault.MixFault.{MixFault}
+use Rattle.mix_session.specs.Timeline.{Timeline, world_of, with_change, with_steps, back_by, forth_by, is_at_break}
+use Rattle.mix_session.specs.Request.{request_of}
+use Rattle.mix_session.specs.Answer.{text_of}
+use Rattle.mix_session.specs.declared.fault.Refusal.{Refusal}
+use Rattle.mix_session.specs.declared.fault.Refusal.TheVariants.{TooFewChanges, RefusedByMachine}
+use Rattle.mix_session.specs.declared.request.Request.{Request}
+use Rattle.mix_session.specs.declared.request.Request.TheVariants as ask
+use Rattle.mix_session.specs.declared.answer.Answer.{Answer}
+use Rattle.mix_session.specs.declared.answer.Answer.TheVariants as answers
+use Rattle.mix_session.specs.declared.reply.End.{End}
+use Rattle.mix_session.specs.declared.reply.End.TheVariants.{Halt, Break, Limit, Fault}
+
+-- The effect of a request: the stages by which it is done, numbered from 0 to the last one, and its answer. Of a request that is done at
+-- once, stage 0 is the last. Only where memory is refused may the timeline stand at another stage than the last.
+pub record Effect : Type 0 where
+  pub stage : ℕ → Timeline
+  pub last : ℕ
+  pub answer : Answer
+
+-- the timeline after a command
+abbrev pub after : Effect → Timeline
+after effect = effect.stage effect.last
+
+-- the text of an answer, read from the machine run anew over the changes done
+abbrev pub text_at : Timeline → Answer → List ℕ
+text_at t answer = text_of answer (world_of t) (length t.changes)
+
+-- the reply of a command
+abbrev pub reply_of : Effect → List ℕ
+reply_of effect = text_at (after effect) effect.answer
+
+-- the least number that passes the test, of those below n, or n
+abbrev pub least_below : ℕ → (ℕ → Bool) → ℕ
+least_below zero passes = 0
+least_below (suc n) passes = if passes 0 then 0 else suc (least_below n (λ k. passes (suc k)))
+
+-- the fault of one more step, if it is one
+abbrev pub fault_end : Result WorldState MixFault → Option End
+fault_end (Ok world) = None
+fault_end (Err fault) = Some (Fault fault)
+
+-- what ends a command once a step is done, if that does: the step was a halt, or, where breakpoints stop, it came to one
+abbrev pub end_of_step : Bool → Bool → WorldState → Option End
+end_of_step halts at_breaks now = if halts then Some Halt else (if at_breaks && is_at_break now then Some Break else None)
+
+-- what ends a command after k steps, by the last of them
+abbrev pub end_of_last : Bool → Timeline → ℕ → Option End
+end_of_last at_breaks t zero = None
+end_of_last at_breaks t (suc k) = end_of_step (is_halt_next (world_of (with_steps t k))) at_breaks (world_of (with_steps t (suc k)))
+
+-- what ends n steps after k of them, if anything does: the last of them, or k is n, or one more is a fault
+unfoldable pub end_at : Bool → Timeline → ℕ → ℕ → Option End
+end_at at_breaks t n k =
+    option_or (end_of_last at_breaks t k) (if k == n then Some Limit else fault_end (does (world_of (with_steps t k)) Step))
+
+-- how many of n steps are done: the least number at which an end holds
+unfoldable pub count_of_steps : Bool → Timeline → ℕ → ℕ
+count_of_steps at_breaks t n = least_below n (λ k. is_some (end_at at_breaks t n k))
+
+-- `step N`, and `run N`, which a breakpoint stops too: a stage is a step
+unfoldable pub effect_of_steps : Bool → Timeline → ℕ → Effect
+effect_of_steps at_breaks t n =
+    let k = count_of_steps at_breaks t n in
+    record { stage = with_steps t; last = k; answer = answers.Ran k (unwrap_or (end_at at_breaks t n k) Limit) }
+
+-- what is done at once
+abbrev pub at_once : Timeline → Answer → Effect
+at_once t answer = record { stage = λ k. t; last = 0; answer = answer }
+
+-- a refusal changes nothing
+abbrev pub refusal_effect : Timeline → Refusal → Effect
+refusal_effect t refusal = at_once t (answers.Refused refusal)
+
+-- the last n changes are taken back
+abbrev pub effect_of_back : Timeline → ℕ → Effect
+effect_of_back t n = at_once (back_by t n) (answers.Back n)
+
+-- `back N`: none is taken back where there are fewer
+abbrev pub effect_of_back_within : Timeline → ℕ → Effect
+effect_of_back_within t n = if nat_lt (length t.changes) n then refusal_effect t TooFewChanges else effect_of_back t n
+
+-- whether taking k changes back, at least one, comes to a breakpoint
+abbrev pub is_break_after : Timeline → ℕ → Bool
+is_break_after t k = nat_lt 0 k && is_at_break (world_of (back_by t k))
+
+-- how many changes `back break` takes back: the least number that comes to a breakpoint, or all where none does
+unfoldable pub count_to_break : Timeline → ℕ
+count_to_break t = least_below (length t.changes) (is_break_after t)
+
+-- the next n changes ahead are done again: a stage is one of them
+abbrev pub effect_of_forth : Timeline → ℕ → Effect
+effect_of_forth t n = record { stage = forth_by t; last = n; answer = answers.Forth n }
+
+-- `forth N`: none is done where fewer stand ahead
+abbrev pub effect_of_forth_within : Timeline → ℕ → Effect
+effect_of_forth_within t n = if nat_lt (length t.ahead) n then refusal_effect t TooFewChanges else effect_of_forth t n
+
+-- before a change, and after it
+abbrev pub change_stage : Timeline → Change → ℕ → Timeline
+change_stage t change zero = t
+change_stage t change (suc k) = with_change t change
+
+-- a change that the machine makes is done; one that it refuses leaves the timeline
+abbrev pub effect_of_result : Timeline → Change → Result WorldState MixFault → Effect
+effect_of_result t change (Ok world) = record { stage = change_stage t change; last = 1; answer = answers.Done }
+effect_of_result t change (Err fault) = refusal_effect t (RefusedByMachine fault)
+
+-- a change of the machine, as `set`, `break` and `clear` ask for it
+unfoldable pub effect_of_change : Timeline → Change → Effect
+effect_of_change t change = effect_of_result t change (does (world_of t) change)
+
+-- what a request does; each request has an effect, whoever makes it
+unfoldable pub effect_of : Timeline → Request → Effect
+effect_of t ask.Nothing = at_once t answers.Nothing
+effect_of t (ask.Step n) = effect_of_steps false t n
+effect_of t (ask.Run n) = effect_of_steps true t n
+effect_of t (ask.Back n) = effect_of_back_within t n
+effect_of t ask.BackAll = effect_of_back t (length t.changes)
+effect_of t ask.BackBreak = effect_of_back t (count_to_break t)
+effect_of t (ask.Forth n) = effect_of_forth_within t n
+effect_of t (ask.Change change) = effect_of_change t change
+effect_of t (ask.Show topic) = at_once t (answers.Shows topic)
+
+-- what a line does that was read: its request, or its refusal
+abbrev pub effect_of_line : Timeline → Result Request Refusal → Effect
+effect_of_line t (Ok request) = effect_of t request
+effect_of_line t (Err refusal) = refusal_effect t refusal
+
+-- what a line of the script asks for, with the names of the program; the asterisk stands for the location
+abbrev pub request_at : NamesValue → Timeline → List ℕ → Result Request Refusal
+request_at names t line = request_of names (plus (world_of t).loc) line
+
+-- what a line of the script does
+abbrev pub command : NamesValue → Timeline → List ℕ → Effect
+command names t line = effect_of_line t (request_at names t line)
+
+-- What stands where memory is refused: one of the stages of the command. So of `step` and `run` some of the steps stand, of `forth` some
+-- of the changes are done again, and any other command is done or not.
+abbrev pub Begun : Effect → Timeline → Type 0
+Begun effect t = (k : ℕ) × (k ≤ effect.last) × (t ≡ effect.stage k)
+
+-- what a request does to the journal and answers: its first state stays, the timeline after it and the answer are those of the effect; out of
+-- memory, it is begun
+abbrev pub HasEffect : Effect → Timeline → Timeline → Result Answer Memory → Type 0
+HasEffect effect old new (Ok answer) = (new.first ≡ old.first) × (new ≡ after effect) × (answer ≡ effect.answer)
+HasEffect effect old new (Err memory) = (new.first ≡ old.first) × Begun effect new

@@ -1,0 +1,12 @@
+pub mod Answer
+pub mod Command
+pub mod Fault
+pub mod Keyword
+pub mod Reply
+pub mod Request
+pub mod Session
+pub mod Show
+pub mod ShowUnit
+pub mod Timeline
+pub mod Wrapped
+pub mod law

@@ -1,0 +1,257 @@
+-- What a line of the script asks for: its words, in capitals or small letters, or what is wrong with them. A word that is missing,
+-- unknown, bad or too many is reported before a number that is out of range.
+use Rattle.std.specs.Prelude.{◌==◌, ℕ, ℤ, pos, negsuc, List, [], ◌∷◌, Option, Some, None, Result, Ok, Err, nat_lt, ok_or, if◌then◌else◌}
+use Rattle.mix_session.specs.Keyword.{keyword_named, command_name, all_commands, back_name, all_backs, set_name, all_sets, show_name, all_shows, toggle_name, all_toggles, indicator_name, all_indicators}
+use Rattle.mix_lines.specs.Lines.{words, is_comment}
+use Rattle.mix_lines.specs.Number.{decimal_number}
+use Rattle.mix_word.specs.Word.{WordValue, number_of}
+use Rattle.mixal_text.specs.Names.{NamesValue}
+use Rattle.mixal_text.specs.Expression.{whole_expression}
+use Rattle.mixal_text.specs.WValue.{w_value_of}
+use Rattle.mixal_text.specs.declared.fault.TextFault.{TextFault}
+use Rattle.mixal_text.specs.Steps.{◌>>=◌}
+use Rattle.mix_session.specs.declared.fault.Refusal.{Refusal}
+use Rattle.mix_session.specs.declared.fault.Refusal.TheVariants.{NoSuchCommand, BadArgument, OutOfRange}
+use Rattle.mix_session.specs.declared.keyword.CommandWord.{CommandWord}
+use Rattle.mix_session.specs.declared.keyword.CommandWord.TheVariants as command
+use Rattle.mix_session.specs.declared.keyword.BackWord.{BackWord}
+use Rattle.mix_session.specs.declared.keyword.BackWord.TheVariants as back
+use Rattle.mix_session.specs.declared.keyword.SetWord.{SetWord}
+use Rattle.mix_session.specs.declared.keyword.SetWord.TheVariants as set
+use Rattle.mix_session.specs.declared.keyword.ShowWord.{ShowWord}
+use Rattle.mix_session.specs.declared.keyword.ShowWord.TheVariants as show
+use Rattle.mix_session.specs.declared.request.Request.{Request}
+use Rattle.mix_session.specs.declared.request.Request.TheVariants as ask
+use Rattle.mix_machine.specs.declared.old.Change.{Change}
+use Rattle.mix_machine.specs.declared.old.Change.TheVariants.{SetReg, SetCell, SetLoc, SetOver, SetCmp, Break, Clear}
+use Rattle.mix_session.specs.declared.request.Topic.{Topic}
+use Rattle.mix_session.specs.declared.request.Topic.TheVariants as topic
+
+-- no word more
+abbrev pub no_word : List (List ℕ) → Result (Unit {0}) Refusal
+no_word [] = Ok tt
+no_word (word ∷ more) = Err BadArgument
+
+-- exactly one word
+abbrev pub one_word : List (List ℕ) → Result (List ℕ) Refusal
+one_word [] = Err BadArgument
+one_word (word ∷ more) = do
+  none ← no_word more
+  Ok word
+
+-- exactly two words
+abbrev pub two_words : List (List ℕ) → Result (List ℕ × List ℕ) Refusal
+two_words [] = Err BadArgument
+two_words (word ∷ more) = do
+  second ← one_word more
+  Ok (word, second)
+
+-- one of the keywords of a place
+abbrev pub keyword_in : {K : Type 0} → (K → List ℕ) → List K → List ℕ → Result K Refusal
+keyword_in name_of all word = ok_or (keyword_named name_of all word) BadArgument
+
+-- a number
+abbrev pub number_in : List ℕ → Result ℕ Refusal
+number_in word = ok_or (decimal_number word) BadArgument
+
+-- what an expression or a W-value gives; any of its faults is a bad argument
+abbrev pub or_bad : {A : Type 0} → Result A TextFault → Result A Refusal
+or_bad (Ok x) = Ok x
+or_bad (Err fault) = Err BadArgument
+
+-- a word, by a W-value with the names of the program, in which the asterisk stands for the location
+abbrev pub word_in : NamesValue → WordValue → List ℕ → Result WordValue Refusal
+word_in names here text = or_bad (w_value_of names here text)
+
+-- a number, by an expression and nothing else
+abbrev pub expression_in : NamesValue → WordValue → List ℕ → Result WordValue Refusal
+expression_in names here text = or_bad (whole_expression names here text)
+
+-- a number that is at least 1
+abbrev pub from_one : ℕ → Result ℕ Refusal
+from_one n = if n == 0 then Err OutOfRange else Ok n
+
+-- a number that is not over a limit
+abbrev pub up_to : ℕ → ℕ → Result ℕ Refusal
+up_to limit n = if nat_lt limit n then Err OutOfRange else Ok n
+
+-- the cell of a number, 0 to 3999
+abbrev pub place_of_number : ℤ → Result ℕ Refusal
+place_of_number (pos n) = up_to 3999 n
+place_of_number (negsuc n) = Err OutOfRange
+
+-- the cell that a word names by its number
+abbrev pub place_of : WordValue → Result ℕ Refusal
+place_of w = place_of_number (number_of w)
+
+-- the most steps of one command
+abbrev pub max_steps : ℕ
+max_steps = 1000000
+
+-- how many steps: from 1 to the most of one command
+abbrev pub steps_in : List ℕ → Result ℕ Refusal
+steps_in word = do
+  n ← number_in word
+  some ← from_one n
+  up_to max_steps some
+
+-- `step`, `step N`
+unfoldable pub step_request : List (List ℕ) → Result Request Refusal
+step_request [] = Ok (ask.Step 1)
+step_request (word ∷ more) = do
+  none ← no_word more
+  steps ← steps_in word
+  Ok (ask.Step steps)
+
+-- `run N`
+unfoldable pub run_request : List (List ℕ) → Result Request Refusal
+run_request words = do
+  word ← one_word words
+  steps ← steps_in word
+  Ok (ask.Run steps)
+
+-- how much is taken back: a keyword, or a number
+abbrev pub amount_request : List ℕ → Option BackWord → Result Request Refusal
+amount_request word (Some back.All) = Ok ask.BackAll
+amount_request word (Some back.Break) = Ok ask.BackBreak
+amount_request word None = do
+  n ← number_in word
+  count ← from_one n
+  Ok (ask.Back count)
+
+-- `back N`, `back all`, `back break`
+unfoldable pub back_request : List (List ℕ) → Result Request Refusal
+back_request words = do
+  word ← one_word words
+  amount_request word (keyword_named back_name all_backs word)
+
+-- `forth N`
+unfoldable pub forth_request : List (List ℕ) → Result Request Refusal
+forth_request words = do
+  word ← one_word words
+  n ← number_in word
+  count ← from_one n
+  Ok (ask.Forth count)
+
+-- the cell that the only word names
+abbrev pub one_place : NamesValue → WordValue → List (List ℕ) → Result ℕ Refusal
+one_place names here words = do
+  word ← one_word words
+  at ← expression_in names here word
+  place_of at
+
+-- `break E`
+unfoldable pub break_request : NamesValue → WordValue → List (List ℕ) → Result Request Refusal
+break_request names here words = do
+  place ← one_place names here words
+  Ok (ask.Change (Break place))
+
+-- `clear E`
+unfoldable pub clear_request : NamesValue → WordValue → List (List ℕ) → Result Request Refusal
+clear_request names here words = do
+  place ← one_place names here words
+  Ok (ask.Change (Clear place))
+
+-- what `set` changes
+abbrev pub change_of : NamesValue → WordValue → SetWord → List (List ℕ) → Result Change Refusal
+change_of names here (set.Register r) words = do
+  word ← one_word words
+  value ← word_in names here word
+  Ok (SetReg r value)
+change_of names here set.Cell words = do
+  pair ← two_words words
+  at ← expression_in names here pair.0
+  value ← word_in names here pair.1
+  place ← place_of at
+  Ok (SetCell place value)
+change_of names here set.Location words = do
+  place ← one_place names here words
+  Ok (SetLoc place)
+change_of names here set.Toggle words = do
+  word ← one_word words
+  over ← keyword_in toggle_name all_toggles word
+  Ok (SetOver over)
+change_of names here set.Indicator words = do
+  word ← one_word words
+  cmp ← keyword_in indicator_name all_indicators word
+  Ok (SetCmp cmp)
+
+-- `set REG W`, `set cell E W`, `set loc E`, `set over on`, `set cmp L`
+unfoldable pub set_request : NamesValue → WordValue → List (List ℕ) → Result Request Refusal
+set_request names here [] = Err BadArgument
+set_request names here (word ∷ more) = do
+  keyword ← keyword_in set_name all_sets word
+  change ← change_of names here keyword more
+  Ok (ask.Change change)
+
+-- cells from one to another, which is not below it
+abbrev pub cells_of : NamesValue → WordValue → List (List ℕ) → Result Topic Refusal
+cells_of names here words = do
+  pair ← two_words words
+  first ← expression_in names here pair.0
+  last ← expression_in names here pair.1
+  from ← place_of first
+  to ← place_of last
+  if nat_lt to from then Err OutOfRange else Ok (topic.Cells from to)
+
+-- the number of the last unit
+abbrev pub last_unit : ℕ
+last_unit = 20
+
+-- `show unit N`
+abbrev pub unit_topic : List (List ℕ) → Result Topic Refusal
+unit_topic words = do
+  word ← one_word words
+  n ← number_in word
+  unit ← up_to last_unit n
+  Ok (topic.Unit unit)
+
+-- what `show` shows
+abbrev pub topic_of : NamesValue → WordValue → ShowWord → List (List ℕ) → Result Topic Refusal
+topic_of names here show.Registers words = do
+  none ← no_word words
+  Ok topic.Registers
+topic_of names here show.Cells words = cells_of names here words
+topic_of names here show.Clock words = do
+  none ← no_word words
+  Ok topic.Clock
+topic_of names here show.Breaks words = do
+  none ← no_word words
+  Ok topic.Breaks
+topic_of names here show.Changes words = do
+  none ← no_word words
+  Ok topic.Changes
+topic_of names here show.Unit words = unit_topic words
+topic_of names here show.All words = do
+  none ← no_word words
+  Ok topic.All
+
+-- `show regs`, `show cells E E`, `show clock`, `show breaks`, `show changes`, `show unit N`, `show all`
+unfoldable pub show_request : NamesValue → WordValue → List (List ℕ) → Result Request Refusal
+show_request names here [] = Err BadArgument
+show_request names here (word ∷ more) = do
+  keyword ← keyword_in show_name all_shows word
+  topic ← topic_of names here keyword more
+  Ok (ask.Show topic)
+
+-- the words after a command's first
+abbrev pub request_after : NamesValue → WordValue → CommandWord → List (List ℕ) → Result Request Refusal
+request_after names here command.Step words = step_request words
+request_after names here command.Run words = run_request words
+request_after names here command.Back words = back_request words
+request_after names here command.Forth words = forth_request words
+request_after names here command.Set words = set_request names here words
+request_after names here command.Break words = break_request names here words
+request_after names here command.Clear words = clear_request names here words
+request_after names here command.Show words = show_request names here words
+
+-- the words of a line
+unfoldable pub request_of_words : NamesValue → WordValue → List (List ℕ) → Result Request Refusal
+request_of_words names here [] = Ok ask.Nothing
+request_of_words names here (word ∷ more) = do
+  keyword ← ok_or (keyword_named command_name all_commands word) NoSuchCommand
+  request_after names here keyword more
+
+-- a line: a blank one, and one that begins with an asterisk, asks for nothing
+unfoldable pub request_of : NamesValue → WordValue → List ℕ → Result Request Refusal
+request_of names here line = if is_comment line then Ok ask.Nothing else request_of_words names here (words line)

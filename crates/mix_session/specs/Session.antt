@@ -1,0 +1,41 @@
+-- A session: the program, whose names commands may use, and the timeline of its machine.
+use Rattle.std.specs.Prelude.{ℕ, List, Result}
+use Rattle.mixal_text.specs.Names.{NamesValue}
+use Rattle.mixal_asm.specs.PassOne.{names_at}
+use Rattle.mixal_asm.specs.Program.{ProgramValue}
+use Rattle.mix_machine.specs.Loaded.{loaded}
+use Rattle.mix_machine.specs.units.Units.{UnitsState}
+use Rattle.mix_session.specs.Timeline.{Timeline, beginning}
+use Rattle.mix_session.specs.Command.{Effect, command, request_at}
+use Rattle.mix_session.specs.declared.fault.Refusal.{Refusal}
+use Rattle.mix_session.specs.declared.request.Request.{Request}
+use Rattle.mix_session.specs.declared.fault.ToolFault.{ToolFault}
+use Rattle.mix_session.specs.declared.fault.ToolFault.TheVariants as faults
+
+pub record SessionState : Type 0 where
+  pub program : ProgramValue
+  pub timeline : Timeline
+
+-- what the names of a program mean: the finished map, and of dB the last dH
+abbrev pub names_of : ProgramValue → NamesValue
+names_of program = names_at program.names program.names
+
+-- the machine that a program loads, with the units of a deck, no change done and none ahead
+unfoldable pub opened : ProgramValue → UnitsState → SessionState
+opened program units = record { program = program; timeline = beginning (loaded program.words program.start units) }
+
+-- what a line of the script asks for
+abbrev pub request_in : SessionState → List ℕ → Result Request Refusal
+request_in s line = request_at (names_of s.program) s.timeline line
+
+-- what a line of the script does
+abbrev pub effect_in : SessionState → List ℕ → Effect
+effect_in s line = command (names_of s.program) s.timeline line
+
+-- the faults that a command or a script meets: no memory, or a write that failed
+abbrev pub IsMemoryOrWrite : ToolFault → Type 0
+IsMemoryOrWrite faults.Memory = Unit {0}
+IsMemoryOrWrite faults.Write = Unit {0}
+IsMemoryOrWrite faults.Read = ⊥
+IsMemoryOrWrite (faults.Deck fault) = ⊥
+IsMemoryOrWrite faults.Long = ⊥

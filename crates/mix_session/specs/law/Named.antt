@@ -1,0 +1,21 @@
+-- Each keyword is the one that its name names.
+use Rattle.std.specs.Prelude.{◌≡◌, Some, refl}
+use Rattle.mix_word.specs.declared.register.Reg.TheVariants as reg
+use Rattle.mix_session.specs.Keyword.{keyword_named, set_name, all_sets}
+use Rattle.mix_session.specs.declared.keyword.SetWord.{SetWord}
+use Rattle.mix_session.specs.declared.keyword.SetWord.TheVariants.{Register, Cell, Location, Toggle, Indicator}
+
+pub set_named : (k : SetWord) → keyword_named set_name all_sets (set_name k) ≡ Some k
+set_named (Register reg.A) = refl
+set_named (Register reg.X) = refl
+set_named (Register reg.I1) = refl
+set_named (Register reg.I2) = refl
+set_named (Register reg.I3) = refl
+set_named (Register reg.I4) = refl
+set_named (Register reg.I5) = refl
+set_named (Register reg.I6) = refl
+set_named (Register reg.J) = refl
+set_named Cell = refl
+set_named Location = refl
+set_named Toggle = refl
+set_named Indicator = refl

@@ -1,0 +1,24 @@
+//! A session: a program, its machine, and the commands over it, whose changes can be taken back. No file, no command line.
+#![tactic(auto)]
+
+mod answer;
+mod command;
+mod fault;
+mod keyword;
+mod laws;
+mod reply;
+mod request;
+mod session;
+mod show;
+
+pub use answer::Answer;
+pub use fault::{Refusal, ToolFault};
+pub use laws::back_and_forth_law;
+pub use mix_machine::{DeckFault, DeckKind};
+pub use mixal_asm::{AsmFault, AsmKind, Counted, Failed, In, Out};
+pub use reply::{End, Told};
+pub use request::{Request, Topic};
+pub use session::Session;
+
+#[cfg(test)]
+mod tests;

@@ -1,0 +1,154 @@
+//! The lines of the replies, and what they tell.
+
+ghost use Rattle.std.specs.Prelude.{◌≡◌, Some, IfOk, string_bytes};
+ghost use Rattle.mix_session.specs.Reply.{told_of_end, told_of_both, location_text, stand_text, end_text, ran_text, moved_text, ok_text, refused_text};
+
+use crate::fault::Refusal;
+use mix_machine::{MixFault, World};
+use std::alloc::{AllocError, Global};
+use std::fmt;
+
+/// What became of a command.
+#[derive(Clone, Copy, Debug, PartialEq, Eq)]
+pub enum Told {
+    Accepted,
+    Refused,
+}
+
+impl Told {
+    /// Accepted where both are.
+    pub fn and(self, next: Told) -> Told
+        ensures { result ≡ told_of_both self next }
+    {
+        match self {
+            Told::Accepted => next,
+            Told::Refused => Told::Refused,
+        }
+    }
+}
+
+/// Why `step` or `run` did no more steps.
+#[derive(Clone, Copy, Debug, PartialEq, Eq)]
+pub enum End {
+    Halt,
+    Break,
+    Limit,
+    Fault(MixFault),
+}
+
+impl End {
+    /// Only a fault refuses.
+    pub(crate) fn told(self) -> Told
+        ensures { result ≡ told_of_end self }
+    {
+        match self {
+            End::Halt | End::Break | End::Limit => Told::Accepted,
+            End::Fault(_) => Told::Refused,
+        }
+    }
+}
+
+impl fmt::Display for End {
+    ghost output = { λ end. Some (end_text end) };
+
+    fn fmt<W: fmt::Write>(&self, f: &mut fmt::Formatter<W>) -> fmt::Result {
+        match self {
+            End::Halt => write!(f, "halt"),
+            End::Break => write!(f, "break"),
+            End::Limit => write!(f, "limit"),
+            End::Fault(fault) => write!(f, "fault {fault}"),
+        }
+    }
+}
+
+/// A location, in four digits.
+#[derive(Clone, Copy)]
+pub(crate) struct Location(pub u16);
+
+impl fmt::Display for Location {
+    ghost output = { λ l. Some (location_text l.0) };
+
+    #[tactic(auto, unfolding(crate::specs::Reply::location_text))]
+    fn fmt<W: fmt::Write>(&self, f: &mut fmt::Formatter<W>) -> fmt::Result {
+        let n = self.0;
+        let (thousands, hundreds, tens, ones) = (n / 1000, n / 100 % 10, n / 10 % 10, n % 10);
+        write!(f, "{thousands}{hundreds}{tens}{ones}")
+    }
+}
+
+/// Where the machine stands: its location and its clock.
+#[derive(Clone, Copy)]
+pub(crate) struct Stand {
+    loc: u16,
+    clock: u64,
+}
+
+impl fmt::Display for Stand {
+    ghost output = { λ s. Some (stand_text s.loc s.clock) };
+
+    #[tactic(auto, unfolding(crate::specs::Reply::stand_text))]
+    fn fmt<W: fmt::Write>(&self, f: &mut fmt::Formatter<W>) -> fmt::Result {
+        let loc = Location(self.loc);
+        let clock = self.clock;
+        write!(f, "{loc} clock {clock}")
+    }
+}
+
+pub(crate) fn stand_of(world: &World) -> Stand
+    ensures { (result.loc ≡ world.now.loc) × (result.clock ≡ world.now.clock) }
+{
+    Stand {
+        loc: world.loc(),
+        clock: world.clock(),
+    }
+}
+
+/// The line of `step` and `run`.
+#[tactic(auto, unfolding(crate::specs::Reply::ran_text))]
+pub(crate) fn ran_line(
+    alloc: Global,
+    done: u32,
+    world: &World,
+    end: End,
+) -> Result<String, AllocError>
+    ensures { IfOk result (λ s. string_bytes s ≡ ran_text done world.now.loc world.now.clock end) }
+{
+    let stand = stand_of(world);
+    let text = format!(in alloc; "ran {done} to {stand}: {end}\n")?;
+    Ok(text)
+}
+
+/// The line of `back` and of `forth`, by its first word.
+#[tactic(auto, unfolding(crate::specs::Reply::moved_text))]
+pub(crate) fn moved_line(
+    alloc: Global,
+    way: &str,
+    count: usize,
+    world: &World,
+) -> Result<String, AllocError>
+    ensures { IfOk result (λ s. string_bytes s ≡ moved_text way.now count world.now.loc world.now.clock) }
+{
+    let stand = stand_of(world);
+    let text = format!(in alloc; "{way} {count} to {stand}\n")?;
+    Ok(text)
+}
+
+/// The line of a refused command.
+#[tactic(auto, unfolding(crate::specs::Reply::refused_text))]
+pub(crate) fn refused_line(alloc: Global, refusal: Refusal) -> Result<String, AllocError>
+    ensures { IfOk result (λ s. string_bytes s ≡ refused_text refusal) }
+{
+    let text = format!(in alloc; "? {refusal}\n")?;
+    Ok(text)
+}
+
+/// The line of a change that is done.
+pub(crate) fn ok_line(alloc: Global) -> Result<String, AllocError>
+    ensures { IfOk result (λ s. string_bytes s ≡ ok_text) }
+{
+    let text = format!(in alloc; "ok\n")?;
+    Ok(text)
+}
+
+#[cfg(test)]
+mod tests;

@@ -1,0 +1,151 @@
+//! A session: a program, its machine, whose changes can be taken back, and the requests and commands over it.
+
+ghost use Rattle.std.specs.Prelude.{◌≡◌, ◌<◌, ◌-◌, ◌^◌, Err, IfErr, IfOk, string_bytes};
+ghost use Rattle.std.specs.Io.KnownBytes.{Appends, Keeps};
+ghost use Rattle.mix_session.specs.Timeline.{world_of};
+ghost use Rattle.mix_session.specs.Answer.{told_of};
+ghost use Rattle.mix_session.specs.Command.{after, effect_of, reply_of, text_at, Begun, HasEffect};
+ghost use Rattle.mix_session.specs.Session.{opened, request_in, effect_in, IsMemoryOrWrite};
+ghost use Rattle.mix_stream.specs.Stream.{AppendsFront, CountsWrite};
+
+use crate::answer::{Answer, answer_text};
+use crate::command::execute;
+use crate::fault::{Refusal, ToolFault};
+use crate::reply::Told;
+use crate::request::{Request, read_request};
+use mix_machine::{Change, Sign, Units, Word, World};
+use mix_stream::{Out, write_all};
+use mixal_asm::Program;
+use std::alloc::Global;
+use std::marker::Model;
+use undo_core::{Journal, Memory};
+
+/// An assembled program, the machine that it was loaded into, and the changes of that machine.
+pub struct Session<'s> {
+    alloc: Global,
+    program: Program<'s>,
+    journal: Journal<World>,
+}
+
+// Written out, so that the proof of what drops a session has one call to read, and not those of its fields.
+impl Drop for Session<'_> {
+    fn drop(self) {
+        let Session {
+            alloc: _,
+            program: _,
+            journal: _,
+        } = self;
+    }
+}
+
+impl<'s> Model for Session<'s> {
+    ghost use Rattle.mix_session.specs.Session.{SessionState};
+
+    ghost Value = { SessionState };
+
+    ghost view = { λ s. record { program = s.program; timeline = s.journal } };
+}
+
+impl<'s> Session<'s> {
+    /// The machine that a program loads, with the units of a deck (1.3.1), no change done and none ahead. Only out of memory refuses it.
+    #[tactic(auto, unfolding(crate::specs::Session::opened))]
+    pub fn open(alloc: Global, program: Program<'s>, units: Units) -> Result<Session<'s>, Memory>
+        ensures { IfOk result (λ s. s ≡ opened program.entry units) }
+    {
+        let world = World::load(alloc, program.words(), program.start(), units)?;
+        Ok(Session {
+            alloc,
+            program,
+            journal: Journal::new(alloc, world),
+        })
+    }
+
+    /// The program that was loaded. It takes no memory.
+    pub fn program(&self) -> &Program<'s>
+        ensures { result.now ≡ self.now.program }
+    {
+        &self.program
+    }
+
+    /// The machine as it is now. It takes no memory.
+    #[tactic(auto, unfolding(crate::specs::Timeline::world_of))]
+    pub fn world(&self) -> &World
+        ensures { result.now ≡ world_of self.now.timeline }
+    {
+        self.journal.state()
+    }
+
+    /// The changes that are done, without those that were taken back. It takes no memory.
+    pub fn changes(&self) -> &[Change]
+        ensures { result.now ≡ self.now.timeline.changes }
+    {
+        self.journal.changes()
+    }
+
+    /// What a line of a script asks for, or what is wrong with its words. Names are those of the program, and the asterisk stands for the
+    /// location. It takes no memory.
+    #[tactic(auto, unfolding(crate::specs::Timeline::world_of))]
+    pub fn read(&self, line: &[u8]) -> Result<Request, Refusal>
+        ensures { result ≡ request_in self.now line.now }
+    {
+        let here = Word::of(Sign::Plus, u32::from(self.world().loc()));
+        read_request(line, &self.program, here)
+    }
+
+    /// Does what is asked for, whoever asks it: a number that no line may have is taken as it is. A refusal changes nothing. Out of memory:
+    /// of steps those done stand, of `forth` the changes done again, of any other request all or nothing.
+    pub fn execute(&mut self, request: Request) -> Result<Answer, Memory>
+        ensures program { self.new.program ≡ self.old.program }
+        ensures effect { HasEffect (effect_of self.old.timeline request) self.old.timeline self.new.timeline result }
+    {
+        execute(&mut self.journal, request)
+    }
+
+    /// The text of an answer, read from the machine as it is now. Only out of memory refuses it.
+    pub fn text(&self, answer: &Answer) -> Result<String, Memory>
+        ensures { IfOk result (λ s. string_bytes s ≡ text_at self.now.timeline answer.now) }
+    {
+        let text = answer_text(self.alloc, *answer, &self.journal)?;
+        Ok(text)
+    }
+
+    // What a line asks for is done.
+    fn execute_line(&mut self, line: &[u8]) -> Result<Answer, Memory>
+        ensures program { self.new.program ≡ self.old.program }
+        ensures effect { HasEffect (effect_in self.old line.now) self.old.timeline self.new.timeline result }
+    {
+        match self.read(line) {
+            Ok(request) => self.execute(request),
+            Err(refusal) => Ok(Answer::Refused(refusal)),
+        }
+    }
+
+    /// Executes one line of a script and writes its reply: `Accepted`, or `Refused` where the line or the machine refuses it or a step
+    /// meets a fault. Out of memory, T1, nothing is written: of `step` and `run` the steps done stand, of `forth` the changes done again,
+    /// of another command all or nothing. Where a write fails, T3, the command is done, and a beginning of its reply stands written.
+    pub fn command<W: Out>(&mut self, line: &[u8], out: &mut W) -> Result<Told, ToolFault>
+        requires { W.failed out.old < 2 ^ 64 - 1 }
+        ensures program { self.new.program ≡ self.old.program }
+        ensures first { self.new.timeline.first ≡ self.old.timeline.first }
+        ensures effect { let effect = effect_in self.old line.now in
+            IfOk result (λ told. (self.new ≡ record self.old { timeline = after effect }) × (told ≡ told_of effect.answer)
+            × Appends (W.told out.old) (W.told out.new) (reply_of effect)) }
+        ensures begun { AppendsFront (W.told out.old) (W.told out.new) (reply_of (effect_in self.old line.now)) }
+        ensures memory { result ≡ Err ToolFault.Memory → Keeps (W.told out.old) (W.told out.new)
+            × Begun (effect_in self.old line.now) self.new.timeline }
+        ensures done { result ≡ Err ToolFault.Write → self.new.timeline ≡ after (effect_in self.old line.now) }
+        ensures write { CountsWrite (result ≡ Err ToolFault.Write) (W.failed out.old) (W.failed out.new) }
+        ensures only { IfErr result IsMemoryOrWrite }
+    {
+        let answer = self.execute_line(line)?;
+        let text = self.text(&answer)?;
+        write_all(out, text.as_bytes())?;
+        Ok(answer.told())
+    }
+
+    /// The journal, for what it keeps.
+    #[cfg(test)]
+    pub(crate) fn journal(&self) -> &Journal<World> {
+        &self.journal
+    }
+}

@@ -1,0 +1,166 @@
+//! What a session reads, answers and says of it, step by step.
+
+use super::{FIRST, open};
+use crate::answer::Answer;
+use crate::fault::Refusal;
+use crate::reply::{End, Told};
+use crate::request::{Request, Topic};
+use crate::session::Session;
+use mix_machine::{Change, Place};
+use std::test::Fail;
+
+// A line on the session that the row above left, what it asks for, what is answered, and the text of that.
+const LINES: [(&str, Request, Answer, &str); 11] = [
+    (
+        "step 4",
+        Request::Step(4),
+        Answer::Ran(4, End::Halt),
+        "ran 4 to 0004 clock 14: halt\n",
+    ),
+    (
+        "back 3",
+        Request::Back(3),
+        Answer::Back(3),
+        "back 3 to 0001 clock 1\n",
+    ),
+    (
+        "forth 2",
+        Request::Forth(2),
+        Answer::Forth(2),
+        "forth 2 to 0003 clock 4\n",
+    ),
+    (
+        "set over on",
+        Request::Change(Change::SetOver(true)),
+        Answer::Done,
+        "ok\n",
+    ),
+    (
+        "show changes",
+        Request::Show(Topic::Changes),
+        Answer::Shows(Topic::Changes),
+        "changes 4\n",
+    ),
+    (
+        "back break",
+        Request::BackBreak,
+        Answer::Back(4),
+        "back 4 to 0000 clock 0\n",
+    ),
+    (
+        "back all",
+        Request::BackAll,
+        Answer::Back(0),
+        "back 0 to 0000 clock 0\n",
+    ),
+    ("* none", Request::Nothing, Answer::Nothing, ""),
+    (
+        "forth 9",
+        Request::Forth(9),
+        Answer::Refused(Refusal::TooFewChanges),
+        "? C4 fewer changes than asked\n",
+    ),
+    (
+        "run 2",
+        Request::Run(2),
+        Answer::Ran(2, End::Limit),
+        "ran 2 to 0002 clock 2: limit\n",
+    ),
+    (
+        "show clock",
+        Request::Show(Topic::Clock),
+        Answer::Shows(Topic::Clock),
+        "clock 2\n",
+    ),
+];
+
+// Requests that no line asks for, after those.
+const MADE: [(Request, Answer, &str); 6] = [
+    (
+        Request::Step(0),
+        Answer::Ran(0, End::Limit),
+        "ran 0 to 0002 clock 2: limit\n",
+    ),
+    (
+        Request::Run(0),
+        Answer::Ran(0, End::Limit),
+        "ran 0 to 0002 clock 2: limit\n",
+    ),
+    (
+        Request::Back(0),
+        Answer::Back(0),
+        "back 0 to 0002 clock 2\n",
+    ),
+    (
+        Request::Forth(0),
+        Answer::Forth(0),
+        "forth 0 to 0002 clock 2\n",
+    ),
+    (
+        Request::Back(u64::MAX),
+        Answer::Refused(Refusal::TooFewChanges),
+        "? C4 fewer changes than asked\n",
+    ),
+    (
+        Request::Step(u32::MAX),
+        Answer::Ran(2, End::Halt),
+        "ran 2 to 0004 clock 14: halt\n",
+    ),
+];
+
+// Whether a line asks for this.
+fn is_read(session: &Session, line: &str, request: Request) -> bool {
+    session.read(line.as_bytes()) == Ok(request)
+}
+
+// Whether a request is answered so, and the answer has this text.
+fn is_answered(session: &mut Session, request: Request, answer: Answer, text: &str) -> bool {
+    session.execute(request) == Ok(answer)
+        && session
+            .text(&answer)
+            .is_ok_and(|written| written.as_str() == text)
+}
+
+#[test]
+fn a_line_is_read_done_and_answered(rt: HostRuntime) -> Result<(), Fail> {
+    let mut session = open(rt.alloc(), FIRST, b"")?;
+    for (line, request, answer, text) in LINES {
+        assert!(rt; is_read(&session, line, request), "{line}");
+        assert!(rt; is_answered(&mut session, request, answer, text), "{line}");
+    }
+    for (request, answer, text) in MADE {
+        assert!(rt; is_answered(&mut session, request, answer, text), "{text}");
+    }
+    Ok(())
+}
+
+#[test]
+fn a_session_has_its_program(rt: HostRuntime) -> Result<(), Fail> {
+    let session = open(rt.alloc(), FIRST, b"")?;
+    assert_eq!(rt; session.program().words().len(), 4);
+    assert_eq!(rt; Some(session.program().start()), Place::of(0));
+    Ok(())
+}
+
+// A line that is refused, and the number and the text of its refusal.
+const REFUSED: [(&str, u8, &str); 3] = [
+    ("stop", 1, "no such command"),
+    ("set A", 2, "bad argument"),
+    ("step 0", 3, "number out of range"),
+];
+
+#[test]
+fn a_refusal_has_its_number_and_its_text(rt: HostRuntime) -> Result<(), Fail> {
+    let session = open(rt.alloc(), FIRST, b"")?;
+    for (line, number, text) in REFUSED {
+        let refusal = session.read(line.as_bytes()).err().ok_or("accepted")?;
+        assert_eq!(rt; (refusal.number(), refusal.text()), (number, text));
+        assert_eq!(rt; Answer::Refused(refusal).told(), Told::Refused);
+    }
+    assert_eq!(rt;
+        Answer::Done.told().and(Answer::Nothing.told()),
+        Told::Accepted
+    );
+    assert_eq!(rt; Told::Refused.and(Told::Accepted), Told::Refused);
+    Ok(())
+}

@@ -1,6 +1,0 @@
-use Rattle.std.proofs.Common.{◌≡◌}
-use Rattle.mix_tool.specs.Timeline.{back_by}
-use Rattle.mix_tool.proofs.command.go_back.Given as goal
-
-abbrev pub invariant-loop-taken : goal.invariant-loop-taken
-invariant-loop-taken l = l.journal ≡ back_by l.fn.journal l.taken

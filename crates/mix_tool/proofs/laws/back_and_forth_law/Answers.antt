@@ -1,5 +1,0 @@
-use Rattle.mix_tool.proofs.TimelineLemmas.{forth-back, back_by-all}
-use Rattle.mix_tool.proofs.laws.back_and_forth_law.Goals as goal
-
-pub returns : goal.returns
-returns c = record { same = forth-back; all = back_by-all }

@@ -1,0 +1,58 @@
+-- What a program tells of its source (1.3.2): of a place its line, of a line its cell, and the symbols.
+use Rattle.std.specs.Prelude.{ℕ, nat_eq, nat_le, Bool, false, List, slice_get, Option, Some, None, if◌then◌else◌}
+use Rattle.std.specs.Option.{option_map}
+use Rattle.std.specs.List.{filter_map, last_or}
+use Rattle.mix_word.specs.Word.{WordValue}
+use Rattle.mixal_asm.specs.declared.key.Key.{Key}
+use Rattle.mixal_asm.specs.declared.key.Key.TheVariants.{Name, Local, Literal}
+use Rattle.mixal_asm.specs.declared.row.Shows.{Shows}
+use Rattle.mixal_asm.specs.declared.row.Shows.TheVariants.{Nothing, Value, Word, Start}
+use Rattle.mixal_asm.specs.PassOne.{NamesSoFar, SourceValue, Line, OfLiteral, OfName, RowValue}
+use Rattle.mixal_asm.specs.Program.{ProgramValue}
+
+-- the place of the word that a row shows
+abbrev pub place_of : ProgramValue → Shows → Option ℕ
+place_of program Nothing = None
+place_of program (Value value) = None
+place_of program (Word i) = option_map (λ word. word.0) (slice_get program.words i)
+place_of program Start = None
+
+-- ---- of a place its line: that of the last word there
+
+abbrev pub is_that : ℕ → Option ℕ → Bool
+is_that place None = false
+is_that place (Some other) = nat_eq other place
+
+abbrev pub stands_at : ProgramValue → ℕ → Shows → Bool
+stands_at program place shown = is_that place (place_of program shown)
+
+-- where a row's word comes from, if it stands at this place
+abbrev pub source_in : ProgramValue → ℕ → RowValue → Option SourceValue
+source_in program place row = if stands_at program place row.shown then Some row.source else None
+
+abbrev pub source_at : ProgramValue → ℕ → Option SourceValue
+source_at program place = last_or None (filter_map (source_in program place) program.rows)
+
+-- ---- of a line its cell: that of the first word of the lines of the source from this one on
+
+abbrev pub is_from : ℕ → SourceValue → Bool
+is_from number (Line n text) = nat_le number n
+is_from number (OfLiteral text) = false
+is_from number (OfName symbol) = false
+
+-- the place of a row's word, if it is of a line from this one on
+abbrev pub place_in : ProgramValue → ℕ → RowValue → Option ℕ
+place_in program number row = if is_from number row.source then place_of program row.shown else None
+
+abbrev pub cell_from : ProgramValue → ℕ → Option ℕ
+cell_from program number = slice_get (filter_map (place_in program number) program.rows) 0
+
+-- ---- the symbols with their values, in the order in which they got them: local ones and literals are none
+
+abbrev pub symbol_in : Key → WordValue → Option (List ℕ × WordValue)
+symbol_in (Name symbol) value = Some (symbol, value)
+symbol_in (Local d n) value = None
+symbol_in (Literal j) value = None
+
+abbrev pub symbols_of : NamesSoFar → List (List ℕ × WordValue)
+symbols_of names = filter_map (λ name. symbol_in name.0 name.1) names
