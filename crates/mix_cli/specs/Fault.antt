@@ -8,7 +8,7 @@ use Rattle.clap.specs.declared.error.kind.ErrorKind.TheVariants.{DisplayHelp, Ou
 use Rattle.mix_cli.specs.declared.fault.LineFault.{LineFault}
 use Rattle.mix_cli.specs.declared.fault.LineFault.TheVariants.{Line, Memory}
 
--- clap's own want of memory is told as want of memory, its other errors as they are
+-- out of memory in clap is told as out of memory, its other errors as they are
 abbrev pub IsFaultOf : Error → LineFault → Type 0
 IsFaultOf error Memory = kind_of error ≡ OutOfMemory
 IsFaultOf error (Line told) = (told ≡ error) × (kind_of error ≢ OutOfMemory)

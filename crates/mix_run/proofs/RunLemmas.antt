@@ -7,7 +7,7 @@ use Rattle.mix_session.specs.Session.{SessionState, opened, effect_in}
 use Rattle.mix_session.specs.Command.{after, reply_of}
 use Rattle.mix_session.specs.Answer.{told_of}
 use Rattle.mix_lines.specs.Lines.{lines, lines-nil}
-use Rattle.mix_run.specs.Output.{Outcome, Meets, outcome_of, replies, outcome_of_script, bundle_output, output, list_output, list_outcome, status_of, TooLong, Ended}
+use Rattle.mix_run.specs.Output.{IsDeckRefusal, Outcome, Meets, outcome_of, replies, outcome_of_script, bundle_output, output, list_output, list_outcome, status_of, TooLong, Ended}
 use Rattle.mix_stream.specs.Stream.{AppendsFront, ConsumesAtMost}
 use Rattle.mix_run.specs.Bundle.{cut_of}
 use Rattle.mixal_asm.specs.Assembly.{assembly}
@@ -120,12 +120,14 @@ Meets-unread outcome (reads.Fault _) told = Keeps-same told
 pub deck_of-read : (deck read : List ℕ) → read ≡ take 33554433 deck → deck_of read ≡ deck_of deck
 deck_of-read deck read e = ap deck_of e ∙ deck_of-take deck
 
-pub Meets-deck : (program : ProgramValue) (deck read script : List ℕ) (fault : DeckFault) (told : Option (List ℕ)) →
-    read ≡ take 33554433 deck → deck_of read ≡ Err fault → Meets (outcome_of (Ok program) (deck_of deck) script) (Err (faults.Deck fault)) told told
+pub Meets-no_units : (program : ProgramValue) (units : Result UnitsState DeckFault) (script : List ℕ) (fault : ToolFault) (told : Option (List ℕ)) →
+    IsDeckRefusal units fault → Meets (outcome_of (Ok program) units script) (Err fault) told told
 unfolding outcome_of
-Meets-deck program deck read script fault told e f =
-    let refused : deck_of deck ≡ Err fault = sym (deck_of-read deck read e) ∙ f in
-    rw refused (refl, Keeps-same told)
+Meets-no_units program units script faults.Memory told refused = (0, omega arith, Appends-nothing told)
+Meets-no_units program units script (faults.Deck fault) told refused = rw refused (refl, Keeps-same told)
+Meets-no_units program units script faults.Read told refused = absurd refused
+Meets-no_units program units script faults.Write told refused = absurd refused
+Meets-no_units program units script faults.Long told refused = absurd refused
 
 pub Meets-read : (program : ProgramValue) (units : UnitsState) (deck read script : List ℕ) (done : Result ℕ ToolFault) (old new : Option (List ℕ)) →
     read ≡ take 33554433 deck → deck_of read ≡ Ok units →

@@ -1,5 +1,5 @@
 -- What the tool writes and the status with which it ends: a function of the source, the deck and the script.
-use Rattle.std.specs.Prelude.{◌≡◌, ◌≢◌, ◌≤◌, ℕ, Option, List, [], ◌∷◌, ◌++◌, Result, Ok, Err, length, nat_lt, if◌then◌else◌}
+use Rattle.std.specs.Prelude.{◌≡◌, ◌≢◌, ◌≤◌, ⊤, ℕ, Option, List, [], ◌∷◌, ◌++◌, Result, Ok, Err, length, nat_lt, if◌then◌else◌}
 use Rattle.std.specs.Io.KnownBytes.{Appends, Keeps}
 use Rattle.mixal_asm.specs.Assembly.{assembly}
 use Rattle.mixal_asm.specs.Fault.{asm_fault_line}
@@ -69,6 +69,14 @@ outcome_of (Err fault) deck script = Ended (asm_fault_line fault ++ 10 ∷ []) 1
 outcome_of (Ok program) (Err fault) script = DeckRefused fault
 outcome_of (Ok program) (Ok units) script = outcome_of_script (opened program units) script
 
+-- why a deck gives no units: out of memory, or its own fault
+abbrev pub IsDeckRefusal : Result UnitsState DeckFault → ToolFault → Type 0
+IsDeckRefusal deck faults.Memory = ⊤
+IsDeckRefusal deck (faults.Deck fault) = deck ≡ Err fault
+IsDeckRefusal deck faults.Read = ⊥
+IsDeckRefusal deck faults.Write = ⊥
+IsDeckRefusal deck faults.Long = ⊥
+
 -- source, deck and script
 unfoldable pub output : List ℕ → List ℕ → List ℕ → Outcome
 output source deck script = outcome_of (assembly source) (deck_of deck) script
@@ -93,7 +101,7 @@ bytes_of (Ended bytes status) = bytes
 bytes_of (DeckRefused fault) = []
 bytes_of TooLong = []
 
--- What a call answers and writes is the outcome. Where memory is refused, or a write fails, a beginning of its bytes stands written;
+-- What a call answers and writes is the outcome. Where memory is refused, or a write fails, a beginning of its bytes has been written;
 -- where a read fails, none.
 abbrev pub Meets : Outcome → Result ℕ ToolFault → Option (List ℕ) → Option (List ℕ) → Type 0
 Meets outcome (Ok status) old new = (outcome ≡ Ended (bytes_of outcome) status) × Appends old new (bytes_of outcome)

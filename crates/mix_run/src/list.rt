@@ -34,7 +34,7 @@ fn list<W: Out>(alloc: Global, program: &Program, out: &mut W) -> Result<u8, Too
 /// written. At most 1,048,577 bytes are read, all of them before the first byte is written.
 ///
 /// It fails with T1 where memory is refused, and with T2 or T3 where a read or the write fails. After T1 and T3 a beginning of the
-/// output stands written, after T2 nothing.
+/// output has been written, after T2 nothing.
 pub fn run_list<R: In, W: Out>(alloc: Global, source: &mut R, out: &mut W) -> Result<u8, ToolFault>
     requires source_count { R.failed source.old < 2 ^ 64 - 1 }
     requires out_count { W.failed out.old < 2 ^ 64 - 1 }

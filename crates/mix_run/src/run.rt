@@ -9,7 +9,7 @@ ghost use Rattle.mix_lines.specs.Lines.{lines};
 ghost use Rattle.mixal_asm.specs.Assembly.{assembly, max_source_bytes};
 ghost use Rattle.mix_machine.specs.units.deck.Deck.{deck_of, max_deck_bytes};
 ghost use Rattle.mix_session.specs.Session.{opened, IsMemoryOrWrite};
-ghost use Rattle.mix_run.specs.Output.{Meets, Ended, IsStatus, output, outcome_of, bundle_output, outcome_of_script, replies, status_of, max_script_bytes, max_bundle_bytes};
+ghost use Rattle.mix_run.specs.Output.{Meets, Ended, IsDeckRefusal, IsStatus, output, outcome_of, bundle_output, outcome_of_script, replies, status_of, max_script_bytes, max_bundle_bytes};
 ghost use Rattle.mix_stream.specs.Stream.{AppendsFront, ConsumesAtMost, CountsRead, CountsWrite};
 
 use crate::bundle::cut;
@@ -127,25 +127,15 @@ fn open_and_execute<W: Out>(
     execute(&mut session, script, out)
 }
 
-// The deck and the script of an assembled source, read already.
-#[tactic(auto, unfolding(crate::specs::Output::outcome_of))]
-fn run_deck<W: Out>(
-    alloc: Global,
-    program: Program,
-    deck: &[u8],
-    script: &[u8],
-    out: &mut W,
-) -> Result<u8, ToolFault>
-    requires { W.failed out.old < 2 ^ 64 - 1 }
-    ensures output { Meets (outcome_of (Ok program.entry) (deck_of deck.now) script.now) result (W.told out.old) (W.told out.new) }
-    ensures write { CountsWrite (result ≡ Err ToolFault.Write) (W.failed out.old) (W.failed out.new) }
-    ensures unread { result ≢ Err ToolFault.Read }
-    ensures ends { IfOk result IsStatus }
+// The units of a deck, or why there are none.
+fn units_of(alloc: Global, deck: &[u8]) -> Result<Units, ToolFault>
+    ensures units { IfOk result (λ units. deck_of deck.now ≡ Ok units) }
+    ensures refused { IfErr result (IsDeckRefusal (deck_of deck.now)) }
 {
     match Units::read(alloc, deck) {
         Err(Refused::Memory) => Err(ToolFault::Memory),
         Err(Refused::Fault(fault)) => Err(ToolFault::Deck(fault)),
-        Ok(units) => open_and_execute(alloc, program, units, script, out),
+        Ok(units) => Ok(units),
     }
 }
 
@@ -167,7 +157,10 @@ fn run_parts<W: Out>(
     match assemble(alloc, source) {
         Err(Refused::Memory) => Err(ToolFault::Memory),
         Err(Refused::Fault(fault)) => refuse_source(alloc, fault, out),
-        Ok(program) => run_deck(alloc, program, deck, script, out),
+        Ok(program) => {
+            let units = units_of(alloc, deck)?;
+            open_and_execute(alloc, program, units, script, out)
+        }
     }
 }
 
@@ -223,11 +216,8 @@ fn run_program<D: In, C: In, W: Out>(
     ensures ends { IfOk result IsStatus }
 {
     let devices = read_up_to(alloc, deck, MAX_DECK_BYTES + 1)?;
-    match Units::read(alloc, &devices) {
-        Err(Refused::Memory) => Err(ToolFault::Memory),
-        Err(Refused::Fault(fault)) => Err(ToolFault::Deck(fault)),
-        Ok(units) => run_script(alloc, program, units, script, out),
-    }
+    let units = units_of(alloc, &devices)?;
+    run_script(alloc, program, units, script, out)
 }
 
 /// Assembles a source, reads a deck and a script, and executes the script on the loaded machine. The status is 0 where each command
@@ -236,7 +226,7 @@ fn run_program<D: In, C: In, W: Out>(
 /// the deck is read after the source, and the script after the deck. After a refusal or a read that failed nothing else is read.
 ///
 /// It fails with T1 where memory is refused, with T2 or T3 where a read or the write fails, with T5 where the deck is refused, and with
-/// T6 where the script is over 1,048,576 bytes. After T1 and T3 a beginning of the output stands written, after the others nothing.
+/// T6 where the script is over 1,048,576 bytes. After T1 and T3 a beginning of the output has been written, after the others nothing.
 pub fn run_debug<S: In, D: In, C: In, W: Out>(
     alloc: Global,
     source: &mut S,

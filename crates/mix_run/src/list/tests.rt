@@ -94,7 +94,7 @@ fn lists_a_source_or_tells_its_fault(rt: HostRuntime) {
     }
 }
 
-// A source, bytes a call, the call of the writer that fails, and how many bytes stand written.
+// A source, bytes a call, the call of the writer that fails, and how many bytes have been written.
 const FAILED_WRITES: [(&str, &str, usize, u64, usize); 6] = [
     (HELLO, HELLO_LISTING, ALL, 1, 0),
     (HELLO, HELLO_LISTING, 5, 2, 5),

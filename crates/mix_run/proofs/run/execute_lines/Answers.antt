@@ -1,4 +1,4 @@
--- One line more: what stands written and what is left to write are the replies to all.
+-- One line more: what has been written and what is left to write are the replies to all.
 use Rattle.std.proofs.Common.{sym, ◌∙◌}
 use Rattle.mix_run.proofs.RunLemmas.{written-next, begun-at, told-next, all-said, all-told, nil-from_length}
 use Rattle.mix_run.proofs.Written.{AppendsFront-all}

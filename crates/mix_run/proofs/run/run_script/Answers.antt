@@ -1,8 +1,8 @@
 -- What was read of the script is all that its outcome looks at.
-use Rattle.std.proofs.Common.{sym, ◌∙◌, ap}
+use Rattle.std.proofs.Common.{◌∙◌}
 use Rattle.std.proofs.lemmas.Result.{err_from_is_err_and}
 use Rattle.mix_session.specs.Session.{opened}
-use Rattle.mix_run.specs.Output.{outcome_of_script, Meets}
+use Rattle.mix_run.specs.Output.{outcome_of_script}
 use Rattle.mix_run.proofs.RunLemmas.{Meets-unread, Meets-script}
 use Rattle.mix_run.proofs.run.run_script.Goals as goal
 
