@@ -1,6 +1,5 @@
 -- The answer is made of the steps that were done.
 use Rattle.std.proofs.Common.{refl}
-use Rattle.std.proofs.lemmas.Result.{err_from_is_err_and}
 use Rattle.mix_session.proofs.CommandLemmas.{effect_of_steps-is}
 use Rattle.mix_session.proofs.command.run.Goals as goal
 
