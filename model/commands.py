@@ -1,14 +1,14 @@
 """The commands and their replies. The state is the loaded machine, the list of changes that stand, and those that `back` took away."""
 
 import history
-from expressions import expression, w_value
+from command_words import cells_between, count, digits_of, expression_in, place_in_range, w_value_in
 from machine import do, replay
 from operations import REGISTERS
 from pieces import words_of
 from parts import has
 from texts import Fault
 from units import UNITS, is_empty, shown
-from words import FULL, ZERO, number, written
+from words import ZERO, written
 
 STEPS = 1000000  # the most that one command does
 
@@ -61,57 +61,6 @@ class Session:
 
     def here(self):
         return ("+", self.world.loc)
-
-
-# Words of a command. All of them are read before any is tested for its range.
-
-
-def digits_of(word):
-    if not word.isdigit() or len(word) > 10:
-        raise Fault("C2")
-    return int(word)
-
-
-def plain_word(word):
-    """A number of one to ten digits and perhaps a sign, as a word."""
-    sign = "-" if word[:1] == b"-" else "+"
-    magnitude = digits_of(word[1:] if word[:1] in (b"+", b"-") else word)
-    if magnitude >= FULL:
-        raise Fault("C2")
-    return (sign, magnitude)
-
-
-def expression_in(session, word):
-    if not has("expressions"):
-        return plain_word(word)
-    try:
-        value, at = expression(word, 0, session.names, session.here())
-    except Fault:
-        raise Fault("C2")
-    if at < len(word):
-        raise Fault("C2")
-    return value
-
-
-def w_value_in(session, word):
-    if not has("expressions"):
-        return plain_word(word)
-    try:
-        return w_value(word, session.names, session.here())
-    except Fault:
-        raise Fault("C2")
-
-
-def place_in_range(word):
-    place = number(word)
-    if not 0 <= place <= 3999:
-        raise Fault("C3")
-    return place
-
-
-def count(words, number):
-    if len(words) != number:
-        raise Fault("C2")
 
 
 # The commands
@@ -169,7 +118,8 @@ def ran(session, limit, stops, cond=None, traces=False):
 
 def back(session, words):
     if is_until(words):
-        return history.back_until(session, words[1:])
+        line, number = history.back_until(session, words[1:])
+        return line + gone_back(session, number)
     count(words, 1)
     if words[0] == b"ALL":
         number = len(session.changes)
@@ -201,7 +151,8 @@ def to_a_break(session):
 
 def forth(session, words):
     if is_until(words):
-        return history.forth_until(session, words[1:])
+        line, number = history.forth_until(session, words[1:])
+        return line + gone_forth(session, number)
     count(words, 1)
     if words[0] == b"ALL" and has("history"):
         return gone_forth(session, len(session.ahead))
@@ -223,6 +174,20 @@ def gone_forth(session, number):
 
 def is_line(words):
     return has("history") and len(words) == 2 and words[0] == b"LINE"
+
+
+def goto(session, words):
+    count(words, 1)
+    number, now = digits_of(words[0]), len(session.changes)
+    if number > now + len(session.ahead):
+        raise Fault("C4")
+    return gone_back(session, now - number) if number < now else gone_forth(session, number - now)
+
+
+def trace(session, words):
+    if len(words) > 1:
+        raise Fault("C2")
+    return ran(session, digits_of(words[0]) if words else 1, False, traces=True)
 
 
 def break_(session, words):
@@ -281,14 +246,6 @@ def show(session, words):
     raise Fault("C2")
 
 
-def cells_between(session, words):
-    first, last = expression_in(session, words[1]), expression_in(session, words[2])
-    first, last = place_in_range(first), place_in_range(last)
-    if first > last:
-        raise Fault("C3")
-    return range(first, last + 1)
-
-
 def registers(world):
     lines = []
     for name in ["A", "X", "I1", "I2", "I3", "I4", "I5", "I6", "J"]:
@@ -313,6 +270,6 @@ def everything(world):
 
 
 COMMANDS = {b"STEP": step, b"RUN": run, b"BACK": back, b"FORTH": forth, b"BREAK": break_, b"CLEAR": clear, b"SET": set_,
-            b"SHOW": show, b"GOTO": history.goto, b"TRACE": history.trace}
+            b"SHOW": show, b"GOTO": goto, b"TRACE": trace}
 LATER = (b"RUN", b"FORTH", b"BREAK", b"CLEAR")
 OF_HISTORY = (b"GOTO", b"TRACE")

@@ -2,6 +2,7 @@
 
 All of it is told from worlds made again from the loaded machine, and from what two of them differ in."""
 
+from command_words import cells_between, digits_of, expression_in, place_in_range, w_value_in
 from machine import do, instruction, replay
 from operations import FLOATING, NEEDS_FIELD, REGISTERS, TABLE
 from texts import Fault
@@ -132,7 +133,6 @@ def moves(world, changes):
 
 def condition(session, words):
     """The words behind `until`, all read before one is tested for its range."""
-    from commands import digits_of, expression_in, place_in_range
     if len(words) == 1 and words[0].decode("latin-1") in REGISTERS + ["J"]:
         return ("register", words[0].decode())
     if words in ([b"OVER"], [b"CMP"]):
@@ -171,7 +171,7 @@ def reached(cond, v, w):
 
 
 def back_until(session, words):
-    from commands import gone_back
+    """The line of the change, and how many are to be taken back."""
     cond = in_range(condition(session, words))
     found = None
     for n, change, before, after in moves(session.loaded, session.changes):
@@ -179,38 +179,19 @@ def back_until(session, words):
             found = n, told(n, change, before, after)
     if found is None:
         raise Fault("C6")
-    return found[1] + gone_back(session, len(session.changes) - found[0] + 1)
+    return found[1], len(session.changes) - found[0] + 1
 
 
 def forth_until(session, words):
-    from commands import gone_forth
     cond = in_range(condition(session, words))
     for k, change, before, after in moves(session.world, session.ahead):
         if reached(cond, before, after):
-            line = told(len(session.changes) + k, change, before, after)
-            return line + gone_forth(session, k)
+            return told(len(session.changes) + k, change, before, after), k
     raise Fault("C6")
-
-
-def goto(session, words):
-    from commands import count, digits_of, gone_back, gone_forth
-    count(words, 1)
-    n, now = digits_of(words[0]), len(session.changes)
-    if n > now + len(session.ahead):
-        raise Fault("C4")
-    return gone_back(session, now - n) if n < now else gone_forth(session, n - now)
-
-
-def trace(session, words):
-    from commands import digits_of, ran
-    if len(words) > 1:
-        raise Fault("C2")
-    return ran(session, digits_of(words[0]) if words else 1, False, traces=True)
 
 
 def line_place(session, word):
     """The cell of the first line from a number on that assembles a word."""
-    from commands import digits_of
     n = digits_of(word)
     later = [entry for entry in session.program.entries if entry.line >= n]
     if n == 0 or not later:
@@ -280,7 +261,6 @@ def symbols(session):
 
 
 def show(session, words):
-    from commands import cells_between, digits_of, w_value_in
     if words == [b"COUNTS"]:
         return counts(session)
     if words == [b"SYMBOLS"]:
