@@ -39,7 +39,7 @@ def cond(r):
         return b"cell %s" % others.place(r)
     if kind < 9:
         return b"unit %s" % r.choice(UNITS)
-    return b"loc %s" % others.place(r)
+    return b"loc %s" % (b"%d" % r.randrange(11) if r.randrange(2) else others.place(r))
 
 
 def number(r):
