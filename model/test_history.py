@@ -4,10 +4,12 @@ In a row stand source and deck, then the lines of the script with `$`, each with
 
 import re
 
+from assembler import assemble
 from bundle import run
 from history import text_of
 from parts import WHOLE
 from testing import bundle, is_so, replies, with_parts, word
+from words import joined
 
 ROWS = """
 == who wrote it
@@ -444,6 +446,12 @@ for row in re.split("^== ", ROWS, flags=re.M)[1:]:
     row_test(name, lines)
 for five, text in TEXTS:
     is_so("text of " + five, text_of(word(five)), text)
+named = [text_of(joined("+", [0, 0, 0, f, c])) for c in range(64) for f in range(64)]
+is_so("pairs with a name", sum(not text.startswith("CON") for text in named), 1130)
+for index in (0, 6, 7):
+    pairs = [joined("-", [63, 0, index, f, c]) for c in range(64) for f in range(64) if (c + f) % 3 == 0]
+    source = "".join(" " + text_of(one) + "\n" for one in pairs) + " END 0\n"
+    is_so("texts assemble to their words", [one for _, one in assemble(source.encode()).words], pairs)
 with_parts(*WHOLE)
 for command, number in [("run 1 until A", "C2 bad argument"), ("back until A", "C2 bad argument"), ("forth all", "C2 bad argument"),
                         ("goto 0", "C1 no such command"), ("trace", "C1 no such command"), ("break line 1", "C2 bad argument"),
