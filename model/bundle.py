@@ -30,11 +30,11 @@ def cut(text):
 
 
 def program_of(source):
-    """The words with their places, the start, and what the names in commands stand for."""
+    """The words with their places, the start, what the names in commands stand for, and the whole program."""
     if has("assembler"):
         program = assembler.assemble(source)
-        return program.words, program.start, program.names
-    return small.assemble(source) + ({},)
+        return program.words, program.start, program.names, program
+    return small.assemble(source) + ({}, None)
 
 
 def run(text, watch=None):
@@ -52,7 +52,7 @@ def run_list(source):
 
 def debug(source, deck, script, watch=None):
     try:
-        words, start, names = program_of(source)
+        words, start, names, program = program_of(source)
     except Fault as fault:
         return ("line %d: %s\n" % (fault.line, fault.told())).encode(), b"", 1
     try:
@@ -61,7 +61,7 @@ def debug(source, deck, script, watch=None):
         return tool_fault(Fault("T5", more="%d: %s" % (fault.line, fault.told())))
     if len(script) > SCRIPT_BYTES:
         return tool_fault(Fault("T6"))
-    session = Session(World(words, start, units), names, watch)
+    session = Session(World(words, start, units), names, watch, program)
     replies, status = [], 0
     for line in lines_of(script):
         reply, accepted = session.command(line)

@@ -1,25 +1,27 @@
 """The commands and their replies. The state is the loaded machine, the list of changes that stand, and those that `back` took away."""
 
-from expressions import expression, w_value
+import history
+from command_words import cells_between, count, digits_of, expression_in, place_in_range, w_value_in
 from machine import do, replay
 from operations import REGISTERS
 from pieces import words_of
 from parts import has
 from texts import Fault
 from units import UNITS, is_empty, shown
-from words import FULL, ZERO, number, written
+from words import ZERO, written
 
 STEPS = 1000000  # the most that one command does
 
 
 class Session:
-    def __init__(self, loaded, names, watch=None):
+    def __init__(self, loaded, names, watch=None, program=None):
         self.loaded = self.world = loaded
         self.names = names  # of the program, with their words
         self.changes = []
         self.ahead = []  # what was taken back and may be done again, the next one first
         self.watch = watch  # told the machine before each step, and the operation that was done or the fault
         self.faulted = False
+        self.program = program  # for the sources and the symbols
 
     def command(self, line):
         """The reply, and whether the command is accepted."""
@@ -28,12 +30,13 @@ class Session:
             return b"", True
         self.faulted = False
         try:
-            if words[0] not in COMMANDS or words[0] in LATER and not has("commands"):
+            if (words[0] not in COMMANDS or words[0] in LATER and not has("commands") or
+                    words[0] in OF_HISTORY and not has("history")):
                 raise Fault("C1")
             reply = COMMANDS[words[0]](self, words[1:])
         except Fault as fault:
             return b"? " + fault.told().encode() + b"\n", False
-        return reply.encode(), not self.faulted
+        return reply.encode("latin-1"), not self.faulted
 
     def change(self, change):
         self.world, name = do(self.world, change)
@@ -60,57 +63,6 @@ class Session:
         return ("+", self.world.loc)
 
 
-# Words of a command. All of them are read before any is tested for its range.
-
-
-def digits_of(word):
-    if not word.isdigit() or len(word) > 10:
-        raise Fault("C2")
-    return int(word)
-
-
-def plain_word(word):
-    """A number of one to ten digits and perhaps a sign, as a word."""
-    sign = "-" if word[:1] == b"-" else "+"
-    magnitude = digits_of(word[1:] if word[:1] in (b"+", b"-") else word)
-    if magnitude >= FULL:
-        raise Fault("C2")
-    return (sign, magnitude)
-
-
-def expression_in(session, word):
-    if not has("expressions"):
-        return plain_word(word)
-    try:
-        value, at = expression(word, 0, session.names, session.here())
-    except Fault:
-        raise Fault("C2")
-    if at < len(word):
-        raise Fault("C2")
-    return value
-
-
-def w_value_in(session, word):
-    if not has("expressions"):
-        return plain_word(word)
-    try:
-        return w_value(word, session.names, session.here())
-    except Fault:
-        raise Fault("C2")
-
-
-def place_in_range(word):
-    place = number(word)
-    if not 0 <= place <= 3999:
-        raise Fault("C3")
-    return place
-
-
-def count(words, number):
-    if len(words) != number:
-        raise Fault("C2")
-
-
 # The commands
 
 
@@ -120,23 +72,37 @@ def step(session, words):
     return ran(session, digits_of(words[0]) if words else 1, False)
 
 
+def is_until(words):
+    return has("history") and words[:1] == [b"UNTIL"]
+
+
 def run(session, words):
+    if is_until(words[1:]):
+        limit, cond = digits_of(words[0]), history.condition(session, words[2:])
+        return ran(session, limit, True, cond)
     count(words, 1)
     return ran(session, digits_of(words[0]), True)
 
 
-def ran(session, limit, stops):
+def ran(session, limit, stops, cond=None, traces=False):
     """Steps up to a limit, a halt, a fault, or a breakpoint where the command stops at one."""
     if not 1 <= limit <= STEPS:
         raise Fault("C3")
+    cond = cond and history.in_range(cond)
     done, end = 0, None
+    lines = []
     while end is None:
         before = session.world
         try:
             name = session.change(("step",))
             done += 1
+            if traces:
+                lines.append(history.told(len(session.changes), ("step",), before, session.world))
             if name == "HLT":
                 end = "halt"
+            elif cond and history.reached(cond, before, session.world):
+                end = "until"
+                lines.append(history.told(len(session.changes), ("step",), before, session.world))
             elif stops and session.world.loc in session.world.breaks:
                 end = "break"
             elif done == limit:
@@ -147,10 +113,13 @@ def ran(session, limit, stops):
             session.faulted = True
         if session.watch:
             session.watch(before, name, session.world)
-    return "ran %d to %s: %s\n" % (done, session.place_and_clock(), end)
+    return "".join(lines) + "ran %d to %s: %s\n" % (done, session.place_and_clock(), end)
 
 
 def back(session, words):
+    if is_until(words):
+        line, number = history.back_until(session, words[1:])
+        return line + gone_back(session, number)
     count(words, 1)
     if words[0] == b"ALL":
         number = len(session.changes)
@@ -162,6 +131,10 @@ def back(session, words):
             raise Fault("C3")
         if number > len(session.changes):
             raise Fault("C4")
+    return gone_back(session, number)
+
+
+def gone_back(session, number):
     session.take_back(number)
     return "back %d to %s\n" % (number, session.place_and_clock())
 
@@ -177,12 +150,21 @@ def to_a_break(session):
 
 
 def forth(session, words):
+    if is_until(words):
+        line, number = history.forth_until(session, words[1:])
+        return line + gone_forth(session, number)
     count(words, 1)
+    if words[0] == b"ALL" and has("history"):
+        return gone_forth(session, len(session.ahead))
     number = digits_of(words[0])
     if number < 1:
         raise Fault("C3")
     if number > len(session.ahead):
         raise Fault("C4")
+    return gone_forth(session, number)
+
+
+def gone_forth(session, number):
     again, left = session.ahead[:number], session.ahead[number:]
     for change in again:
         session.change(change)
@@ -190,12 +172,34 @@ def forth(session, words):
     return "forth %d to %s\n" % (number, session.place_and_clock())
 
 
+def is_line(words):
+    return has("history") and len(words) == 2 and words[0] == b"LINE"
+
+
+def goto(session, words):
+    count(words, 1)
+    number, now = digits_of(words[0]), len(session.changes)
+    if number > now + len(session.ahead):
+        raise Fault("C4")
+    return gone_back(session, now - number) if number < now else gone_forth(session, number - now)
+
+
+def trace(session, words):
+    if len(words) > 1:
+        raise Fault("C2")
+    return ran(session, digits_of(words[0]) if words else 1, False, traces=True)
+
+
 def break_(session, words):
+    if is_line(words):
+        return session.change_or_refuse(("break", history.line_place(session, words[1])))
     count(words, 1)
     return session.change_or_refuse(("break", place_in_range(expression_in(session, words[0]))))
 
 
 def clear(session, words):
+    if is_line(words):
+        return session.change_or_refuse(("clear", history.line_place(session, words[1])))
     count(words, 1)
     return session.change_or_refuse(("clear", place_in_range(expression_in(session, words[0]))))
 
@@ -227,11 +231,7 @@ def show(session, words):
     if words == [b"CHANGES"]:
         return "changes %d\n" % len(session.changes)
     if len(words) == 3 and words[0] == b"CELLS":
-        first, last = expression_in(session, words[1]), expression_in(session, words[2])
-        first, last = place_in_range(first), place_in_range(last)
-        if first > last:
-            raise Fault("C3")
-        return "".join(cell_line(world, place) for place in range(first, last + 1))
+        return "".join(cell_line(world, place) for place in cells_between(session, words))
     if len(words) == 2 and words[0] == b"UNIT" and has("units"):
         n = digits_of(words[1])
         if n >= UNITS:
@@ -241,6 +241,8 @@ def show(session, words):
         return breakpoints(world)
     if words == [b"ALL"] and has("show-all"):
         return everything(world)
+    if has("history"):
+        return history.show(session, words)
     raise Fault("C2")
 
 
@@ -268,5 +270,6 @@ def everything(world):
 
 
 COMMANDS = {b"STEP": step, b"RUN": run, b"BACK": back, b"FORTH": forth, b"BREAK": break_, b"CLEAR": clear, b"SET": set_,
-            b"SHOW": show}
+            b"SHOW": show, b"GOTO": goto, b"TRACE": trace}
 LATER = (b"RUN", b"FORTH", b"BREAK", b"CLEAR")
+OF_HISTORY = (b"GOTO", b"TRACE")

@@ -2,6 +2,9 @@
 
 WHOLE = ("assembler", "units", "commands", "expressions", "show-all")
 
+# Off unless it is named, as in `--parts all,history`; it stands on all the others.
+NAMED_ALONE = ("history",)
+
 taken = set(WHOLE)
 
 
@@ -19,9 +22,11 @@ def from_words(words):
     if "--parts" in words:
         at = words.index("--parts")
         named = words[at + 1] if at + 1 < len(words) else ""
-        names = {"all": WHOLE, "none": ()}.get(named, tuple(named.split(",")))
-        if not set(names) <= set(WHOLE):
-            raise SystemExit("--parts takes all, none, or some of %s with commas between" % ", ".join(WHOLE))
+        names = set()
+        for name in named.split(","):
+            names.update({"all": WHOLE, "none": ()}.get(name, (name,)))
+        if not names <= set(WHOLE + NAMED_ALONE) or "history" in names and not names >= set(WHOLE):
+            raise SystemExit("--parts takes all, none, or some of %s with commas between, or all,history" % ", ".join(WHOLE))
         del words[at:at + 2]
         taken.clear()
         taken.update(names)

@@ -50,6 +50,7 @@ TEXTS = {
     "C3": "number out of range",
     "C4": "fewer changes than asked",
     "C5": "refused by the machine: ",  # and the machine's fault
+    "C6": "no such change",
     # the tool itself
     "T1": "out of memory",
     "T2": "read failed",

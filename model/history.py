@@ -1,0 +1,299 @@
+"""What was altered, when and by what: watches in both directions, traces, counts, and the source beside the machine.
+
+All of it is told from worlds made again from the loaded machine, and from what two of them differ in."""
+
+from command_words import cells_between, digits_of, expression_in, place_in_range, w_value_in
+from machine import do, instruction, replay
+from operations import FLOATING, NEEDS_FIELD, REGISTERS, TABLE
+from texts import Fault
+from units import UNITS, characters
+from words import FIELDS, bytes_of, written
+
+NAMES = ["A", "X", "I1", "I2", "I3", "I4", "I5", "I6", "J"]
+NORMAL_F = {0: 0, 7: 1, 32: 2, 34: 0, 35: 0, 36: 0, 37: 0, 38: 0}  # the others that have an F-part have 5
+ALONE = ("NOP", "NUM", "CHAR", "HLT")
+
+
+# The text of a word
+
+
+def number_text(word):
+    return ("-" if word[0] == "-" else "") + str(word[1])
+
+
+def text_of(word):
+    """A line of source that assembles to the word."""
+    sign, aa, index, f, c = instruction(word)
+    name, part = name_and_part(c, f)
+    if name is None or index > 6:
+        return "CON " + number_text(word)
+    rest = number_text((sign, aa)) + (",%d" % index if index else "") + part
+    return name if rest == "0" and name in ALONE else name + " " + rest
+
+
+def name_and_part(c, f):
+    """The name of the operation and its F-part; no name where the machine would refuse the pair."""
+    if (c, f) in FLOATING or (c, f) not in TABLE or c in NEEDS_FIELD and f not in FIELDS or 34 <= c <= 38 and f >= UNITS:
+        return None, ""
+    name = TABLE[c, f].name
+    if c in (5, 6) or 39 <= c <= 55 or f == NORMAL_F.get(c, 5):
+        return name, ""
+    return name, "(%d:%d)" % divmod(f, 8) if c in NEEDS_FIELD else "(%d)" % f
+
+
+# What differs between two worlds
+
+
+def register_text(name, word):
+    return written(word, 1 if name in ("A", "X") else 4)
+
+
+def on_off(flag):
+    return "on" if flag else "off"
+
+
+def differences(v, w):
+    """An item for each part that differs, with the part's kind, in the order of `show all`."""
+    items = []
+    for name in NAMES:
+        before, after = v.registers[name], w.registers[name]
+        if before != after:
+            items.append(("register", "%s %s -> %s" % (name, register_text(name, before), register_text(name, after))))
+    if v.over != w.over:
+        items.append(("over", "over %s -> %s" % (on_off(v.over), on_off(w.over))))
+    if v.cmp != w.cmp:
+        items.append(("cmp", "cmp %s -> %s" % (v.cmp, w.cmp)))
+    if v.loc != w.loc:
+        items.append(("loc", "loc %04d -> %04d" % (v.loc, w.loc)))
+    if v.clock != w.clock:
+        items.append(("clock", "clock %d -> %d" % (v.clock, w.clock)))
+    for place in sorted(set(v.cells) | set(w.cells)):
+        if v.cell(place) != w.cell(place):
+            items.append(("cell", "%04d %s -> %s" % (place, written(v.cell(place)), written(w.cell(place)))))
+    for place in sorted(v.breaks ^ w.breaks):
+        items.append(("break", "break %04d %s -> %s" % (place, on_off(place in v.breaks), on_off(place in w.breaks))))
+    for n in range(UNITS):
+        if v.units[n] != w.units[n]:
+            items.append(("unit", unit_item(n, v.units[n], w.units[n])))
+    return items
+
+
+def unit_item(n, v, w):
+    item = "unit %d" % n
+    for at, (before, after) in enumerate(zip(v.blocks, w.blocks)):
+        if before != after:
+            item += " block %d" % at
+    for name, before, after in [("place", v.place, w.place), ("blocks", len(v.blocks), len(w.blocks)),
+                                ("output", len(v.rows), len(w.rows)), ("until", v.until, w.until)]:
+        if before != after:
+            item += " %s %d -> %d" % (name, before, after)
+    return item
+
+
+# One change, told in a line
+
+
+def change_text(change, before):
+    if change[0] == "step":
+        return text_of(before.cell(before.loc))
+    if change[0] == "register":
+        return "set " + change[1]
+    if change[0] == "cell":
+        return "set cell %04d" % change[1]
+    if change[0] in ("break", "clear"):
+        return "%s %04d" % change
+    return "set " + change[0]
+
+
+def told(n, change, before, after):
+    items = differences(before, after)
+    if change[0] == "step":
+        items = [item for item in items if item[0] not in ("loc", "clock")]
+    cells = [text for kind, text in items if kind == "cell"]
+    texts = []
+    for kind, text in items:
+        if kind != "cell" or len(cells) == 1:
+            texts.append(text)
+        elif text == cells[0]:
+            texts.append("%d cells %s to %s" % (len(cells), cells[0][:4], cells[-1][:4]))
+    line = "%7d  %04d  %-17s  %3du" % (n, before.loc, change_text(change, before), after.clock - before.clock)
+    return "".join([line] + ["  " + text for text in texts]) + "\n"
+
+
+def moves(world, changes):
+    """Each change with its number and the worlds before and after it."""
+    for n, change in enumerate(changes, 1):
+        after, _ = do(world, change)
+        yield n, change, world, after
+        world = after
+
+
+# Watches: what a command stops at
+
+
+def condition(session, words):
+    """The words behind `until`, all read before one is tested for its range."""
+    if len(words) == 1 and words[0].decode("latin-1") in REGISTERS + ["J"]:
+        return ("register", words[0].decode())
+    if words in ([b"OVER"], [b"CMP"]):
+        return (words[0].decode().lower(), None)
+    if len(words) == 2 and words[0] in (b"CELL", b"LOC"):
+        word = expression_in(session, words[1])
+        return (words[0].decode().lower(), lambda: place_in_range(word))
+    if len(words) == 2 and words[0] == b"UNIT":
+        n = digits_of(words[1])
+        return ("unit", lambda: unit_in_range(n))
+    raise Fault("C2")
+
+
+def in_range(cond):
+    return (cond[0], cond[1]()) if callable(cond[1]) else cond
+
+
+def unit_in_range(n):
+    if n >= UNITS:
+        raise Fault("C3")
+    return n
+
+
+def reached(cond, v, w):
+    """Of a move from one world to another, either way."""
+    kind, which = cond
+    if kind == "loc":
+        return w.loc == which
+    if kind == "register":
+        return v.registers[which] != w.registers[which]
+    if kind == "cell":
+        return v.cell(which) != w.cell(which)
+    if kind == "unit":
+        return v.units[which] != w.units[which]
+    return getattr(v, kind) != getattr(w, kind)
+
+
+def back_until(session, words):
+    """The line of the change, and how many are to be taken back."""
+    cond = in_range(condition(session, words))
+    found = None
+    for n, change, before, after in moves(session.loaded, session.changes):
+        if reached(cond, after, before):
+            found = n, told(n, change, before, after)
+    if found is None:
+        raise Fault("C6")
+    return found[1], len(session.changes) - found[0] + 1
+
+
+def forth_until(session, words):
+    cond = in_range(condition(session, words))
+    for k, change, before, after in moves(session.world, session.ahead):
+        if reached(cond, before, after):
+            return told(len(session.changes) + k, change, before, after), k
+    raise Fault("C6")
+
+
+def line_place(session, word):
+    """The cell of the first line from a number on that assembles a word."""
+    n = digits_of(word)
+    later = [entry for entry in session.program.entries if entry.line >= n]
+    if n == 0 or not later:
+        raise Fault("C3")
+    return min(later, key=lambda entry: entry.line).place
+
+
+# What is shown
+
+
+def source_of(session, place):
+    """The last entry of the program at a place, with the word it made."""
+    found = None
+    for entry, (_, word) in zip(session.program.entries, session.program.words):
+        if entry.place == place:
+            found = entry, word
+    return found
+
+
+def source_text(session, place, found):
+    entry, word = found
+    mark = "*" if session.world.cell(place) != word else " "
+    text = session.program.lines[entry.line - 1] if entry.line else entry.text
+    return "%5s%s %s" % (entry.line or "", mark, text.decode("latin-1"))
+
+
+def code_line(session, place):
+    word, found = session.world.cell(place), source_of(session, place)
+    line = "%04d  %s  " % (place, written(word))
+    if found is None:
+        return line + text_of(word) + "\n"
+    return line + "%-17s  %s\n" % (text_of(word), source_text(session, place, found))
+
+
+def counts(session):
+    """How often each instruction was executed, and the time spent there."""
+    numbers, times = {}, {}
+    for entry in session.program.entries:
+        if source_of(session, entry.place)[0].made[0] == "instruction":
+            numbers[entry.place], times[entry.place] = 0, 0
+    for n, change, before, after in moves(session.loaded, session.changes):
+        if change[0] == "step":
+            numbers[before.loc] = numbers.get(before.loc, 0) + 1
+            times[before.loc] = times.get(before.loc, 0) + after.clock - before.clock
+    lines = []
+    for place in sorted(numbers):
+        found = source_of(session, place)
+        line = "%10d  %10d  %04d" % (numbers[place], times[place], place)
+        lines.append(line + ("  " + source_text(session, place, found) if found else ""))
+    lines.append("%10d  %10d  total" % (sum(numbers.values()), sum(times.values())))
+    return "".join(line + "\n" for line in lines)
+
+
+def value_text(word, first=1):
+    last = "".join(characters([word])[first - 1:])
+    return '%-16s %11s  "%s"\n' % (written(word, first), number_text(word), last)
+
+
+def register_values(world):
+    return "".join("%-2s %s" % (name, value_text(world.registers[name], 1 if name in ("A", "X") else 4)) for name in NAMES)
+
+
+def symbols(session):
+    pairs = session.program.symbols()
+    lines = ["symbols %d\n" % len(pairs)]
+    return "".join(lines + ["%-10s  %s\n" % (name.decode(), written(word)) for name, word in pairs])
+
+
+def show(session, words):
+    if words == [b"COUNTS"]:
+        return counts(session)
+    if words == [b"SYMBOLS"]:
+        return symbols(session)
+    if words == [b"VALUES"]:
+        return register_values(session.world)
+    if words == [b"CODE"]:
+        if session.world.loc > 3999:
+            raise Fault("C3")
+        return code_line(session, session.world.loc)
+    if len(words) == 3 and words[0] == b"CODE":
+        return "".join(code_line(session, place) for place in cells_between(session, words))
+    if len(words) == 3 and words[0] == b"VALUES":
+        return "".join("%04d %s" % (place, value_text(session.world.cell(place))) for place in cells_between(session, words))
+    if len(words) == 2 and words[0] == b"VALUE":
+        return value_text(w_value_in(session, words[1]))
+    if len(words) == 2 and words[0] == b"LAST":
+        return last(session, digits_of(words[1]))
+    if len(words) == 2 and words[0] == b"DIFF":
+        return diff(session, digits_of(words[1]))
+    raise Fault("C2")
+
+
+def last(session, number):
+    if number < 1:
+        raise Fault("C3")
+    first = len(session.changes) - number
+    return "".join(told(*move) for move in moves(session.loaded, session.changes) if move[0] > first)
+
+
+def diff(session, n):
+    every = session.changes + session.ahead
+    if n > len(every):
+        raise Fault("C4")
+    items = differences(replay(session.loaded, every[:n]), session.world)
+    return "diff %d to %d\n" % (n, len(session.changes)) + "".join(text + "\n" for _, text in items)
