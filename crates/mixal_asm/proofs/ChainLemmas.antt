@@ -313,9 +313,12 @@ pub map_held : {A : Type 0} (f : Held → A) (entries : List Entry) → map f (m
 map_held f [] = refl
 map_held f (entry ∷ entries) = ap (λ xs. f (held_of entry) ∷ xs) (map_held f entries)
 
--- the name of a number among those that words wait for
-pub use_in_order : (entries : List Entry) (last : List (Key × ℕ)) (i : ℕ) → IsChained (links_of entries) last
-    → option_map (λ (e : Key × ℕ). e.0) (slice_get last i) ≡ slice_get (first_uses (emitted_of (map held_of entries))) i
-use_in_order entries last i chained =
-    sym (slice_get-map (λ (e : Key × ℕ). e.0) last i)
+-- the name that is found at a number, among those that words wait for
+pub use_in_order : (entries : List Entry) (last : List (Key × ℕ)) (i : ℕ) (held : List Held) (found : Option (Key × ℕ)) → IsChained (links_of entries) last
+    → map held_of entries ≡ held → found ≡ slice_get last i
+    → option_map (λ (e : Key × ℕ). e.0) found ≡ slice_get (first_uses (emitted_of held)) i
+use_in_order entries last i held found chained is at =
+    ap (option_map (λ (e : Key × ℕ). e.0)) at
+    ∙ sym (slice_get-map (λ (e : Key × ℕ). e.0) last i)
     ∙ ap (λ (names : List Key). slice_get names i) (chained.uses ∙ uses_of_links [] entries)
+    ∙ ap (λ (h : List Held). slice_get (first_uses (emitted_of h)) i) is

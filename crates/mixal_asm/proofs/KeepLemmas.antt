@@ -13,7 +13,7 @@ use Rattle.mixal_asm.specs.declared.row.Shows.{Shows}
 use Rattle.mixal_asm.specs.declared.row.Shows.TheVariants as shows
 use Rattle.mixal_asm.specs.declared.key.Key.{Key}
 use Rattle.mixal_asm.specs.declared.key.Key.TheVariants as key
-use Rattle.mixal_asm.specs.PassOne.{Before, Line, with_name, with_loc, with_word, with_instruction, with_address, instruction, with_line, number_after, name_of, is_awaited, names_at, of_text, location_of, locals_in, machine_line, equ_line, orig_line, con_line, alf_line}
+use Rattle.mixal_asm.specs.PassOne.{Before, with_name, with_loc, with_word, with_instruction, with_address, instruction, with_line, number_after, name_of, is_awaited, names_at, of_text, location_of, locals_in, machine_line, equ_line, orig_line, con_line, alf_line}
 use Rattle.mixal_asm.specs.Draft.{HasNoLiteral, IsReady}
 use Rattle.mixal_asm.proofs.LineLemmas.{no_literal_loc}
 

@@ -1,5 +1,5 @@
 -- What is kept of the lines so far, as it agrees with the names that have a value.
-use Rattle.std.specs.Prelude.{◌≡◌, ℕ, ◌≤◌, nat_eq, Bool, true, false, List, map, Option, Some, None, if◌then◌else◌}
+use Rattle.std.specs.Prelude.{◌≡◌, ℕ, ◌≤◌, nat_eq, Bool, false, List, map, Option, Some, None, if◌then◌else◌}
 use Rattle.mix_word.specs.Word.{WordValue}
 use Rattle.mixal_text.specs.declared.label.Label.{Label}
 use Rattle.mixal_text.specs.declared.label.Label.TheVariants as label

@@ -214,6 +214,3 @@ impl fmt::Display for Location {
         write!(f, "{thousands}{hundreds}{tens}{ones}")
     }
 }
-
-#[cfg(test)]
-mod tests;

@@ -93,7 +93,7 @@ impl NameTable {
         ensures is { result ≡ Local d (locals_in d self.now) }
         ensures open { value_of self.now result ≡ None }
     {
-        // (the proof knows what holds of the names where a field of theirs is named)
+        // A field is named here, so that the proof knows the invariant of the table.
         let _ = &self.values;
         Key::Local(d, self.locals(d))
     }

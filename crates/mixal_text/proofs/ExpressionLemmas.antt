@@ -119,7 +119,7 @@ pub ending-none : (names : NamesValue) (here value : WordValue) (rest : List ℕ
 unfolding ending value_of_terms
 ending-none names here value rest used none = rw (terms_of-none rest none) (rw add-zero refl)
 
--- the answer of a term and what is left behind it
+-- the answer of a term and what is left after it
 abbrev through : NamesValue → WordValue → List ℕ → ℕ → Result WordValue TextFault → Result (WordValue × ℕ) TextFault
 through names here rest used (Ok next) = ending names here next rest used
 through names here rest used (Err fault) = Err fault
@@ -148,7 +148,7 @@ ending-step names here value operator rest used some outcome o =
     rw (terms_of-more rest operator some)
     (through-step names here value operator (atom_in (drop (operator_length operator) rest)) (after_term operator rest) used (atom_value names here (atom_in (drop (operator_length operator) rest))) refl outcome o)
 
--- the first value of an expression, and what is left behind it
+-- the first value of an expression, and what is left after it
 pub ending-first : (names : NamesValue) (here : WordValue) (text : List ℕ)
     → (let body = drop (sign_length (sign_at text)) text in
     let rest = drop (length (atom_in body)) body in

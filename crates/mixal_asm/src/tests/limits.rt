@@ -1,7 +1,10 @@
 //! As many lines and bytes as a source may have, and one more.
 use crate::fault::AsmKind;
+use crate::program::Program;
+use crate::row::Source;
 use crate::source::assemble;
 use mix_refused::Refused;
+use mix_word::Place;
 use std::alloc::{AllocError, Global};
 use std::test::Fail;
 
@@ -55,21 +58,44 @@ fn words(alloc: Global, count: usize) -> Result<Vec<u8>, AllocError> {
     Ok(text)
 }
 
-/// How many words a source has: up to five times as many as there are cells.
-const COUNTS: [usize; 4] = [3999, 4001, 8000, 19_993];
+/// How many words a source has, up to five times as many as there are cells; places, each with the line of the last word there.
+const COUNTS: [(usize, &[(u16, u32)]); 4] = [
+    (3999, &[(0, 2), (3998, 4000)]),
+    (4001, &[(0, 4002), (1, 4003), (3, 5)]),
+    (8000, &[(1, 8003), (3, 4005), (3998, 8000)]),
+    (19_993, &[(0, 16_002), (3996, 19_998), (3998, 16_000)]),
+];
 
 #[test]
 fn more_words_than_cells(rt: HostRuntime) -> Result<(), Fail> {
     let alloc = rt.alloc();
-    for count in COUNTS {
+    for (count, places) in COUNTS {
         let source = words(alloc, count)?;
-        match assemble(alloc, &source) {
-            Ok(program) => {
-                assert_eq!(rt; program.words().len(), count + 1, "{count}");
-                assert_eq!(rt; program.patches(), count, "{count}");
-            }
-            Err(refused) => assert!(rt; false, "{count}: {refused:?}"),
-        }
+        let program = assemble(alloc, &source)?;
+        assert!(rt;
+            has_words(&program, count) && are_told(&program, places),
+            "{count}"
+        );
     }
     Ok(())
+}
+
+// The symbol X is inserted as one word more.
+fn has_words(program: &Program<'_>, count: usize) -> bool {
+    program.words().len().checked_sub(1) == Some(count) && program.patches() == count
+}
+
+fn are_told(program: &Program<'_>, places: &[(u16, u32)]) -> bool {
+    places
+        .iter()
+        .all(|(place, line)| is_told(program, *place, *line))
+}
+
+// Whether the word at a place is told to be of this line, and this line to begin there.
+fn is_told(program: &Program<'_>, number: u16, line: u32) -> bool {
+    let Some(place) = Place::of(number) else {
+        return false
+    };
+    let at_place = matches!(program.source_at(place), Some(Source::Line(n, _)) if *n == line);
+    at_place && program.cell_from(line) == Some(place)
 }

@@ -4,10 +4,15 @@ use crate::source::assemble;
 use std::alloc::{AllocError, Global};
 use std::test::Fail;
 
+pub(crate) const HELLO: &str =
+    "TERM    EQU    19          the console\n        ORIG   1000\nSTART   OUT    MSG(TERM)   output\n        HLT                halt execution\nMSG     ALF    \"MIXAL\"\n        ALF    \" HELL\"\n        ALF    \"O WOR\"\n        ALF    \"LD   \"\n        END    START\n";
+
+pub(crate) const INSERTED: &str = " LDA =3=\n LDA =3=\n JMP NOWHERE\n END 0\n";
+
 /// A source; its words with their places, a line each; its start; how many future references it has.
 const PROGRAMS: [(&str, &str, u16, usize); 23] = [
     (
-        "TERM    EQU    19          the console\n        ORIG   1000\nSTART   OUT    MSG(TERM)   output\n        HLT                halt execution\nMSG     ALF    \"MIXAL\"\n        ALF    \" HELL\"\n        ALF    \"O WOR\"\n        ALF    \"LD   \"\n        END    START\n",
+        HELLO,
         "1000 + 15 42 00 19 37\n1001 + 00 00 00 02 05\n1002 + 14 09 27 01 13\n1003 + 00 08 05 13 13\n1004 + 16 00 26 16 19\n1005 + 13 04 00 00 00\n",
         1000,
         1,
@@ -38,7 +43,7 @@ const PROGRAMS: [(&str, &str, u16, usize); 23] = [
         0,
     ),
     (
-        " LDA =3=\n LDA =3=\n JMP NOWHERE\n END 0\n",
+        INSERTED,
         "0 + 00 03 00 05 08\n1 + 00 04 00 05 08\n2 + 00 05 00 00 39\n3 + 00 00 00 00 03\n4 + 00 00 00 00 03\n5 + 00 00 00 00 00\n",
         0,
         1,

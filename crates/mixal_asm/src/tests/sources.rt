@@ -2,129 +2,114 @@
 use crate::program::Program;
 use crate::row::Source;
 use crate::source::assemble;
-use mix_word::{Place, Sign};
-use std::process::Abort;
+use mix_word::Place;
+use std::alloc::{AllocError, Global};
 use std::test::Fail;
 
-/// A source, and of each place from 0 on the number of its line and its text; 0 for a line that was inserted.
-const PLACES: [(&str, &[(u32, &str)]); 3] = [
-    (
-        "* twice\n JMP X\n ORIG 0\nX CON 7\nY EQU -2\n LDA =7=\n JMP Z\n END X\n",
-        &[
-            (4, "X CON 7"),
-            (6, " LDA =7="),
-            (7, " JMP Z"),
-            (0, "7"),
-            (0, "Z"),
-        ],
-    ),
-    (
-        " ORIG 1\n NOP\n ORIG 0\n HLT\n CON 1\n ORIG 1\n CON 2\n END 0\n",
-        &[(4, " HLT"), (7, " CON 2")],
-    ),
-    (" END 0\n", &[]),
+const TWICE: &str = "* twice\n JMP X\n ORIG 0\nX CON 7\nY EQU -2\n LDA =7=\n JMP Z\n END X\n";
+
+const AGAIN: &str = " ORIG 1\n NOP\n ORIG 0\n HLT\n CON 1\n ORIG 1\n CON 2\n END 0\n";
+
+const BACK: &str = " ORIG 3\n NOP\n ORIG 0\n HLT\n END 0\n";
+
+const EMPTY: &str = " END 0\n";
+
+/// A source, a place, and the number and the text of its line; 0 for a line that was inserted.
+#[rattlefmt::skip]
+const PLACES: [(&str, u16, Option<(u32, &str)>); 13] = [
+    (TWICE, 0, Some((4, "X CON 7"))),
+    (TWICE, 1, Some((6, " LDA =7="))),
+    (TWICE, 2, Some((7, " JMP Z"))),
+    (TWICE, 3, Some((0, "7"))),
+    (TWICE, 4, Some((0, "Z"))),
+    (TWICE, 5, None),
+    (TWICE, 3999, None),
+    (AGAIN, 0, Some((4, " HLT"))),
+    (AGAIN, 1, Some((7, " CON 2"))),
+    (AGAIN, 2, None),
+    (AGAIN, 3999, None),
+    (EMPTY, 0, None),
+    (EMPTY, 3999, None),
 ];
 
-/// A source, and of each line from 1 on the cell of the first word from it on, or none.
-const CELLS: [(&str, &[Option<u16>]); 3] = [
-    (
-        "* twice\n JMP X\n ORIG 0\nX CON 7\nY EQU -2\n LDA =7=\n JMP Z\n END X\n",
-        &[
-            Some(0),
-            Some(0),
-            Some(0),
-            Some(0),
-            Some(1),
-            Some(1),
-            Some(2),
-            None,
-            None,
-        ],
-    ),
-    (
-        " ORIG 3\n NOP\n ORIG 0\n HLT\n END 0\n",
-        &[Some(3), Some(3), Some(0), Some(0), None],
-    ),
-    (" END 0\n", &[None]),
+/// A source, a line, and the cell of the first word from it on, or none.
+const CELLS: [(&str, u32, Option<u16>); 18] = [
+    (TWICE, 1, Some(0)),
+    (TWICE, 2, Some(0)),
+    (TWICE, 3, Some(0)),
+    (TWICE, 4, Some(0)),
+    (TWICE, 5, Some(1)),
+    (TWICE, 6, Some(1)),
+    (TWICE, 7, Some(2)),
+    (TWICE, 8, None),
+    (TWICE, 9, None),
+    (TWICE, u32::MAX, None),
+    (BACK, 1, Some(3)),
+    (BACK, 2, Some(3)),
+    (BACK, 3, Some(0)),
+    (BACK, 4, Some(0)),
+    (BACK, 5, None),
+    (BACK, u32::MAX, None),
+    (EMPTY, 1, None),
+    (EMPTY, u32::MAX, None),
 ];
 
-/// A source, and its symbols in order, with sign and magnitude.
-const SYMBOLS: [(&str, &[(&str, Sign, u32)]); 2] = [
+/// A source, and its symbols in order, a line each.
+const SYMBOLS: [(&str, &str); 2] = [
     (
         "2H JMP X\nY EQU -2\nX CON 7\n LDA =7=\n JMP Z\nL END X\n",
-        &[
-            ("Y", Sign::Minus, 2),
-            ("X", Sign::Plus, 1),
-            ("Z", Sign::Plus, 5),
-            ("L", Sign::Plus, 6),
-        ],
+        "Y - 00 00 00 00 02\nX + 00 00 00 00 01\nZ + 00 00 00 00 05\nL + 00 00 00 00 06\n",
     ),
-    (" END 0\n", &[]),
+    (EMPTY, ""),
 ];
 
 // The number and the text of the line of a place; 0 for a line that was inserted.
-fn line_of<'p>(rt: &impl Abort, program: &'p Program<'_>, number: u16) -> Option<(u32, &'p [u8])> {
-    let place = Place::of(number).expect(rt, "a place");
-    match program.source_at(place) {
-        Some(Source::Line(number, text)) => Some((*number, text)),
-        Some(Source::Literal(text)) => Some((0, text)),
-        Some(Source::Name(symbol)) => Some((0, symbol.name())),
-        None => None,
+fn line_of<'p>(program: &'p Program<'_>, number: u16) -> Option<(u32, &'p [u8])> {
+    match program.source_at(Place::of(number)?)? {
+        Source::Line(number, text) => Some((*number, text)),
+        Source::Literal(text) => Some((0, text)),
+        Source::Name(symbol) => Some((0, symbol.name())),
     }
 }
 
 #[test]
 fn lines_of_places(rt: HostRuntime) -> Result<(), Fail> {
-    for (source, lines) in PLACES {
+    for (source, place, line) in PLACES {
         let program = assemble(rt.alloc(), source.as_bytes())?;
-        let mut place = 0;
-        for (number, text) in lines {
-            assert_eq!(rt;
-                line_of(&rt, &program, place),
-                Some((*number, text.as_bytes())),
-                "{source}, {place}"
-            );
-            place += 1;
-        }
-        assert_eq!(rt; line_of(&rt, &program, place), None, "{source}, {place}");
-        assert_eq!(rt; line_of(&rt, &program, 3999), None, "{source}, 3999");
+        let want = line.map(|(number, text)| (number, text.as_bytes()));
+        assert!(rt; line_of(&program, place) == want, "{source}, {place}");
     }
     Ok(())
 }
 
 #[test]
 fn cells_of_lines(rt: HostRuntime) -> Result<(), Fail> {
-    for (source, cells) in CELLS {
+    for (source, line, cell) in CELLS {
         let program = assemble(rt.alloc(), source.as_bytes())?;
-        let mut line = 0;
-        for cell in cells {
-            line += 1;
-            assert_eq!(rt;
-                program.cell_from(line).map(|place| place.number()),
-                *cell,
-                "{source}, {line}"
-            );
-        }
-        assert!(rt; program.cell_from(u32::MAX).is_none(), "{source}");
+        let got = program.cell_from(line).map(|place| place.number());
+        assert!(rt; got == cell, "{source}, {line}");
     }
     Ok(())
 }
 
+fn symbols_of(alloc: Global, program: &Program<'_>) -> Result<Vec<u8>, AllocError> {
+    let mut text = Vec::new(alloc);
+    for (symbol, value) in program.symbols() {
+        text.extend_from_slice(symbol.name())?;
+        text.extend_from_slice(format!(in alloc; " {value}\n")?.as_bytes())?;
+    }
+    Ok(text)
+}
+
 #[test]
 fn symbols_in_order(rt: HostRuntime) -> Result<(), Fail> {
+    let alloc = rt.alloc();
     for (source, symbols) in SYMBOLS {
-        let program = assemble(rt.alloc(), source.as_bytes())?;
-        let mut left = program.symbols();
-        for (name, sign, magnitude) in symbols {
-            let (symbol, value) = left.next().expect(&rt, "a symbol");
-            assert_eq!(rt; symbol.name(), name.as_bytes(), "{source}");
-            assert_eq!(rt;
-                (value.sign(), value.magnitude()),
-                (*sign, *magnitude),
-                "{source}"
-            );
-        }
-        assert!(rt; left.next().is_none(), "{source}");
+        let program = assemble(alloc, source.as_bytes())?;
+        assert!(rt;
+            symbols_of(alloc, &program)?.as_slice() == symbols.as_bytes(),
+            "{source}"
+        );
     }
     Ok(())
 }

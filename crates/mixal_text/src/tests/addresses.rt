@@ -1,8 +1,8 @@
 use super::addresses::Part::{Ahead, Literal, Minus, Name, Plus};
-use super::known::{Known, here};
+use super::known::{Known, Want, check_word, here, number_of};
 use crate::addresses::{APart, address};
 use crate::op::Op;
-use mix_word::{Sign, Word};
+use mix_word::Word;
 use std::process::Abort;
 
 const LDA: Op = Op::Machine { code: 8, f: 5 };
@@ -91,20 +91,8 @@ fn check_part(rt: &impl Abort, text: &str, got: APart<'_>, want: Part) {
 
 fn check_value(rt: &impl Abort, text: &str, word: Word, want: Part) {
     match want {
-        Plus(magnitude) => {
-            assert_eq!(rt;
-                (word.sign(), word.magnitude()),
-                (Sign::Plus, magnitude),
-                "{text}"
-            )
-        }
-        Minus(magnitude) => {
-            assert_eq!(rt;
-                (word.sign(), word.magnitude()),
-                (Sign::Minus, magnitude),
-                "{text}"
-            )
-        }
+        Plus(magnitude) => check_word(rt, text, Ok(word), Want::Plus(magnitude)),
+        Minus(magnitude) => check_word(rt, text, Ok(word), Want::Minus(magnitude)),
         _ => assert!(rt; false, "{text}: a value"),
     }
 }
@@ -184,9 +172,10 @@ const FAULTS: [(&str, u8); 58] = [
 #[test]
 fn faults(rt: HostRuntime) {
     for (text, number) in FAULTS {
-        match address(text.as_bytes(), LDA, &Known, here()) {
-            Ok(_) => assert!(rt; false, "{text}: no fault"),
-            Err(fault) => assert_eq!(rt; fault.number(), number, "{text}"),
-        }
+        assert_eq!(rt;
+            number_of(address(text.as_bytes(), LDA, &Known, here())),
+            number,
+            "{text}"
+        );
     }
 }

@@ -1,7 +1,6 @@
 //! Every byte value in the place of LOC, of OP and of ADDRESS, and as a character of ALF.
-use super::known::alf_word;
-use crate::fault::TextFault;
-use crate::line::{Line, read_line};
+use super::known::{alf_word, number_of};
+use crate::line::read_line;
 
 /// The characters of MIX beside the blank, in the order of their codes from 1 on.
 const CHARACTERS: &[u8] = b"ABCDEFGHI~JKLMNOPQR[#STUVWXYZ0123456789.,()+-*/=$<>@;:'";
@@ -12,13 +11,6 @@ fn is_character(byte: u8) -> bool {
 
 fn is_blank(byte: u8) -> bool {
     byte == b' ' || byte == b'\t'
-}
-
-fn number_of(line: Result<Line<'_>, TextFault>) -> u8 {
-    match line {
-        Ok(_) => 0,
-        Err(fault) => fault.number(),
-    }
 }
 
 #[test]
@@ -70,26 +62,13 @@ fn as_address(rt: HostRuntime) {
     for byte in 0..=255u8 {
         let allowed = is_blank(byte) || is_character(byte);
         let number = if allowed { 0 } else { 1 };
-        assert_eq!(rt;
+        let got = (
             number_of(read_line(&[b' ', b'L', b'D', b'A', b' ', byte])),
-            number,
-            "{byte}"
-        );
-        assert_eq!(rt;
             number_of(read_line(&[b' ', b'L', b'D', b'A', b' ', b'5', byte])),
-            number,
-            "{byte}"
-        );
-        assert_eq!(rt;
             number_of(read_line(&[b' ', b'H', b'L', b'T', b' ', byte])),
-            number,
-            "{byte}"
-        );
-        assert_eq!(rt;
             number_of(read_line(&[b' ', b'H', b'L', b'T', b' ', b'h', byte])),
-            0,
-            "{byte}"
         );
+        assert_eq!(rt; got, (number, number, number, 0), "{byte}");
     }
 }
 

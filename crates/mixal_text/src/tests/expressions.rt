@@ -1,5 +1,5 @@
 use super::known::Want::{Fault, Minus, Plus};
-use super::known::{Known, Want, check_word, here};
+use super::known::{Known, Want, check_word, here, number_of};
 use crate::expressions::{expression, whole_expression};
 
 /// An expression that takes its whole text, where the location is 7, X is 5 and 2B is 9.
@@ -101,8 +101,11 @@ const FAULTS: [(&str, u8); 25] = [
 #[test]
 fn faults(rt: HostRuntime) {
     for (text, number) in FAULTS {
-        let got = expression(text.as_bytes(), &Known, here());
-        check_word(&rt, text, got.map(|(value, _)| value), Fault(number));
+        assert_eq!(rt;
+            number_of(expression(text.as_bytes(), &Known, here())),
+            number,
+            "{text}"
+        );
     }
 }
 

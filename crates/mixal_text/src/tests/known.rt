@@ -50,6 +50,14 @@ pub(crate) enum Want {
     Fault(u8),
 }
 
+/// The number of the fault that is answered, and 0 for an answer that is none.
+pub(crate) fn number_of<T: Drop>(got: Result<T, TextFault>) -> u8 {
+    match got {
+        Ok(_) => 0,
+        Err(fault) => fault.number(),
+    }
+}
+
 pub(crate) fn check_word(rt: &impl Abort, text: &str, got: Result<Word, TextFault>, want: Want) {
     match want {
         Want::Plus(magnitude) => check_value(rt, text, got, Sign::Plus, magnitude),

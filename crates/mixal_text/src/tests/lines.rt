@@ -1,4 +1,4 @@
-use super::known::alf_word;
+use super::known::{alf_word, number_of};
 use super::lines::Loc::{Local, Name, Nothing};
 use crate::label::Label;
 use crate::line::{Line, read_line};
@@ -229,9 +229,6 @@ const FAULTS: [(&str, u8); 42] = [
 #[test]
 fn faults(rt: HostRuntime) {
     for (text, number) in FAULTS {
-        match read_line(text.as_bytes()) {
-            Ok(_) => assert!(rt; false, "{text}: no fault"),
-            Err(fault) => assert_eq!(rt; fault.number(), number, "{text}"),
-        }
+        assert_eq!(rt; number_of(read_line(text.as_bytes())), number, "{text}");
     }
 }
