@@ -52,24 +52,33 @@ fn counts_a_write_that_takes_nothing(rt: HostRuntime) {
     assert_eq!(rt; sink.failures(), 1);
 }
 
-/// A device that counts its calls and fails at one of them. Every other read fills the buffer, and every other write takes it all.
+/// A device that counts its calls and the bytes asked for, and fails at one call in one way. Every other read fills the buffer, and
+/// every other write takes it all.
 #[derive(Drop)]
 struct Device {
     calls: u64,
+    bytes: usize,
     failing: u64,
+    failure: ErrorKind,
 }
 
 impl Device {
     fn of(failing: u64) -> Device {
-        Device { calls: 0, failing }
+        Device {
+            calls: 0,
+            bytes: 0,
+            failing,
+            failure: ErrorKind::Interrupted,
+        }
     }
 
     fn answer(&mut self, len: usize) -> io::Result<usize>
         ensures { IfOk result (λ n. n ≡ len) }
     {
         self.calls = self.calls.saturating_add(1);
+        self.bytes = self.bytes.saturating_add(len);
         if self.calls == self.failing {
-            return Err(io::Error::from(ErrorKind::Interrupted));
+            return Err(io::Error::from(self.failure));
         }
         Ok(len)
     }
@@ -151,6 +160,41 @@ fn a_failed_read_is_not_tried_again(rt: HostRuntime) {
         assert_eq!(rt; failed, failing > 0, "{failing}");
         assert_eq!(rt; source.inner.calls, calls, "{failing}");
     }
+}
+
+#[test]
+fn a_read_that_would_block_is_one_failure(rt: HostRuntime) {
+    let mut device = Device::of(2);
+    device.failure = ErrorKind::WouldBlock;
+    let mut source = Counted::of(device);
+    let outcome = read_up_to(rt.alloc(), &mut source, 10_000);
+    assert!(rt; matches!(&outcome, Err(Refused::Fault(Failed))));
+    assert_eq!(rt; In::failures(&source), 1);
+    assert_eq!(rt; source.inner.calls, 2);
+}
+
+#[test]
+fn no_byte_past_the_limit_is_asked_for(rt: HostRuntime) {
+    let mut source = Counted::of(Device::of(0));
+    let outcome = read_up_to(rt.alloc(), &mut source, 10_001);
+    assert!(rt; matches!(&outcome, Ok(bytes) if bytes.len() == 10_001));
+    assert_eq!(rt; source.inner.bytes, 10_001);
+}
+
+/// 64 KiB and 4 MiB.
+const LONG: [usize; 2] = [65_536, 4_194_304];
+
+#[test]
+fn a_long_text_goes_out_in_one_call(rt: HostRuntime) -> Result<(), Fail> {
+    for len in LONG {
+        let mut text = Vec::new(rt.alloc());
+        text.resize(len, b'x')?;
+        let mut sink = Counted::of(Device::of(0));
+        write_all(&mut sink, &text)?;
+        assert_eq!(rt; sink.inner.calls, 1, "{len}");
+        assert_eq!(rt; sink.inner.bytes, len, "{len}");
+    }
+    Ok(())
 }
 
 #[test]
