@@ -31,7 +31,7 @@ class Session:
         self.faulted = False
         try:
             if (words[0] not in COMMANDS or words[0] in LATER and not has("commands") or
-                    words[0] in OF_HISTORY and not has("history")):
+                    words[0] in OF_SOURCES and not has("sources") or words[0] in OF_HISTORY and not has("history")):
                 raise Fault("C1")
             reply = COMMANDS[words[0]](self, words[1:])
         except Fault as fault:
@@ -154,7 +154,7 @@ def forth(session, words):
         line, number = history.forth_until(session, words[1:])
         return line + gone_forth(session, number)
     count(words, 1)
-    if words[0] == b"ALL" and has("history"):
+    if words[0] == b"ALL" and has("sources"):
         return gone_forth(session, len(session.ahead))
     number = digits_of(words[0])
     if number < 1:
@@ -173,7 +173,7 @@ def gone_forth(session, number):
 
 
 def is_line(words):
-    return has("history") and len(words) == 2 and words[0] == b"LINE"
+    return has("sources") and len(words) == 2 and words[0] == b"LINE"
 
 
 def goto(session, words):
@@ -241,7 +241,7 @@ def show(session, words):
         return breakpoints(world)
     if words == [b"ALL"] and has("show-all"):
         return everything(world)
-    if has("history"):
+    if has("sources"):
         return history.show(session, words)
     raise Fault("C2")
 
@@ -272,4 +272,5 @@ def everything(world):
 COMMANDS = {b"STEP": step, b"RUN": run, b"BACK": back, b"FORTH": forth, b"BREAK": break_, b"CLEAR": clear, b"SET": set_,
             b"SHOW": show, b"GOTO": goto, b"TRACE": trace}
 LATER = (b"RUN", b"FORTH", b"BREAK", b"CLEAR")
-OF_HISTORY = (b"GOTO", b"TRACE")
+OF_SOURCES = (b"GOTO",)
+OF_HISTORY = (b"TRACE",)

@@ -7,7 +7,7 @@ import draw_asm
 import draw_commands as others
 import draw_units
 from draw_text import dressed
-from parts import from_words
+from parts import from_words, has
 
 REGISTERS = b"A X I1 I2 I3 I4 I5 I6 J".split()
 COUNTS = b"0 1 1 2 2 3 4 5 7 10 20 100 0000000002 00000000002 9999999999 -1 X".split()
@@ -47,7 +47,8 @@ def number(r):
 
 
 def command(r):
-    kind = r.randrange(30)
+    # without `history` those of `sources` alone
+    kind = r.randrange(30) if has("history") else r.choice((12, 13, 14, 17, 18, 23, 24, 27, 28, 29))
     if kind < 5:
         return b"run %s until %s" % (r.choice((b"1", b"2", b"9", b"100", number(r))), cond(r))
     if kind < 9:

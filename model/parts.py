@@ -1,6 +1,6 @@
 """Which parts the program has that is modelled: all of them, or those that `--parts` names, for a program that has fewer."""
 
-WHOLE = ("assembler", "units", "commands", "expressions", "show-all")
+WHOLE = ("assembler", "units", "commands", "expressions", "show-all", "sources")
 
 # Off unless it is named, as in `--parts all,history`; it stands on all the others.
 NAMED_ALONE = ("history",)

@@ -80,7 +80,7 @@ for command, reply in [
         ("run X", "C2"),
         ("break", "C2"), ("break 4000", "C3"), ("break -1", "C3"), ("break 1 2", "C2"), ("break Q", "C2"), ("break 2F", "C2"),
         ("break =1=", "C2"), ("break 5+", "C2"),
-        ("clear 4000", "C3"), ("clear", "C2"), ("forth", "C2"), ("forth 0", "C3"), ("forth 1", "C4"), ("forth all", "C2"),
+        ("clear 4000", "C3"), ("clear", "C2"), ("forth", "C2"), ("forth 0", "C3"), ("forth 1", "C4"), ("forth back", "C2"),
         ("forth 9999999999", "C4"), ("forth +1", "C2"),
         ("back break 1", "C2"), ("back 0", "C3"), ("back", "C2"), ("set cell 4000 Q", "C2"), ("set cell Q 1", "C2"),
         ("set cell 4000 1", "C3"), ("set A 1(6)", "C2"),

@@ -452,8 +452,10 @@ for index in (0, 6, 7):
     pairs = [joined("-", [63, 0, index, f, c]) for c in range(64) for f in range(64) if (c + f) % 3 == 0]
     source = "".join(" " + text_of(one) + "\n" for one in pairs) + " END 0\n"
     is_so("texts assemble to their words", [one for _, one in assemble(source.encode()).words], pairs)
-with_parts(*WHOLE)
-for command, number in [("run 1 until A", "C2 bad argument"), ("back until A", "C2 bad argument"), ("forth all", "C2 bad argument"),
-                        ("goto 0", "C1 no such command"), ("trace", "C1 no such command"), ("break line 1", "C2 bad argument"),
-                        ("show code", "C2 bad argument"), ("show counts", "C2 bad argument")]:
-    replies("without history: " + command, [command], ["? " + number], 3)
+for missing, refused in [("history", [("run 1 until A", "C2 bad argument"), ("back until A", "C2 bad argument"), ("trace", "C1 no such command"),
+                                      ("show counts", "C2 bad argument"), ("show last 1", "C2 bad argument")]),
+                         ("sources", [("forth all", "C2 bad argument"), ("goto 0", "C1 no such command"), ("break line 1", "C2 bad argument"),
+                                      ("show code", "C2 bad argument")])]:
+    with_parts(*(part for part in WHOLE if part != missing))
+    for command, number in refused:
+        replies("without %s: %s" % (missing, command), [command], ["? " + number], 3)

@@ -17,9 +17,9 @@ use Rattle.mix_word.specs.declared.operation.Operation.TheVariants.{Div, Shift, 
 use Rattle.mix_machine.specs.Registers.{fits_register}
 use Rattle.mix_machine.specs.World.{WorldState, unit_at}
 use Rattle.mix_machine.specs.UnitAction.{wound}
-use Rattle.mix_machine.specs.units.Kind.{block_length, has_place, has_medium}
-use Rattle.mix_machine.specs.declared.units.kind.Kind.{Kind}
-use Rattle.mix_machine.specs.declared.units.kind.Kind.TheVariants.{Tape, Disk, CardReader, CardPunch, Printer, Typewriter, PaperTape}
+use Rattle.mix_machine.specs.units.UnitKind.{block_length, has_place, has_medium}
+use Rattle.mix_machine.specs.declared.units.kind.UnitKind.{UnitKind}
+use Rattle.mix_machine.specs.declared.units.kind.UnitKind.TheVariants.{Tape, Disk, CardReader, CardPunch, Printer, Typewriter, PaperTape}
 use Rattle.mix_machine.specs.declared.plan.Transfer.{Transfer}
 use Rattle.mix_machine.specs.declared.old.Old.{Old}
 use Rattle.mix_machine.specs.Write.{Write, set, grow, words_out, writes_in, writes_of, copies, each, busy, from_block, from_cell, replace_writes, append_writes, row_writes, control_writes}
@@ -98,14 +98,14 @@ number-append : (b : Bool) (x y : Write) (w : WorldState) (t : Transfer) →
 number-append true x y w t = refl
 number-append false x y w t = refl
 
-number-out : (kind : Kind) (m there : Bool) (w : WorldState) (t : Transfer) →
+number-out : (kind : UnitKind) (m there : Bool) (w : WorldState) (t : Transfer) →
     length (cond (not m) (row_writes kind w t) (cond there (replace_writes kind w t) (append_writes kind w t)))
     ≡ cond m (cond there (block_length kind) 1 + beside_block kind) 2
 number-out kind false there w t = refl
 number-out kind true true w t = number-block (has_place kind) (block_length kind) w t (from_cell w t)
 number-out kind true false w t = number-append (has_place kind) (grow t.unit (t.block - length (unit_at w t.unit).blocks) (words_out kind w t)) (busy w t.unit) w t
 
-number-control : (kind : Kind) (w : WorldState) (n k : ℕ) → length (control_writes kind w n k) ≡ beside_control kind
+number-control : (kind : UnitKind) (w : WorldState) (n k : ℕ) → length (control_writes kind w n k) ≡ beside_control kind
 number-control Tape w n k = refl
 number-control Disk w n k = refl
 number-control CardReader w n k = refl
@@ -190,7 +190,7 @@ few-copies n h =
       | false ↦ omega arith
     ]
 
-few-in : (kind : Kind) → 2 + beside_in kind ≤ most_kept
+few-in : (kind : UnitKind) → 2 + beside_in kind ≤ most_kept
 few-in Tape = omega arith
 few-in Disk = omega arith
 few-in CardReader = omega arith
@@ -199,7 +199,7 @@ few-in Printer = omega arith
 few-in Typewriter = omega arith
 few-in PaperTape = omega arith
 
-few-out : (kind : Kind) (there : Bool) → 2 + beside_out kind there ≤ most_kept
+few-out : (kind : UnitKind) (there : Bool) → 2 + beside_out kind there ≤ most_kept
 few-out Tape true = omega arith
 few-out Tape false = omega arith
 few-out Disk true = omega arith
@@ -210,7 +210,7 @@ few-out Printer there = omega arith
 few-out Typewriter there = omega arith
 few-out PaperTape there = omega arith
 
-few-control : (kind : Kind) → 2 + beside_control kind ≤ most_kept
+few-control : (kind : UnitKind) → 2 + beside_control kind ≤ most_kept
 few-control Tape = omega arith
 few-control Disk = omega arith
 few-control CardReader = omega arith

@@ -4,8 +4,8 @@ use Rattle.std.specs.Prelude.{slice_index_or}
 use Rattle.std.proofs.lemmas.Bool.Decides.{nat_tests}
 use Rattle.mix_word.specs.Word.{WordValue, zero_word}
 use Rattle.mix_machine.specs.World.{WorldState, IsWorld, unit_at}
-use Rattle.mix_machine.specs.units.Kind.{block_length, has_place, has_medium}
-use Rattle.mix_machine.specs.declared.units.kind.Kind.{Kind}
+use Rattle.mix_machine.specs.units.UnitKind.{block_length, has_place, has_medium}
+use Rattle.mix_machine.specs.declared.units.kind.UnitKind.{UnitKind}
 use Rattle.mix_machine.specs.UnitAction.{transfer_end}
 use Rattle.mix_machine.specs.units.Row.{RowState, row_of}
 use Rattle.mix_machine.specs.units.Unit.{UnitState, most_entries}
@@ -30,11 +30,11 @@ transferred v w w1 w2 w3 n end ps xs ys ks k1 k2 k3 a b c e g =
     joined ps (busy v n ∷ xs) w w1 w3 ks k1 k3 a (joined (busy v n ∷ []) xs w1 w2 w3 k1 k2 k3 time words)
 
 -- the place and the time of the unit set
-pub to-ready : (w w1 w2 : WorldState) (t : Transfer) (k : Kind) (end : ℕ) → k ≡ (unit_at w t.unit).kind → w1 ≡ write_all w (place_after k t) →
+pub to-ready : (w w1 w2 : WorldState) (t : Transfer) (k : UnitKind) (end : ℕ) → k ≡ (unit_at w t.unit).kind → w1 ≡ write_all w (place_after k t) →
     end ≡ transfer_end w t.unit → w2 ≡ set_value w1 (Until t.unit end) → w2 ≡ ready w t
 to-ready w w1 w2 t k end ek e1 ee e2 = rw (e2, ee, e1, ek) refl
 
-pub fits-place-after : (w : WorldState) (t : Transfer) (k : Kind) → t.unit < 21 → t.block < length (unit_at w t.unit).blocks →
+pub fits-place-after : (w : WorldState) (t : Transfer) (k : UnitKind) → t.unit < 21 → t.block < length (unit_at w t.unit).blocks →
     k ≡ (unit_at w t.unit).kind → has_place k ≡ true → IsTrue (fits w (At t.unit (t.block + 1)))
 fits-place-after w t k l h e p = fits-place-in w t.unit (t.block + 1) l (ap has_place (sym e) ∙ p) (omega arith)
 
@@ -64,7 +64,7 @@ same-words size w v t e =
     ap (λ (bs : List (List WordValue)). each size 0 (λ j. Cell (t.cell + j) (slice_index_or (slice_index_or bs t.block []) j zero_word))) e
 
 -- what is read of a unit
-pub kind-of : (w : WorldState) (n : ℕ) (u : UnitState) (k : Kind) → k ≡ u.kind → u ≡ unit_at w n → k ≡ (unit_at w n).kind
+pub kind-of : (w : WorldState) (n : ℕ) (u : UnitState) (k : UnitKind) → k ≡ u.kind → u ≡ unit_at w n → k ≡ (unit_at w n).kind
 kind-of w n u k ek eu = rw (ek, eu) refl
 
 pub blocks-of : (w : WorldState) (n : ℕ) (u : UnitState) (k : ℕ) → k ≡ length u.blocks → u ≡ unit_at w n → k ≡ length (unit_at w n).blocks
@@ -83,7 +83,7 @@ pub room-grown : (v w : WorldState) (t : Transfer) (blocks : ℕ) → v ≡ w �
 room-grown v w t blocks e f m b eb = let few = f.block m in rw (e, eb) (omega arith)
 
 -- the words of cells as a new block
-pub to-grown : (v w : WorldState) (us : UnitsState) (t : Transfer) (kind : Kind) (blocks from size : ℕ) (cells : List WordValue) →
+pub to-grown : (v w : WorldState) (us : UnitsState) (t : Transfer) (kind : UnitKind) (blocks from size : ℕ) (cells : List WordValue) →
     us ≡ add_blocks v.units t.unit (t.block - blocks) (take (from + size - from) (drop from cells)) → v ≡ w →
     blocks ≡ length (unit_at w t.unit).blocks → from ≡ t.cell → size ≡ block_length kind → cells ≡ v.cells →
     us ≡ add_blocks w.units t.unit (t.block - length (unit_at w t.unit).blocks) (words_out kind w t)
@@ -92,7 +92,7 @@ to-grown v w us t kind blocks from size cells eu ev eb ef es ec =
     rw (eu, ec, ev, eb, ef, es, n) refl
 
 -- and as a new row
-pub to-printed : (v w : WorldState) (us : UnitsState) (t : Transfer) (kind : Kind) (from size : ℕ) (cells : List WordValue) →
+pub to-printed : (v w : WorldState) (us : UnitsState) (t : Transfer) (kind : UnitKind) (from size : ℕ) (cells : List WordValue) →
     us ≡ add_row v.units t.unit (row_of (take (from + size - from) (drop from cells))) → v ≡ w → from ≡ t.cell → size ≡ block_length kind →
     cells ≡ v.cells → us ≡ add_row w.units t.unit (row_of (words_out kind w t))
 to-printed v w us t kind from size cells eu ev ef es ec =
@@ -119,7 +119,7 @@ cells-placed true w t = refl
 cells-placed false w t = refl
 
 -- the cells are those before the place and the time were set
-pub cells-same : (size n : ℕ) (w w1 w2 : WorldState) (kind : Kind) (t : Transfer) → w1 ≡ write_all w (place_after kind t) →
+pub cells-same : (size n : ℕ) (w w1 w2 : WorldState) (kind : UnitKind) (t : Transfer) → w1 ≡ write_all w (place_after kind t) →
     w2 ≡ set_value w1 (Until t.unit (transfer_end w t.unit)) → size ≡ n → each size 0 (from_cell w2 t) ≡ each n 0 (from_cell w t)
 cells-same size n w w1 w2 kind t e1 e2 s =
     rw (s, e2, e1) (
@@ -130,17 +130,17 @@ pub with-grown : (v w : WorldState) (us vs : UnitsState) → v ≡ w → us ≡ 
 with-grown v w us vs e g = rw (e, g) refl
 
 -- what OUT writes to each kind of unit
-pub out-row : (w : WorldState) (t : Transfer) (k : Kind) → k ≡ (unit_at w t.unit).kind → has_medium k ≡ false →
+pub out-row : (w : WorldState) (t : Transfer) (k : UnitKind) → k ≡ (unit_at w t.unit).kind → has_medium k ≡ false →
     output_writes (unit_at w t.unit).kind w t ≡ row_writes k w t
 out-row w t k e m = rw (← e, m) refl
 
-pub out-replace : (w : WorldState) (t : Transfer) (k : Kind) → k ≡ (unit_at w t.unit).kind → has_medium k ≡ true →
+pub out-replace : (w : WorldState) (t : Transfer) (k : UnitKind) → k ≡ (unit_at w t.unit).kind → has_medium k ≡ true →
     t.block < length (unit_at w t.unit).blocks → output_writes (unit_at w t.unit).kind w t ≡ replace_writes k w t
 out-replace w t k e m h =
     let there : nat_lt t.block (length (unit_at w t.unit).blocks) ≡ true = grind (arith, nat_tests) in
     rw (there, ← e, m) refl
 
-pub out-append : (w : WorldState) (t : Transfer) (k : Kind) → k ≡ (unit_at w t.unit).kind → has_medium k ≡ true →
+pub out-append : (w : WorldState) (t : Transfer) (k : UnitKind) → k ≡ (unit_at w t.unit).kind → has_medium k ≡ true →
     length (unit_at w t.unit).blocks ≤ t.block → output_writes (unit_at w t.unit).kind w t ≡ append_writes k w t
 out-append w t k e m h =
     let past : nat_lt t.block (length (unit_at w t.unit).blocks) ≡ false = grind (arith, nat_tests) in

@@ -5,7 +5,7 @@ use Rattle.std.proofs.lemmas.Bool.Decides.{nat_tests}
 use Rattle.std.specs.Vec.{with_item}
 use Rattle.std.proofs.lemmas.List.{get_or_read, length-take-le, length-replicate}
 use Rattle.mix_word.specs.Word.{WordValue, zero_word}
-use Rattle.mix_machine.specs.units.Kind.{block_length, has_medium, has_output}
+use Rattle.mix_machine.specs.units.UnitKind.{block_length, has_medium, has_output}
 use Rattle.mix_machine.specs.units.Unit.{blocks_in, UnitState, IsUnit, word_of, with_word, with_blocks}
 use Rattle.mix_machine.specs.units.Units.{cut_to, can_cut, length_of}
 use Rattle.mix_machine.specs.units.View.{unit_of_fields, AreFields}

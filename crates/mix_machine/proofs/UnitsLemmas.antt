@@ -2,18 +2,18 @@
 use Rattle.std.proofs.Common.{ℕ, ◌≡◌, ◌<◌, ◌≤◌, ◌∙◌, IsTrue, List, [], ◌∷◌, length, map, take, set, get_or, Result, Ok, Err, OnOk, OnErr, ap, refl, arith}
 use Rattle.std.proofs.lemmas.Bool.Decides.{nat_tests}
 use Rattle.std.proofs.lemmas.List.{get_or_read, set-get_or, take_all}
-use Rattle.mix_machine.specs.units.Kind.{kinds, block_length}
+use Rattle.mix_machine.specs.units.UnitKind.{kinds, block_length}
 use Rattle.mix_machine.specs.units.Unit.{UnitState, IsUnit, empty_unit}
 use Rattle.mix_machine.specs.units.Units.{UnitsState, AllUnits, AreUnits, empty_units, fits_item, unit_of, with_unit}
 use Rattle.mix_machine.specs.units.Keep.{length-units}
-use Rattle.mix_machine.specs.declared.units.kind.Kind.{Kind}
-use Rattle.mix_machine.specs.declared.units.kind.Kind.TheVariants.{Tape}
+use Rattle.mix_machine.specs.declared.units.kind.UnitKind.{UnitKind}
+use Rattle.mix_machine.specs.declared.units.kind.UnitKind.TheVariants.{Tape}
 
 -- the units with nothing in them
-is-empty : (kind : Kind) → IsUnit (empty_unit kind)
+is-empty : (kind : UnitKind) → IsUnit (empty_unit kind)
 is-empty kind = record { place = omega arith; blocks = omega arith; rows = omega arith; delay = omega arith; until = omega arith }
 
-all-empty : (ks : List Kind) → AllUnits (map empty_unit ks)
+all-empty : (ks : List UnitKind) → AllUnits (map empty_unit ks)
 all-empty [] = tt
 all-empty (k ∷ ks) = (is-empty k, all-empty ks)
 

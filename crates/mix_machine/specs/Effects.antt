@@ -23,7 +23,7 @@ use Rattle.mix_machine.specs.World.{WorldState, register_of, cell_of, unit_at}
 use Rattle.mix_machine.specs.Decode.{is_cell, field_at, operand}
 use Rattle.mix_machine.specs.Jump.{is_taken, is_met, return_address, jump_writes}
 use Rattle.mix_machine.specs.UnitAction.{is_busy, block_at, wound}
-use Rattle.mix_machine.specs.units.Kind.{block_length}
+use Rattle.mix_machine.specs.units.UnitKind.{block_length}
 use Rattle.mix_machine.specs.declared.decode.Arguments.{Arguments}
 use Rattle.mix_machine.specs.declared.plan.Effects.{Effects}
 use Rattle.mix_machine.specs.declared.plan.Transfer.{Transfer}

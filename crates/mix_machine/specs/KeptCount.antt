@@ -11,9 +11,9 @@ use Rattle.mix_word.specs.declared.operation.Operation.{Operation}
 use Rattle.mix_word.specs.declared.operation.Operation.TheVariants.{Nop, Add, Sub, Mul, Div, Num, Char, Hlt, Shift, Move, Load, LoadNegated, Store, StoreJ, StoreZero, Jbus, Ioc, In, Out, Jred, Jump, RegisterJump, Increase, Decrease, Enter, EnterNegated, Compare}
 use Rattle.mix_machine.specs.World.{WorldState, unit_at}
 use Rattle.mix_machine.specs.UnitAction.{block_at}
-use Rattle.mix_machine.specs.units.Kind.{block_length, has_place, has_medium}
-use Rattle.mix_machine.specs.declared.units.kind.Kind.{Kind}
-use Rattle.mix_machine.specs.declared.units.kind.Kind.TheVariants.{Tape, Disk, CardReader, CardPunch, Printer, Typewriter, PaperTape}
+use Rattle.mix_machine.specs.units.UnitKind.{block_length, has_place, has_medium}
+use Rattle.mix_machine.specs.declared.units.kind.UnitKind.{UnitKind}
+use Rattle.mix_machine.specs.declared.units.kind.UnitKind.TheVariants.{Tape, Disk, CardReader, CardPunch, Printer, Typewriter, PaperTape}
 use Rattle.mix_machine.specs.Decode.{decode_at, arguments_at}
 use Rattle.mix_machine.specs.Order.{operation_or_nop}
 use Rattle.mix_machine.specs.Do.{plan_of}
@@ -58,20 +58,20 @@ beside_jump NotEqual = 1
 beside_jump LessEqual = 1
 
 -- a transfer of a block: the time of the unit, and its place where it has one
-abbrev pub beside_block : Kind → ℕ
+abbrev pub beside_block : UnitKind → ℕ
 beside_block kind = if has_place kind then 2 else 1
 
 -- IN: the cells too
-abbrev pub beside_in : Kind → ℕ
+abbrev pub beside_in : UnitKind → ℕ
 beside_in kind = block_length kind + beside_block kind
 
 -- OUT: the words that are replaced too, or the length of what grows
-abbrev pub beside_out : Kind → Bool → ℕ
+abbrev pub beside_out : UnitKind → Bool → ℕ
 beside_out kind is_there =
     if has_medium kind then (if is_there then block_length kind else 1) + beside_block kind else 2
 
 -- IOC: the time, and the place of a tape or the length of what the printer has written
-abbrev pub beside_control : Kind → ℕ
+abbrev pub beside_control : UnitKind → ℕ
 beside_control Tape = 2
 beside_control Disk = 1
 beside_control CardReader = 0

@@ -9,10 +9,10 @@ use Rattle.mix_word.specs.declared.uses.UnitUse.TheVariants.{Looks, Controls, Re
 use Rattle.mix_word.specs.Uses.{needs}
 use Rattle.mix_machine.specs.World.{WorldState, unit_at}
 use Rattle.mix_machine.specs.Jump.{is_positive}
-use Rattle.mix_machine.specs.units.Kind.{has_place, has_medium, has_output}
+use Rattle.mix_machine.specs.units.UnitKind.{has_place, has_medium, has_output}
 use Rattle.mix_machine.specs.units.Unit.{UnitState, most_entries}
-use Rattle.mix_machine.specs.declared.units.kind.Kind.{Kind}
-use Rattle.mix_machine.specs.declared.units.kind.Kind.TheVariants.{Tape, Disk, CardReader, CardPunch, Printer, Typewriter, PaperTape}
+use Rattle.mix_machine.specs.declared.units.kind.UnitKind.{UnitKind}
+use Rattle.mix_machine.specs.declared.units.kind.UnitKind.TheVariants.{Tape, Disk, CardReader, CardPunch, Printer, Typewriter, PaperTape}
 
 -- what is done with the unit F, if anything
 abbrev pub use_of : Operation → Option UnitUse
@@ -22,7 +22,7 @@ use_of op = (needs op).unit
 abbrev pub needs_unit : Operation → Bool
 needs_unit op = is_some (use_of op)
 
--- whether the last transfer of a unit takes beyond the clock
+-- whether the last transfer of a unit is not over yet at this clock
 abbrev pub is_busy : WorldState → ℕ → Bool
 is_busy w n = nat_lt w.clock (unit_at w n).until
 
@@ -60,7 +60,7 @@ wound u m =
     if is_plus m.sign then u.place + m.magnitude else u.place - m.magnitude
 
 -- IN needs something to read, and OUT something to write on
-abbrev pub wrong_direction : Option UnitUse → Kind → Bool
+abbrev pub wrong_direction : Option UnitUse → UnitKind → Bool
 wrong_direction None kind = false
 wrong_direction (Some Looks) kind = false
 wrong_direction (Some Controls) kind = false
@@ -68,7 +68,7 @@ wrong_direction (Some Reads) kind = not (has_place kind || has_medium kind)
 wrong_direction (Some Writes) kind = not (has_medium kind || has_output kind)
 
 -- a tape isn't wound past its last block; on disk, printer and paper tape M is 0; the others are not controlled
-abbrev pub bad_order : Kind → UnitState → WordValue → Bool
+abbrev pub bad_order : UnitKind → UnitState → WordValue → Bool
 bad_order Tape u m = is_positive m && nat_lt (length u.blocks) (u.place + m.magnitude)
 bad_order Disk u m = not (m.magnitude == 0)
 bad_order CardReader u m = true
@@ -93,7 +93,7 @@ no_block (Some Reads) w n = not (names_block w n && nat_lt (block_at w n) (lengt
 no_block (Some Writes) w n = not (names_block w n)
 
 -- IOC writes on the printer alone: the mark of a page
-abbrev pub marks_page : Kind → Bool
+abbrev pub marks_page : UnitKind → Bool
 marks_page Tape = false
 marks_page Disk = false
 marks_page CardReader = false

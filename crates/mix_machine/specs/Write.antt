@@ -7,12 +7,12 @@ use Rattle.mix_word.specs.declared.register.Reg.TheVariants as reg
 use Rattle.mix_machine.specs.Registers.{with_register, fits_register}
 use Rattle.mix_machine.specs.World.{WorldState, register_of, cell_of, with_cell, unit_at, has_break, with_break, last_clock}
 use Rattle.mix_machine.specs.UnitAction.{transfer_end}
-use Rattle.mix_machine.specs.units.Kind.{block_length, has_place, has_medium}
+use Rattle.mix_machine.specs.units.UnitKind.{block_length, has_place, has_medium}
 use Rattle.mix_machine.specs.units.Row.{RowState, row_of}
 use Rattle.mix_machine.specs.units.Unit.{word_of}
 use Rattle.mix_machine.specs.units.Units.{set_place, place_at, fits_place, set_length, length_at, fits_length, set_item, item_at, fits_item, set_until, until_at, fits_until, add_blocks, add_row}
-use Rattle.mix_machine.specs.declared.units.kind.Kind.{Kind}
-use Rattle.mix_machine.specs.declared.units.kind.Kind.TheVariants.{Tape, Disk, CardReader, CardPunch, Printer, Typewriter, PaperTape}
+use Rattle.mix_machine.specs.declared.units.kind.UnitKind.{UnitKind}
+use Rattle.mix_machine.specs.declared.units.kind.UnitKind.TheVariants.{Tape, Disk, CardReader, CardPunch, Printer, Typewriter, PaperTape}
 use Rattle.mix_machine.specs.declared.plan.Transfer.{Transfer}
 use Rattle.mix_machine.specs.declared.plan.Plan.{Plan}
 use Rattle.mix_machine.specs.declared.plan.Plan.TheVariants.{Value, Step}
@@ -110,7 +110,7 @@ abbrev pub busy : WorldState → ℕ → Write
 busy w n = set (Until n (transfer_end w n))
 
 -- the place after the block, where a unit of this kind has one
-abbrev pub place_after : Kind → Transfer → List Write
+abbrev pub place_after : UnitKind → Transfer → List Write
 place_after kind t = if has_place kind then set (At t.unit (t.block + 1)) ∷ [] else []
 
 -- a word of the block, into its cell
@@ -122,31 +122,31 @@ abbrev pub from_cell : WorldState → Transfer → ℕ → Old
 from_cell w t j = Item t.unit t.block j (cell_of w (t.cell + j))
 
 -- IN: the words of a block of the unit, into cells
-abbrev pub input_writes : Kind → WorldState → Transfer → List Write
+abbrev pub input_writes : UnitKind → WorldState → Transfer → List Write
 input_writes kind w t = place_after kind t ++ busy w t.unit ∷ each (block_length kind) 0 (from_block w t)
 
 -- the words of the cells that OUT writes
-abbrev pub words_out : Kind → WorldState → Transfer → List WordValue
+abbrev pub words_out : UnitKind → WorldState → Transfer → List WordValue
 words_out kind w t = take (block_length kind) (drop t.cell w.cells)
 
 -- OUT: the words of cells, in place of those of a block, or as a new block, or as a row
-abbrev pub replace_writes : Kind → WorldState → Transfer → List Write
+abbrev pub replace_writes : UnitKind → WorldState → Transfer → List Write
 replace_writes kind w t = place_after kind t ++ busy w t.unit ∷ each (block_length kind) 0 (from_cell w t)
 
-abbrev pub append_writes : Kind → WorldState → Transfer → List Write
+abbrev pub append_writes : UnitKind → WorldState → Transfer → List Write
 append_writes kind w t =
     grow t.unit (t.block - length (unit_at w t.unit).blocks) (words_out kind w t) ∷ place_after kind t ++ busy w t.unit ∷ []
 
-abbrev pub row_writes : Kind → WorldState → Transfer → List Write
+abbrev pub row_writes : UnitKind → WorldState → Transfer → List Write
 row_writes kind w t = print t.unit (row_of (words_out kind w t)) ∷ busy w t.unit ∷ []
 
-abbrev pub output_writes : Kind → WorldState → Transfer → List Write
+abbrev pub output_writes : UnitKind → WorldState → Transfer → List Write
 output_writes kind w t =
     if not (has_medium kind) then row_writes kind w t else
     if nat_lt t.block (length (unit_at w t.unit).blocks) then replace_writes kind w t else append_writes kind w t
 
 -- IOC: a tape wound to a place, the mark of a page, or nothing but the time
-abbrev pub control_writes : Kind → WorldState → ℕ → ℕ → List Write
+abbrev pub control_writes : UnitKind → WorldState → ℕ → ℕ → List Write
 control_writes Tape w n k = set (At n k) ∷ busy w n ∷ []
 control_writes Disk w n k = busy w n ∷ []
 control_writes CardReader w n k = []

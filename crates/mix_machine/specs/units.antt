@@ -1,7 +1,7 @@
 -- The units: their kinds, what each holds, the deck that fills them, and the lemmas on their blocks.
 pub mod Back
 pub mod Keep
-pub mod Kind
+pub mod UnitKind
 pub mod Row
 pub mod Unit
 pub mod Units

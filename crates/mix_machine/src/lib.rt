@@ -25,7 +25,7 @@ pub use laws::{halt_law, kept_count_law};
 pub use mix_word::{Cmp, Place, Reg, Sign, Word};
 pub use old::{Change, Old};
 pub use time::Time;
-pub use units::{DeckFault, DeckKind, Kind, MAX_DECK_BYTES, Row, Unit, UnitNo, Units};
+pub use units::{DeckFault, DeckKind, MAX_DECK_BYTES, Row, Unit, UnitKind, UnitNo, Units};
 pub use world::World;
 
 #[cfg(test)]

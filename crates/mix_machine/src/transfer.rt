@@ -4,7 +4,7 @@ ghost use Rattle.std.specs.Prelude.{◌≡◌, ◌<◌, ◌≤◌, ℕ, ◌+◌,
 ghost use Rattle.mix_machine.specs.World.{unit_at};
 ghost use Rattle.mix_machine.specs.UnitAction.{transfer_start, transfer_end, marks_page};
 ghost use Rattle.mix_machine.specs.Write.{fits, each, from_block, from_cell, place_after, input_writes, replace_writes, append_writes, row_writes, output_writes, control_writes};
-ghost use Rattle.mix_machine.specs.units.Kind.{block_length, has_place, has_medium};
+ghost use Rattle.mix_machine.specs.units.UnitKind.{block_length, has_place, has_medium};
 ghost use Rattle.mix_machine.specs.units.Unit.{last_until};
 ghost use Rattle.mix_machine.specs.units.Units.{fits_item};
 ghost use Rattle.mix_machine.specs.law.Plans.{InputFits, OutputFits, ControlFits};
@@ -13,7 +13,7 @@ ghost use Rattle.mix_machine.specs.law.Wrote.{HasRoom, Wrote, Tried};
 use crate::old::Old;
 use crate::perform::place;
 use crate::plan::Transfer;
-use crate::units::{Kind, UnitNo};
+use crate::units::{UnitKind, UnitNo};
 use crate::world::World;
 use undo_core::Memory;
 
@@ -41,7 +41,7 @@ impl World {
 
     /// What IN writes, of a unit of this kind.
     #[inline(never)]
-    pub(crate) fn input(&mut self, t: Transfer, kind: Kind, kept: &mut Vec<Old>)
+    pub(crate) fn input(&mut self, t: Transfer, kind: UnitKind, kept: &mut Vec<Old>)
         requires fits { InputFits self.old t }
         requires kind { kind ≡ (unit_at self.old t.unit).kind }
         requires room { HasRoom kept.old (input_writes kind self.old t) }
@@ -79,7 +79,7 @@ impl World {
     }
 
     // The words of cells in place of those of a block.
-    fn replace(&mut self, t: Transfer, kind: Kind, kept: &mut Vec<Old>)
+    fn replace(&mut self, t: Transfer, kind: UnitKind, kept: &mut Vec<Old>)
         requires fits { OutputFits self.old t }
         requires kind { kind ≡ (unit_at self.old t.unit).kind }
         requires medium { has_medium kind ≡ true }
@@ -98,7 +98,7 @@ impl World {
     }
 
     // The words of cells as a new block, after as many blocks of +0 as are missing before it.
-    fn append(&mut self, t: Transfer, kind: Kind, kept: &mut Vec<Old>) -> Result<(), Memory>
+    fn append(&mut self, t: Transfer, kind: UnitKind, kept: &mut Vec<Old>) -> Result<(), Memory>
         requires fits { OutputFits self.old t }
         requires kind { kind ≡ (unit_at self.old t.unit).kind }
         requires medium { has_medium kind ≡ true }
@@ -120,7 +120,7 @@ impl World {
     }
 
     // The words of cells as a new row.
-    fn print(&mut self, t: Transfer, kind: Kind, kept: &mut Vec<Old>) -> Result<(), Memory>
+    fn print(&mut self, t: Transfer, kind: UnitKind, kept: &mut Vec<Old>) -> Result<(), Memory>
         requires fits { OutputFits self.old t }
         requires kind { kind ≡ (unit_at self.old t.unit).kind }
         requires medium { has_medium kind ≡ false }
@@ -149,23 +149,23 @@ impl World {
         let unit = self.unit(n);
         let (kind, len) = (unit.kind(), unit.len());
         match kind {
-            Kind::Tape | Kind::PaperTape => {
+            UnitKind::Tape | UnitKind::PaperTape => {
                 self.write(Old::At(n, at), kept);
                 self.write_until(n, until, kept);
             }
-            Kind::Disk => self.write_until(n, until, kept),
-            Kind::Printer => {
+            UnitKind::Disk => self.write_until(n, until, kept),
+            UnitKind::Printer => {
                 self.units.add_page(n)?;
                 kept.push_reserved(Old::Len(n, len));
                 self.write_until(n, until, kept);
             }
-            Kind::CardReader | Kind::CardPunch | Kind::Typewriter => {}
+            UnitKind::CardReader | UnitKind::CardPunch | UnitKind::Typewriter => {}
         }
         Ok(())
     }
 
     // The place after the block, where the unit has one.
-    fn move_on(&mut self, kind: Kind, t: Transfer, kept: &mut Vec<Old>)
+    fn move_on(&mut self, kind: UnitKind, t: Transfer, kept: &mut Vec<Old>)
         requires few { t.block < 1000 }
         requires fits { has_place kind ≡ true → IsTrue (fits self.old (Old.At t.unit (t.block + 1))) }
         requires room { HasRoom kept.old (place_after kind t) }

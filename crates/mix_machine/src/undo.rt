@@ -35,7 +35,14 @@ impl Undo for World {
         self.change(*change, kept)
     }
 
+    /// Puts one old value back. It takes no memory.
+    #[inline(always)]
+    fn restore(&mut self, old: Old) {
+        self.set_value(old);
+    }
+
     /// Puts back the old values from `from` on, the last one first. It takes no memory.
+    // (written out, since it is quicker to take each value from the end of the list than to read them and cut them off)
     fn revert(&mut self, kept: &mut Vec<Old>, from: usize) {
         while kept.len() > from {
             match kept.pop() {

@@ -1,6 +1,6 @@
 //! The units of the machine (1.3.1, "Input-output operators").
 ghost use Rattle.std.specs.Prelude.{◌≡◌, ◌<◌, ◌≤◌, ◌+◌, ◌/◌, ◌%◌, None, IfOk, OnOk, OnErr, IsTrue, length};
-ghost use Rattle.mix_machine.specs.units.Kind.{block_length};
+ghost use Rattle.mix_machine.specs.units.UnitKind.{block_length};
 ghost use Rattle.mix_machine.specs.units.Row.{row_of};
 ghost use Rattle.mix_machine.specs.units.Unit.{most_entries, last_delay};
 ghost use Rattle.mix_machine.specs.units.Units.{empty_units, unit_of, set_place, fits_place, set_length, length_at, fits_length, set_item, item_at, fits_item, set_until, fits_until, add_blocks, add_row, set_delay, fill};
@@ -15,7 +15,7 @@ mod unit;
 use crate::units::kind::KINDS;
 pub use deck::MAX_DECK_BYTES;
 pub use deck_fault::{DeckFault, DeckKind};
-pub use kind::Kind;
+pub use kind::UnitKind;
 use mix_word::Word;
 pub use number::UnitNo;
 pub use row::Row;

@@ -32,10 +32,10 @@ use Rattle.mix_run.proofs.Written.{Appends-then, Appends-same, Appends-nothing, 
 -- one line more is written
 pub written-next : (s next : SessionState) (line rest more : List ℕ) (a b c : Option (List ℕ)) (whole : List ℕ) →
     lines rest ≡ line ∷ lines more → next ≡ record s { timeline = after (effect_in s line) } →
-    (done : List ℕ) × Appends a b done × (whole ≡ done ++ (replies s (lines rest)).bytes) → Appends b c (reply_of (effect_in s line)) →
+    (done : List ℕ) × Appends a b done × (whole ≡ done ++ (replies s (lines rest)).bytes) → Appends b c (reply_of s.program (effect_in s line)) →
     (done : List ℕ) × Appends a c done × (whole ≡ done ++ (replies next (lines more)).bytes)
 written-next s next line rest more a b c whole split changed so_far reply =
-    let said = reply_of (effect_in s line) in
+    let said = reply_of s.program (effect_in s line) in
     let rest_said : (replies s (lines rest)).bytes ≡ said ++ (replies next (lines more)).bytes = rw (split, changed) refl in (
       so_far.0 ++ said,
       Appends-then a b c so_far.0 said so_far.1 reply,
@@ -44,10 +44,10 @@ written-next s next line rest more a b c whole split changed so_far reply =
 
 -- a beginning of one line more is written
 pub begun-at : (s : SessionState) (line rest more : List ℕ) (a b c : Option (List ℕ)) (whole : List ℕ) → lines rest ≡ line ∷ lines more →
-    (done : List ℕ) × Appends a b done × (whole ≡ done ++ (replies s (lines rest)).bytes) → AppendsFront b c (reply_of (effect_in s line)) →
+    (done : List ℕ) × Appends a b done × (whole ≡ done ++ (replies s (lines rest)).bytes) → AppendsFront b c (reply_of s.program (effect_in s line)) →
     AppendsFront a c whole
 begun-at s line rest more a b c whole split so_far reply =
-    AppendsFront-after a b c so_far.0 (reply_of (effect_in s line)) (replies (record s { timeline = after (effect_in s line) }) (lines more)).bytes whole so_far.1 reply
+    AppendsFront-after a b c so_far.0 (reply_of s.program (effect_in s line)) (replies (record s { timeline = after (effect_in s line) }) (lines more)).bytes whole so_far.1 reply
     (so_far.2 ∙ ap (λ bytes. so_far.0 ++ bytes) (rw split refl))
 
 both-assoc : (a b c : Told) → told_of_both (told_of_both a b) c ≡ told_of_both a (told_of_both b c)

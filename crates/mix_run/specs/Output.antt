@@ -46,7 +46,7 @@ replies s [] = record { bytes = []; told = Accepted }
 replies s (line ∷ rest) =
     let effect = effect_in s line in
     let more = replies (record s { timeline = after effect }) rest in
-    record { bytes = reply_of effect ++ more.bytes; told = told_of_both (told_of effect.answer) more.told }
+    record { bytes = reply_of s.program effect ++ more.bytes; told = told_of_both (told_of effect.answer) more.told }
 
 -- the status of a script: 0 where each command is accepted, else 3
 abbrev pub status_of : Told → ℕ

@@ -2,7 +2,7 @@
 
 ghost use Rattle.std.specs.Prelude.{◌≡◌, ◌<◌, ◌+◌, ◌-◌, ◌^◌, ℕ, List, Some, Ok, Err, IfErr, IfOk};
 ghost use Rattle.std.specs.Io.KnownBytes.{Appends, Keeps};
-ghost use Rattle.mix_stream.specs.Stream.{AppendsFront, ConsumesAtMost, CountsRead, CountsWrite};
+ghost use Rattle.mix_stream.specs.Stream.{AppendsFront, ConsumesAtMost, CountsFailure};
 ghost use Rattle.mixal_asm.specs.Assembly.{max_source_bytes};
 ghost use Rattle.mixal_asm.specs.Listing.{listing};
 ghost use Rattle.mix_session.specs.Session.{IsMemoryOrWrite};
@@ -19,7 +19,7 @@ use std::alloc::Global;
 fn list<W: Out>(alloc: Global, program: &Program, out: &mut W) -> Result<u8, ToolFault>
     requires { W.failed out.old < 2 ^ 64 - 1 }
     ensures output { Meets (Ended (listing program.now) 0) result (W.told out.old) (W.told out.new) }
-    ensures write { CountsWrite (result ≡ Err ToolFault.Write) (W.failed out.old) (W.failed out.new) }
+    ensures write { CountsFailure (result ≡ Err ToolFault.Write) (W.failed out.old) (W.failed out.new) }
     ensures only { IfErr result IsMemoryOrWrite }
     ensures ends { IfOk result IsStatus }
 {
@@ -43,8 +43,8 @@ pub fn run_list<R: In, W: Out>(alloc: Global, source: &mut R, out: &mut W) -> Re
     ensures output { (s : List ℕ) → R.rest source.old ≡ Some s → Meets (list_output s) result (W.told out.old) (W.told out.new) }
 
     // A read or a write has failed exactly where that is answered.
-    ensures read { CountsRead (result ≡ Err ToolFault.Read) (R.failed source.old) (R.failed source.new) }
-    ensures write { CountsWrite (result ≡ Err ToolFault.Write) (W.failed out.old) (W.failed out.new) }
+    ensures read { CountsFailure (result ≡ Err ToolFault.Read) (R.failed source.old) (R.failed source.new) }
+    ensures write { CountsFailure (result ≡ Err ToolFault.Write) (W.failed out.old) (W.failed out.new) }
     ensures unread { result ≡ Err ToolFault.Read → Keeps (W.told out.old) (W.told out.new) }
 
     // Never more is read.

@@ -10,7 +10,7 @@ ghost use Rattle.mixal_asm.specs.Assembly.{assembly, max_source_bytes};
 ghost use Rattle.mix_machine.specs.units.deck.Deck.{deck_of, max_deck_bytes};
 ghost use Rattle.mix_session.specs.Session.{opened, IsMemoryOrWrite};
 ghost use Rattle.mix_run.specs.Output.{Meets, Ended, IsDeckRefusal, IsStatus, output, outcome_of, bundle_output, outcome_of_script, replies, status_of, max_script_bytes, max_bundle_bytes};
-ghost use Rattle.mix_stream.specs.Stream.{AppendsFront, ConsumesAtMost, CountsRead, CountsWrite};
+ghost use Rattle.mix_stream.specs.Stream.{AppendsFront, ConsumesAtMost, CountsFailure};
 
 use crate::bundle::cut;
 use mix_lines::split_line;
@@ -41,7 +41,7 @@ pub(crate) fn refuse_source<W: Out>(
 ) -> Result<u8, ToolFault>
     requires { W.failed out.old < 2 ^ 64 - 1 }
     ensures output { Meets (Ended (asm_fault_line fault ++ 10 ∷ []) 1) result (W.told out.old) (W.told out.new) }
-    ensures write { CountsWrite (result ≡ Err ToolFault.Write) (W.failed out.old) (W.failed out.new) }
+    ensures write { CountsFailure (result ≡ Err ToolFault.Write) (W.failed out.old) (W.failed out.new) }
     ensures only { IfErr result IsMemoryOrWrite }
     ensures ends { IfOk result IsStatus }
 {
@@ -67,7 +67,7 @@ fn execute_lines<W: Out>(
     ensures replies { let all = replies session.old (lines script.now) in
         IfOk result (λ told. (told ≡ all.told) × Appends (W.told out.old) (W.told out.new) all.bytes) }
     ensures begun { AppendsFront (W.told out.old) (W.told out.new) (replies session.old (lines script.now)).bytes }
-    ensures write { CountsWrite (result ≡ Err ToolFault.Write) (W.failed out.old) (W.failed out.new) }
+    ensures write { CountsFailure (result ≡ Err ToolFault.Write) (W.failed out.old) (W.failed out.new) }
     ensures only { IfErr result IsMemoryOrWrite }
 {
     let mut told = Told::Accepted;
@@ -94,7 +94,7 @@ fn status(told: Told) -> u8
 fn execute<W: Out>(session: &mut Session, script: &[u8], out: &mut W) -> Result<u8, ToolFault>
     requires { W.failed out.old < 2 ^ 64 - 1 }
     ensures output { Meets (outcome_of_script session.old script.now) result (W.told out.old) (W.told out.new) }
-    ensures write { CountsWrite (result ≡ Err ToolFault.Write) (W.failed out.old) (W.failed out.new) }
+    ensures write { CountsFailure (result ≡ Err ToolFault.Write) (W.failed out.old) (W.failed out.new) }
     ensures unread { result ≢ Err ToolFault.Read }
     ensures status { result ≢ Ok 1 }
     ensures deck { (f : DeckFault) → result ≢ Err (ToolFault.Deck f) }
@@ -117,7 +117,7 @@ fn open_and_execute<W: Out>(
 ) -> Result<u8, ToolFault>
     requires { W.failed out.old < 2 ^ 64 - 1 }
     ensures output { Meets (outcome_of_script (opened program.entry units) script.now) result (W.told out.old) (W.told out.new) }
-    ensures write { CountsWrite (result ≡ Err ToolFault.Write) (W.failed out.old) (W.failed out.new) }
+    ensures write { CountsFailure (result ≡ Err ToolFault.Write) (W.failed out.old) (W.failed out.new) }
     ensures unread { result ≢ Err ToolFault.Read }
     ensures status { result ≢ Ok 1 }
     ensures deck { (f : DeckFault) → result ≢ Err (ToolFault.Deck f) }
@@ -150,7 +150,7 @@ fn run_parts<W: Out>(
 ) -> Result<u8, ToolFault>
     requires { W.failed out.old < 2 ^ 64 - 1 }
     ensures output { Meets (output source.now deck.now script.now) result (W.told out.old) (W.told out.new) }
-    ensures write { CountsWrite (result ≡ Err ToolFault.Write) (W.failed out.old) (W.failed out.new) }
+    ensures write { CountsFailure (result ≡ Err ToolFault.Write) (W.failed out.old) (W.failed out.new) }
     ensures unread { result ≢ Err ToolFault.Read }
     ensures ends { IfOk result IsStatus }
 {
@@ -176,8 +176,8 @@ fn run_script<C: In, W: Out>(
     requires out_count { W.failed out.old < 2 ^ 64 - 1 }
     ensures output { (t : List ℕ) → C.rest script.old ≡ Some t
         → Meets (outcome_of_script (opened program.entry units) t) result (W.told out.old) (W.told out.new) }
-    ensures read { CountsRead (result ≡ Err ToolFault.Read) (C.failed script.old) (C.failed script.new) }
-    ensures write { CountsWrite (result ≡ Err ToolFault.Write) (W.failed out.old) (W.failed out.new) }
+    ensures read { CountsFailure (result ≡ Err ToolFault.Read) (C.failed script.old) (C.failed script.new) }
+    ensures write { CountsFailure (result ≡ Err ToolFault.Write) (W.failed out.old) (W.failed out.new) }
     ensures unread { result ≡ Err ToolFault.Read → Keeps (W.told out.old) (W.told out.new) }
     ensures script { ConsumesAtMost (C.rest script.old) (C.rest script.new) (max_script_bytes + 1) }
     ensures status { result ≢ Ok 1 }
@@ -201,9 +201,9 @@ fn run_program<D: In, C: In, W: Out>(
     requires out_count { W.failed out.old < 2 ^ 64 - 1 }
     ensures output { (d t : List ℕ) → D.rest deck.old ≡ Some d → C.rest script.old ≡ Some t
         → Meets (outcome_of (Ok program.entry) (deck_of d) t) result (W.told out.old) (W.told out.new) }
-    ensures read { CountsRead (result ≡ Err ToolFault.Read) (D.failed deck.old + C.failed script.old) (D.failed deck.new + C.failed script.new) }
+    ensures read { CountsFailure (result ≡ Err ToolFault.Read) (D.failed deck.old + C.failed script.old) (D.failed deck.new + C.failed script.new) }
     ensures reads { (D.failed deck.old ≤ D.failed deck.new) × (C.failed script.old ≤ C.failed script.new) }
-    ensures write { CountsWrite (result ≡ Err ToolFault.Write) (W.failed out.old) (W.failed out.new) }
+    ensures write { CountsFailure (result ≡ Err ToolFault.Write) (W.failed out.old) (W.failed out.new) }
     ensures unread { result ≡ Err ToolFault.Read → Keeps (W.told out.old) (W.told out.new) }
     ensures deck { ConsumesAtMost (D.rest deck.old) (D.rest deck.new) (max_deck_bytes + 1) }
     ensures script { ConsumesAtMost (C.rest script.old) (C.rest script.new) (max_script_bytes + 1) }
@@ -244,10 +244,10 @@ pub fn run_debug<S: In, D: In, C: In, W: Out>(
         → Meets (output s d t) result (W.told out.old) (W.told out.new) }
 
     // A read or a write has failed exactly where that is answered.
-    ensures read { CountsRead (result ≡ Err ToolFault.Read) (S.failed source.old + D.failed deck.old + C.failed script.old)
+    ensures read { CountsFailure (result ≡ Err ToolFault.Read) (S.failed source.old + D.failed deck.old + C.failed script.old)
         (S.failed source.new + D.failed deck.new + C.failed script.new) }
     ensures reads { (S.failed source.old ≤ S.failed source.new) × (D.failed deck.old ≤ D.failed deck.new) × (C.failed script.old ≤ C.failed script.new) }
-    ensures write { CountsWrite (result ≡ Err ToolFault.Write) (W.failed out.old) (W.failed out.new) }
+    ensures write { CountsFailure (result ≡ Err ToolFault.Write) (W.failed out.old) (W.failed out.new) }
     ensures unread { result ≡ Err ToolFault.Read → Keeps (W.told out.old) (W.told out.new) }
 
     // Never more is read.
@@ -294,8 +294,8 @@ pub fn run_bundle<R: In, W: Out>(alloc: Global, input: &mut R, out: &mut W) -> R
     ensures output { (b : List ℕ) → R.rest input.old ≡ Some b → Meets (bundle_output b) result (W.told out.old) (W.told out.new) }
 
     // A read or a write has failed exactly where that is answered.
-    ensures read { CountsRead (result ≡ Err ToolFault.Read) (R.failed input.old) (R.failed input.new) }
-    ensures write { CountsWrite (result ≡ Err ToolFault.Write) (W.failed out.old) (W.failed out.new) }
+    ensures read { CountsFailure (result ≡ Err ToolFault.Read) (R.failed input.old) (R.failed input.new) }
+    ensures write { CountsFailure (result ≡ Err ToolFault.Write) (W.failed out.old) (W.failed out.new) }
     ensures unread { result ≡ Err ToolFault.Read → Keeps (W.told out.old) (W.told out.new) }
 
     // Never more is read.

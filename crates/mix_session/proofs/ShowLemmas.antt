@@ -11,6 +11,7 @@ use Rattle.mix_word.specs.declared.register.Reg.TheVariants as reg
 use Rattle.mix_word.specs.Word.{WordValue}
 use Rattle.mix_word.specs.Register.{name_of_register}
 use Rattle.mix_machine.specs.World.{WorldState, register_of}
+use Rattle.mix_session.specs.Each.{texts}
 use Rattle.mix_session.specs.Show.{value_text, register_line}
 
 -- a name that is written left in two places
@@ -53,9 +54,14 @@ flat_map-range_next f a k from =
     rw more (sym (whole ∙ ap (λ (i : ℕ). flat_map f (range_with_len a n) ++ f i) (sym here)))
 
 -- the texts of all things of a list, by their numbers
-pub flat_map-indexed : {X : Type 0} (f : X → List ℕ) (d : X) (xs : List X) (n : ℕ) → n ≡ length xs →
-    flat_map (λ i. f (get_or xs i d)) (range_with_len 0 (n - 0)) ≡ flat_map f xs
-flat_map-indexed f d xs n e =
+pub texts-indexed : {X : Type 0} (f : X → List ℕ) (d : X) (xs : List X) (n : ℕ) → n ≡ length xs →
+    texts (λ i. f (get_or xs i d)) 0 n ≡ flat_map f xs
+unfolding texts
+texts-indexed f d xs n e =
     let whole : n - 0 ≡ length xs = omega (arith, e) in
     ap (λ (k : ℕ). flat_map (λ i. f (get_or xs i d)) (range_with_len 0 k)) whole
     ∙ sym (ap (flat_map f) (fill_by_all (λ i. get_or xs i d) xs (length xs) d refl (λ i below. refl)) ∙ flat_map-map f (λ i. get_or xs i d) (range_with_len 0 (length xs)))
+
+-- one text more after those that a text was continued with
+pub appended : (front now next all line more : List ℕ) → now ≡ front ++ all → next ≡ now ++ line → all ++ line ≡ more → next ≡ front ++ more
+appended front now next all line more so_far added one_more = added ∙ ap (λ t. t ++ line) so_far ∙ append_assoc front all line ∙ ap (λ t. front ++ t) one_more

@@ -1,8 +1,11 @@
--- What a request answers: whether it is accepted, and its text, which is read from the machine after so many changes.
+-- What a request answers: whether it is accepted, and its text, which is read from the program and from the timeline that it led to.
 use Rattle.std.specs.Prelude.{ℕ, List, [], codes}
 use Rattle.mix_machine.specs.World.{WorldState}
 use Rattle.mix_session.specs.Reply.{ran_text, moved_text, ok_text, refused_text, told_of_end}
-use Rattle.mix_session.specs.Show.{topic_text}
+use Rattle.mixal_asm.specs.Program.{ProgramValue}
+use Rattle.mix_session.specs.Timeline.{Timeline, world_of}
+use Rattle.mix_session.specs.Topic.{topic_text}
+use Rattle.mix_session.specs.declared.reply.End.{End}
 use Rattle.mix_session.specs.declared.answer.Answer.{Answer}
 use Rattle.mix_session.specs.declared.answer.Answer.TheVariants.{Nothing, Ran, Back, Forth, Done, Shows, Refused}
 use Rattle.mix_session.specs.declared.reply.Told.{Told}
@@ -18,12 +21,20 @@ told_of Done = told.Accepted
 told_of (Shows topic) = told.Accepted
 told_of (Refused refusal) = told.Refused
 
--- the text of an answer, of the machine after so many changes
-unfoldable pub text_of : Answer → WorldState → ℕ → List ℕ
-text_of Nothing w changes = []
-text_of (Ran done end) w changes = ran_text done w.loc w.clock end
-text_of (Back count) w changes = moved_text (codes "back") count w.loc w.clock
-text_of (Forth count) w changes = moved_text (codes "forth") count w.loc w.clock
-text_of Done w changes = ok_text
-text_of (Shows topic) w changes = topic_text topic w changes
-text_of (Refused refusal) w changes = refused_text refusal
+-- the line of `back` and of `forth`, by its first word
+abbrev pub moved_to : List ℕ → ℕ → WorldState → List ℕ
+moved_to way count w = moved_text way count w.loc w.clock
+
+-- the line of `step` and `run`
+abbrev pub ran_to : ℕ → End → WorldState → List ℕ
+ran_to done end w = ran_text done w.loc w.clock end
+
+-- the text of an answer
+unfoldable pub text_of : Answer → ProgramValue → Timeline → List ℕ
+text_of Nothing program t = []
+text_of (Ran done end) program t = ran_to done end (world_of t)
+text_of (Back count) program t = moved_to (codes "back") count (world_of t)
+text_of (Forth count) program t = moved_to (codes "forth") count (world_of t)
+text_of Done program t = ok_text
+text_of (Shows topic) program t = topic_text topic program t
+text_of (Refused refusal) program t = refused_text refusal

@@ -1,10 +1,10 @@
 -- What a request does to the timeline of a session, and what it answers. The machine is run anew, from its first state on the changes
 -- done, wherever something of it is asked; no value from before a `back` is left to be shown.
-use Rattle.std.specs.Prelude.{◌≡◌, ◌≤◌, ◌==◌, ◌&&◌, ℕ, zero, suc, List, length, Bool, true, false, Option, None, Some, Result, Ok, Err, is_some, unwrap_or, nat_lt, if◌then◌else◌}
+use Rattle.std.specs.Prelude.{◌≡◌, ◌≤◌, ◌-◌, ◌==◌, ◌&&◌, ℕ, zero, suc, List, length, Bool, true, false, Option, None, Some, Result, Ok, Err, is_some, unwrap_or, nat_lt, if◌then◌else◌}
 use Rattle.std.specs.Option.{option_or}
 use Rattle.mix_refused.specs.declared.refused.Memory.{Memory}
 use Rattle.mix_word.specs.Word.{plus}
-use Rattle.mixal_text.specs.Names.{NamesValue}
+use Rattle.mixal_asm.specs.Program.{ProgramValue}
 use Rattle.mix_machine.specs.World.{WorldState}
 use Rattle.mix_machine.specs.Do.{does, is_halt_next}
 use Rattle.mix_machine.specs.declared.old.Change.{Change}
@@ -33,13 +33,9 @@ pub record Effect : Type 0 where
 abbrev pub after : Effect → Timeline
 after effect = effect.stage effect.last
 
--- the text of an answer, read from the machine run anew over the changes done
-abbrev pub text_at : Timeline → Answer → List ℕ
-text_at t answer = text_of answer (world_of t) (length t.changes)
-
--- the reply of a command
-abbrev pub reply_of : Effect → List ℕ
-reply_of effect = text_at (after effect) effect.answer
+-- the reply of a command, read from its program and from the machine run anew over the changes done
+abbrev pub reply_of : ProgramValue → Effect → List ℕ
+reply_of program effect = text_of effect.answer program (after effect)
 
 -- the least number that passes the test, of those below n, or n
 abbrev pub least_below : ℕ → (ℕ → Bool) → ℕ
@@ -107,6 +103,11 @@ effect_of_forth t n = record { stage = forth_by t; last = n; answer = answers.Fo
 abbrev pub effect_of_forth_within : Timeline → ℕ → Effect
 effect_of_forth_within t n = if nat_lt (length t.ahead) n then refusal_effect t TooFewChanges else effect_of_forth t n
 
+-- to the state after the first n changes of all, those done and those ahead
+abbrev pub effect_of_goto : Timeline → ℕ → Effect
+effect_of_goto t n =
+    let done = length t.changes in if nat_lt n done then effect_of_back t (done - n) else effect_of_forth_within t (n - done)
+
 -- before a change, and after it
 abbrev pub change_stage : Timeline → Change → ℕ → Timeline
 change_stage t change zero = t
@@ -130,6 +131,8 @@ effect_of t (ask.Back n) = effect_of_back_within t n
 effect_of t ask.BackAll = effect_of_back t (length t.changes)
 effect_of t ask.BackBreak = effect_of_back t (count_to_break t)
 effect_of t (ask.Forth n) = effect_of_forth_within t n
+effect_of t ask.ForthAll = effect_of_forth t (length t.ahead)
+effect_of t (ask.Goto n) = effect_of_goto t n
 effect_of t (ask.Change change) = effect_of_change t change
 effect_of t (ask.Show topic) = at_once t (answers.Shows topic)
 
@@ -138,13 +141,13 @@ abbrev pub effect_of_line : Timeline → Result Request Refusal → Effect
 effect_of_line t (Ok request) = effect_of t request
 effect_of_line t (Err refusal) = refusal_effect t refusal
 
--- what a line of the script asks for, with the names of the program; the asterisk stands for the location
-abbrev pub request_at : NamesValue → Timeline → List ℕ → Result Request Refusal
-request_at names t line = request_of names (plus (world_of t).loc) line
+-- what a line of the script asks for, with the names and lines of the program; the asterisk stands for the location
+abbrev pub request_at : ProgramValue → Timeline → List ℕ → Result Request Refusal
+request_at program t line = request_of program (plus (world_of t).loc) line
 
 -- what a line of the script does
-abbrev pub command : NamesValue → Timeline → List ℕ → Effect
-command names t line = effect_of_line t (request_at names t line)
+abbrev pub command : ProgramValue → Timeline → List ℕ → Effect
+command program t line = effect_of_line t (request_at program t line)
 
 -- What stands where memory is refused: one of the stages of the command. So of `step` and `run` some of the steps stand, of `forth` some
 -- of the changes are done again, and any other command is done or not.

@@ -8,8 +8,10 @@ use Rattle.mix_session.specs.declared.keyword.CommandWord.{CommandWord}
 use Rattle.mix_session.specs.declared.keyword.CommandWord.TheVariants as command
 use Rattle.mix_session.specs.declared.keyword.BackWord.{BackWord}
 use Rattle.mix_session.specs.declared.keyword.BackWord.TheVariants as back
+use Rattle.mix_session.specs.declared.keyword.ForthWord.{ForthWord}
+use Rattle.mix_session.specs.declared.keyword.ForthWord.TheVariants as forth
 use Rattle.mix_session.specs.declared.keyword.ShowWord.{ShowWord}
-use Rattle.mix_session.specs.declared.keyword.ShowWord.TheVariants.{Registers, Cells, Clock, Breaks, Changes, Unit, All}
+use Rattle.mix_session.specs.declared.keyword.ShowWord.TheVariants.{Registers, Cells, Clock, Breaks, Changes, Unit, All, Code, Value, Values, Symbols}
 use Rattle.mix_session.specs.declared.keyword.SetWord.{SetWord}
 use Rattle.mix_session.specs.declared.keyword.SetWord.TheVariants.{Register, Cell, Location, Toggle, Indicator}
 
@@ -27,6 +29,7 @@ command_name command.Step = codes "step"
 command_name command.Run = codes "run"
 command_name command.Back = codes "back"
 command_name command.Forth = codes "forth"
+command_name command.Goto = codes "goto"
 command_name command.Set = codes "set"
 command_name command.Break = codes "break"
 command_name command.Clear = codes "clear"
@@ -34,7 +37,7 @@ command_name command.Show = codes "show"
 
 abbrev pub all_commands : List CommandWord
 all_commands =
-    command.Step ∷ command.Run ∷ command.Back ∷ command.Forth ∷ command.Set ∷ command.Break ∷ command.Clear ∷ command.Show ∷ []
+    command.Step ∷ command.Run ∷ command.Back ∷ command.Forth ∷ command.Goto ∷ command.Set ∷ command.Break ∷ command.Clear ∷ command.Show ∷ []
 
 -- what may stand after `back` in place of a number
 abbrev pub back_name : BackWord → List ℕ
@@ -43,6 +46,13 @@ back_name back.Break = codes "break"
 
 abbrev pub all_backs : List BackWord
 all_backs = back.All ∷ back.Break ∷ []
+
+-- what may stand after `forth` in place of a number
+abbrev pub forth_name : ForthWord → List ℕ
+forth_name forth.All = codes "all"
+
+abbrev pub all_forths : List ForthWord
+all_forths = forth.All ∷ []
 
 -- what `show` may show
 abbrev pub show_name : ShowWord → List ℕ
@@ -53,9 +63,13 @@ show_name Breaks = codes "breaks"
 show_name Changes = codes "changes"
 show_name Unit = codes "unit"
 show_name All = codes "all"
+show_name Code = codes "code"
+show_name Value = codes "value"
+show_name Values = codes "values"
+show_name Symbols = codes "symbols"
 
 abbrev pub all_shows : List ShowWord
-all_shows = Registers ∷ Cells ∷ Clock ∷ Breaks ∷ Changes ∷ Unit ∷ All ∷ []
+all_shows = Registers ∷ Cells ∷ Clock ∷ Breaks ∷ Changes ∷ Unit ∷ All ∷ Code ∷ Value ∷ Values ∷ Symbols ∷ []
 
 -- what `set` may set
 abbrev pub set_name : SetWord → List ℕ

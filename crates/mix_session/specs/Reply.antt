@@ -26,8 +26,8 @@ unfoldable pub location_text : ℕ → List ℕ
 location_text n = decimal (n / 1000) ++ decimal (n / 100 % 10) ++ decimal (n / 10 % 10) ++ decimal (n % 10)
 
 -- where the machine stands: the location and the clock
-unfoldable pub stand_text : ℕ → ℕ → List ℕ
-stand_text loc clock = location_text loc ++ codes " clock " ++ decimal clock
+unfoldable pub position_text : ℕ → ℕ → List ℕ
+position_text loc clock = location_text loc ++ codes " clock " ++ decimal clock
 
 -- why no more steps were done
 abbrev pub end_text : End → List ℕ
@@ -39,11 +39,11 @@ end_text (Fault f) = codes "fault " ++ fault_line f
 -- the reply of `step` and `run`
 unfoldable pub ran_text : ℕ → ℕ → ℕ → End → List ℕ
 ran_text done loc clock end =
-    codes "ran " ++ decimal done ++ codes " to " ++ stand_text loc clock ++ codes ": " ++ end_text end ++ 10 ∷ []
+    codes "ran " ++ decimal done ++ codes " to " ++ position_text loc clock ++ codes ": " ++ end_text end ++ 10 ∷ []
 
 -- the reply of `back` and of `forth`, by its first word
 unfoldable pub moved_text : List ℕ → ℕ → ℕ → ℕ → List ℕ
-moved_text way count loc clock = way ++ codes " " ++ decimal count ++ codes " to " ++ stand_text loc clock ++ 10 ∷ []
+moved_text way count loc clock = way ++ codes " " ++ decimal count ++ codes " to " ++ position_text loc clock ++ 10 ∷ []
 
 -- the line of a refused command
 unfoldable pub refused_text : Refusal → List ℕ

@@ -1,11 +1,14 @@
 -- What a line of the script asks for: its words, in capitals or small letters, or what is wrong with them. A word that is missing,
 -- unknown, bad or too many is reported before a number that is out of range.
-use Rattle.std.specs.Prelude.{◌==◌, ℕ, ℤ, pos, negsuc, List, [], ◌∷◌, Option, Some, None, Result, Ok, Err, nat_lt, ok_or, if◌then◌else◌}
-use Rattle.mix_session.specs.Keyword.{keyword_named, command_name, all_commands, back_name, all_backs, set_name, all_sets, show_name, all_shows, toggle_name, all_toggles, indicator_name, all_indicators}
+use Rattle.std.specs.Prelude.{◌==◌, ℕ, ℤ, pos, negsuc, List, [], ◌∷◌, codes, Option, Some, None, Result, Ok, Err, nat_lt, ok_or, if◌then◌else◌}
+use Rattle.mix_session.specs.Keyword.{is_name, keyword_named, command_name, all_commands, back_name, all_backs, forth_name, all_forths, set_name, all_sets, show_name, all_shows, toggle_name, all_toggles, indicator_name, all_indicators}
 use Rattle.mix_lines.specs.Lines.{words, is_comment}
 use Rattle.mix_lines.specs.Number.{decimal_number}
 use Rattle.mix_word.specs.Word.{WordValue, number_of}
 use Rattle.mixal_text.specs.Names.{NamesValue}
+use Rattle.mixal_asm.specs.Program.{ProgramValue}
+use Rattle.mixal_asm.specs.Source.{cell_from}
+use Rattle.mix_session.specs.Names.{names_of}
 use Rattle.mixal_text.specs.Expression.{whole_expression}
 use Rattle.mixal_text.specs.WValue.{w_value_of}
 use Rattle.mixal_text.specs.declared.fault.TextFault.{TextFault}
@@ -16,6 +19,8 @@ use Rattle.mix_session.specs.declared.keyword.CommandWord.{CommandWord}
 use Rattle.mix_session.specs.declared.keyword.CommandWord.TheVariants as command
 use Rattle.mix_session.specs.declared.keyword.BackWord.{BackWord}
 use Rattle.mix_session.specs.declared.keyword.BackWord.TheVariants as back
+use Rattle.mix_session.specs.declared.keyword.ForthWord.{ForthWord}
+use Rattle.mix_session.specs.declared.keyword.ForthWord.TheVariants as forth
 use Rattle.mix_session.specs.declared.keyword.SetWord.{SetWord}
 use Rattle.mix_session.specs.declared.keyword.SetWord.TheVariants as set
 use Rattle.mix_session.specs.declared.keyword.ShowWord.{ShowWord}
@@ -49,6 +54,13 @@ two_words (word ∷ more) = do
 -- one of the keywords of a place
 abbrev pub keyword_in : {K : Type 0} → (K → List ℕ) → List K → List ℕ → Result K Refusal
 keyword_in name_of all word = ok_or (keyword_named name_of all word) BadArgument
+
+-- the keyword that the first word names, and the words after it
+abbrev pub first_keyword : {K : Type 0} → (K → List ℕ) → List K → List (List ℕ) → Result (K × List (List ℕ)) Refusal
+first_keyword name_of all [] = Err BadArgument
+first_keyword name_of all (word ∷ more) = do
+  keyword ← keyword_in name_of all word
+  Ok (keyword, more)
 
 -- a number
 abbrev pub number_in : List ℕ → Result ℕ Refusal
@@ -125,32 +137,38 @@ back_request words = do
   word ← one_word words
   amount_request word (keyword_named back_name all_backs word)
 
--- `forth N`
-unfoldable pub forth_request : List (List ℕ) → Result Request Refusal
-forth_request words = do
-  word ← one_word words
+-- how much is done again: a keyword, or a number
+abbrev pub ahead_request : List ℕ → Option ForthWord → Result Request Refusal
+ahead_request word (Some forth.All) = Ok ask.ForthAll
+ahead_request word None = do
   n ← number_in word
   count ← from_one n
   Ok (ask.Forth count)
+
+-- `forth N`, `forth all`
+unfoldable pub forth_request : List (List ℕ) → Result Request Refusal
+forth_request words = do
+  word ← one_word words
+  ahead_request word (keyword_named forth_name all_forths word)
+
+-- `goto N`
+unfoldable pub goto_request : List (List ℕ) → Result Request Refusal
+goto_request words = do
+  word ← one_word words
+  n ← number_in word
+  Ok (ask.Goto n)
+
+-- the cell that a word names, by an expression
+abbrev pub place_named : NamesValue → WordValue → List ℕ → Result ℕ Refusal
+place_named names here word = do
+  at ← expression_in names here word
+  place_of at
 
 -- the cell that the only word names
 abbrev pub one_place : NamesValue → WordValue → List (List ℕ) → Result ℕ Refusal
 one_place names here words = do
   word ← one_word words
-  at ← expression_in names here word
-  place_of at
-
--- `break E`
-unfoldable pub break_request : NamesValue → WordValue → List (List ℕ) → Result Request Refusal
-break_request names here words = do
-  place ← one_place names here words
-  Ok (ask.Change (Break place))
-
--- `clear E`
-unfoldable pub clear_request : NamesValue → WordValue → List (List ℕ) → Result Request Refusal
-clear_request names here words = do
-  place ← one_place names here words
-  Ok (ask.Change (Clear place))
+  place_named names here word
 
 -- what `set` changes
 abbrev pub change_of : NamesValue → WordValue → SetWord → List (List ℕ) → Result Change Refusal
@@ -177,22 +195,73 @@ change_of names here set.Indicator words = do
   Ok (SetCmp cmp)
 
 -- `set REG W`, `set cell E W`, `set loc E`, `set over on`, `set cmp L`
-unfoldable pub set_request : NamesValue → WordValue → List (List ℕ) → Result Request Refusal
-set_request names here [] = Err BadArgument
-set_request names here (word ∷ more) = do
-  keyword ← keyword_in set_name all_sets word
-  change ← change_of names here keyword more
-  Ok (ask.Change change)
+unfoldable pub change_in : NamesValue → WordValue → List (List ℕ) → Result Change Refusal
+change_in names here words = do
+  first ← first_keyword set_name all_sets words
+  change_of names here first.0 first.1
 
--- cells from one to another, which is not below it
-abbrev pub cells_of : NamesValue → WordValue → List (List ℕ) → Result Topic Refusal
-cells_of names here words = do
+-- the cell of the first word that the lines from a number on emit
+abbrev pub line_place : ProgramValue → List (List ℕ) → Result ℕ Refusal
+line_place program words = do
+  word ← one_word words
+  n ← number_in word
+  number ← from_one n
+  ok_or (cell_from program number) OutOfRange
+
+-- the cell that a word alone names, or that of a line, after the word `line`
+abbrev pub place_by : ProgramValue → WordValue → List ℕ → List (List ℕ) → Result ℕ Refusal
+place_by program here word [] = place_named (names_of program) here word
+place_by program here word (next ∷ more) = if is_name word (codes "line") then line_place program (next ∷ more) else Err BadArgument
+
+-- the cell of a breakpoint: `E`, `line N`
+unfoldable pub break_place : ProgramValue → WordValue → List (List ℕ) → Result ℕ Refusal
+break_place program here [] = Err BadArgument
+break_place program here (word ∷ more) = place_by program here word more
+
+-- a topic after which there is no word
+abbrev pub alone : Topic → List (List ℕ) → Result Topic Refusal
+alone topic words = do
+  none ← no_word words
+  Ok topic
+
+-- the cells from one to another, which is not below it
+abbrev pub range_of : NamesValue → WordValue → List (List ℕ) → Result (ℕ × ℕ) Refusal
+range_of names here words = do
   pair ← two_words words
   first ← expression_in names here pair.0
   last ← expression_in names here pair.1
   from ← place_of first
   to ← place_of last
-  if nat_lt to from then Err OutOfRange else Ok (topic.Cells from to)
+  if nat_lt to from then Err OutOfRange else Ok (from, to)
+
+-- `show cells E E`
+abbrev pub cells_of : NamesValue → WordValue → List (List ℕ) → Result Topic Refusal
+cells_of names here words = do
+  range ← range_of names here words
+  Ok (topic.Cells range.0 range.1)
+
+-- `show code`, which is that of the cell at the location, `show code E E`
+abbrev pub code_of : NamesValue → WordValue → List (List ℕ) → Result Topic Refusal
+code_of names here [] = do
+  place ← place_of here
+  Ok (topic.Code place place)
+code_of names here (word ∷ more) = do
+  range ← range_of names here (word ∷ more)
+  Ok (topic.Code range.0 range.1)
+
+-- `show values`, `show values E E`
+abbrev pub values_of : NamesValue → WordValue → List (List ℕ) → Result Topic Refusal
+values_of names here [] = Ok topic.Values
+values_of names here (word ∷ more) = do
+  range ← range_of names here (word ∷ more)
+  Ok (topic.CellValues range.0 range.1)
+
+-- `show value W`
+abbrev pub value_of : NamesValue → WordValue → List (List ℕ) → Result Topic Refusal
+value_of names here words = do
+  word ← one_word words
+  value ← word_in names here word
+  Ok (topic.Value value)
 
 -- the number of the last unit
 abbrev pub last_unit : ℕ
@@ -208,50 +277,51 @@ unit_topic words = do
 
 -- what `show` shows
 abbrev pub topic_of : NamesValue → WordValue → ShowWord → List (List ℕ) → Result Topic Refusal
-topic_of names here show.Registers words = do
-  none ← no_word words
-  Ok topic.Registers
+topic_of names here show.Registers words = alone topic.Registers words
 topic_of names here show.Cells words = cells_of names here words
-topic_of names here show.Clock words = do
-  none ← no_word words
-  Ok topic.Clock
-topic_of names here show.Breaks words = do
-  none ← no_word words
-  Ok topic.Breaks
-topic_of names here show.Changes words = do
-  none ← no_word words
-  Ok topic.Changes
+topic_of names here show.Clock words = alone topic.Clock words
+topic_of names here show.Breaks words = alone topic.Breaks words
+topic_of names here show.Changes words = alone topic.Changes words
 topic_of names here show.Unit words = unit_topic words
-topic_of names here show.All words = do
-  none ← no_word words
-  Ok topic.All
+topic_of names here show.All words = alone topic.All words
+topic_of names here show.Code words = code_of names here words
+topic_of names here show.Value words = value_of names here words
+topic_of names here show.Values words = values_of names here words
+topic_of names here show.Symbols words = alone topic.Symbols words
 
--- `show regs`, `show cells E E`, `show clock`, `show breaks`, `show changes`, `show unit N`, `show all`
-unfoldable pub show_request : NamesValue → WordValue → List (List ℕ) → Result Request Refusal
-show_request names here [] = Err BadArgument
-show_request names here (word ∷ more) = do
-  keyword ← keyword_in show_name all_shows word
-  topic ← topic_of names here keyword more
+-- `show regs`, `show cells E E`, `show clock`, and so on: a keyword and what it takes
+unfoldable pub topic_in : NamesValue → WordValue → List (List ℕ) → Result Topic Refusal
+topic_in names here words = do
+  first ← first_keyword show_name all_shows words
+  topic_of names here first.0 first.1
+
+-- the words after a command's first; `break E`, `break line N`, and `clear` in the same manner
+abbrev pub request_after : ProgramValue → WordValue → CommandWord → List (List ℕ) → Result Request Refusal
+request_after program here command.Step words = step_request words
+request_after program here command.Run words = run_request words
+request_after program here command.Back words = back_request words
+request_after program here command.Forth words = forth_request words
+request_after program here command.Goto words = goto_request words
+request_after program here command.Set words = do
+  change ← change_in (names_of program) here words
+  Ok (ask.Change change)
+request_after program here command.Break words = do
+  place ← break_place program here words
+  Ok (ask.Change (Break place))
+request_after program here command.Clear words = do
+  place ← break_place program here words
+  Ok (ask.Change (Clear place))
+request_after program here command.Show words = do
+  topic ← topic_in (names_of program) here words
   Ok (ask.Show topic)
 
--- the words after a command's first
-abbrev pub request_after : NamesValue → WordValue → CommandWord → List (List ℕ) → Result Request Refusal
-request_after names here command.Step words = step_request words
-request_after names here command.Run words = run_request words
-request_after names here command.Back words = back_request words
-request_after names here command.Forth words = forth_request words
-request_after names here command.Set words = set_request names here words
-request_after names here command.Break words = break_request names here words
-request_after names here command.Clear words = clear_request names here words
-request_after names here command.Show words = show_request names here words
-
 -- the words of a line
-unfoldable pub request_of_words : NamesValue → WordValue → List (List ℕ) → Result Request Refusal
-request_of_words names here [] = Ok ask.Nothing
-request_of_words names here (word ∷ more) = do
+unfoldable pub request_of_words : ProgramValue → WordValue → List (List ℕ) → Result Request Refusal
+request_of_words program here [] = Ok ask.Nothing
+request_of_words program here (word ∷ more) = do
   keyword ← ok_or (keyword_named command_name all_commands word) NoSuchCommand
-  request_after names here keyword more
+  request_after program here keyword more
 
 -- a line: a blank one, and one that begins with an asterisk, asks for nothing
-unfoldable pub request_of : NamesValue → WordValue → List ℕ → Result Request Refusal
-request_of names here line = if is_comment line then Ok ask.Nothing else request_of_words names here (words line)
+unfoldable pub request_of : ProgramValue → WordValue → List ℕ → Result Request Refusal
+request_of program here line = if is_comment line then Ok ask.Nothing else request_of_words program here (words line)

@@ -1,7 +1,5 @@
 -- A session: the program, whose names commands may use, and the timeline of its machine.
 use Rattle.std.specs.Prelude.{ℕ, List, Result}
-use Rattle.mixal_text.specs.Names.{NamesValue}
-use Rattle.mixal_asm.specs.PassOne.{names_at}
 use Rattle.mixal_asm.specs.Program.{ProgramValue}
 use Rattle.mix_machine.specs.Loaded.{loaded}
 use Rattle.mix_machine.specs.units.Units.{UnitsState}
@@ -16,21 +14,17 @@ pub record SessionState : Type 0 where
   pub program : ProgramValue
   pub timeline : Timeline
 
--- what the names of a program mean: the finished map, and of dB the last dH
-abbrev pub names_of : ProgramValue → NamesValue
-names_of program = names_at program.names program.names
-
 -- the machine that a program loads, with the units of a deck, no change done and none ahead
 unfoldable pub opened : ProgramValue → UnitsState → SessionState
 opened program units = record { program = program; timeline = beginning (loaded program.words program.start units) }
 
 -- what a line of the script asks for
 abbrev pub request_in : SessionState → List ℕ → Result Request Refusal
-request_in s line = request_at (names_of s.program) s.timeline line
+request_in s line = request_at s.program s.timeline line
 
 -- what a line of the script does
 abbrev pub effect_in : SessionState → List ℕ → Effect
-effect_in s line = command (names_of s.program) s.timeline line
+effect_in s line = command s.program s.timeline line
 
 -- the faults that a command or a script meets: no memory, or a write that failed
 abbrev pub IsMemoryOrWrite : ToolFault → Type 0

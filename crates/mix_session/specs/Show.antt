@@ -1,7 +1,6 @@
 -- What `show` writes of the machine: lines of bytes, in a form of this project's own.
 use Rattle.std.specs.Prelude.{ℕ, ◌+◌, ◌-◌, ◌==◌, ◌||◌, ◌&&◌, Bool, nat_lt, List, [], ◌∷◌, ◌++◌, codes, replicate, length, flat_map, if◌then◌else◌}
 use Rattle.std.specs.Fmt.{decimal}
-use Rattle.std.specs.List.{range_with_len}
 use Rattle.mix_word.specs.Word.{WordValue, is_plus}
 use Rattle.mix_word.specs.Text.{word_text, short_text}
 use Rattle.mix_word.specs.Register.{all_registers, name_of_register}
@@ -9,15 +8,14 @@ use Rattle.mix_word.specs.declared.register.Reg.{Reg}
 use Rattle.mix_word.specs.declared.register.Reg.TheVariants as reg
 use Rattle.mix_machine.specs.World.{WorldState, register_of, cell_of, has_break, unit_at}
 use Rattle.mix_machine.specs.units.Unit.{UnitState}
+use Rattle.mix_session.specs.Each.{texts}
 use Rattle.mix_session.specs.Keyword.{toggle_name, indicator_name}
-use Rattle.mix_session.specs.Reply.{location_text, stand_text}
+use Rattle.mix_session.specs.Reply.{location_text, position_text}
 use Rattle.mix_session.specs.ShowUnit.{unit_text}
-use Rattle.mix_session.specs.declared.request.Topic.{Topic}
-use Rattle.mix_session.specs.declared.request.Topic.TheVariants.{Registers, Cells, Clock, Breaks, Changes, Unit, All}
 
 -- the toggle, the indicator, the location and the clock
 unfoldable pub flags_text : WorldState → List ℕ
-flags_text w = codes "over " ++ toggle_name w.over ++ codes " cmp " ++ indicator_name w.cmp ++ codes " loc " ++ stand_text w.loc w.clock ++ 10 ∷ []
+flags_text w = codes "over " ++ toggle_name w.over ++ codes " cmp " ++ indicator_name w.cmp ++ codes " loc " ++ position_text w.loc w.clock ++ 10 ∷ []
 
 -- what a register holds: five bytes of rA and rX, two of the others
 abbrev pub value_text : Reg → WordValue → List ℕ
@@ -45,13 +43,9 @@ registers_text w = flat_map (register_line w) all_registers ++ flags_text w
 abbrev pub cell_line : WorldState → ℕ → List ℕ
 cell_line w p = location_text p ++ codes " " ++ word_text (cell_of w p) ++ 10 ∷ []
 
--- the numbers from a first to a last one
-abbrev pub numbers_between : ℕ → ℕ → List ℕ
-numbers_between first last = range_with_len first (last + 1 - first)
-
 -- the reply of `show cells`
 abbrev pub cells_text : WorldState → ℕ → ℕ → List ℕ
-cells_text w first last = flat_map (cell_line w) (numbers_between first last)
+cells_text w first last = texts (cell_line w) first (last + 1)
 
 -- the reply of `show clock`
 abbrev pub clock_text : WorldState → List ℕ
@@ -61,13 +55,9 @@ clock_text w = codes "clock " ++ decimal w.clock ++ 10 ∷ []
 abbrev pub break_text : WorldState → ℕ → List ℕ
 break_text w p = if has_break w p then codes " " ++ location_text p else []
 
--- the breakpoints from a first to a last cell, in rising order
-unfoldable pub break_texts : WorldState → ℕ → ℕ → List ℕ
-break_texts w first last = flat_map (break_text w) (numbers_between first last)
-
--- the reply of `show breaks`
+-- the reply of `show breaks`: the breakpoints of the cells 0 to 3999, in rising order
 abbrev pub breaks_text : WorldState → List ℕ
-breaks_text w = codes "breaks" ++ break_texts w 0 3999 ++ 10 ∷ []
+breaks_text w = codes "breaks" ++ texts (break_text w) 0 4000 ++ 10 ∷ []
 
 -- the reply of `show changes`: how many are done
 abbrev pub changes_text : ℕ → List ℕ
@@ -81,10 +71,6 @@ is_plus_zero word = is_plus word.sign && word.magnitude == 0
 abbrev pub filled_cell_text : WorldState → ℕ → List ℕ
 filled_cell_text w p = if is_plus_zero (cell_of w p) then [] else cell_line w p
 
--- the cells from a first to a last one that hold another word than +0
-unfoldable pub filled_cells_text : WorldState → ℕ → ℕ → List ℕ
-filled_cells_text w first last = flat_map (filled_cell_text w) (numbers_between first last)
-
 -- whether a unit has something to show: its place, its blocks, its rows or its delay is not 0
 abbrev pub is_used : UnitState → Bool
 is_used u = nat_lt 0 u.place || nat_lt 0 (length u.blocks) || nat_lt 0 (length u.rows) || nat_lt 0 u.delay
@@ -93,20 +79,7 @@ is_used u = nat_lt 0 u.place || nat_lt 0 (length u.blocks) || nat_lt 0 (length u
 abbrev pub used_unit_text : WorldState → ℕ → List ℕ
 used_unit_text w n = if is_used (unit_at w n) then unit_text w n else []
 
--- the units from a first to a last one that have something to show
-unfoldable pub used_units_text : WorldState → ℕ → ℕ → List ℕ
-used_units_text w first last = flat_map (used_unit_text w) (numbers_between first last)
-
--- the reply of `show all`: the registers, the cells, the breakpoints and the units
+-- the reply of `show all`: the registers, the cells 0 to 3999 that hold another word than +0, the breakpoints, and the units 0 to 20 that
+-- have something to show
 unfoldable pub all_text : WorldState → List ℕ
-all_text w = registers_text w ++ filled_cells_text w 0 3999 ++ breaks_text w ++ used_units_text w 0 20
-
--- the reply of `show`, of the machine after so many changes
-abbrev pub topic_text : Topic → WorldState → ℕ → List ℕ
-topic_text Registers w changes = registers_text w
-topic_text (Cells first last) w changes = cells_text w first last
-topic_text Clock w changes = clock_text w
-topic_text Breaks w changes = breaks_text w
-topic_text Changes w changes = changes_text changes
-topic_text (Unit n) w changes = unit_text w n
-topic_text All w changes = all_text w
+all_text w = registers_text w ++ texts (filled_cell_text w) 0 4000 ++ breaks_text w ++ texts (used_unit_text w) 0 21

@@ -6,11 +6,11 @@ use Rattle.mix_word.specs.Characters.{character_of}
 use Rattle.mix_word.specs.Text.{sign_text}
 use Rattle.mix_word.specs.Word.{WordValue, zero_word, bytes_of}
 use Rattle.mix_machine.specs.World.{WorldState, unit_at}
-use Rattle.mix_machine.specs.units.Kind.{kind_of}
+use Rattle.mix_machine.specs.units.UnitKind.{kind_of}
 use Rattle.mix_machine.specs.units.Row.{RowState}
 use Rattle.mix_machine.specs.units.Unit.{UnitState}
-use Rattle.mix_machine.specs.declared.units.kind.Kind.{Kind}
-use Rattle.mix_machine.specs.declared.units.kind.Kind.TheVariants.{Tape, Disk, CardReader, CardPunch, Printer, Typewriter, PaperTape}
+use Rattle.mix_machine.specs.declared.units.kind.UnitKind.{UnitKind}
+use Rattle.mix_machine.specs.declared.units.kind.UnitKind.TheVariants.{Tape, Disk, CardReader, CardPunch, Printer, Typewriter, PaperTape}
 
 -- a byte, in two digits
 abbrev pub pair_text : ℕ → List ℕ
@@ -50,7 +50,7 @@ row_line (Some words) = codes "> " ++ characters_text words ++ 10 ∷ []
 row_line None = codes "> %PAGE" ++ 10 ∷ []
 
 -- what a unit holds: the blocks that it reads, and then the rows that it wrote
-abbrev pub contents_text : Kind → UnitState → List ℕ
+abbrev pub contents_text : UnitKind → UnitState → List ℕ
 contents_text Tape u = flat_map block_text u.blocks
 contents_text Disk u = flat_map block_text u.blocks
 contents_text CardReader u = flat_map input_line u.blocks

@@ -1,16 +1,17 @@
 //! What a request answers, as a value; its text is made of it and of the machine.
 
-ghost use Rattle.std.specs.Prelude.{◌≡◌, IfOk, string_bytes};
-ghost use Rattle.mix_session.specs.Answer.{told_of};
-ghost use Rattle.mix_session.specs.Command.{text_at};
+ghost use Rattle.std.specs.Prelude.{◌≡◌, IfOk};
+ghost use Rattle.mix_session.specs.Answer.{told_of, text_of};
 
 use crate::fault::Refusal;
 use crate::reply::{End, Told, moved_line, ok_line, ran_line, refused_line};
 use crate::request::Topic;
 use crate::show::topic_lines;
+use crate::timeline::world_of;
 use mix_machine::World;
-use std::alloc::{AllocError, Global};
-use undo_core::Journal;
+use mixal_asm::Program;
+use std::alloc::Global;
+use undo_core::{Journal, Memory};
 
 /// What became of a request: nothing was asked, so many steps were done and why no more, so many changes were taken back or done again,
 /// a change was made, something is to be shown, or it was refused.
@@ -42,23 +43,24 @@ impl Answer {
     }
 }
 
-/// The text of an answer, of the machine that a journal has.
-#[tactic(auto, unfolding(crate::specs::Answer::text_of, crate::specs::Timeline::world_of))]
+/// The text of an answer, of a program and its journal.
+#[tactic(auto, unfolding(crate::specs::Answer::text_of))]
 pub(crate) fn answer_text(
     alloc: Global,
     answer: Answer,
+    program: &Program<'_>,
     journal: &Journal<World>,
-) -> Result<String, AllocError>
-    ensures { IfOk result (λ s. string_bytes s ≡ text_at journal.now answer) }
+) -> Result<Vec<u8>, Memory>
+    ensures { IfOk result (λ text. text.items ≡ text_of answer program.now journal.now) }
 {
-    let world = journal.state();
+    let world = world_of(journal);
     match answer {
-        Answer::Nothing => Ok(String::new(alloc)),
-        Answer::Ran(done, end) => ran_line(alloc, done, world, end),
-        Answer::Back(count) => moved_line(alloc, "back", count, world),
-        Answer::Forth(count) => moved_line(alloc, "forth", count, world),
-        Answer::Done => ok_line(alloc),
-        Answer::Shows(topic) => topic_lines(alloc, topic, world, journal.changes().len()),
-        Answer::Refused(refusal) => refused_line(alloc, refusal),
+        Answer::Nothing => Ok(Vec::new(alloc)),
+        Answer::Ran(done, end) => Ok(ran_line(alloc, done, world, end)?.into_bytes()),
+        Answer::Back(count) => Ok(moved_line(alloc, "back", count, world)?.into_bytes()),
+        Answer::Forth(count) => Ok(moved_line(alloc, "forth", count, world)?.into_bytes()),
+        Answer::Done => Ok(ok_line(alloc)?.into_bytes()),
+        Answer::Shows(topic) => topic_lines(alloc, topic, program, journal),
+        Answer::Refused(refusal) => Ok(refused_line(alloc, refusal)?.into_bytes()),
     }
 }

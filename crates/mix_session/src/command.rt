@@ -2,7 +2,7 @@
 
 ghost use Rattle.std.specs.Prelude.{◌≡◌, ◌≤◌, ◌<◌, ℕ, IfErr, IfOk, length, true, false, Ok, Some, None};
 ghost use Rattle.mix_session.specs.Timeline.{with_steps, back_by, forth_by, is_at_break};
-ghost use Rattle.mix_session.specs.Command.{effect_of, effect_of_steps, effect_of_back, effect_of_back_within, effect_of_forth, effect_of_forth_within, effect_of_change};
+ghost use Rattle.mix_session.specs.Command.{effect_of, effect_of_steps, effect_of_back, effect_of_back_within, effect_of_forth, effect_of_forth_within, effect_of_goto, effect_of_change};
 ghost use Rattle.mix_session.specs.Command.{end_of_step, end_at, count_to_break, Begun, HasEffect};
 
 use crate::answer::Answer;
@@ -28,6 +28,11 @@ pub(crate) fn execute(journal: &mut Journal<World>, request: Request) -> Result<
         }
         Request::BackBreak => Ok(Answer::Back(go_back_to_break(journal))),
         Request::Forth(count) => forth(journal, count),
+        Request::ForthAll => {
+            let count = journal.ahead();
+            do_again(journal, count)
+        }
+        Request::Goto(number) => go_to(journal, number),
         Request::Change(change) => change_by(journal, change),
         Request::Show(topic) => Ok(Answer::Shows(topic)),
     }
@@ -139,8 +144,27 @@ fn forth(journal: &mut Journal<World>, count: u64) -> Result<Answer, Memory>
     if (journal.ahead() as u64) < count {
         return Ok(Answer::Refused(Refusal::TooFewChanges));
     }
-    go_forth(journal, count as usize)?;
-    Ok(Answer::Forth(count as usize))
+    do_again(journal, count as usize)
+}
+
+fn do_again(journal: &mut Journal<World>, count: usize) -> Result<Answer, Memory>
+    requires { count ≤ length journal.old.ahead }
+    ensures { HasEffect (effect_of_forth journal.old count) journal.old journal.new result }
+{
+    go_forth(journal, count)?;
+    Ok(Answer::Forth(count))
+}
+
+// To the state after the first changes of all, those done and those ahead.
+fn go_to(journal: &mut Journal<World>, number: u64) -> Result<Answer, Memory>
+    ensures { HasEffect (effect_of_goto journal.old number) journal.old journal.new result }
+{
+    let done = journal.changes().len() as u64;
+    if number < done {
+        Ok(take_back(journal, (done - number) as usize))
+    } else {
+        forth(journal, number - done)
+    }
 }
 
 // Does the next changes ahead again, one at a time.

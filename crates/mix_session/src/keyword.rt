@@ -1,11 +1,12 @@
 //! The keywords of commands, each with its name.
 
 ghost use Rattle.std.specs.Prelude.{◌≡◌, ℕ, List, Some, refl, true, false};
-ghost use Rattle.mix_session.specs.Keyword.{keyword_named, is_name, command_name, all_commands, back_name, all_backs, show_name, all_shows};
+ghost use Rattle.mix_session.specs.Keyword.{keyword_named, is_name, command_name, all_commands, back_name, all_backs, forth_name, all_forths, show_name, all_shows};
 ghost use Rattle.mix_session.specs.Keyword.{set_name, all_sets, toggle_name, all_toggles, indicator_name, all_indicators};
 ghost use Rattle.mix_session.specs.law.Named.{set_named};
 ghost use Rattle.mix_session.specs.declared.keyword.CommandWord.TheVariants as command;
 ghost use Rattle.mix_session.specs.declared.keyword.BackWord.TheVariants as back;
+ghost use Rattle.mix_session.specs.declared.keyword.ForthWord.TheVariants as forth;
 ghost use Rattle.mix_session.specs.declared.keyword.ShowWord.TheVariants as show;
 ghost use Rattle.mix_word.specs.declared.word.Cmp.TheVariants as cmp;
 
@@ -51,6 +52,7 @@ pub(crate) enum CommandWord {
     Run,
     Back,
     Forth,
+    Goto,
     Set,
     Break,
     Clear,
@@ -68,6 +70,7 @@ impl Keyword for CommandWord {
             CommandWord::Run => "run",
             CommandWord::Back => "back",
             CommandWord::Forth => "forth",
+            CommandWord::Goto => "goto",
             CommandWord::Set => "set",
             CommandWord::Break => "break",
             CommandWord::Clear => "clear",
@@ -75,20 +78,15 @@ impl Keyword for CommandWord {
         }
     }
 
+    #[rattlefmt::skip]
     fn all() -> &'static [CommandWord] {
         &[
-            CommandWord::Step,
-            CommandWord::Run,
-            CommandWord::Back,
-            CommandWord::Forth,
-            CommandWord::Set,
-            CommandWord::Break,
-            CommandWord::Clear,
-            CommandWord::Show,
+            CommandWord::Step, CommandWord::Run, CommandWord::Back, CommandWord::Forth,
+            CommandWord::Goto, CommandWord::Set, CommandWord::Break, CommandWord::Clear, CommandWord::Show,
         ]
     }
 
-    ghost named = { elim [ command.Step ↦ refl | command.Run ↦ refl | command.Back ↦ refl | command.Forth ↦ refl | command.Set ↦ refl | command.Break ↦ refl | command.Clear ↦ refl | command.Show ↦ refl ] };
+    ghost named = { elim [ command.Step ↦ refl | command.Run ↦ refl | command.Back ↦ refl | command.Forth ↦ refl | command.Goto ↦ refl | command.Set ↦ refl | command.Break ↦ refl | command.Clear ↦ refl | command.Show ↦ refl ] };
 }
 
 /// What may stand after `back` in place of a number.
@@ -117,6 +115,30 @@ impl Keyword for BackWord {
     ghost named = { elim [ back.All ↦ refl | back.Break ↦ refl ] };
 }
 
+/// What may stand after `forth` in place of a number.
+#[derive(Clone, Copy)]
+pub(crate) enum ForthWord {
+    All,
+}
+
+impl Keyword for ForthWord {
+    ghost name_of = { forth_name };
+
+    ghost all_of = { all_forths };
+
+    fn name(self) -> &'static str {
+        match self {
+            ForthWord::All => "all",
+        }
+    }
+
+    fn all() -> &'static [ForthWord] {
+        &[ForthWord::All]
+    }
+
+    ghost named = { elim [ forth.All ↦ refl ] };
+}
+
 /// What `show` may show.
 #[derive(Clone, Copy)]
 pub(crate) enum ShowWord {
@@ -127,6 +149,10 @@ pub(crate) enum ShowWord {
     Changes,
     Unit,
     All,
+    Code,
+    Value,
+    Values,
+    Symbols,
 }
 
 impl Keyword for ShowWord {
@@ -143,22 +169,23 @@ impl Keyword for ShowWord {
             ShowWord::Changes => "changes",
             ShowWord::Unit => "unit",
             ShowWord::All => "all",
+            ShowWord::Code => "code",
+            ShowWord::Value => "value",
+            ShowWord::Values => "values",
+            ShowWord::Symbols => "symbols",
         }
     }
 
+    #[rattlefmt::skip]
     fn all() -> &'static [ShowWord] {
         &[
-            ShowWord::Registers,
-            ShowWord::Cells,
-            ShowWord::Clock,
-            ShowWord::Breaks,
-            ShowWord::Changes,
-            ShowWord::Unit,
-            ShowWord::All,
+            ShowWord::Registers, ShowWord::Cells, ShowWord::Clock, ShowWord::Breaks,
+            ShowWord::Changes, ShowWord::Unit, ShowWord::All, ShowWord::Code,
+            ShowWord::Value, ShowWord::Values, ShowWord::Symbols,
         ]
     }
 
-    ghost named = { elim [ show.Registers ↦ refl | show.Cells ↦ refl | show.Clock ↦ refl | show.Breaks ↦ refl | show.Changes ↦ refl | show.Unit ↦ refl | show.All ↦ refl ] };
+    ghost named = { elim [ show.Registers ↦ refl | show.Cells ↦ refl | show.Clock ↦ refl | show.Breaks ↦ refl | show.Changes ↦ refl | show.Unit ↦ refl | show.All ↦ refl | show.Code ↦ refl | show.Value ↦ refl | show.Values ↦ refl | show.Symbols ↦ refl ] };
 }
 
 /// What `set` may set.

@@ -10,6 +10,7 @@ mod reply;
 mod request;
 mod session;
 mod show;
+mod timeline;
 
 pub use answer::Answer;
 pub use fault::{Refusal, ToolFault};

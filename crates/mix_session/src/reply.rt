@@ -1,7 +1,7 @@
 //! The lines of the replies, and what they tell.
 
 ghost use Rattle.std.specs.Prelude.{◌≡◌, Some, IfOk, string_bytes};
-ghost use Rattle.mix_session.specs.Reply.{told_of_end, told_of_both, location_text, stand_text, end_text, ran_text, moved_text, ok_text, refused_text};
+ghost use Rattle.mix_session.specs.Reply.{told_of_end, told_of_both, location_text, position_text, end_text, ran_text, moved_text, ok_text, refused_text};
 
 use crate::fault::Refusal;
 use mix_machine::{MixFault, World};
@@ -78,15 +78,15 @@ impl fmt::Display for Location {
 
 /// Where the machine stands: its location and its clock.
 #[derive(Clone, Copy)]
-pub(crate) struct Stand {
+pub(crate) struct Position {
     loc: u16,
     clock: u64,
 }
 
-impl fmt::Display for Stand {
-    ghost output = { λ s. Some (stand_text s.loc s.clock) };
+impl fmt::Display for Position {
+    ghost output = { λ s. Some (position_text s.loc s.clock) };
 
-    #[tactic(auto, unfolding(crate::specs::Reply::stand_text))]
+    #[tactic(auto, unfolding(crate::specs::Reply::position_text))]
     fn fmt<W: fmt::Write>(&self, f: &mut fmt::Formatter<W>) -> fmt::Result {
         let loc = Location(self.loc);
         let clock = self.clock;
@@ -94,10 +94,10 @@ impl fmt::Display for Stand {
     }
 }
 
-pub(crate) fn stand_of(world: &World) -> Stand
+pub(crate) fn position_of(world: &World) -> Position
     ensures { (result.loc ≡ world.now.loc) × (result.clock ≡ world.now.clock) }
 {
-    Stand {
+    Position {
         loc: world.loc(),
         clock: world.clock(),
     }
@@ -113,8 +113,8 @@ pub(crate) fn ran_line(
 ) -> Result<String, AllocError>
     ensures { IfOk result (λ s. string_bytes s ≡ ran_text done world.now.loc world.now.clock end) }
 {
-    let stand = stand_of(world);
-    let text = format!(in alloc; "ran {done} to {stand}: {end}\n")?;
+    let position = position_of(world);
+    let text = format!(in alloc; "ran {done} to {position}: {end}\n")?;
     Ok(text)
 }
 
@@ -128,8 +128,8 @@ pub(crate) fn moved_line(
 ) -> Result<String, AllocError>
     ensures { IfOk result (λ s. string_bytes s ≡ moved_text way.now count world.now.loc world.now.clock) }
 {
-    let stand = stand_of(world);
-    let text = format!(in alloc; "{way} {count} to {stand}\n")?;
+    let position = position_of(world);
+    let text = format!(in alloc; "{way} {count} to {position}\n")?;
     Ok(text)
 }
 

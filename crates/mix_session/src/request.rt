@@ -2,17 +2,18 @@
 
 ghost use Rattle.std.specs.Prelude.{◌≡◌, ◌≤◌, ◌∷◌, [], Ok, Err, MatchResult, IfOk, codes, option_copied};
 ghost use Rattle.mix_lines.specs.Lines.{words};
-ghost use Rattle.mix_session.specs.Request.{no_word, one_word, two_words, keyword_in, number_in, word_in, expression_in, place_of, from_one, up_to, last_unit};
-ghost use Rattle.mix_session.specs.Request.{steps_in, step_request, run_request, back_request, forth_request, one_place, break_request, clear_request, change_of, set_request, cells_of, unit_topic, topic_of, show_request, request_after, request_of_words, request_of};
+ghost use Rattle.mix_session.specs.Request.{no_word, one_word, two_words, keyword_in, first_keyword, number_in, word_in, expression_in, place_of, from_one, up_to, last_unit};
+ghost use Rattle.mix_session.specs.Request.{steps_in, step_request, run_request, back_request, forth_request, goto_request, place_named, one_place, line_place, break_place, change_of, change_in, alone, range_of, cells_of, code_of, values_of, value_of, unit_topic, topic_in, request_after, request_of_words, request_of};
 
 use crate::fault::Refusal;
-use crate::keyword::{BackWord, CommandWord, Keyword, SetWord, ShowWord, named};
+use crate::keyword::{BackWord, CommandWord, ForthWord, Keyword, SetWord, ShowWord, named};
 use mix_lines::{Words, is_comment, number};
 use mix_machine::{Change, Place, UnitNo, Word};
+use mixal_asm::Program;
 use mixal_text::{Names, w_value, whole_expression};
 
 /// What may be asked of a session: nothing, steps, steps that a breakpoint stops too, changes taken back (so many, all, or up to a
-/// breakpoint), changes done again, a change of the machine, or what is to be shown.
+/// breakpoint), changes done again (so many, or all), the state after so many changes, a change of the machine, or what is to be shown.
 #[derive(Clone, Copy, Debug, PartialEq, Eq)]
 pub enum Request {
     Nothing,
@@ -22,11 +23,13 @@ pub enum Request {
     BackAll,
     BackBreak,
     Forth(u64),
+    ForthAll,
+    Goto(u64),
     Change(Change),
     Show(Topic),
 }
 
-/// What is to be shown; of `Cells` the first and the last one.
+/// What is to be shown; of `Cells`, `Code` and `CellValues` the first and the last cell.
 #[derive(Clone, Copy, Debug, PartialEq, Eq)]
 pub enum Topic {
     Registers,
@@ -36,6 +39,11 @@ pub enum Topic {
     Changes,
     Unit(UnitNo),
     All,
+    Code(Place, Place),
+    Value(Word),
+    Values,
+    CellValues(Place, Place),
+    Symbols,
 }
 
 /// The most steps that one command may ask for.
@@ -43,45 +51,50 @@ const MAX_STEPS: u64 = 1_000_000;
 
 /// Reads a line: what it asks for, or what is wrong with its words. The asterisk stands for `here`, the location.
 #[tactic(auto, unfolding(crate::specs::Request::request_of))]
-pub(crate) fn read_request<N: Names>(line: &[u8], names: &N, here: Word) -> Result<Request, Refusal>
-    ensures { result ≡ request_of (N.names names.now) here line.now }
+pub(crate) fn read_request(
+    line: &[u8],
+    program: &Program<'_>,
+    here: Word,
+) -> Result<Request, Refusal>
+    ensures { result ≡ request_of program.now here line.now }
 {
     if is_comment(line) {
         return Ok(Request::Nothing);
     }
-    read_words(&mut Words::of(line), names, here)
+    read_words(&mut Words::of(line), program, here)
 }
 
 #[tactic(auto, unfolding(crate::specs::Request::request_of_words))]
-fn read_words<N: Names>(words: &mut Words, names: &N, here: Word) -> Result<Request, Refusal>
-    ensures { result ≡ request_of_words (N.names names.now) here words.old }
+fn read_words(words: &mut Words, program: &Program<'_>, here: Word) -> Result<Request, Refusal>
+    ensures { result ≡ request_of_words program.now here words.old }
 {
     let Some(word) = words.next() else {
         return Ok(Request::Nothing);
     };
     match named(word) {
         None => Err(Refusal::NoSuchCommand),
-        Some(command) => read_arguments(command, words, names, here),
+        Some(command) => read_arguments(command, words, program, here),
     }
 }
 
-fn read_arguments<N: Names>(
+fn read_arguments(
     command: CommandWord,
     words: &mut Words,
-    names: &N,
+    program: &Program<'_>,
     here: Word,
 ) -> Result<Request, Refusal>
-    ensures { result ≡ request_after (N.names names.now) here command words.old }
+    ensures { result ≡ request_after program.now here command words.old }
 {
     match command {
         CommandWord::Step => read_step(words),
         CommandWord::Run => read_run(words),
         CommandWord::Back => read_back(words),
         CommandWord::Forth => read_forth(words),
-        CommandWord::Set => read_set(words, names, here),
-        CommandWord::Break => read_break(words, names, here),
-        CommandWord::Clear => read_clear(words, names, here),
-        CommandWord::Show => read_show(words, names, here),
+        CommandWord::Goto => read_goto(words),
+        CommandWord::Set => Ok(Request::Change(read_change(words, program, here)?)),
+        CommandWord::Break => Ok(Request::Change(Change::Break(read_break(words, program, here)?))),
+        CommandWord::Clear => Ok(Request::Change(Change::Clear(read_break(words, program, here)?))),
+        CommandWord::Show => Ok(Request::Show(read_topic(words, program, here)?)),
     }
 }
 
@@ -133,43 +146,51 @@ fn read_forth(words: &mut Words) -> Result<Request, Refusal>
     ensures { result ≡ forth_request words.old }
 {
     let word = one_word(words)?;
-    let count = from_one(number_in(word)?)?;
-    Ok(Request::Forth(count))
+    match named(word) {
+        Some(ForthWord::All) => Ok(Request::ForthAll),
+        None => {
+            let count = from_one(number_in(word)?)?;
+            Ok(Request::Forth(count))
+        }
+    }
 }
 
-#[tactic(auto, unfolding(crate::specs::Request::break_request))]
-fn read_break<N: Names>(words: &mut Words, names: &N, here: Word) -> Result<Request, Refusal>
-    ensures { result ≡ break_request (N.names names.now) here words.old }
+#[tactic(auto, unfolding(crate::specs::Request::goto_request))]
+fn read_goto(words: &mut Words) -> Result<Request, Refusal>
+    ensures { result ≡ goto_request words.old }
 {
-    let place = one_place(words, names, here)?;
-    Ok(Request::Change(Change::Break(place)))
+    let number = number_in(one_word(words)?)?;
+    Ok(Request::Goto(number))
 }
 
-#[tactic(auto, unfolding(crate::specs::Request::clear_request))]
-fn read_clear<N: Names>(words: &mut Words, names: &N, here: Word) -> Result<Request, Refusal>
-    ensures { result ≡ clear_request (N.names names.now) here words.old }
-{
-    let place = one_place(words, names, here)?;
-    Ok(Request::Change(Change::Clear(place)))
-}
-
-#[tactic(auto, unfolding(crate::specs::Request::set_request))]
-fn read_set<N: Names>(words: &mut Words, names: &N, here: Word) -> Result<Request, Refusal>
-    ensures { result ≡ set_request (N.names names.now) here words.old }
+// The cell of a breakpoint, by an expression or by a line of the source.
+#[tactic(auto, unfolding(crate::specs::Request::break_place))]
+fn read_break(words: &mut Words, program: &Program<'_>, here: Word) -> Result<Place, Refusal>
+    ensures { result ≡ break_place program.now here words.old }
 {
     let word = first_word(words)?;
-    let change = read_change(keyword(word)?, words, names, here)?;
-    Ok(Request::Change(change))
+    if words.is_end() {
+        place_named(word, program, here)
+    } else if word.eq_ignore_ascii_case(b"line") {
+        read_line_place(words, program)
+    } else {
+        Err(Refusal::BadArgument)
+    }
 }
 
-fn read_change<N: Names>(
-    target: SetWord,
-    words: &mut Words,
-    names: &N,
-    here: Word,
-) -> Result<Change, Refusal>
-    ensures { result ≡ change_of (N.names names.now) here target words.old }
+// The cell of the first word that the lines from a number on emit.
+fn read_line_place(words: &mut Words, program: &Program<'_>) -> Result<Place, Refusal>
+    ensures { result ≡ line_place program.now words.old }
 {
+    let number = from_one(number_in(one_word(words)?)?)?;
+    program.cell_from(number).ok_or(Refusal::OutOfRange)
+}
+
+#[tactic(auto, unfolding(crate::specs::Request::change_in))]
+fn read_change<N: Names>(words: &mut Words, names: &N, here: Word) -> Result<Change, Refusal>
+    ensures { result ≡ change_in (N.names names.now) here words.old }
+{
+    let target: SetWord = first_keyword(words)?;
     match target {
         SetWord::Register(register) => {
             let value = word_in(one_word(words)?, names, here)?;
@@ -192,51 +213,67 @@ fn read_cell<N: Names>(words: &mut Words, names: &N, here: Word) -> Result<Chang
     Ok(Change::SetCell(place_of(at)?, value))
 }
 
-#[tactic(auto, unfolding(crate::specs::Request::show_request))]
-fn read_show<N: Names>(words: &mut Words, names: &N, here: Word) -> Result<Request, Refusal>
-    ensures { result ≡ show_request (N.names names.now) here words.old }
+#[tactic(auto, unfolding(crate::specs::Request::topic_in))]
+fn read_topic<N: Names>(words: &mut Words, names: &N, here: Word) -> Result<Topic, Refusal>
+    ensures { result ≡ topic_in (N.names names.now) here words.old }
 {
-    let word = first_word(words)?;
-    let topic = read_topic(keyword(word)?, words, names, here)?;
-    Ok(Request::Show(topic))
+    let topic: ShowWord = first_keyword(words)?;
+    match topic {
+        ShowWord::Registers => alone(Topic::Registers, words),
+        ShowWord::Cells => read_cells(words, names, here),
+        ShowWord::Clock => alone(Topic::Clock, words),
+        ShowWord::Breaks => alone(Topic::Breaks, words),
+        ShowWord::Changes => alone(Topic::Changes, words),
+        ShowWord::Unit => read_unit(words),
+        ShowWord::All => alone(Topic::All, words),
+        ShowWord::Code => read_code(words, names, here),
+        ShowWord::Value => Ok(Topic::Value(word_in(one_word(words)?, names, here)?)),
+        ShowWord::Values => read_values(words, names, here),
+        ShowWord::Symbols => alone(Topic::Symbols, words),
+    }
 }
 
-fn read_topic<N: Names>(
-    topic: ShowWord,
-    words: &mut Words,
-    names: &N,
-    here: Word,
-) -> Result<Topic, Refusal>
-    ensures { result ≡ topic_of (N.names names.now) here topic words.old }
+// A topic after which no word is left.
+fn alone(topic: Topic, words: &mut Words) -> Result<Topic, Refusal>
+    ensures { result ≡ alone topic words.old }
 {
-    match topic {
-        ShowWord::Registers => {
-            no_word(words)?;
-            Ok(Topic::Registers)
-        }
-        ShowWord::Cells => read_cells(words, names, here),
-        ShowWord::Clock => {
-            no_word(words)?;
-            Ok(Topic::Clock)
-        }
-        ShowWord::Breaks => {
-            no_word(words)?;
-            Ok(Topic::Breaks)
-        }
-        ShowWord::Changes => {
-            no_word(words)?;
-            Ok(Topic::Changes)
-        }
-        ShowWord::Unit => read_unit(words),
-        ShowWord::All => {
-            no_word(words)?;
-            Ok(Topic::All)
-        }
-    }
+    no_word(words)?;
+    Ok(topic)
 }
 
 fn read_cells<N: Names>(words: &mut Words, names: &N, here: Word) -> Result<Topic, Refusal>
     ensures { result ≡ cells_of (N.names names.now) here words.old }
+{
+    let (first, last) = read_range(words, names, here)?;
+    Ok(Topic::Cells(first, last))
+}
+
+fn read_code<N: Names>(words: &mut Words, names: &N, here: Word) -> Result<Topic, Refusal>
+    ensures { result ≡ code_of (N.names names.now) here words.old }
+{
+    if words.is_end() {
+        let place = place_of(here)?;
+        Ok(Topic::Code(place, place))
+    } else {
+        let (first, last) = read_range(words, names, here)?;
+        Ok(Topic::Code(first, last))
+    }
+}
+
+fn read_values<N: Names>(words: &mut Words, names: &N, here: Word) -> Result<Topic, Refusal>
+    ensures { result ≡ values_of (N.names names.now) here words.old }
+{
+    if words.is_end() {
+        Ok(Topic::Values)
+    } else {
+        let (first, last) = read_range(words, names, here)?;
+        Ok(Topic::CellValues(first, last))
+    }
+}
+
+// The cells from one to another.
+fn read_range<N: Names>(words: &mut Words, names: &N, here: Word) -> Result<(Place, Place), Refusal>
+    ensures { result ≡ range_of (N.names names.now) here words.old }
 {
     let (from, to) = two_words(words)?;
     let from = expression_in(from, names, here)?;
@@ -245,7 +282,7 @@ fn read_cells<N: Names>(words: &mut Words, names: &N, here: Word) -> Result<Topi
     if to.number() < from.number() {
         Err(Refusal::OutOfRange)
     } else {
-        Ok(Topic::Cells(from, to))
+        Ok((from, to))
     }
 }
 
@@ -306,8 +343,22 @@ fn two_words<'a>(words: &mut Words<'a>) -> Result<(&'a [u8], &'a [u8]), Refusal>
 fn one_place<N: Names>(words: &mut Words, names: &N, here: Word) -> Result<Place, Refusal>
     ensures { result ≡ one_place (N.names names.now) here words.old }
 {
-    let at = expression_in(one_word(words)?, names, here)?;
-    place_of(at)
+    place_named(one_word(words)?, names, here)
+}
+
+// The cell that a word names, by an expression.
+fn place_named<N: Names>(word: &[u8], names: &N, here: Word) -> Result<Place, Refusal>
+    ensures { result ≡ place_named (N.names names.now) here word.now }
+{
+    place_of(expression_in(word, names, here)?)
+}
+
+// The keyword that the next word left names.
+fn first_keyword<K: Keyword>(words: &mut Words) -> Result<K, Refusal>
+    ensures { MatchResult result (λ k. first_keyword K.name_of K.all_of words.old ≡ Ok (k, words.new)) (λ e. first_keyword K.name_of K.all_of words.old ≡ Err e) }
+{
+    let word = first_word(words)?;
+    Ok(keyword(word)?)
 }
 
 fn keyword<K: Keyword>(word: &[u8]) -> Result<K, Refusal>

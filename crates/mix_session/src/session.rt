@@ -1,18 +1,19 @@
 //! A session: a program, its machine, whose changes can be taken back, and the requests and commands over it.
 
-ghost use Rattle.std.specs.Prelude.{◌≡◌, ◌<◌, ◌-◌, ◌^◌, Err, IfErr, IfOk, string_bytes};
+ghost use Rattle.std.specs.Prelude.{◌≡◌, ◌<◌, ◌-◌, ◌^◌, Err, IfErr, IfOk};
 ghost use Rattle.std.specs.Io.KnownBytes.{Appends, Keeps};
 ghost use Rattle.mix_session.specs.Timeline.{world_of};
-ghost use Rattle.mix_session.specs.Answer.{told_of};
-ghost use Rattle.mix_session.specs.Command.{after, effect_of, reply_of, text_at, Begun, HasEffect};
+ghost use Rattle.mix_session.specs.Answer.{told_of, text_of};
+ghost use Rattle.mix_session.specs.Command.{after, effect_of, reply_of, Begun, HasEffect};
 ghost use Rattle.mix_session.specs.Session.{opened, request_in, effect_in, IsMemoryOrWrite};
-ghost use Rattle.mix_stream.specs.Stream.{AppendsFront, CountsWrite};
+ghost use Rattle.mix_stream.specs.Stream.{AppendsFront, CountsFailure};
 
 use crate::answer::{Answer, answer_text};
 use crate::command::execute;
 use crate::fault::{Refusal, ToolFault};
 use crate::reply::Told;
 use crate::request::{Request, read_request};
+use crate::timeline::world_of;
 use mix_machine::{Change, Sign, Units, Word, World};
 use mix_stream::{Out, write_all};
 use mixal_asm::Program;
@@ -68,11 +69,10 @@ impl<'s> Session<'s> {
     }
 
     /// The machine as it is now. It takes no memory.
-    #[tactic(auto, unfolding(crate::specs::Timeline::world_of))]
     pub fn world(&self) -> &World
         ensures { result.now ≡ world_of self.now.timeline }
     {
-        self.journal.state()
+        world_of(&self.journal)
     }
 
     /// The changes that are done, without those that were taken back. It takes no memory.
@@ -84,7 +84,6 @@ impl<'s> Session<'s> {
 
     /// What a line of a script asks for, or what is wrong with its words. Names are those of the program, and the asterisk stands for the
     /// location. It takes no memory.
-    #[tactic(auto, unfolding(crate::specs::Timeline::world_of))]
     pub fn read(&self, line: &[u8]) -> Result<Request, Refusal>
         ensures { result ≡ request_in self.now line.now }
     {
@@ -101,12 +100,12 @@ impl<'s> Session<'s> {
         execute(&mut self.journal, request)
     }
 
-    /// The text of an answer, read from the machine as it is now. Only out of memory refuses it.
-    pub fn text(&self, answer: &Answer) -> Result<String, Memory>
-        ensures { IfOk result (λ s. string_bytes s ≡ text_at self.now.timeline answer.now) }
+    /// The text of an answer, read from the program and the machine as it is now: bytes, since a line of a source may have any. Only out of memory
+    /// refuses it.
+    pub fn text(&self, answer: &Answer) -> Result<Vec<u8>, Memory>
+        ensures { IfOk result (λ text. text.items ≡ text_of answer.now self.now.program self.now.timeline) }
     {
-        let text = answer_text(self.alloc, *answer, &self.journal)?;
-        Ok(text)
+        answer_text(self.alloc, *answer, &self.program, &self.journal)
     }
 
     // What a line asks for is done.
@@ -122,24 +121,24 @@ impl<'s> Session<'s> {
 
     /// Executes one line of a script and writes its reply: `Accepted`, or `Refused` where the line or the machine refuses it or a step
     /// meets a fault. Out of memory, T1, nothing is written: of `step` and `run` the steps done stand, of `forth` the changes done again,
-    /// of another command all or nothing. Where a write fails, T3, the command is done, and a beginning of its reply stands written.
+    /// of another command all or nothing. Where a write fails, T3, the command is done, and a beginning of its reply is written.
     pub fn command<W: Out>(&mut self, line: &[u8], out: &mut W) -> Result<Told, ToolFault>
         requires { W.failed out.old < 2 ^ 64 - 1 }
         ensures program { self.new.program ≡ self.old.program }
         ensures first { self.new.timeline.first ≡ self.old.timeline.first }
         ensures effect { let effect = effect_in self.old line.now in
             IfOk result (λ told. (self.new ≡ record self.old { timeline = after effect }) × (told ≡ told_of effect.answer)
-            × Appends (W.told out.old) (W.told out.new) (reply_of effect)) }
-        ensures begun { AppendsFront (W.told out.old) (W.told out.new) (reply_of (effect_in self.old line.now)) }
+            × Appends (W.told out.old) (W.told out.new) (reply_of self.old.program effect)) }
+        ensures begun { AppendsFront (W.told out.old) (W.told out.new) (reply_of self.old.program (effect_in self.old line.now)) }
         ensures memory { result ≡ Err ToolFault.Memory → Keeps (W.told out.old) (W.told out.new)
             × Begun (effect_in self.old line.now) self.new.timeline }
         ensures done { result ≡ Err ToolFault.Write → self.new.timeline ≡ after (effect_in self.old line.now) }
-        ensures write { CountsWrite (result ≡ Err ToolFault.Write) (W.failed out.old) (W.failed out.new) }
+        ensures write { CountsFailure (result ≡ Err ToolFault.Write) (W.failed out.old) (W.failed out.new) }
         ensures only { IfErr result IsMemoryOrWrite }
     {
         let answer = self.execute_line(line)?;
         let text = self.text(&answer)?;
-        write_all(out, text.as_bytes())?;
+        write_all(out, text.as_slice())?;
         Ok(answer.told())
     }
 

@@ -1,45 +1,60 @@
 //! What `show` writes of the machine.
 
-ghost use Rattle.std.specs.Prelude.{◌≡◌, ◌<◌, ◌≤◌, ◌+◌, Some, IfOk, string_bytes, flat_map};
+ghost use Rattle.std.specs.Prelude.{◌≡◌, Some, IfOk, string_bytes, flat_map};
 ghost use Rattle.mix_word.specs.Register.{all_registers};
-ghost use Rattle.mix_session.specs.Show.{value_text, register_line, flags_text, registers_text, cell_line, numbers_between, cells_text, clock_text, break_text, break_texts, breaks_text, changes_text, topic_text};
+ghost use Rattle.mix_session.specs.Show.{value_text, register_line, flags_text, registers_text, cells_text, clock_text, breaks_text, changes_text};
+ghost use Rattle.mix_session.specs.Topic.{topic_text};
 
 mod all;
+mod cells;
+mod code;
+mod columns;
 mod each;
+mod lines;
 mod unit;
+mod values;
 mod words;
 
 use crate::keyword::Keyword;
-use crate::reply::{Location, stand_of};
+use crate::reply::position_of;
 use crate::request::Topic;
 use crate::show::all::all_lines;
-use crate::show::each::{Each, Numbered};
+use crate::show::cells::{Breakpoints, CELLS, CellLines, Cells};
+use crate::show::code::code_lines;
+use crate::show::each::Each;
 use crate::show::unit::unit_lines;
+use crate::show::values::{cell_value_lines, register_value_lines, value_lines};
+use crate::timeline::world_of;
 use mix_machine::{Place, Reg, World};
 use mix_word::{Short, Word};
+use mixal_asm::Program;
 use std::alloc::{AllocError, Global};
 use std::fmt;
+use undo_core::{Journal, Memory};
 
-/// The number of the last cell.
-const LAST_CELL: u16 = 3999;
-
-/// The lines of a topic, of the machine after so many changes.
+/// The reply of `show`, of a program and its machine after so many changes.
 pub(crate) fn topic_lines(
     alloc: Global,
     topic: Topic,
-    world: &World,
-    changes: usize,
-) -> Result<String, AllocError>
-    ensures { IfOk result (λ s. string_bytes s ≡ topic_text topic world.now changes) }
+    program: &Program<'_>,
+    journal: &Journal<World>,
+) -> Result<Vec<u8>, Memory>
+    ensures { IfOk result (λ text. text.items ≡ topic_text topic program.now journal.now) }
 {
+    let world = world_of(journal);
     match topic {
-        Topic::Registers => registers_lines(alloc, world),
-        Topic::Cells(first, last) => cells_lines(alloc, world, first, last),
-        Topic::Clock => clock_line(alloc, world),
-        Topic::Breaks => breaks_line(alloc, world),
-        Topic::Changes => changes_line(alloc, changes),
-        Topic::Unit(number) => unit_lines(alloc, world, number),
-        Topic::All => all_lines(alloc, world),
+        Topic::Registers => Ok(registers_lines(alloc, world)?.into_bytes()),
+        Topic::Cells(first, last) => Ok(cells_lines(alloc, world, first, last)?.into_bytes()),
+        Topic::Clock => Ok(clock_line(alloc, world)?.into_bytes()),
+        Topic::Breaks => Ok(breaks_line(alloc, world)?.into_bytes()),
+        Topic::Changes => Ok(changes_line(alloc, journal.changes().len())?.into_bytes()),
+        Topic::Unit(number) => Ok(unit_lines(alloc, world, number)?.into_bytes()),
+        Topic::All => Ok(all_lines(alloc, world)?.into_bytes()),
+        Topic::Code(first, last) => Ok(code_lines(alloc, program, world, first, last)?),
+        Topic::Value(word) => Ok(value_lines(alloc, word)?),
+        Topic::Values => Ok(register_value_lines(alloc, world)?),
+        Topic::CellValues(first, last) => Ok(cell_value_lines(alloc, world, first, last)?),
+        Topic::Symbols => program.symbols_text(alloc),
     }
 }
 
@@ -60,7 +75,7 @@ fn cells_lines(
 ) -> Result<String, AllocError>
     ensures { IfOk result (λ s. string_bytes s ≡ cells_text world.now first last) }
 {
-    let cells = Each::<CellLines>::between(world, first.number(), last.number() + 1);
+    let cells = Each::<Cells<CellLines>>::between(world, first.number(), last.number() + 1);
     let text = format!(in alloc; "{cells}")?;
     Ok(text)
 }
@@ -76,7 +91,7 @@ fn clock_line(alloc: Global, world: &World) -> Result<String, AllocError>
 fn breaks_line(alloc: Global, world: &World) -> Result<String, AllocError>
     ensures { IfOk result (λ s. string_bytes s ≡ breaks_text world.now) }
 {
-    let breaks = breaks(world, place_at(0), place_at(LAST_CELL));
+    let breaks = Each::<Cells<Breakpoints>>::between(world, 0, CELLS);
     let text = format!(in alloc; "breaks{breaks}\n")?;
     Ok(text)
 }
@@ -99,8 +114,8 @@ impl fmt::Display for Flags<'_> {
     fn fmt<W: fmt::Write>(&self, f: &mut fmt::Formatter<W>) -> fmt::Result {
         let world = self.0;
         let (over, cmp) = (world.over().name(), world.cmp().name());
-        let stand = stand_of(world);
-        write!(f, "over {over} cmp {cmp} loc {stand}\n")
+        let position = position_of(world);
+        write!(f, "over {over} cmp {cmp} loc {position}\n")
     }
 }
 
@@ -150,69 +165,4 @@ impl fmt::Display for Registers<'_> {
         }
         Ok(())
     }
-}
-
-/// The line of a cell.
-#[derive(Clone, Copy)]
-struct CellLine<'a>(&'a World, Place);
-
-impl fmt::Display for CellLine<'_> {
-    ghost output = { λ l. Some (cell_line l.0.now l.1) };
-
-    fn fmt<W: fmt::Write>(&self, f: &mut fmt::Formatter<W>) -> fmt::Result {
-        let location = Location(self.1.number());
-        let word = self.0.cell(self.1);
-        write!(f, "{location} {word}\n")
-    }
-}
-
-/// The lines of the cells, by their locations.
-struct CellLines;
-
-impl Numbered for CellLines {
-    type Of = World;
-
-    ghost count = { λ _. 4000 };
-
-    ghost text = { cell_line };
-
-    fn write<W: fmt::Write>(world: &World, number: u16, f: &mut fmt::Formatter<W>) -> fmt::Result {
-        let line = CellLine(world, place_at(number));
-        write!(f, "{line}")
-    }
-}
-
-/// The breakpoints, by their cells: a blank and the location of each.
-struct Breakpoints;
-
-impl Numbered for Breakpoints {
-    type Of = World;
-
-    ghost count = { λ _. 4000 };
-
-    ghost text = { break_text };
-
-    fn write<W: fmt::Write>(world: &World, number: u16, f: &mut fmt::Formatter<W>) -> fmt::Result {
-        if world.is_break(place_at(number)) {
-            let location = Location(number);
-            write!(f, " {location}")
-        } else {
-            Ok(())
-        }
-    }
-}
-
-// The breakpoints from a first to a last cell, in rising order.
-#[tactic(auto, unfolding(crate::specs::Show::break_texts))]
-fn breaks<'a>(world: &'a World, first: Place, last: Place) -> Each<'a, Breakpoints>
-    ensures { ⟦<Each<'a, Breakpoints> as fmt::Display>⟧.output result ≡ Some (break_texts world.now first last) }
-{
-    Each::between(world, first.number(), last.number() + 1)
-}
-
-fn place_at(number: u16) -> Place
-    requires { number < 4000 }
-    ensures { result ≡ number }
-{
-    Place::of(number).unwrap()
 }

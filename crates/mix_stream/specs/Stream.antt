@@ -15,11 +15,3 @@ AppendsFront old new bytes = (n : ℕ) × (n ≤ length bytes) × Appends old ne
 -- a count of failures: it rose by one exactly where a failure is answered, and otherwise it is what it was
 abbrev pub CountsFailure : Type 0 → ℕ → ℕ → Type 0
 CountsFailure answered old new = (answered ↔ (new ≡ old + 1)) × ((answered → ⊥) → new ≡ old)
-
--- the failed reads of a call, by whether it answers one
-abbrev pub CountsRead : Type 0 → ℕ → ℕ → Type 0
-CountsRead answered old new = CountsFailure answered old new
-
--- the failed writes of a call, by whether it answers one
-abbrev pub CountsWrite : Type 0 → ℕ → ℕ → Type 0
-CountsWrite answered old new = CountsFailure answered old new

@@ -3,7 +3,7 @@
 ghost use Rattle.std.specs.Prelude.{◌≡◌, ◌<◌, ◌≤◌, ◌+◌, ◌-◌, ◌^◌, ℕ, List, Option, Some, Ok, Err, IfOk, OnOk, OnErr, length, take, drop, vec_len};
 ghost use Rattle.std.specs.Io.KnownBytes.{ReadConsumes};
 ghost use Rattle.mix_refused.specs.Refused.{IsFault};
-ghost use Rattle.mix_stream.specs.Stream.{ConsumesAtMost, CountsRead};
+ghost use Rattle.mix_stream.specs.Stream.{ConsumesAtMost, CountsFailure};
 
 use crate::counted::{Counted, Failed};
 use mix_refused::Refused;
@@ -74,7 +74,7 @@ pub fn read_up_to<R: In>(
         → IfOk result (λ v. (v.items ≡ take most s) × (R.rest source.new ≡ Some (drop most s))) }
     ensures within { ConsumesAtMost (R.rest source.old) (R.rest source.new) most }
     ensures length { IfOk result (λ v. vec_len v ≤ most) }
-    ensures failed { CountsRead (IsFault result) (R.failed source.old) (R.failed source.new) }
+    ensures failed { CountsFailure (IsFault result) (R.failed source.old) (R.failed source.new) }
 {
     let mut bytes = Vec::new(alloc);
     let mut buffer = [0; CHUNK];

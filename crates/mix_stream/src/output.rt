@@ -2,7 +2,7 @@
 
 ghost use Rattle.std.specs.Prelude.{◌≡◌, ◌<◌, ◌≤◌, ◌+◌, ◌-◌, ◌^◌, ℕ, List, Option, IfOk, IsErr, OnOk, OnErr, length};
 ghost use Rattle.std.specs.Io.KnownBytes.{Appends, WriteAppends};
-ghost use Rattle.mix_stream.specs.Stream.{AppendsFront, CountsWrite};
+ghost use Rattle.mix_stream.specs.Stream.{AppendsFront, CountsFailure};
 
 use crate::counted::{Counted, Failed};
 use std::io::Write;
@@ -46,13 +46,13 @@ impl<T: Write> Out for Counted<T> {
     }
 }
 
-/// Writes all of some bytes; where a write fails, a beginning of them stands written.
+/// Writes all of some bytes; where a write fails, a beginning of them is written.
 #[tactic(auto, using(crate::proofs::StreamLemmas::appends_next))]
 pub fn write_all<W: Out>(out: &mut W, bytes: &[u8]) -> Result<(), Failed>
     requires { W.failed out.old < 2 ^ 64 - 1 }
     ensures written { OnOk result (Appends (W.told out.old) (W.told out.new) bytes.now) }
     ensures begun { OnErr result (AppendsFront (W.told out.old) (W.told out.new) bytes.now) }
-    ensures failed { CountsWrite (IsErr result) (W.failed out.old) (W.failed out.new) }
+    ensures failed { CountsFailure (IsErr result) (W.failed out.old) (W.failed out.new) }
 {
     let mut at = 0;
     while at < bytes.len() {

@@ -12,3 +12,4 @@ pub mod Field
 pub mod Shift
 pub mod Conversion
 pub mod Comparison
+pub mod Instruction

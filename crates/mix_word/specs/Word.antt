@@ -1,5 +1,5 @@
 -- A word is a sign and a magnitude, whose five digits to the base 64 are its bytes (1.3.1).
-use Rattle.std.specs.Prelude.{ℕ, ◌+◌, ◌-◌, ◌*◌, ◌/◌, ◌%◌, ◌^◌, ◌==◌, Bool, true, false, ◌||◌, ℤ, pos, negsuc, neg_ℤ, suc, List, [], ◌∷◌, Option, Some, None, if◌then◌else◌}
+use Rattle.std.specs.Prelude.{ℕ, ◌+◌, ◌-◌, ◌*◌, ◌/◌, ◌%◌, ◌^◌, ◌==◌, Bool, true, false, not, ◌&&◌, ◌||◌, ℤ, pos, negsuc, neg_ℤ, suc, List, [], ◌∷◌, Option, Some, None, if◌then◌else◌}
 use Rattle.mix_word.specs.declared.word.Sign.{Sign}
 use Rattle.mix_word.specs.declared.word.Sign.TheVariants.{Plus, Minus}
 use Rattle.mix_word.specs.declared.word.Parts.{Parts}
@@ -25,6 +25,14 @@ zero_word = plus 0
 abbrev pub is_plus : Sign → Bool
 is_plus Plus = true
 is_plus Minus = false
+
+abbrev pub is_same_sign : Sign → Sign → Bool
+is_same_sign Plus s = is_plus s
+is_same_sign Minus s = not (is_plus s)
+
+-- whether two words are the same: +0 and -0 are not
+abbrev pub is_same_word : WordValue → WordValue → Bool
+is_same_word v w = is_same_sign v.sign w.sign && v.magnitude == w.magnitude
 
 abbrev pub opposite : Sign → Sign
 opposite Plus = Minus

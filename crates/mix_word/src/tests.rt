@@ -5,6 +5,7 @@ use crate::word::{Sign, Word};
 mod arithmetic;
 mod characters;
 mod fields;
+mod instructions;
 mod operations;
 mod shifts;
 mod table;

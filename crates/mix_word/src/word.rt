@@ -1,6 +1,6 @@
 //! A word: a sign and five bytes of 0 to 63 (1.3.1).
 ghost use Rattle.std.specs.Prelude.{◌≡◌, ◌<◌, ◌≤◌, ◌/◌, ◌%◌, ◌^◌, IfSome, pos, unsigned_abs};
-ghost use Rattle.mix_word.specs.Word.{word, zero_word, byte_of, negation_of, number_of, natural_of, word_of_number, parts_of, word_of_parts, opposite};
+ghost use Rattle.mix_word.specs.Word.{word, zero_word, is_same_word, byte_of, negation_of, number_of, natural_of, word_of_number, parts_of, word_of_parts, opposite};
 
 use std::marker::Model;
 
@@ -107,6 +107,13 @@ impl Word {
         ensures bound { result < 64 ^ 5 }
     {
         self.bits & MAX_MAGNITUDE
+    }
+
+    /// Whether two words are the same (1.3.1), as `==` has it: +0 and -0 are not.
+    pub fn is_same(self, other: Word) -> bool
+        ensures { result ≡ is_same_word self other }
+    {
+        self.sign() == other.sign() && self.magnitude() == other.magnitude()
     }
 
     /// Byte `i`, 1 to 5 (1.3.1), from the most significant one on: below 64.

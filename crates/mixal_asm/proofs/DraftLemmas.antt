@@ -13,7 +13,7 @@ use Rattle.mixal_asm.specs.Key.{same_key, same_key_decides, same_key_equivalence
 use Rattle.mixal_asm.specs.PassOne.{Before, NamesSoFar, value_of, waits_for, is_awaited, with_name, is_taken, name_of}
 use Rattle.mixal_asm.specs.Chain.{Held, emitted_of, closed_held}
 use Rattle.mixal_asm.specs.Draft.{held_word, held_by, scope_value, IsDue, HasNoLiteral}
-use Rattle.mixal_asm.specs.declared.scope.Own.{Own}
+use Rattle.mixal_asm.specs.declared.scope.OwnLocal.{OwnLocal}
 use Rattle.mixal_text.specs.Address as apart
 use Rattle.mixal_text.specs.Address.{APartValue, IsFuture}
 use Rattle.mixal_asm.proofs.TableLemmas.{lookup_push}
@@ -95,7 +95,7 @@ untaken_is_new names (label.Name symbol) untaken = nothing_there (value_of names
 untaken_is_new names (label.Local d) untaken = refl
 
 -- a symbol that was read as a future reference has no value
-pub is_due : (names : NamesSoFar) (own : Option Own) (a : APartValue) → IsFuture (scope_value names own) a → IsDue names a
+pub is_due : (names : NamesSoFar) (own : Option OwnLocal) (a : APartValue) → IsFuture (scope_value names own) a → IsDue names a
 is_due names own (apart.Value word) future = tt
 is_due names own (apart.Name symbol) future = future
 is_due names own (apart.Ahead d) future = tt

@@ -17,7 +17,7 @@ use Rattle.mixal_text.specs.WValue.{w_value_of}
 use Rattle.mixal_text.specs.Address.{OperandValue, address_of}
 use Rattle.mixal_asm.specs.declared.fault.AsmKind.{AsmKind}
 use Rattle.mixal_asm.specs.declared.row.Shows.TheVariants as shows
-use Rattle.mixal_asm.specs.declared.scope.Own.{Own}
+use Rattle.mixal_asm.specs.declared.scope.OwnLocal.{OwnLocal}
 use Rattle.mixal_asm.specs.PassOne.{Before, Line, with_name, name_of, is_awaited, with_loc, names_at, of_text, with_word, with_line, number_after, con_line, orig_line, location_of, machine_line, with_instruction, instruction}
 use Rattle.std.specs.List.{list_any}
 use Rattle.std.proofs.Common.{map}
@@ -31,7 +31,7 @@ use Rattle.mixal_text.specs.Line.{LineValue, line_of}
 use Rattle.mixal_asm.specs.Chain.{Held, emitted_of}
 use Rattle.mixal_asm.specs.Draft.{scope_value, shown_word, HasNoLiteral, held_by}
 
-pub con_is : (b named : Before) (text : List ℕ) (loc : Option Label) (address : List ℕ) (here : WordValue) (own : Option Own) (read : Result WordValue AsmKind)
+pub con_is : (b named : Before) (text : List ℕ) (loc : Option Label) (address : List ℕ) (here : WordValue) (own : Option OwnLocal) (read : Result WordValue AsmKind)
     → here ≡ plus b.here → with_loc b loc here ≡ Ok named → scope_value named.names own ≡ names_at b.names named.names
     → read ≡ of_text (w_value_of (scope_value named.names own) (plus named.here) address)
     → con_line b text loc address
@@ -39,7 +39,7 @@ pub con_is : (b named : Before) (text : List ℕ) (loc : Option Label) (address 
 unfolding con_line
 con_is b named text loc address here own read is_here ok scope is = rw (is, scope, ← is_here, ok) refl
 
-pub orig_is : (b named : Before) (text : List ℕ) (loc : Option Label) (address : List ℕ) (here : WordValue) (own : Option Own) (read : Result WordValue AsmKind)
+pub orig_is : (b named : Before) (text : List ℕ) (loc : Option Label) (address : List ℕ) (here : WordValue) (own : Option OwnLocal) (read : Result WordValue AsmKind)
     → here ≡ plus b.here → with_loc b loc here ≡ Ok named → scope_value named.names own ≡ names_at b.names named.names
     → read ≡ of_text (w_value_of (scope_value named.names own) (plus named.here) address)
     → orig_line b text loc address
@@ -47,7 +47,7 @@ pub orig_is : (b named : Before) (text : List ℕ) (loc : Option Label) (address
 unfolding orig_line
 orig_is b named text loc address here own read is_here ok scope is = rw (is, scope, ← is_here, ok) refl
 
-pub machine_is : (b named : Before) (text : List ℕ) (loc : Option Label) (code f : ℕ) (address : List ℕ) (here : WordValue) (own : Option Own)
+pub machine_is : (b named : Before) (text : List ℕ) (loc : Option Label) (code f : ℕ) (address : List ℕ) (here : WordValue) (own : Option OwnLocal)
     (read : Result OperandValue AsmKind)
     → here ≡ plus b.here → with_loc b loc here ≡ Ok named → scope_value named.names own ≡ names_at b.names named.names
     → of_text (address_of (scope_value named.names own) (plus named.here) f address) ≡ read
@@ -96,7 +96,7 @@ no_literal_loc b named (Some loc) value ok none =
 
 -- ---- END
 
-pub ended_is : (b named : Before) (number : ℕ) (text : List ℕ) (loc : Option Label) (address : List ℕ) (here : WordValue) (own : Option Own) (read : Result WordValue AsmKind)
+pub ended_is : (b named : Before) (number : ℕ) (text : List ℕ) (loc : Option Label) (address : List ℕ) (here : WordValue) (own : Option OwnLocal) (read : Result WordValue AsmKind)
     → list_any (is_unmet b.names loc) (first_uses b.emitted) ≡ false → here ≡ plus b.here → with_loc b loc here ≡ Ok named
     → scope_value named.names own ≡ names_at b.names named.names
     → read ≡ end_value (scope_value named.names own) (plus named.here) address

@@ -8,7 +8,7 @@ use Rattle.mixal_asm.specs.declared.key.Key.{Key}
 use Rattle.mixal_text.specs.Address.{APartValue, Value, Name, Ahead, Literal}
 use Rattle.mixal_asm.specs.declared.key.Key.TheVariants as key
 use Rattle.mixal_asm.specs.declared.words.Emitted.{Emitted}
-use Rattle.mixal_asm.specs.declared.scope.Own.{Own}
+use Rattle.mixal_asm.specs.declared.scope.OwnLocal.{OwnLocal}
 use Rattle.mixal_text.specs.Steps.{◌>>=◌}
 use Rattle.std.specs.Prelude.{Result, Ok, length}
 use Rattle.mixal_asm.specs.declared.fault.AsmKind.{AsmKind}
@@ -36,17 +36,17 @@ IsOpen names (Some name) = value_of names name ≡ None
 
 -- ---- what dB means on a line whose own LOC is dH: the dH before it
 
-abbrev pub own_back : NamesSoFar → Option Own → ℕ → Option WordValue
-own_back names None d = back_of names d
-own_back names (Some own) d = if nat_eq own.digit d then own.back else back_of names d
+abbrev pub back_on_line : NamesSoFar → Option OwnLocal → ℕ → Option WordValue
+back_on_line names None d = back_of names d
+back_on_line names (Some own) d = if nat_eq own.digit d then own.back else back_of names d
 
-abbrev pub scope_value : NamesSoFar → Option Own → NamesValue
-scope_value names own = record { value = λ symbol. value_of names (key.Name symbol); back = own_back names own }
+abbrev pub scope_value : NamesSoFar → Option OwnLocal → NamesValue
+scope_value names own = record { value = λ symbol. value_of names (key.Name symbol); back = back_on_line names own }
 
-abbrev pub own_of : NamesSoFar → Option Label → Option Own
-own_of names None = None
-own_of names (Some (label.Name symbol)) = None
-own_of names (Some (label.Local d)) = Some (record { digit = d; back = back_of names d })
+abbrev pub own_local : NamesSoFar → Option Label → Option OwnLocal
+own_local names None = None
+own_local names (Some (label.Name symbol)) = None
+own_local names (Some (label.Local d)) = Some (record { digit = d; back = back_of names d })
 
 -- ---- an A-part that was read
 

@@ -76,9 +76,13 @@ names_text (name ∷ names) = name_text name.0 name.1 ++ names_text names
 abbrev pub symbols_line : NamesSoFar → List ℕ
 symbols_line names = codes "symbols " ++ decimal (symbols_in names) ++ 10 ∷ []
 
+-- the symbols, with which the listing ends
+unfoldable pub symbols_text : NamesSoFar → List ℕ
+symbols_text names = symbols_line names ++ names_text names
+
 -- the whole listing
 unfoldable pub listing : ProgramValue → List ℕ
-listing program = rows_text program program.rows ++ symbols_line program.names ++ names_text program.names
+listing program = rows_text program program.rows ++ symbols_text program.names
 
 -- ---- writing it
 

@@ -33,6 +33,14 @@ source_in program place row = if stands_at program place row.shown then Some row
 abbrev pub source_at : ProgramValue → ℕ → Option SourceValue
 source_at program place = last_or None (filter_map (source_in program place) program.rows)
 
+-- a word, if it was put at this place
+abbrev pub word_in : ℕ → ℕ × WordValue → Option WordValue
+word_in place word = if nat_eq word.0 place then Some word.1 else None
+
+-- the last word that was put at a place
+abbrev pub word_at : ProgramValue → ℕ → Option WordValue
+word_at program place = last_or None (filter_map (word_in place) program.words)
+
 -- ---- of a line its cell: that of the first word of the lines of the source from this one on
 
 abbrev pub is_from : ℕ → SourceValue → Bool

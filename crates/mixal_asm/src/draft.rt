@@ -8,7 +8,7 @@ use crate::fault::AsmKind;
 use crate::key::Key;
 use crate::names::NameTable;
 use crate::row::{Row, Shows, Source};
-use crate::scope::{Own, own_of};
+use crate::scope::{OwnLocal, own_local};
 use crate::words::{Emitted, WordList};
 use mix_refused::{Memory, Refused};
 use mix_word::{Place, Sign, Word};
@@ -138,13 +138,13 @@ impl<'s> Draft<'s> {
         &mut self,
         loc: &Option<Label>,
         value: Word,
-    ) -> Result<Option<Own>, Refused<AsmKind>>
+    ) -> Result<Option<OwnLocal>, Refused<AsmKind>>
         requires { is_taken self.old.names loc.now ≡ false }
         ensures ok { OnOk result (with_loc self.old loc.now value ≡ Ok self.new) }
         ensures own { IfOk result (λ own. scope_value self.new.names own ≡ names_at self.old.names self.new.names) }
         ensures fault { IfFault result (λ kind. with_loc self.old loc.now value ≡ Err kind) }
     {
-        let own = own_of(&self.names, loc);
+        let own = own_local(&self.names, loc);
         match loc {
             None => Ok(own),
             Some(label) => {

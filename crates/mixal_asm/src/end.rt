@@ -12,7 +12,7 @@ use crate::key::Key;
 use crate::names::NameTable;
 use crate::program::Program;
 use crate::row::{Shows, Source};
-use crate::scope::Own;
+use crate::scope::OwnLocal;
 use mix_refused::{Memory, Refused};
 use mix_word::{Place, Word};
 use mixal_text::{Label, TextFault};
@@ -52,7 +52,7 @@ impl<'s> Draft<'s> {
     ghost use Rattle.mixal_asm.specs.Draft.{HasNoLiteral, scope_value, passes};
 
     // The value of the ADDRESS of END, which is 0 where it is left out.
-    fn read_end(&self, own: Option<Own>, address: &[u8]) -> Result<Word, AsmKind>
+    fn read_end(&self, own: Option<OwnLocal>, address: &[u8]) -> Result<Word, AsmKind>
         ensures { result ≡ end_value (scope_value self.now.names own) (plus self.now.here) address.now }
     {
         if address.is_empty() {

@@ -1,10 +1,10 @@
 //! The listing of an assembled source: a row for each line, what was inserted before END, and the symbols.
 ghost use Rattle.std.specs.Prelude.{◌≡◌, ◌<◌, ◌-◌, ◌^◌, ◌++◌, Some, OnOk, IfOk};
 ghost use Rattle.std.specs.Io.KnownBytes.{Appends, Keeps};
-ghost use Rattle.mix_stream.specs.Stream.{AppendsFront, CountsWrite};
+ghost use Rattle.mix_stream.specs.Stream.{AppendsFront, CountsFailure};
 ghost use Rattle.mixal_asm.specs.PassOne.{Line};
 ghost use Rattle.mixal_asm.specs.Row.{row_value, source_value};
-ghost use Rattle.mixal_asm.specs.Listing.{blanks, place_text, shown_text, source_text, row_text, rows_text, symbols_line, symbol_text, name_text, names_text, listing, IsFault};
+ghost use Rattle.mixal_asm.specs.Listing.{blanks, place_text, shown_text, source_text, row_text, rows_text, symbols_line, symbol_text, name_text, names_text, symbols_text, listing, IsFault};
 
 use crate::key::Key;
 use crate::names::NameTable;
@@ -21,20 +21,31 @@ use std::fmt;
 const SYMBOL_PLACES: usize = 10;
 
 impl<'s> Program<'s> {
-    /// Writes the listing (1.3.2). Out of memory, nothing is written; where a write fails, a beginning of the listing stands
+    /// Writes the listing (1.3.2). Out of memory, nothing is written; where a write fails, a beginning of the listing is
     /// written.
     pub fn write_listing<W: Out>(&self, alloc: Global, out: &mut W) -> Result<(), Refused<Failed>>
         requires { W.failed out.old < 2 ^ 64 - 1 }
         ensures written { OnOk result (Appends (W.told out.old) (W.told out.new) (listing self.now)) }
         ensures begun { AppendsFront (W.told out.old) (W.told out.new) (listing self.now) }
         ensures memory { result ≡ Err Refused.Memory → Keeps (W.told out.old) (W.told out.new) }
-        ensures failed { CountsWrite (IsFault result) (W.failed out.old) (W.failed out.new) }
+        ensures failed { CountsFailure (IsFault result) (W.failed out.old) (W.failed out.new) }
     {
         let text = listing_of(alloc, self)?;
         match write_all(out, text.as_slice()) {
             Ok(()) => Ok(()),
             Err(failed) => Err(Refused::Fault(failed)),
         }
+    }
+}
+
+impl Program<'_> {
+    /// The symbols with their values, as the listing ends with them (1.3.2). Only out of memory refuses them.
+    pub fn symbols_text(&self, alloc: Global) -> Result<Vec<u8>, Memory>
+        ensures { IfOk result (λ text. text.items ≡ symbols_text self.now.names) }
+    {
+        let mut text = Vec::new(alloc);
+        add_symbols(alloc, &mut text, &self.names)?;
+        Ok(text)
     }
 }
 
@@ -45,9 +56,18 @@ fn listing_of(alloc: Global, program: &Program<'_>) -> Result<Vec<u8>, Memory>
 {
     let mut text = Vec::new(alloc);
     add_rows(alloc, &mut text, program)?;
-    add_count(alloc, &mut text, &program.names)?;
-    add_names(alloc, &mut text, &program.names)?;
+    add_symbols(alloc, &mut text, &program.names)?;
     Ok(text)
+}
+
+// How many symbols there are, and each of them with its value.
+#[tactic(auto, unfolding(crate::specs::Listing::symbols_text))]
+fn add_symbols(alloc: Global, text: &mut Vec<u8>, names: &NameTable) -> Result<(), Memory>
+    ensures { OnOk result (text.new.items ≡ text.old.items ++ symbols_text names.now) }
+{
+    add_count(alloc, text, names)?;
+    add_names(alloc, text, names)?;
+    Ok(())
 }
 
 fn add_rows(alloc: Global, text: &mut Vec<u8>, program: &Program<'_>) -> Result<(), Memory>

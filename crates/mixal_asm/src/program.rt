@@ -4,7 +4,7 @@ ghost use Rattle.mixal_asm.specs.declared.key.Key.TheVariants.{Name};
 ghost use Rattle.std.specs.Option.{option_map};
 ghost use Rattle.mixal_asm.specs.PassOne.{value_of, names_at};
 ghost use Rattle.mixal_asm.specs.Row.{source_value, row_value};
-ghost use Rattle.mixal_asm.specs.Source.{place_of, stands_at, source_at, place_in, cell_from, symbols_of};
+ghost use Rattle.mixal_asm.specs.Source.{place_of, stands_at, source_at, word_in, word_at, place_in, cell_from, symbols_of};
 
 use crate::key::Key;
 use crate::names::NameTable;
@@ -89,9 +89,22 @@ impl<'s> Program<'s> {
         found
     }
 
+    /// The last word that was put at a place (1.3.2), which the machine is loaded with; none where no word was put. It takes no memory.
+    pub fn word_at(&self, place: Place) -> Option<Word>
+        ensures { result ≡ word_at self.now place }
+    {
+        let mut found = None;
+        for word in self.words.iter() {
+            if word.0 == place {
+                found = Some(word.1);
+            }
+        }
+        found
+    }
+
     /// The place of the first word that the lines of the source from this number on emit, if they emit any: no inserted line
     /// counts. It takes no memory.
-    pub fn cell_from(&self, number: u32) -> Option<Place>
+    pub fn cell_from(&self, number: u64) -> Option<Place>
         ensures { result ≡ cell_from self.now number }
     {
         for row in self.rows.iter() {
@@ -120,11 +133,11 @@ impl<'s> Program<'s> {
     }
 
     // The place of the word of a row, if it is of a line of the source from this number on.
-    fn place_in(&self, number: u32, row: &Row<'s>) -> Option<Place>
+    fn place_in(&self, number: u64, row: &Row<'s>) -> Option<Place>
         ensures { result ≡ place_in self.now number (row_value row.now) }
     {
         match row.source {
-            Source::Line(n, _) if number <= n => self.place_of(row.shows),
+            Source::Line(n, _) if number <= u64::from(n) => self.place_of(row.shows),
             Source::Line(..) | Source::Literal(_) | Source::Name(_) => None,
         }
     }

@@ -7,7 +7,7 @@ ghost use Rattle.mixal_asm.specs.PassOne.{of_text};
 
 use crate::draft::Draft;
 use crate::fault::AsmKind;
-use crate::scope::{Own, Scope};
+use crate::scope::{OwnLocal, Scope};
 use mix_word::Word;
 use mixal_text::{Op, Operand, address, w_value};
 
@@ -15,7 +15,7 @@ impl<'s> Draft<'s> {
     ghost use Rattle.mixal_asm.specs.Draft.{scope_value, IsDue};
 
     /// The W-value that a text says.
-    pub(crate) fn read_value(&self, own: Option<Own>, text: &[u8]) -> Result<Word, AsmKind>
+    pub(crate) fn read_value(&self, own: Option<OwnLocal>, text: &[u8]) -> Result<Word, AsmKind>
         ensures { result ≡ of_text (w_value_of (scope_value self.now.names own) (plus self.now.here) text.now) }
     {
         let scope = Scope {
@@ -31,7 +31,7 @@ impl<'s> Draft<'s> {
     /// The operand that the ADDRESS of an instruction says.
     pub(crate) fn read_operand<'t>(
         &self,
-        own: Option<Own>,
+        own: Option<OwnLocal>,
         op: Op,
         text: &'t [u8],
     ) -> Result<Operand<'t>, AsmKind>

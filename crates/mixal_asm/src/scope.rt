@@ -1,7 +1,7 @@
 //! What names mean in the ADDRESS of a line (1.3.2).
 ghost use Rattle.std.specs.Prelude.{◌≡◌};
 ghost use Rattle.mixal_asm.specs.declared.key.Key.TheVariants.{Name};
-ghost use Rattle.mixal_asm.specs.Draft.{own_of};
+ghost use Rattle.mixal_asm.specs.Draft.{own_local};
 
 use crate::key::Key;
 use crate::names::NameTable;
@@ -10,7 +10,7 @@ use mixal_text::{Label, Names, Symbol};
 
 /// The digit d of a line whose LOC is dH, and the value of the dH before it, which dB means there.
 #[derive(Clone, Copy)]
-pub(crate) struct Own {
+pub(crate) struct OwnLocal {
     pub digit: u8,
     pub back: Option<Word>,
 }
@@ -19,7 +19,7 @@ pub(crate) struct Own {
 #[derive(Drop)]
 pub(crate) struct Scope<'a> {
     pub names: &'a NameTable,
-    pub own: Option<Own>,
+    pub own: Option<OwnLocal>,
 }
 
 impl<'a> Names for Scope<'a> {
@@ -40,11 +40,11 @@ impl<'a> Names for Scope<'a> {
 }
 
 /// What dB means on a line with this LOC, where it is dH.
-pub(crate) fn own_of(names: &NameTable, loc: &Option<Label>) -> Option<Own>
-    ensures { result ≡ own_of names.now loc.now }
+pub(crate) fn own_local(names: &NameTable, loc: &Option<Label>) -> Option<OwnLocal>
+    ensures { result ≡ own_local names.now loc.now }
 {
     match loc {
-        Some(Label::Local(d)) => Some(Own {
+        Some(Label::Local(d)) => Some(OwnLocal {
             digit: *d,
             back: names.back(*d),
         }),

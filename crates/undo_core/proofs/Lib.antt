@@ -1,3 +1,5 @@
 pub mod LeadsLemmas
 pub mod ReplayLemmas
 pub mod Sound
+pub mod Reverting
+pub mod Unwinding

@@ -54,6 +54,11 @@ pub record IsDone {S C O F : Type 0} (gives : S → C → Result S F) (keeps : S
   pub kept_is : kept_then ≡ kept ++ keeps s c
   pub from_is : from ≡ length kept
 
+pub done_by : {S C O F : Type 0} {gives : S → C → Result S F} {keeps : S → C → List O} {put : S → O → Option S}
+    {s t : S} {c : C} {kept kept_then : List O} {from : ℕ} → gives s c ≡ Ok t → put_back put (keeps s c) t ≡ Some s →
+    kept_then ≡ kept ++ keeps s c → from ≡ length kept → IsDone gives keeps put s t c kept kept_then from
+done_by given undone kept_is from_is = record { given = given; undone = undone; kept_is = kept_is; from_is = from_is }
+
 -- the last change, and what takes it back; the starts of the others are the rest
 pub record IsLast {S C O F : Type 0} (gives : S → C → Result S F) (keeps : S → C → List O) (put : S → O → Option S)
     (state : S) (kept : List O) (changes : List C) (rest : List ℕ) (start : ℕ) (before : S) (c : C) : Type 0 where

@@ -1,8 +1,8 @@
 //! The changes done on a state, each of which can be taken back and done again.
-ghost use Rattle.std.specs.Prelude.{◌≡◌, ◌+◌, ◌-◌, ◌<◌, ◌↔◌, ◌++◌, [], ◌∷◌, length, take, drop, vec_len, vec_capacity, Some, Ok, Err, IsSome, IsTrue, OnOk, OnErr, IfOk};
+ghost use Rattle.std.specs.Prelude.{◌≡◌, ◌+◌, ◌-◌, ◌<◌, ◌≤◌, ◌↔◌, ◌++◌, [], ◌∷◌, length, take, drop, get_or, vec_len, vec_capacity, Some, Ok, Err, IsSome, IsTrue, OnOk, OnErr, IfOk};
 ghost use Rattle.std.specs.Bool.{OnFalse};
 ghost use Rattle.mix_refused.specs.Refused.{IfFault};
-ghost use Rattle.undo_core.specs.Replay.{replay, count_kept};
+ghost use Rattle.undo_core.specs.Replay.{replay, count_kept, put_back};
 
 use crate::undo::Undo;
 use mix_refused::{Memory, Refused};
@@ -41,6 +41,28 @@ fn put_last<T: Copy>(items: &mut Vec<T>, at: usize, item: T)
 {
     items.truncate(at);
     items.push_reserved(item);
+}
+
+// The start of this number, or the end of all where there is none.
+fn start_or(starts: &[usize], number: usize, all: usize) -> usize
+    ensures { result ≡ get_or starts.now number all }
+{
+    match starts.get(number) {
+        Some(start) => *start,
+        None => all,
+    }
+}
+
+// Puts the values of a part of a list back, the last one first.
+fn restore_part<S: Undo>(state: &mut S, kept: &[S::Old], start: usize, end: usize)
+    requires order { start ≤ end }
+    requires within { end ≤ length kept.now }
+    requires fits { IsSome (put_back S.put (drop start (take end kept.now)) state.old) }
+    ensures { put_back S.put (drop start (take end kept.now)) state.old ≡ Some state.new }
+{
+    let (front, _) = kept.split_at(end);
+    let (_, values) = front.split_at(start);
+    state.restore_all(values);
 }
 
 impl<S: Undo> Journal<S> {
@@ -135,6 +157,19 @@ impl<S: Undo> Journal<S> {
         ensures { result.now ≡ self.now.changes }
     {
         &self.changes[..self.starts.len()]
+    }
+
+    /// Leads a state from after the change of this number, counted from 0, back to before it, by the values that are kept. It takes no
+    /// memory.
+    pub fn unwind(&self, number: usize, state: &mut S)
+        requires within { number < length self.now.changes }
+        requires after { replay S.gives self.now.first (take (number + 1) self.now.changes) ≡ Some state.old }
+        ensures { replay S.gives self.now.first (take number self.now.changes) ≡ Some state.new }
+    {
+        let all = self.kept.len();
+        let start = start_or(&self.starts, number, all);
+        let end = start_or(&self.starts, number + 1, all);
+        restore_part(state, &self.kept, start, end);
     }
 
     /// How many changes stand ahead. It takes no memory.

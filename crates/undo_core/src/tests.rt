@@ -42,11 +42,8 @@ impl Undo for Counter {
         Ok(())
     }
 
-    fn revert(&mut self, kept: &mut Vec<u8>, from: usize) {
-        if from < kept.len() {
-            self.number = kept[from];
-            kept.truncate(from);
-        }
+    fn restore(&mut self, old: u8) {
+        self.number = old;
     }
 }
 
@@ -152,4 +149,26 @@ fn many_changes(rt: HostRuntime) {
     }
     assert_eq!(rt; journal.kept_len(), 0);
     assert_eq!(rt; journal.ahead(), 100_000);
+}
+
+// The number before the last change, if there is one, from the values that it keeps.
+#[tactic(auto, using(crate::proofs::Unwinding::whole))]
+fn before_last(journal: &Journal<Counter>) -> Option<u8> {
+    let last = journal.changes().len().checked_sub(1)?;
+    let mut state = *journal.state();
+    journal.unwind(last, &mut state);
+    Some(state.number)
+}
+
+#[test]
+fn the_last_change_unwound(rt: HostRuntime) {
+    let mut journal = Journal::new(rt.alloc(), Counter { number: 0 });
+    for by in [4, 3, 2] {
+        assert_eq!(rt; perform(&mut journal, Act::Go(by)), Told::Yes, "{by}");
+    }
+    for before in [Some(7), Some(4), Some(0)] {
+        assert_eq!(rt; before_last(&journal), before);
+        assert_eq!(rt; perform(&mut journal, Act::Back), Told::Yes);
+    }
+    assert_eq!(rt; before_last(&journal), None);
 }

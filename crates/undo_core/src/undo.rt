@@ -43,12 +43,33 @@ pub trait Undo: Drop {
         ensures same { OnErr result (self.new ≡ self.old) }
         ensures same_kept { OnErr result (kept.new.items ≡ kept.old.items) };
 
+    /// Puts one value back. It takes no memory.
+    fn restore(&mut self, old: Self::Old)
+        requires { IsSome (put self.old old) }
+        ensures { put self.old old ≡ Some self.new };
+
+    /// Puts values back, the last one first. It takes no memory.
+    fn restore_all(&mut self, values: &[Self::Old])
+        requires { IsSome (put_back put values.now self.old) }
+        ensures { put_back put values.now self.old ≡ Some self.new }
+    {
+        let mut left = values.len();
+        while left > 0 {
+            left -= 1;
+            self.restore(values[left]);
+        }
+    }
+
     /// Puts back the values of `kept` from `from` on, the last one first, and cuts them off. It takes no memory.
     fn revert(&mut self, kept: &mut Vec<Self::Old>, from: usize)
         requires within { from ≤ vec_len kept.old }
         requires fits { IsSome (put_back put (drop from kept.old.items) self.old) }
         ensures back { put_back put (drop from kept.old.items) self.old ≡ Some self.new }
-        ensures cut { kept.new.items ≡ take from kept.old.items };
+        ensures cut { kept.new.items ≡ take from kept.old.items }
+    {
+        self.restore_all(&kept[from..]);
+        kept.truncate(from);
+    }
 
     /// Putting back the values that an accepted change overwrote gives the state before it.
     ghost undoes: { (s t : Self) (c : Self.Change) → is_real s c → gives s c ≡ Ok t → put_back put (keeps s c) t ≡ Some s };

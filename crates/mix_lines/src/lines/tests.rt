@@ -1,84 +1,55 @@
 use super::*;
 
-const TEXTS: [(&[u8], &[&[u8]]); 9] = [
+/// A text, and its lines: each without its line end, and with its line feed.
+const TEXTS: [(&[u8], &[(&[u8], &[u8])]); 10] = [
     (b"", &[]),
-    (b"a", &[b"a"]),
-    (b"a\n", &[b"a"]),
-    (b"\n", &[b""]),
-    (b"a\n\nb", &[b"a", b"", b"b"]),
-    (b"a\r\nb\r", &[b"a", b"b"]),
-    (b"\r", &[b""]),
-    (b"a\r\r\n", &[b"a\r"]),
-    (b"a\rb\n", &[b"a\rb"]),
+    (b"a", &[(b"a", b"a")]),
+    (b"a\n", &[(b"a", b"a\n")]),
+    (b"\n", &[(b"", b"\n")]),
+    (b"a\n\nb", &[(b"a", b"a\n"), (b"", b"\n"), (b"b", b"b")]),
+    (b"a\r\nb\r", &[(b"a", b"a\r\n"), (b"b", b"b\r")]),
+    (b"\r", &[(b"", b"\r")]),
+    (b"a\r\r\n", &[(b"a\r", b"a\r\r\n")]),
+    (b"a\rb\n", &[(b"a\rb", b"a\rb\n")]),
+    (b"\n\r", &[(b"", b"\n"), (b"", b"\r")]),
 ];
 
 #[test]
 fn cuts_a_text_into_lines(rt: HostRuntime) {
     for (text, lines) in TEXTS {
         let mut rest = text;
-        for line in lines {
+        for (line, whole) in lines {
             assert!(rt; !rest.is_empty(), "{text:?}");
-            let (first, after) = split_line(rest);
-            assert_eq!(rt; first, *line, "{text:?}");
-            rest = after;
-        }
-        assert!(rt; rest.is_empty(), "{text:?}");
-    }
-}
-
-const WHOLE: [(&[u8], &[&[u8]]); 7] = [
-    (b"a", &[b"a"]),
-    (b"a\n", &[b"a\n"]),
-    (b"\n", &[b"\n"]),
-    (b"a\n\nb", &[b"a\n", b"\n", b"b"]),
-    (b"a\r\nb\r", &[b"a\r\n", b"b\r"]),
-    (b"a\rb\n", &[b"a\rb\n"]),
-    (b"\n\r", &[b"\n", b"\r"]),
-];
-
-#[test]
-fn cuts_a_text_after_its_line_feeds(rt: HostRuntime) {
-    for (text, lines) in WHOLE {
-        let mut rest = text;
-        for line in lines {
-            assert!(rt; !rest.is_empty(), "{text:?}");
+            assert_eq!(rt; split_line(rest).0, *line, "{text:?}");
             let (first, after) = split_whole_line(rest);
-            assert_eq!(rt; first, *line, "{text:?}");
+            assert_eq!(rt; first, *whole, "{text:?}");
+            assert_eq!(rt; split_line(rest).1, after, "{text:?}");
             rest = after;
         }
         assert!(rt; rest.is_empty(), "{text:?}");
     }
 }
 
-const ENDS: [(&[u8], &[u8]); 7] = [
-    (b"", b""),
-    (b"a", b"a"),
-    (b"a\n", b"a"),
-    (b"a\r\n", b"a"),
-    (b"a\r", b"a"),
-    (b"a\r\r\n", b"a\r"),
-    (b"\r\n", b""),
+/// A line, what it is without its line end, and whether it is a comment.
+const LINES: [(&[u8], &[u8], bool); 11] = [
+    (b"", b"", false),
+    (b"a", b"a", false),
+    (b"a\n", b"a", false),
+    (b"a\r\n", b"a", false),
+    (b"a\r", b"a", false),
+    (b"a\r\r\n", b"a\r", false),
+    (b"\r\n", b"", false),
+    (b"*", b"*", true),
+    (b"* back 1", b"* back 1", true),
+    (b" *", b" *", false),
+    (b"+*", b"+*", false),
 ];
 
 #[test]
-fn takes_off_the_line_end(rt: HostRuntime) {
-    for (line, text) in ENDS {
-        assert_eq!(rt; line_text(line), text, "{line:?}");
-    }
-}
-
-const COMMENTS: [(&[u8], bool); 5] = [
-    (b"", false),
-    (b"*", true),
-    (b"* back 1", true),
-    (b" *", false),
-    (b"+*", false),
-];
-
-#[test]
-fn knows_comments(rt: HostRuntime) {
-    for (line, answer) in COMMENTS {
-        assert_eq!(rt; is_comment(line), answer, "{line:?}");
+fn takes_off_the_line_end_and_knows_comments(rt: HostRuntime) {
+    for (line, text, comment) in LINES {
+        let got = (line_text(line), is_comment(line));
+        assert_eq!(rt; got, (text, comment), "{line:?}");
     }
 }
 

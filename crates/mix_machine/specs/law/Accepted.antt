@@ -17,12 +17,12 @@ use Rattle.mix_machine.specs.Jump.{jump_writes}
 use Rattle.mix_machine.specs.Effects.{effects, reaches, sum_into, shift_into, quotient_into, copy_of, transfer_of}
 use Rattle.mix_machine.specs.UnitAction.{use_of, needs_unit, transfer_start, transfer_end, block_at, wound, wrong_direction, bad_order, bad_control, no_block, unit_full, marks_page}
 use Rattle.mix_machine.specs.Order.{clock_after}
-use Rattle.mix_machine.specs.units.Kind.{block_length, has_medium, has_output}
+use Rattle.mix_machine.specs.units.UnitKind.{block_length, has_medium, has_output}
 use Rattle.mix_machine.specs.units.Unit.{UnitState, IsUnit, most_entries, last_until}
 use Rattle.mix_machine.specs.units.Keep.{is-unit-at}
 use Rattle.mix_machine.specs.law.Plans.{UnitFits, InputFits, OutputFits, ControlFits}
-use Rattle.mix_machine.specs.declared.units.kind.Kind.{Kind}
-use Rattle.mix_machine.specs.declared.units.kind.Kind.TheVariants.{Tape, Disk, CardReader, CardPunch, Printer, Typewriter, PaperTape}
+use Rattle.mix_machine.specs.declared.units.kind.UnitKind.{UnitKind}
+use Rattle.mix_machine.specs.declared.units.kind.UnitKind.TheVariants.{Tape, Disk, CardReader, CardPunch, Printer, Typewriter, PaperTape}
 use Rattle.mix_machine.specs.declared.decode.Arguments.{Arguments}
 use Rattle.mix_machine.specs.declared.plan.Writes.TheVariants.{Nothing, Copy}
 
@@ -97,7 +97,7 @@ page-room false rows m f = absurd (cc)
 zero-within : (u : UnitState) (m : WordValue) → not (m.magnitude == 0) ≡ false → wound u m ≤ length u.blocks
 zero-within u m o = let zero : (m.magnitude == 0) ≡ true = grind arith in rw zero (omega arith)
 
-wound-within : (u : UnitState) (kind : Kind) (m : WordValue) → IsUnit u → bad_order kind u m ≡ false → wound u m ≤ length u.blocks
+wound-within : (u : UnitState) (kind : UnitKind) (m : WordValue) → IsUnit u → bad_order kind u m ≡ false → wound u m ≤ length u.blocks
 wound-within u Tape m h o = let place = h.place in grind (arith, nat_tests)
 wound-within u Disk m h o = zero-within u m o
 wound-within u CardReader m h o = absurd (cc)

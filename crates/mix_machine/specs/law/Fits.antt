@@ -11,7 +11,7 @@ use Rattle.mix_word.specs.declared.register.Reg.{Reg}
 use Rattle.mix_word.specs.declared.register.Reg.TheVariants.{A, X, I1, I2, I3, I4, I5, I6, J}
 use Rattle.mix_machine.specs.Registers.{RegistersState, AreRegisters, held_in, with_register, fits_register}
 use Rattle.mix_machine.specs.World.{WorldState, IsWorld, cell_of, unit_at, has_break, last_clock}
-use Rattle.mix_machine.specs.units.Kind.{has_medium, has_output}
+use Rattle.mix_machine.specs.units.UnitKind.{has_medium, has_output}
 use Rattle.mix_machine.specs.units.Row.{RowState}
 use Rattle.mix_machine.specs.units.Unit.{most_entries, last_until}
 use Rattle.mix_machine.specs.units.Units.{UnitsState, AreUnits, length_at}

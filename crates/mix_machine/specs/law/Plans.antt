@@ -5,12 +5,12 @@ use Rattle.std.proofs.lemmas.Bool.Decides.{nat_tests}
 use Rattle.mix_word.specs.Word.{WordValue}
 use Rattle.mix_machine.specs.World.{WorldState, IsWorld, cell_of, unit_at, last_clock}
 use Rattle.mix_machine.specs.UnitAction.{transfer_end, marks_page}
-use Rattle.mix_machine.specs.units.Kind.{block_length, has_place, has_medium, has_output}
+use Rattle.mix_machine.specs.units.UnitKind.{block_length, has_place, has_medium, has_output}
 use Rattle.mix_machine.specs.units.Unit.{word_of, most_entries, last_until}
 use Rattle.mix_machine.specs.units.Row.{RowState, row_of}
 use Rattle.mix_machine.specs.units.Units.{UnitsState, AreUnits, unit_of, fits_place, fits_item, fits_until, set_until}
-use Rattle.mix_machine.specs.declared.units.kind.Kind.{Kind}
-use Rattle.mix_machine.specs.declared.units.kind.Kind.TheVariants.{Tape, Disk, CardReader, CardPunch, Printer, Typewriter, PaperTape}
+use Rattle.mix_machine.specs.declared.units.kind.UnitKind.{UnitKind}
+use Rattle.mix_machine.specs.declared.units.kind.UnitKind.TheVariants.{Tape, Disk, CardReader, CardPunch, Printer, Typewriter, PaperTape}
 use Rattle.mix_machine.specs.Write.{set_value, fits, Write, set, grow, print, written, write_all, each, busy, place_after, from_cell, copies, input_writes, words_out, replace_writes, append_writes, row_writes, output_writes, control_writes, writes_in, writes_of}
 use Rattle.mix_machine.specs.Order.{all_fit}
 use Rattle.mix_machine.specs.law.Fits.{is_length, write_fits, AllFit, world-set_value}
@@ -205,7 +205,7 @@ pub fit-output : (w : WorldState) (t : Transfer) → IsWorld w → OutputFits w 
 fit-output w t h f = fit-output-as w t _ _ h f refl refl
 
 -- IOC
-fit-control-as : (w : WorldState) (n k : ℕ) (kind : Kind) → ControlFits w n k → (unit_at w n).kind ≡ kind → AllFit w (control_writes kind w n k)
+fit-control-as : (w : WorldState) (n k : ℕ) (kind : UnitKind) → ControlFits w n k → (unit_at w n).kind ≡ kind → AllFit w (control_writes kind w n k)
 fit-control-as w n k Tape f e =
     (fits-place-in w n k f.unit (ap has_place e) f.place, (fits-until-in n (transfer_end w n) f.unit f.until, tt))
 fit-control-as w n k Disk f e = (fits-until-in n (transfer_end w n) f.unit f.until, tt)

@@ -5,11 +5,11 @@ use Rattle.std.proofs.lemmas.Bool.{and_parts}
 use Rattle.std.proofs.lemmas.Bool.Decides.{nat_tests}
 use Rattle.std.proofs.lemmas.List.{get_or-set_same, length-set}
 use Rattle.mix_word.specs.Word.{WordValue}
-use Rattle.mix_machine.specs.units.Kind.{has_place, has_medium, block_length}
+use Rattle.mix_machine.specs.units.UnitKind.{has_place, has_medium, block_length}
 use Rattle.mix_machine.specs.units.Unit.{UnitState, empty_unit, block_of, with_word, with_blocks}
 use Rattle.mix_machine.specs.units.Units.{UnitsState, AreUnits, unit_of, with_unit, set_place, fits_place, set_item, fits_item, add_blocks}
 use Rattle.mix_machine.specs.units.Keep.{length-units, length-with_blocks}
-use Rattle.mix_machine.specs.declared.units.kind.Kind.TheVariants.{Tape}
+use Rattle.mix_machine.specs.declared.units.kind.UnitKind.TheVariants.{Tape}
 
 pub unit-with : (us : UnitsState) (n : ℕ) (u : UnitState) → AreUnits us → n < 21 → unit_of (with_unit us n u) n ≡ u
 unit-with us n u h l = get_or-set_same us n u (empty_unit Tape) (rw (length-units us h) l)

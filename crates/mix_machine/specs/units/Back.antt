@@ -4,12 +4,12 @@ use Rattle.std.proofs.Common.{ap, ◌∙◌, arith, length-append}
 use Rattle.std.proofs.lemmas.Bool.Decides.{nat_tests}
 use Rattle.std.proofs.lemmas.List.{length-set, set-set, set-get_or, get_or-set_same, take_at, append_assoc}
 use Rattle.mix_word.specs.Word.{WordValue, zero_word}
-use Rattle.mix_machine.specs.units.Kind.{has_medium, has_output}
+use Rattle.mix_machine.specs.units.UnitKind.{has_medium, has_output}
 use Rattle.mix_machine.specs.units.Row.{RowState}
 use Rattle.mix_machine.specs.units.Unit.{UnitState, empty_unit, block_of, with_word, zero_blocks, with_blocks, with_row}
 use Rattle.mix_machine.specs.units.Units.{UnitsState, AreUnits, unit_of, with_unit, set_place, place_at, fits_place, cut_to, length_of, set_length, length_at, fits_length, set_item, item_at, fits_item, set_until, until_at, fits_until, add_blocks, add_row}
 use Rattle.mix_machine.specs.units.Keep.{length-units, is-unit-at, length-with_blocks}
-use Rattle.mix_machine.specs.declared.units.kind.Kind.TheVariants.{Tape}
+use Rattle.mix_machine.specs.declared.units.kind.UnitKind.TheVariants.{Tape}
 
 same-unit : (us : UnitsState) (n : ℕ) (u : UnitState) → AreUnits us → n < 21 → unit_of (with_unit us n u) n ≡ u
 same-unit us n u h l = get_or-set_same us n u (empty_unit Tape) (rw (length-units us h) l)

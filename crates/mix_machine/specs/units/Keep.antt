@@ -5,7 +5,7 @@ use Rattle.std.proofs.lemmas.Bool.{and_parts}
 use Rattle.std.proofs.lemmas.Bool.Decides.{nat_tests}
 use Rattle.std.proofs.lemmas.List.{length-map, length-set, length-replicate}
 use Rattle.mix_word.specs.Word.{WordValue}
-use Rattle.mix_machine.specs.units.Kind.{block_length, has_medium, has_output}
+use Rattle.mix_machine.specs.units.UnitKind.{block_length, has_medium, has_output}
 use Rattle.mix_machine.specs.units.Row.{RowState}
 use Rattle.mix_machine.specs.units.Unit.{UnitState, IsUnit, block_of, with_word, with_blocks, with_row, filled, blocks_in, most_entries, last_delay, last_until}
 use Rattle.mix_machine.specs.units.Units.{UnitsState, AllUnits, AreUnits, unit_of, with_unit, set_place, fits_place, cut_to, can_cut, set_length, fits_length, set_item, fits_item, set_until, fits_until, add_blocks, add_row, set_delay, fill}

@@ -1,14 +1,14 @@
 -- What one unit holds (1.3.1, "Input-output operators").
 use Rattle.std.specs.Prelude.{ℕ, zero, suc, ◌-◌, ◌*◌, ◌/◌, ◌^◌, ◌≤◌, List, [], ◌∷◌, ◌++◌, length, replicate, take, drop, slice_index_or, slice_set}
 use Rattle.mix_word.specs.Word.{WordValue, zero_word}
-use Rattle.mix_machine.specs.units.Kind.{block_length}
+use Rattle.mix_machine.specs.units.UnitKind.{block_length}
 use Rattle.mix_machine.specs.units.Row.{RowState}
-use Rattle.mix_machine.specs.declared.units.kind.Kind.{Kind}
+use Rattle.mix_machine.specs.declared.units.kind.UnitKind.{UnitKind}
 
 -- A unit: what it is; the blocks that it reads, and of which it reads next; the rows that it has written; how long
 -- a transfer takes beside its step, and until when the last one does.
 pub record UnitState : Type 0 where
-  pub kind : Kind
+  pub kind : UnitKind
   pub place : ℕ
   pub blocks : List (List WordValue)
   pub rows : List RowState
@@ -39,7 +39,7 @@ blocks_in zero size words = []
 blocks_in (suc n) size words = take size words ∷ blocks_in n size (drop size words)
 
 -- a unit of a kind with nothing in it
-abbrev pub empty_unit : Kind → UnitState
+abbrev pub empty_unit : UnitKind → UnitState
 empty_unit kind = record { kind = kind; place = 0; blocks = []; rows = []; delay = 0; until = 0 }
 
 -- block i, counted from 0
@@ -55,7 +55,7 @@ abbrev pub with_word : UnitState → ℕ → ℕ → WordValue → UnitState
 with_word u i j v = record u { blocks = slice_set u.blocks i (slice_set (block_of u i) j v) }
 
 -- so many blocks of +0
-abbrev pub zero_blocks : Kind → ℕ → List (List WordValue)
+abbrev pub zero_blocks : UnitKind → ℕ → List (List WordValue)
 zero_blocks kind n = replicate n (replicate (block_length kind) zero_word)
 
 -- the same unit with so many blocks of +0 and then one block more

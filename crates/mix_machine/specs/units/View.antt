@@ -1,6 +1,6 @@
 -- The unit that the fields of a Unit stand for.
 use Rattle.std.specs.Prelude.{◌≡◌, ◌*◌, length}
-use Rattle.mix_machine.specs.units.Kind.{block_length}
+use Rattle.mix_machine.specs.units.UnitKind.{block_length}
 use Rattle.mix_machine.specs.units.Unit.{UnitState, IsUnit, blocks_in}
 use Rattle.mix_machine.specs.declared.units.unit.Unit.TheInside.{Inside}
 

@@ -4,7 +4,7 @@ ghost use Rattle.mix_machine.specs.World.{unit_at};
 ghost use Rattle.mix_machine.specs.UnitAction.{is_busy, block_at, names_block, wound, bad_order};
 ghost use Rattle.mix_machine.specs.Effects.{effects};
 ghost use Rattle.mix_machine.specs.law.Stages.{outcome_of};
-ghost use Rattle.mix_machine.specs.units.Kind.{has_medium};
+ghost use Rattle.mix_machine.specs.units.UnitKind.{has_medium};
 ghost use Rattle.mix_machine.specs.units.Unit.{most_entries};
 ghost use Rattle.mix_machine.specs.declared.fault.MixFault.TheVariants.{NoUnit, NoBlock, UnitFull};
 
@@ -14,7 +14,7 @@ use crate::fault::MixFault;
 use crate::plan::{Effects, Outcome, Transfer, Writes};
 use crate::step::move_words::is_row;
 use crate::step::transfer::goes_on;
-use crate::units::{Kind, Unit, UnitNo};
+use crate::units::{Unit, UnitKind, UnitNo};
 use crate::world::World;
 use mix_word::{Operation, Reg, Sign};
 
@@ -22,7 +22,7 @@ use mix_word::{Operation, Reg, Sign};
 const MOST_ENTRIES: u16 = 1000;
 
 impl World {
-    /// JBUS: a jump where the last transfer of the unit takes beyond the clock.
+    /// JBUS: a jump where the last transfer of the unit is not over yet at this clock.
     pub(crate) fn jump_busy(&self, a: Arguments) -> Outcome
         ensures { result ≡ outcome_of Operation.Jbus self.now a }
     {
@@ -140,13 +140,13 @@ impl World {
         if is_bad_order(unit, a.m) {
             return Err(MixFault::BadControl);
         }
-        if unit.kind() == Kind::Printer && unit.rows() >= MOST_ENTRIES {
+        if unit.kind() == UnitKind::Printer && unit.rows() >= MOST_ENTRIES {
             return Err(MixFault::UnitFull);
         }
         Ok(goes_on(Writes::Control(number, wound(unit, a.m))))
     }
 
-    // Whether the last transfer of a unit takes beyond the clock.
+    // Whether the last transfer of a unit is not over yet at this clock.
     fn is_busy(&self, n: UnitNo) -> bool
         ensures { result ≡ is_busy self.now n }
     {
@@ -185,11 +185,11 @@ fn is_bad_order(unit: &Unit, m: Address) -> bool
 {
     let zero = m.magnitude() == 0;
     match unit.kind() {
-        Kind::Tape => {
+        UnitKind::Tape => {
             !zero && m.sign() == Sign::Plus && unit.place() + m.magnitude() > unit.blocks()
         }
-        Kind::Disk | Kind::Printer | Kind::PaperTape => !zero,
-        Kind::CardReader | Kind::CardPunch | Kind::Typewriter => true,
+        UnitKind::Disk | UnitKind::Printer | UnitKind::PaperTape => !zero,
+        UnitKind::CardReader | UnitKind::CardPunch | UnitKind::Typewriter => true,
     }
 }
 

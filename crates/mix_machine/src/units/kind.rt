@@ -1,10 +1,10 @@
 //! The kinds of units (1.3.1, "Input-output operators"): what each can do, and how long its blocks are.
 ghost use Rattle.std.specs.Prelude.{◌≡◌, ◌<◌, ◌≤◌};
-ghost use Rattle.mix_machine.specs.units.Kind.{kinds, kind_of, block_length, has_place, has_medium, has_output};
+ghost use Rattle.mix_machine.specs.units.UnitKind.{kinds, kind_of, block_length, has_place, has_medium, has_output};
 
 /// What a unit is (1.3.1): a tape, a disk, a card reader, a card punch, a printer, a typewriter or a paper tape.
 #[derive(Clone, Copy, Debug, PartialEq, Eq)]
-pub enum Kind {
+pub enum UnitKind {
     Tape,
     Disk,
     CardReader,
@@ -15,31 +15,31 @@ pub enum Kind {
 }
 
 /// The kind of each unit, 0 to 20.
-pub(crate) const KINDS: [Kind; 21] = [
-    Kind::Tape,
-    Kind::Tape,
-    Kind::Tape,
-    Kind::Tape,
-    Kind::Tape,
-    Kind::Tape,
-    Kind::Tape,
-    Kind::Tape,
-    Kind::Disk,
-    Kind::Disk,
-    Kind::Disk,
-    Kind::Disk,
-    Kind::Disk,
-    Kind::Disk,
-    Kind::Disk,
-    Kind::Disk,
-    Kind::CardReader,
-    Kind::CardPunch,
-    Kind::Printer,
-    Kind::Typewriter,
-    Kind::PaperTape,
+pub(crate) const KINDS: [UnitKind; 21] = [
+    UnitKind::Tape,
+    UnitKind::Tape,
+    UnitKind::Tape,
+    UnitKind::Tape,
+    UnitKind::Tape,
+    UnitKind::Tape,
+    UnitKind::Tape,
+    UnitKind::Tape,
+    UnitKind::Disk,
+    UnitKind::Disk,
+    UnitKind::Disk,
+    UnitKind::Disk,
+    UnitKind::Disk,
+    UnitKind::Disk,
+    UnitKind::Disk,
+    UnitKind::Disk,
+    UnitKind::CardReader,
+    UnitKind::CardPunch,
+    UnitKind::Printer,
+    UnitKind::Typewriter,
+    UnitKind::PaperTape,
 ];
 
-impl Kind {
+impl UnitKind {
     /// How many words a block of the unit has, or a row that it writes (1.3.1): 100, 24, 16 or 14.
     pub fn block_length(self) -> u8
         ensures is { result ≡ block_length self }
@@ -47,10 +47,10 @@ impl Kind {
         ensures most { result ≤ 100 }
     {
         match self {
-            Kind::Tape | Kind::Disk => 100,
-            Kind::CardReader | Kind::CardPunch => 16,
-            Kind::Printer => 24,
-            Kind::Typewriter | Kind::PaperTape => 14,
+            UnitKind::Tape | UnitKind::Disk => 100,
+            UnitKind::CardReader | UnitKind::CardPunch => 16,
+            UnitKind::Printer => 24,
+            UnitKind::Typewriter | UnitKind::PaperTape => 14,
         }
     }
 
@@ -59,8 +59,9 @@ impl Kind {
         ensures { result ≡ has_place self }
     {
         match self {
-            Kind::Tape | Kind::CardReader | Kind::Typewriter | Kind::PaperTape => true,
-            Kind::Disk | Kind::CardPunch | Kind::Printer => false,
+            UnitKind::Tape | UnitKind::CardReader | UnitKind::Typewriter | UnitKind::PaperTape =>
+                true,
+            UnitKind::Disk | UnitKind::CardPunch | UnitKind::Printer => false,
         }
     }
 
@@ -69,9 +70,9 @@ impl Kind {
         ensures { result ≡ has_medium self }
     {
         match self {
-            Kind::Tape | Kind::Disk => true,
-            Kind::CardReader | Kind::CardPunch | Kind::Printer => false,
-            Kind::Typewriter | Kind::PaperTape => false,
+            UnitKind::Tape | UnitKind::Disk => true,
+            UnitKind::CardReader | UnitKind::CardPunch | UnitKind::Printer => false,
+            UnitKind::Typewriter | UnitKind::PaperTape => false,
         }
     }
 
@@ -80,8 +81,9 @@ impl Kind {
         ensures { result ≡ has_output self }
     {
         match self {
-            Kind::Tape | Kind::Disk | Kind::CardReader => false,
-            Kind::CardPunch | Kind::Printer | Kind::Typewriter | Kind::PaperTape => true,
+            UnitKind::Tape | UnitKind::Disk | UnitKind::CardReader => false,
+            UnitKind::CardPunch | UnitKind::Printer | UnitKind::Typewriter | UnitKind::PaperTape =>
+                true,
         }
     }
 }

@@ -1,8 +1,8 @@
 //! The number of a unit.
 ghost use Rattle.std.specs.Prelude.{◌≡◌, ◌<◌, ◌≤◌, ◌↔◌, IsSome, IfSome};
-ghost use Rattle.mix_machine.specs.units.Kind.{kind_of};
+ghost use Rattle.mix_machine.specs.units.UnitKind.{kind_of};
 
-use crate::units::kind::{KINDS, Kind};
+use crate::units::kind::{KINDS, UnitKind};
 use std::marker::Model;
 
 /// The number of a unit, 0 to 20 (1.3.1): 0 to 7 are tapes, 8 to 15 disks, 16 the card reader, 17 the card punch, 18 the printer, 19 the
@@ -46,7 +46,7 @@ impl UnitNo {
     }
 
     /// What the unit is (1.3.1).
-    pub fn kind(self) -> Kind
+    pub fn kind(self) -> UnitKind
         ensures { result ≡ kind_of self }
     {
         KINDS[usize::from(self.number)]

@@ -5,9 +5,6 @@ ghost use Rattle.mix_machine.specs.units.Row.{row_of};
 use mix_word::{Sign, Word};
 use std::marker::Model;
 
-/// How many words the longest row has: a line of the printer.
-pub(crate) const LONGEST_ROW: usize = 24;
-
 /// A row of a unit's output (1.3.1): the words of a line or a card, each with the sign +, or the mark of a new page.
 // It has room for the longest row, so that it takes no memory of its own.
 #[derive(Drop)]

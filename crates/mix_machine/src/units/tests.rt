@@ -1,38 +1,9 @@
-//! Decks and what they leave in the units, or their first fault, as rows.
+//! Units written by the calls that no other crate has.
 ghost use Rattle.std.specs.Prelude.{◌≡◌, IfOk};
 
-use super::{DeckFault, DeckKind, UnitNo, Units};
+use super::{UnitNo, Units};
 use mix_word::{Sign, Word};
-use std::alloc::{AllocError, Global};
 use std::test::Fail;
-use undo_core::Refused;
-
-mod fault;
-mod filled;
-mod written;
-
-// What a deck begins with, what is repeated then and how often, and what it ends with.
-type Deck = (&'static str, &'static str, usize, &'static str);
-
-fn bytes_of(alloc: Global, deck: Deck) -> Result<Vec<u8>, AllocError> {
-    let (start, piece, times, end) = deck;
-    let mut bytes = Vec::new(alloc);
-    bytes.extend_from_slice(start.as_bytes())?;
-    for _time in 0..times {
-        bytes.extend_from_slice(piece.as_bytes())?;
-    }
-    bytes.extend_from_slice(end.as_bytes())?;
-    Ok(bytes)
-}
-
-// The fault of a deck, and none where it is accepted.
-fn fault_of(alloc: Global, deck: &[u8]) -> Result<Option<DeckFault>, Fail> {
-    match Units::read(alloc, deck) {
-        Ok(_) => Ok(None),
-        Err(Refused::Fault(fault)) => Ok(Some(fault)),
-        Err(Refused::Memory) => Err(Fail::from("out of memory")),
-    }
-}
 
 fn numbered(n: u8) -> Result<UnitNo, Fail>
     ensures { IfOk result (λ u. u ≡ n) }
@@ -41,82 +12,6 @@ fn numbered(n: u8) -> Result<UnitNo, Fail>
         Some(unit) => Ok(unit),
         None => Err(Fail::from("no such unit")),
     }
-}
-
-#[test]
-fn faults_of_decks(rt: HostRuntime) -> Result<(), Fail> {
-    for (deck, line, kind) in fault::ROWS {
-        let bytes = bytes_of(rt.alloc(), deck)?;
-        let fault = fault_of(rt.alloc(), &bytes)?;
-        assert_eq!(rt; fault, Some(DeckFault { line, kind }), "{deck:?}");
-    }
-    let long = vec![in rt.alloc(); b'%'; 33_554_433]?;
-    let fault = DeckFault {
-        line: 1,
-        kind: DeckKind::DeckTooLong,
-    };
-    assert_eq!(rt; fault_of(rt.alloc(), &long)?, Some(fault));
-    Ok(())
-}
-
-#[test]
-fn units_of_decks(rt: HostRuntime) -> Result<(), Fail> {
-    for (deck, number, blocks, delay) in filled::ROWS {
-        let bytes = bytes_of(rt.alloc(), deck)?;
-        let units = Units::read(rt.alloc(), &bytes)?;
-        let unit = units.unit(numbered(number)?);
-        assert_eq!(rt; unit.blocks(), blocks, "{deck:?}");
-        assert_eq!(rt; unit.delay(), delay, "{deck:?}");
-        assert_eq!(rt; (unit.place(), unit.rows()), (0, 0), "{deck:?}");
-        assert_eq!(rt; unit.until(), 0, "{deck:?}");
-        assert!(rt;
-            unit.block(blocks).is_none() && unit.row(0).is_none(),
-            "{deck:?}"
-        );
-    }
-    Ok(())
-}
-
-#[test]
-fn words_of_decks(rt: HostRuntime) -> Result<(), Fail> {
-    for (deck, number, block, word, sign, bytes) in written::ROWS {
-        let text = bytes_of(rt.alloc(), deck)?;
-        let units = Units::read(rt.alloc(), &text)?;
-        let n = numbered(number)?;
-        let words = units.unit(n).block(block).ok_or("no such block")?;
-        let found = words.get(word).copied().ok_or("no such word")?;
-        assert_eq!(rt;
-            words.len(),
-            usize::from(n.kind().block_length()),
-            "{deck:?}"
-        );
-        assert_eq!(rt; found.sign(), sign, "{deck:?}");
-        assert_eq!(rt; found.bytes(), bytes, "{deck:?}");
-    }
-    Ok(())
-}
-
-#[test]
-fn numbers_of_units(rt: HostRuntime) {
-    for n in 0..=255u8 {
-        match UnitNo::of(n) {
-            None => assert!(rt; n > 20, "{n}"),
-            Some(unit) => {
-                assert!(rt; n <= 20, "{n}");
-                assert_eq!(rt; unit.number(), n);
-            }
-        }
-    }
-}
-
-#[test]
-fn texts_of_faults(rt: HostRuntime) -> Result<(), Fail> {
-    for (kind, text) in fault::TEXTS {
-        let fault = DeckFault { line: 101, kind };
-        let written = format!(in rt.alloc(); "{fault}")?;
-        assert_eq!(rt; written.as_str(), text);
-    }
-    Ok(())
 }
 
 #[test]

@@ -1,11 +1,11 @@
 //! One unit (1.3.1, "Input-output operators"): its blocks and its place among them, the rows that it has written, and its times.
 ghost use Rattle.std.specs.Prelude.{◌≡◌, ◌<◌, ◌≤◌, ◌+◌, ◌*◌, ◌/◌, ◌%◌, ◌++◌, None, Some, MatchOption, OnOk, OnErr, length, replicate, vec_len, vec_capacity, IsTrue, slice_get};
 ghost use Rattle.mix_word.specs.Word.{zero_word};
-ghost use Rattle.mix_machine.specs.units.Kind.{block_length};
+ghost use Rattle.mix_machine.specs.units.UnitKind.{block_length};
 ghost use Rattle.mix_machine.specs.units.Unit.{IsUnit, empty_unit, word_of, with_word, with_blocks, with_row, filled, most_entries, last_delay, last_until};
 ghost use Rattle.mix_machine.specs.units.Units.{cut_to, can_cut, length_of};
 
-use crate::units::kind::Kind;
+use crate::units::kind::UnitKind;
 use crate::units::row::Row;
 use mix_word::Word;
 use std::alloc::Global;
@@ -17,7 +17,7 @@ use undo_core::Memory;
 // The blocks lie side by side in one list of words.
 #[derive(Drop)]
 pub struct Unit {
-    kind: Kind,
+    kind: UnitKind,
     place: u16,
     count: u16,
     words: Vec<Word>,
@@ -99,7 +99,7 @@ impl Unit {
     }
 
     /// A unit of a kind with nothing in it.
-    pub(crate) fn empty(alloc: Global, kind: Kind) -> Unit
+    pub(crate) fn empty(alloc: Global, kind: UnitKind) -> Unit
         ensures { result ≡ empty_unit kind }
     {
         Unit {
@@ -114,7 +114,7 @@ impl Unit {
     }
 
     /// What the unit is.
-    pub(crate) fn kind(&self) -> Kind
+    pub(crate) fn kind(&self) -> UnitKind
         ensures { result ≡ self.now.kind }
     {
         self.kind

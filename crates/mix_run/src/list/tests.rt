@@ -10,40 +10,59 @@ use std::io;
 /// All bytes in one call.
 const ALL: usize = 4096;
 
-const HELLO: &str =
-    "TERM    EQU    19          the console\n        ORIG   1000\nSTART   OUT    MSG(TERM)   output\n        HLT                halt execution\nMSG     ALF    \"MIXAL\"\n        ALF    \" HELL\"\n        ALF    \"O WOR\"\n        ALF    \"LD   \"\n        END    START\n";
-
-const HELLO_LISTING: &str = "      + 00 00 00 00 19      1  TERM    EQU    19          the console
-                            2          ORIG   1000
-1000  + 15 42 00 19 37      3  START   OUT    MSG(TERM)   output
-1001  + 00 00 00 02 05      4          HLT                halt execution
-1002  + 14 09 27 01 13      5  MSG     ALF    \"MIXAL\"
-1003  + 00 08 05 13 13      6          ALF    \" HELL\"
-1004  + 16 00 26 16 19      7          ALF    \"O WOR\"
-1005  + 13 04 00 00 00      8          ALF    \"LD   \"
-1000                        9          END    START
-symbols 3
-TERM        + 00 00 00 00 19
-START       + 00 00 00 15 40
-MSG         + 00 00 00 15 42
+// Program M (1.3.2), with the words that the book gives beside it.
+const MAXIMUM: &str = "X       EQU  1000
+        ORIG 3000
+MAXIMUM STJ  EXIT
+INIT    ENT3 0,1
+        JMP  CHANGEM
+LOOP    CMPA X,3
+        JGE  *+3
+CHANGEM ENT2 0,3
+        LDA  X,3
+        DEC3 1
+        J3P  LOOP
+EXIT    JMP  *
+        END  MAXIMUM
 ";
 
-const INSERTED: &str = " LDA =3=\n LDA =3=\n JMP NOWHERE\n END 0\n";
+const MAXIMUM_LISTING: &str = "      + 00 00 00 15 40      1  X       EQU  1000
+                            2          ORIG 3000
+3000  + 47 01 00 02 32      3  MAXIMUM STJ  EXIT
+3001  + 00 00 01 02 51      4  INIT    ENT3 0,1
+3002  + 46 61 00 00 39      5          JMP  CHANGEM
+3003  + 15 40 03 05 56      6  LOOP    CMPA X,3
+3004  + 46 63 00 07 39      7          JGE  *+3
+3005  + 00 00 03 02 50      8  CHANGEM ENT2 0,3
+3006  + 15 40 03 05 08      9          LDA  X,3
+3007  + 00 01 00 01 51     10          DEC3 1
+3008  + 46 59 00 02 43     11          J3P  LOOP
+3009  + 47 01 00 00 39     12  EXIT    JMP  *
+3000                       13          END  MAXIMUM
+symbols 6
+X           + 00 00 00 15 40
+MAXIMUM     + 00 00 00 46 56
+INIT        + 00 00 00 46 57
+LOOP        + 00 00 00 46 59
+CHANGEM     + 00 00 00 46 61
+EXIT        + 00 00 00 47 01
+";
 
-const INSERTED_LISTING: &str = "0000  + 00 03 00 05 08      1   LDA =3=
-0001  + 00 04 00 05 08      2   LDA =3=
-0002  + 00 05 00 00 39      3   JMP NOWHERE
-0003  + 00 00 00 00 03         =3=
-0004  + 00 00 00 00 03         =3=
-0005  + 00 00 00 00 00         NOWHERE
-0000                        4   END 0
+// A literal, and a symbol that no line defines.
+const INSERTED: &str = " LDA =10=\n ADD B\n END 1\n";
+
+const INSERTED_LISTING: &str = "0000  + 00 02 00 05 08      1   LDA =10=
+0001  + 00 03 00 05 01      2   ADD B
+0002  + 00 00 00 00 10         =10=
+0003  + 00 00 00 00 00         B
+0001                        3   END 1
 symbols 1
-NOWHERE     + 00 00 00 00 05
+B           + 00 00 00 00 03
 ";
 
 // A source, the status, and what is written.
 const SOURCES: [(&str, u8, &str); 9] = [
-    (HELLO, 0, HELLO_LISTING),
+    (MAXIMUM, 0, MAXIMUM_LISTING),
     (INSERTED, 0, INSERTED_LISTING),
     (
         " END\r\n no line of it",
@@ -96,10 +115,10 @@ fn lists_a_source_or_tells_its_fault(rt: HostRuntime) {
 
 // A source, bytes a call, the call of the writer that fails, and how many bytes have been written.
 const FAILED_WRITES: [(&str, &str, usize, u64, usize); 6] = [
-    (HELLO, HELLO_LISTING, ALL, 1, 0),
-    (HELLO, HELLO_LISTING, 5, 2, 5),
-    (HELLO, HELLO_LISTING, 100, 5, 400),
-    (INSERTED, INSERTED_LISTING, 1, 310, 309),
+    (MAXIMUM, MAXIMUM_LISTING, ALL, 1, 0),
+    (MAXIMUM, MAXIMUM_LISTING, 5, 2, 5),
+    (MAXIMUM, MAXIMUM_LISTING, 100, 5, 400),
+    (INSERTED, INSERTED_LISTING, 1, 225, 224),
     ("", "line 1: A13 no END\n", ALL, 1, 0),
     ("", "line 1: A13 no END\n", 1, 19, 18),
 ];
@@ -131,7 +150,7 @@ fn fails_at_read(alloc: Global, call: u64) -> (Result<u8, ToolFault>, u64, usize
 #[test]
 fn nothing_is_written_after_a_failed_read(rt: HostRuntime) {
     // a read for each byte, and one that finds the end
-    for call in [1, 2, 20, 38, 39] {
+    for call in [1, 2, 20, 24, 25] {
         assert_eq!(rt;
             fails_at_read(rt.alloc(), call),
             (Err(ToolFault::Read), 1, 0)

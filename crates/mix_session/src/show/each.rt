@@ -1,8 +1,8 @@
 //! The texts of things in a row, one after the other.
 
-ghost use Rattle.std.specs.Prelude.{◌≡◌, ◌<◌, ◌≤◌, ◌-◌, ℕ, List, Some, flat_map};
+ghost use Rattle.std.specs.Prelude.{◌≡◌, ◌<◌, ◌≤◌, ℕ, List, Some};
 ghost use Rattle.std.specs.Fmt.{WritesOnOk};
-ghost use Rattle.std.specs.List.{range_with_len};
+ghost use Rattle.mix_session.specs.Each.{texts};
 
 use std::fmt;
 use std::marker::PhantomData;
@@ -51,8 +51,9 @@ impl<'a, K: Numbered> Each<'a, K> {
 }
 
 impl<K: Numbered> fmt::Display for Each<'_, K> {
-    ghost output = { λ e. Some (flat_map (K.text e.of.now) (range_with_len e.first (e.end - e.first))) };
+    ghost output = { λ e. Some (texts (K.text e.of.now) e.first e.end) };
 
+    #[tactic(auto, unfolding(crate::specs::Each::texts))]
     fn fmt<W: fmt::Write>(&self, f: &mut fmt::Formatter<W>) -> fmt::Result {
         for number in self.first..self.end {
             K::write(self.of, number, f)?;

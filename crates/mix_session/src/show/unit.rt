@@ -1,13 +1,16 @@
 //! What `show unit` writes of a unit.
 
-ghost use Rattle.std.specs.Prelude.{◌≡◌, ◌<◌, [], IfOk, Some, None, string_bytes, length, slice_index_or, flat_map};
+ghost use Rattle.std.specs.Prelude.{◌≡◌, ◌<◌, ℕ, List, [], IfOk, Some, None, string_bytes, length, slice_index_or, flat_map};
+ghost use Rattle.std.specs.Fmt.{WritesOnOk};
+ghost use Rattle.mix_word.specs.Word.{WordValue};
 ghost use Rattle.mix_session.specs.ShowUnit.{input_line, row_line, contents_text, counts_text, times_text, unit_line, unit_text, block_text};
 
 use crate::show::each::{Each, Numbered};
 use crate::show::words::{BlockLines, Characters};
-use mix_machine::{Kind, Row, Unit, UnitNo, Word, World};
+use mix_machine::{Row, Unit, UnitKind, UnitNo, Word, World};
 use std::alloc::{AllocError, Global};
 use std::fmt;
+use std::marker::PhantomData;
 
 /// The line of a unit, and what it holds.
 pub(super) fn unit_lines(alloc: Global, world: &World, number: UnitNo) -> Result<String, AllocError>
@@ -80,46 +83,56 @@ impl fmt::Display for UnitLine<'_> {
     }
 }
 
-/// The lines of the blocks of a tape or a disk, by their numbers.
-struct UnitBlocks;
+/// A kind of text that each block has.
+trait BlockText {
+    // The text of a block.
+    ghost text: { List WordValue → List ℕ };
 
-impl Numbered for UnitBlocks {
-    type Of = Unit;
+    /// Writes the text of a block.
+    fn write<W: fmt::Write>(block: &[Word], f: &mut fmt::Formatter<W>) -> fmt::Result
+        ensures { WritesOnOk W.write_str_gives f.old result (text block.now) f.new };
+}
 
-    ghost count = { λ u. length u.blocks };
+/// The lines of a block of a tape or a disk.
+struct WordLines;
 
-    ghost text = { λ u i. block_text (slice_index_or u.blocks i []) };
+impl BlockText for WordLines {
+    ghost text = { block_text };
 
-    fn write<W: fmt::Write>(unit: &Unit, number: u16, f: &mut fmt::Formatter<W>) -> fmt::Result {
-        let lines = BlockLines(block_at(unit, number));
+    fn write<W: fmt::Write>(block: &[Word], f: &mut fmt::Formatter<W>) -> fmt::Result {
+        let lines = BlockLines(block);
         write!(f, "{lines}")
     }
 }
 
-fn blocks<'a>(unit: &'a Unit) -> Each<'a, UnitBlocks>
-    ensures { ⟦<Each<'a, UnitBlocks> as fmt::Display>⟧.output result ≡ Some (flat_map block_text unit.now.blocks) }
-{
-    Each::between(unit, 0, unit.blocks())
+/// The line of a block that is read in characters.
+struct InputLine;
+
+impl BlockText for InputLine {
+    ghost text = { input_line };
+
+    fn write<W: fmt::Write>(block: &[Word], f: &mut fmt::Formatter<W>) -> fmt::Result {
+        write!(f, "< {}\n", Characters(block))
+    }
 }
 
-/// The lines of the blocks that are read in characters, by their numbers.
-struct UnitInputs;
+/// The blocks of a unit, by their numbers, each with its text of a kind.
+struct UnitBlocks<B: BlockText>(PhantomData<B>);
 
-impl Numbered for UnitInputs {
+impl<B: BlockText> Numbered for UnitBlocks<B> {
     type Of = Unit;
 
     ghost count = { λ u. length u.blocks };
 
-    ghost text = { λ u i. input_line (slice_index_or u.blocks i []) };
+    ghost text = { λ u i. B.text (slice_index_or u.blocks i []) };
 
     fn write<W: fmt::Write>(unit: &Unit, number: u16, f: &mut fmt::Formatter<W>) -> fmt::Result {
-        let characters = Characters(block_at(unit, number));
-        write!(f, "< {characters}\n")
+        B::write(block_at(unit, number), f)
     }
 }
 
-fn inputs<'a>(unit: &'a Unit) -> Each<'a, UnitInputs>
-    ensures { ⟦<Each<'a, UnitInputs> as fmt::Display>⟧.output result ≡ Some (flat_map input_line unit.now.blocks) }
+fn blocks<'a, B: BlockText>(unit: &'a Unit) -> Each<'a, UnitBlocks<B>>
+    ensures { ⟦<Each<'a, UnitBlocks<B>> as fmt::Display>⟧.output result ≡ Some (flat_map B.text unit.now.blocks) }
 {
     Each::between(unit, 0, unit.blocks())
 }
@@ -153,18 +166,19 @@ fn rows<'a>(unit: &'a Unit) -> Each<'a, UnitRows>
 
 /// What a unit of a kind holds.
 #[derive(Clone, Copy)]
-struct Contents<'a>(Kind, &'a Unit);
+struct Contents<'a>(UnitKind, &'a Unit);
 
 impl fmt::Display for Contents<'_> {
     ghost output = { λ c. Some (contents_text c.0 c.1.now) };
 
     fn fmt<W: fmt::Write>(&self, f: &mut fmt::Formatter<W>) -> fmt::Result {
-        let (blocks, inputs, rows) = (blocks(self.1), inputs(self.1), rows(self.1));
+        let (blocks, inputs) = (blocks::<WordLines>(self.1), blocks::<InputLine>(self.1));
+        let rows = rows(self.1);
         match self.0 {
-            Kind::Tape | Kind::Disk => write!(f, "{blocks}"),
-            Kind::CardReader => write!(f, "{inputs}"),
-            Kind::CardPunch | Kind::Printer => write!(f, "{rows}"),
-            Kind::Typewriter | Kind::PaperTape => write!(f, "{inputs}{rows}"),
+            UnitKind::Tape | UnitKind::Disk => write!(f, "{blocks}"),
+            UnitKind::CardReader => write!(f, "{inputs}"),
+            UnitKind::CardPunch | UnitKind::Printer => write!(f, "{rows}"),
+            UnitKind::Typewriter | UnitKind::PaperTape => write!(f, "{inputs}{rows}"),
         }
     }
 }

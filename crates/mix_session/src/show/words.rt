@@ -4,6 +4,7 @@ ghost use Rattle.std.specs.Prelude.{◌≡◌, ◌∷◌, [], ◌<◌, ◌≤◌
 ghost use Rattle.mix_word.specs.Characters.{character_of};
 ghost use Rattle.mix_word.specs.Word.{byte_of, zero_word};
 ghost use Rattle.mix_session.specs.ShowUnit.{pair_text, deck_word_text, text_after, block_text, letters_text, characters_text};
+ghost use Rattle.mix_session.specs.ShowValue.{short_letters};
 
 use mix_machine::Word;
 use mix_word::char_of;
@@ -112,7 +113,7 @@ fn letter_of(word: Word, i: u8) -> Letter
 
 /// The five characters of a word.
 #[derive(Clone, Copy)]
-struct Letters(Word);
+pub(super) struct Letters(pub Word);
 
 impl fmt::Display for Letters {
     ghost output = { λ w. Some (letters_text w.0) };
@@ -128,6 +129,19 @@ impl fmt::Display for Letters {
             letter_of(word, 5),
         );
         write!(f, "{a}{b}{c}{d}{e}")
+    }
+}
+
+/// The two characters of an index register.
+#[derive(Clone, Copy)]
+pub(super) struct ShortLetters(pub Word);
+
+impl fmt::Display for ShortLetters {
+    ghost output = { λ w. Some (short_letters w.0) };
+
+    fn fmt<W: fmt::Write>(&self, f: &mut fmt::Formatter<W>) -> fmt::Result {
+        let (d, e) = (letter_of(self.0, 4), letter_of(self.0, 5));
+        write!(f, "{d}{e}")
     }
 }
 

@@ -6,72 +6,28 @@ use crate::fault::Refusal;
 use crate::reply::{End, Told};
 use crate::request::{Request, Topic};
 use crate::session::Session;
-use mix_machine::{Change, Place};
+use mix_machine::{Change, Place, Word};
 use std::test::Fail;
 
 // A line on the session that the row above left, what it asks for, what is answered, and the text of that.
-const LINES: [(&str, Request, Answer, &str); 11] = [
-    (
-        "step 4",
-        Request::Step(4),
-        Answer::Ran(4, End::Halt),
-        "ran 4 to 0004 clock 14: halt\n",
-    ),
-    (
-        "back 3",
-        Request::Back(3),
-        Answer::Back(3),
-        "back 3 to 0001 clock 1\n",
-    ),
-    (
-        "forth 2",
-        Request::Forth(2),
-        Answer::Forth(2),
-        "forth 2 to 0003 clock 4\n",
-    ),
-    (
-        "set over on",
-        Request::Change(Change::SetOver(true)),
-        Answer::Done,
-        "ok\n",
-    ),
-    (
-        "show changes",
-        Request::Show(Topic::Changes),
-        Answer::Shows(Topic::Changes),
-        "changes 4\n",
-    ),
-    (
-        "back break",
-        Request::BackBreak,
-        Answer::Back(4),
-        "back 4 to 0000 clock 0\n",
-    ),
-    (
-        "back all",
-        Request::BackAll,
-        Answer::Back(0),
-        "back 0 to 0000 clock 0\n",
-    ),
+#[rattlefmt::skip]
+const LINES: [(&str, Request, Answer, &str); 16] = [
+    ("step 4", Request::Step(4), Answer::Ran(4, End::Halt), "ran 4 to 0004 clock 14: halt\n"),
+    ("back 3", Request::Back(3), Answer::Back(3), "back 3 to 0001 clock 1\n"),
+    ("forth 2", Request::Forth(2), Answer::Forth(2), "forth 2 to 0003 clock 4\n"),
+    ("set over on", Request::Change(Change::SetOver(true)), Answer::Done, "ok\n"),
+    ("show changes", Request::Show(Topic::Changes), Answer::Shows(Topic::Changes), "changes 4\n"),
+    ("back break", Request::BackBreak, Answer::Back(4), "back 4 to 0000 clock 0\n"),
+    ("back all", Request::BackAll, Answer::Back(0), "back 0 to 0000 clock 0\n"),
     ("* none", Request::Nothing, Answer::Nothing, ""),
-    (
-        "forth 9",
-        Request::Forth(9),
-        Answer::Refused(Refusal::TooFewChanges),
-        "? C4 fewer changes than asked\n",
-    ),
-    (
-        "run 2",
-        Request::Run(2),
-        Answer::Ran(2, End::Limit),
-        "ran 2 to 0002 clock 2: limit\n",
-    ),
-    (
-        "show clock",
-        Request::Show(Topic::Clock),
-        Answer::Shows(Topic::Clock),
-        "clock 2\n",
-    ),
+    ("forth 9", Request::Forth(9), Answer::Refused(Refusal::TooFewChanges), "? C4 fewer changes than asked\n"),
+    ("run 2", Request::Run(2), Answer::Ran(2, End::Limit), "ran 2 to 0002 clock 2: limit\n"),
+    ("show clock", Request::Show(Topic::Clock), Answer::Shows(Topic::Clock), "clock 2\n"),
+    ("goto 1", Request::Goto(1), Answer::Back(1), "back 1 to 0001 clock 1\n"),
+    ("Forth ALL", Request::ForthAll, Answer::Forth(1), "forth 1 to 0002 clock 2\n"),
+    ("goto 3", Request::Goto(3), Answer::Refused(Refusal::TooFewChanges), "? C4 fewer changes than asked\n"),
+    ("show value 0", Request::Show(Topic::Value(Word::ZERO)), Answer::Shows(Topic::Value(Word::ZERO)), "+ 00 00 00 00 00           0  \"     \"\n"),
+    ("show symbols", Request::Show(Topic::Symbols), Answer::Shows(Topic::Symbols), "symbols 0\n"),
 ];
 
 // Requests that no line asks for, after those.
@@ -118,7 +74,7 @@ fn is_answered(session: &mut Session, request: Request, answer: Answer, text: &s
     session.execute(request) == Ok(answer)
         && session
             .text(&answer)
-            .is_ok_and(|written| written.as_str() == text)
+            .is_ok_and(|written| written.as_slice() == text.as_bytes())
 }
 
 #[test]

@@ -105,44 +105,28 @@ impl Write for Device {
 const SIZES: [usize; 4] = [1, 4095, 4096, 4097];
 
 #[test]
-fn each_read_is_one_call(rt: HostRuntime) {
+fn each_call_is_one_call(rt: HostRuntime) {
     let mut buffer = [0; 4097];
     for size in SIZES {
         for failing in 1..4 {
             let mut source = Counted::of(Device::of(failing));
-            for call in 1..4 {
-                assert!(rt; In::failures(&source) <= 1, "read {call} of {size}");
-                let answer = In::read(&mut source, &mut buffer[..size]);
-                let wanted = if call == failing {
-                    Err(Failed)
-                } else {
-                    Ok(size)
-                };
-                assert_eq!(rt; answer, wanted, "read {call} of {size}");
-                assert_eq!(rt; source.inner.calls, call, "read {call} of {size}");
-            }
-            assert_eq!(rt; In::failures(&source), 1, "{size}");
-        }
-    }
-}
-
-#[test]
-fn each_write_is_one_call(rt: HostRuntime) {
-    let buffer = [b'x'; 4097];
-    for size in SIZES {
-        for failing in 1..4 {
             let mut sink = Counted::of(Device::of(failing));
             for call in 1..4 {
+                assert!(rt; In::failures(&source) <= 1, "read {call} of {size}");
                 assert!(rt; Out::failures(&sink) <= 1, "write {call} of {size}");
-                let answer = Out::write(&mut sink, &buffer[..size]);
+                let read = In::read(&mut source, &mut buffer[..size]);
+                let written = Out::write(&mut sink, &buffer[..size]);
                 let wanted = if call == failing {
                     Err(Failed)
                 } else {
                     Ok(size)
                 };
-                assert_eq!(rt; answer, wanted, "write {call} of {size}");
+                assert_eq!(rt; read, wanted, "read {call} of {size}");
+                assert_eq!(rt; written, wanted, "write {call} of {size}");
+                assert_eq!(rt; source.inner.calls, call, "read {call} of {size}");
                 assert_eq!(rt; sink.inner.calls, call, "write {call} of {size}");
             }
+            assert_eq!(rt; In::failures(&source), 1, "{size}");
             assert_eq!(rt; Out::failures(&sink), 1, "{size}");
         }
     }

@@ -5,47 +5,32 @@ use crate::place::Place;
 use crate::word::{Parts, Sign, Word};
 use std::test::Fail;
 
-// The cell 2000 of the book's examples of LDA, and its field of each code.
+// The cell 2000 of the book's examples of LDA.
 const CELL: Bytes = (Minus, [1, 16, 3, 5, 4]);
 
-const LOADED: [(u8, Bytes); 6] = [
-    (5, (Minus, [1, 16, 3, 5, 4])),
-    (13, (Plus, [1, 16, 3, 5, 4])),
-    (29, (Plus, [0, 0, 3, 5, 4])),
-    (3, (Minus, [0, 0, 1, 16, 3])),
-    (36, (Plus, [0, 0, 0, 0, 5])),
-    (0, (Minus, [0, 0, 0, 0, 0])),
+// The code of a field, the field of that cell, and the cell - 1 2 3 4 5 where that field of + 6 7 8 9 0 was stored, as in the
+// book's examples of STA.
+const CODES: [(u8, Bytes, Bytes); 10] = [
+    (5, (Minus, [1, 16, 3, 5, 4]), (Plus, [6, 7, 8, 9, 0])),
+    (13, (Plus, [1, 16, 3, 5, 4]), (Minus, [6, 7, 8, 9, 0])),
+    (29, (Plus, [0, 0, 3, 5, 4]), (Minus, [1, 2, 8, 9, 0])),
+    (3, (Minus, [0, 0, 1, 16, 3]), (Plus, [8, 9, 0, 4, 5])),
+    (36, (Plus, [0, 0, 0, 0, 5]), (Minus, [1, 2, 3, 0, 5])),
+    (0, (Minus, [0, 0, 0, 0, 0]), (Plus, [1, 2, 3, 4, 5])),
+    (45, (Plus, [0, 0, 0, 0, 4]), (Minus, [1, 2, 3, 4, 0])),
+    (18, (Plus, [0, 0, 0, 0, 16]), (Minus, [1, 0, 3, 4, 5])),
+    (19, (Plus, [0, 0, 0, 16, 3]), (Minus, [1, 9, 0, 4, 5])),
+    (1, (Minus, [0, 0, 0, 0, 1]), (Plus, [0, 2, 3, 4, 5])),
 ];
 
 #[test]
-fn field_values(rt: HostRuntime) {
-    for (code, want) in LOADED {
-        assert!(rt;
-            word(CELL).field_value(field(code)) == word(want),
-            "field {code}"
-        );
-    }
-}
-
-// The book's examples of STA: the cell - 1 2 3 4 5, and rA + 6 7 8 9 0.
-const STORED: [(u8, Bytes); 6] = [
-    (5, (Plus, [6, 7, 8, 9, 0])),
-    (13, (Minus, [6, 7, 8, 9, 0])),
-    (45, (Minus, [1, 2, 3, 4, 0])),
-    (18, (Minus, [1, 0, 3, 4, 5])),
-    (19, (Minus, [1, 9, 0, 4, 5])),
-    (1, (Plus, [0, 2, 3, 4, 5])),
-];
-
-#[test]
-fn fields_put(rt: HostRuntime) {
+fn fields_loaded_and_stored(rt: HostRuntime) {
     let cell = word((Minus, [1, 2, 3, 4, 5]));
     let value = word((Plus, [6, 7, 8, 9, 0]));
-    for (code, want) in STORED {
-        assert!(rt;
-            cell.put_field(field(code), value) == word(want),
-            "field {code}"
-        );
+    for (code, loaded, stored) in CODES {
+        let f = field(code);
+        let got = (word(CELL).field_value(f), cell.put_field(f, value));
+        assert!(rt; got == (word(loaded), word(stored)), "field {code}");
     }
 }
 

@@ -1,53 +1,47 @@
-use super::{Bytes, Minus, Plus, number, word};
+use super::{Minus, Plus, number, word};
 use crate::conversion::{num, to_char};
 use crate::operation::ShiftKind;
 use crate::shifting::shift;
+use crate::word::Word;
 
-const ZERO: Bytes = (Plus, [0, 0, 0, 0, 0]);
+// The bytes of rA and rX, of which the one is positive and the other negative.
+type Pair = [u8; 10];
 
-// The book's shifts, one after another, from these two words on.
-const FIRST: (Bytes, Bytes) = ((Plus, [1, 2, 3, 4, 5]), (Minus, [6, 7, 8, 9, 10]));
-
+// Shifts by a number of bytes, of rA and rX as they are before and after. The first five are the book's, one after another.
 #[rattlefmt::skip]
-const IN_TURN: [(ShiftKind, u16, Bytes, Bytes); 5] = [
-    (ShiftKind::Srax, 1, (Plus, [0, 1, 2, 3, 4]), (Minus, [5, 6, 7, 8, 9])),
-    (ShiftKind::Sla, 2, (Plus, [2, 3, 4, 0, 0]), (Minus, [5, 6, 7, 8, 9])),
-    (ShiftKind::Src, 4, (Plus, [6, 7, 8, 9, 2]), (Minus, [3, 4, 0, 0, 5])),
-    (ShiftKind::Sra, 2, (Plus, [0, 0, 6, 7, 8]), (Minus, [3, 4, 0, 0, 5])),
-    (ShiftKind::Slc, 501, (Plus, [0, 6, 7, 8, 3]), (Minus, [4, 0, 0, 5, 0])),
+const SHIFTS: [(ShiftKind, u16, Pair, Pair); 16] = [
+    (ShiftKind::Srax, 1, [1, 2, 3, 4, 5, 6, 7, 8, 9, 10], [0, 1, 2, 3, 4, 5, 6, 7, 8, 9]),
+    (ShiftKind::Sla, 2, [0, 1, 2, 3, 4, 5, 6, 7, 8, 9], [2, 3, 4, 0, 0, 5, 6, 7, 8, 9]),
+    (ShiftKind::Src, 4, [2, 3, 4, 0, 0, 5, 6, 7, 8, 9], [6, 7, 8, 9, 2, 3, 4, 0, 0, 5]),
+    (ShiftKind::Sra, 2, [6, 7, 8, 9, 2, 3, 4, 0, 0, 5], [0, 0, 6, 7, 8, 3, 4, 0, 0, 5]),
+    (ShiftKind::Slc, 501, [0, 0, 6, 7, 8, 3, 4, 0, 0, 5], [0, 6, 7, 8, 3, 4, 0, 0, 5, 0]),
+    (ShiftKind::Slax, 3, [1, 2, 3, 4, 5, 6, 7, 8, 9, 10], [4, 5, 6, 7, 8, 9, 10, 0, 0, 0]),
+    (ShiftKind::Slax, 0, [1, 2, 3, 4, 5, 6, 7, 8, 9, 10], [1, 2, 3, 4, 5, 6, 7, 8, 9, 10]),
+    (ShiftKind::Slax, 9, [1, 2, 3, 4, 5, 6, 7, 8, 9, 10], [10, 0, 0, 0, 0, 0, 0, 0, 0, 0]),
+    (ShiftKind::Slax, 10, [1, 2, 3, 4, 5, 6, 7, 8, 9, 10], [0, 0, 0, 0, 0, 0, 0, 0, 0, 0]),
+    (ShiftKind::Srax, 65_535, [1, 2, 3, 4, 5, 6, 7, 8, 9, 10], [0, 0, 0, 0, 0, 0, 0, 0, 0, 0]),
+    (ShiftKind::Sla, 5, [1, 2, 3, 4, 5, 6, 7, 8, 9, 10], [0, 0, 0, 0, 0, 6, 7, 8, 9, 10]),
+    (ShiftKind::Sra, 65_535, [1, 2, 3, 4, 5, 6, 7, 8, 9, 10], [0, 0, 0, 0, 0, 6, 7, 8, 9, 10]),
+    (ShiftKind::Sra, 4, [1, 2, 3, 4, 5, 6, 7, 8, 9, 10], [0, 0, 0, 0, 1, 6, 7, 8, 9, 10]),
+    (ShiftKind::Slc, 10, [1, 2, 3, 4, 5, 6, 7, 8, 9, 10], [1, 2, 3, 4, 5, 6, 7, 8, 9, 10]),
+    (ShiftKind::Src, 4_090, [1, 2, 3, 4, 5, 6, 7, 8, 9, 10], [1, 2, 3, 4, 5, 6, 7, 8, 9, 10]),
+    (ShiftKind::Src, 13, [1, 2, 3, 4, 5, 6, 7, 8, 9, 10], [8, 9, 10, 1, 2, 3, 4, 5, 6, 7]),
 ];
 
 #[test]
-fn shifts_in_turn(rt: HostRuntime) {
-    let (mut a, mut x) = (word(FIRST.0), word(FIRST.1));
-    for (kind, by, want_a, want_x) in IN_TURN {
-        (a, x) = shift(kind, a, x, by);
-        assert!(rt; (a, x) == (word(want_a), word(want_x)), "by {by}");
+fn shifts(rt: HostRuntime) {
+    for (kind, by, before, after) in SHIFTS {
+        let (a, x) = words(before);
+        assert!(rt; shift(kind, a, x, by) == words(after), "by {by}");
     }
 }
 
-// Shifts of those first words.
-#[rattlefmt::skip]
-const SHIFTED: [(ShiftKind, u16, Bytes, Bytes); 11] = [
-    (ShiftKind::Slax, 3, (Plus, [4, 5, 6, 7, 8]), (Minus, [9, 10, 0, 0, 0])),
-    (ShiftKind::Slax, 0, (Plus, [1, 2, 3, 4, 5]), (Minus, [6, 7, 8, 9, 10])),
-    (ShiftKind::Slax, 9, (Plus, [10, 0, 0, 0, 0]), (Minus, [0, 0, 0, 0, 0])),
-    (ShiftKind::Slax, 10, ZERO, (Minus, [0, 0, 0, 0, 0])),
-    (ShiftKind::Srax, 65_535, ZERO, (Minus, [0, 0, 0, 0, 0])),
-    (ShiftKind::Sla, 5, ZERO, (Minus, [6, 7, 8, 9, 10])),
-    (ShiftKind::Sra, 65_535, ZERO, (Minus, [6, 7, 8, 9, 10])),
-    (ShiftKind::Sra, 4, (Plus, [0, 0, 0, 0, 1]), (Minus, [6, 7, 8, 9, 10])),
-    (ShiftKind::Slc, 10, (Plus, [1, 2, 3, 4, 5]), (Minus, [6, 7, 8, 9, 10])),
-    (ShiftKind::Src, 4_090, (Plus, [1, 2, 3, 4, 5]), (Minus, [6, 7, 8, 9, 10])),
-    (ShiftKind::Src, 13, (Plus, [8, 9, 10, 1, 2]), (Minus, [3, 4, 5, 6, 7])),
-];
-
-#[test]
-fn shifts_of_first(rt: HostRuntime) {
-    for (kind, by, want_a, want_x) in SHIFTED {
-        let moved = shift(kind, word(FIRST.0), word(FIRST.1), by);
-        assert!(rt; moved == (word(want_a), word(want_x)), "by {by}");
-    }
+fn words(pair: Pair) -> (Word, Word) {
+    let [a, b, c, d, e, f, g, h, i, j] = pair;
+    (
+        word((Plus, [a, b, c, d, e])),
+        word((Minus, [f, g, h, i, j])),
+    )
 }
 
 #[test]
@@ -68,5 +62,5 @@ fn digits(rt: HostRuntime) {
         word((Plus, [31, 30, 37, 33, 37])),
         word((Minus, [34, 31, 38, 32, 33])),
     );
-    assert!(rt; to_char(number(1_073_741_823), word(FIRST.1)) == largest);
+    assert!(rt; to_char(number(1_073_741_823), word((Minus, [6, 7, 8, 9, 10]))) == largest);
 }

@@ -1,4 +1,4 @@
-//! The names that the rows know, and what a row wants.
+//! The names that the rows know, and how a row tells a word and a number.
 ghost use Rattle.std.specs.Prelude.{◌==◌, Some, None, codes, if◌then◌else◌};
 ghost use Rattle.std.specs.Str.{bytes_eq};
 ghost use Rattle.mix_word.specs.Word.{plus};
@@ -9,7 +9,6 @@ use crate::names::Names;
 use crate::op::Op;
 use crate::symbol::Symbol;
 use mix_word::{Sign, Word};
-use std::process::Abort;
 
 /// X is 5, and 2B is 9; nothing else is known.
 pub(crate) struct Known;
@@ -42,14 +41,6 @@ pub(crate) fn here() -> Word {
     Word::of(Sign::Plus, 7)
 }
 
-/// What a row wants: a word by its sign and magnitude, or a fault by its number.
-#[derive(Clone, Copy, Debug)]
-pub(crate) enum Want {
-    Plus(u32),
-    Minus(u32),
-    Fault(u8),
-}
-
 /// The number of the fault that is answered, and 0 for an answer that is none.
 pub(crate) fn number_of<T: Drop>(got: Result<T, TextFault>) -> u8 {
     match got {
@@ -58,31 +49,17 @@ pub(crate) fn number_of<T: Drop>(got: Result<T, TextFault>) -> u8 {
     }
 }
 
-pub(crate) fn check_word(rt: &impl Abort, text: &str, got: Result<Word, TextFault>, want: Want) {
-    match want {
-        Want::Plus(magnitude) => check_value(rt, text, got, Sign::Plus, magnitude),
-        Want::Minus(magnitude) => check_value(rt, text, got, Sign::Minus, magnitude),
-        Want::Fault(number) => match got {
-            Ok(_) => assert!(rt; false, "{text}: no fault"),
-            Err(fault) => assert_eq!(rt; fault.number(), number, "{text}"),
-        },
-    }
+/// Whether these digits are this number.
+pub(crate) fn is_number(digits: &[u8], n: u32) -> bool {
+    mix_lines::number(digits) == Some(u64::from(n))
 }
 
-fn check_value(
-    rt: &impl Abort,
-    text: &str,
-    got: Result<Word, TextFault>,
-    sign: Sign,
-    magnitude: u32,
-) {
-    match got {
-        Ok(word) => assert_eq!(rt;
-            (word.sign(), word.magnitude()),
-            (sign, magnitude),
-            "{text}"
-        ),
-        Err(fault) => assert!(rt; false, "{text}: {fault}"),
+/// Whether a text tells this word, by its sign and the digits of its magnitude.
+pub(crate) fn is_word(told: &str, word: Word) -> bool {
+    match told.as_bytes() {
+        [b'+', digits @ ..] => word.sign() == Sign::Plus && is_number(digits, word.magnitude()),
+        [b'-', digits @ ..] => word.sign() == Sign::Minus && is_number(digits, word.magnitude()),
+        _ => false,
     }
 }
 

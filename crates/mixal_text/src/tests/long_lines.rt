@@ -55,8 +55,10 @@ fn lines(rt: HostRuntime) -> Result<(), Fail> {
 
 /// The beginning of a text, what is repeated after it, and the numbers of the faults of it as an expression, a W-value
 /// and an ADDRESS, each 0 where there is none.
-const TEXTS: [(&str, &str, u8, u8, u8); 12] = [
+const TEXTS: [(&str, &str, u8, u8, u8); 14] = [
     ("0", "+1", 0, 0, 0),
+    ("X", "*1", 0, 0, 0),
+    ("1", "//1", 8, 8, 8),
     ("", "*", 5, 5, 5),
     ("", "/", 5, 5, 5),
     ("", "+", 5, 5, 5),

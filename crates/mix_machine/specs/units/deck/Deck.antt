@@ -5,13 +5,13 @@ use Rattle.mix_refused.specs.declared.refused.Refused.{Refused}
 use Rattle.mix_refused.specs.declared.refused.Refused.TheVariants.{Fault, Memory}
 use Rattle.mix_lines.specs.Lines.{lines, words}
 use Rattle.mix_word.specs.Word.{WordValue}
-use Rattle.mix_machine.specs.units.Kind.{block_length}
+use Rattle.mix_machine.specs.units.UnitKind.{block_length}
 use Rattle.mix_machine.specs.units.Unit.{most_entries}
 use Rattle.mix_machine.specs.units.Units.{UnitsState, empty_units, unit_of, set_delay, fill}
 use Rattle.mix_machine.specs.units.deck.Header.{is_header, header_of}
 use Rattle.mix_machine.specs.units.deck.Block.{deck_words, is_too_long, has_codes, words_from}
-use Rattle.mix_machine.specs.declared.units.kind.Kind.{Kind}
-use Rattle.mix_machine.specs.declared.units.kind.Kind.TheVariants.{Tape, Disk, CardReader, CardPunch, Printer, Typewriter, PaperTape}
+use Rattle.mix_machine.specs.declared.units.kind.UnitKind.{UnitKind}
+use Rattle.mix_machine.specs.declared.units.kind.UnitKind.TheVariants.{Tape, Disk, CardReader, CardPunch, Printer, Typewriter, PaperTape}
 use Rattle.mix_machine.specs.declared.units.deck.header.Header.{Header}
 use Rattle.mix_machine.specs.declared.units.deck_fault.DeckKind.{DeckKind}
 use Rattle.mix_machine.specs.declared.units.deck_fault.DeckKind.TheVariants.{BadHeader, UnitGivenTwice, LineTooLong, NoMixCharacter, BadWord, PartOfBlock, NoInput, TooManyBlocks, DeckTooLong}
@@ -33,7 +33,7 @@ pub record Reading : Type 0 where
 abbrev pub nothing_read : Reading
 nothing_read = record { units = empty_units; unit = None; words = []; given = replicate 21 false }
 
-abbrev pub kind_at : Reading → ℕ → Kind
+abbrev pub kind_at : Reading → ℕ → UnitKind
 kind_at r n = (unit_of r.units n).kind
 
 -- the words of a unit become its blocks, each of which is whole
@@ -43,7 +43,7 @@ end_unit us (Some n) ws =
     if length ws % block_length (unit_of us n).kind == 0 then Ok (fill us n ws) else Err PartOfBlock
 
 -- whether a unit reads nothing: a card punch or a printer
-abbrev pub reads_nothing : Kind → Bool
+abbrev pub reads_nothing : UnitKind → Bool
 reads_nothing Tape = false
 reads_nothing Disk = false
 reads_nothing CardReader = false
@@ -78,7 +78,7 @@ blank_or k r [] = Ok r
 blank_or k r (word ∷ rest) = Err k
 
 -- whether so many words more would begin a block too many
-abbrev pub is_over : Kind → Reading → ℕ → Bool
+abbrev pub is_over : UnitKind → Reading → ℕ → Bool
 is_over kind r n = nat_lt (most_entries * block_length kind) (length r.words + n)
 
 abbrev pub with_words : List WordValue → Option (List WordValue) → Result (List WordValue) DeckKind
@@ -90,20 +90,20 @@ words_read r (Ok ws) = Ok (record r { words = ws })
 words_read r (Err k) = Err k
 
 -- a line of a tape or a disk: words
-abbrev pub line_of_words : Kind → Reading → List ℕ → Result Reading DeckKind
+abbrev pub line_of_words : UnitKind → Reading → List ℕ → Result Reading DeckKind
 line_of_words kind r text =
     if is_over kind r (length (words text)) then Err TooManyBlocks
     else words_read r (with_words r.words (deck_words (words text)))
 
 -- a line of cards or text: one block, five characters a word
-abbrev pub line_of_text : Kind → Reading → List ℕ → Result Reading DeckKind
+abbrev pub line_of_text : UnitKind → Reading → List ℕ → Result Reading DeckKind
 line_of_text kind r text =
     if is_over kind r (block_length kind) then Err TooManyBlocks else
     if is_too_long (5 * block_length kind) text then Err LineTooLong else
     if not (has_codes (5 * block_length kind) text) then Err NoMixCharacter else
     Ok (record r { words = r.words ++ words_from (block_length kind) 0 text })
 
-abbrev pub line_of_unit : Kind → Reading → List ℕ → Result Reading DeckKind
+abbrev pub line_of_unit : UnitKind → Reading → List ℕ → Result Reading DeckKind
 line_of_unit Tape r text = line_of_words Tape r text
 line_of_unit Disk r text = line_of_words Disk r text
 line_of_unit CardReader r text = line_of_text CardReader r text
@@ -151,8 +151,8 @@ pub record IsReading (r : Reading) : Type 0 where
   pub words : length r.words ≤ room_of r.units r.unit
   pub given : length r.given ≡ 21
 
--- What a step of the reading says: the new state where it is accepted, and its fault where that refuses it. Out of
--- memory says nothing.
+-- What a step of the reading answers: the new state where it is accepted, and its fault where that refuses it. A step
+-- that is out of memory promises nothing.
 abbrev pub Gives : {X : Type 0} → Result X DeckKind → X → Result (Unit {0}) (Refused DeckKind) → Type 0
 Gives expected x (Ok u) = expected ≡ Ok x
 Gives expected x (Err (Fault k)) = expected ≡ Err k

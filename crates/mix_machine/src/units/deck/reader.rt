@@ -1,7 +1,7 @@
 //! The lines of a deck, read one after the other into the units.
 ghost use Rattle.std.specs.Prelude.{◌≡◌, ◌<◌, ◌≤◌, ◌+◌, ◌*◌, ◌^◌, ◌++◌, OnOk, length, vec_len, IfOk, IfSome, MatchResult, Ok, Err};
 ghost use Rattle.mix_lines.specs.Lines.{words};
-ghost use Rattle.mix_machine.specs.units.Kind.{block_length};
+ghost use Rattle.mix_machine.specs.units.UnitKind.{block_length};
 ghost use Rattle.mix_machine.specs.units.Unit.{most_entries};
 ghost use Rattle.mix_machine.specs.units.deck.Block.{deck_words, words_from};
 ghost use Rattle.mix_machine.specs.units.deck.Deck.{Gives, nothing_read, reads_nothing, end_unit, begin_unit, header_line, blank_or, with_words, line_of_words, line_of_text, line_of_unit, line_below, line_read, kind_at, room_of};
@@ -10,7 +10,7 @@ use crate::units::Units;
 use crate::units::deck::block::{deck_word, has_codes, has_more_words, is_too_long, word_at};
 use crate::units::deck::header::{Header, header_of, is_header};
 use crate::units::deck_fault::DeckKind;
-use crate::units::kind::Kind;
+use crate::units::kind::UnitKind;
 use crate::units::number::UnitNo;
 use mix_lines::{Words, next_word};
 use mix_word::Word;
@@ -19,7 +19,7 @@ use std::marker::Model;
 use std::mem;
 use undo_core::{Memory, Refused};
 
-const MOST_BLOCKS: usize = 1000;
+const MAX_BLOCKS: usize = 1000;
 
 /// What is read of a deck so far: the units, up to the last header; the unit of that header; the words read for it; and of each unit
 /// whether a header named it.
@@ -157,29 +157,32 @@ impl Reader {
     }
 
     // A line below the header of a unit of this kind.
-    fn line_of_unit(&mut self, kind: Kind, text: &[u8]) -> Result<(), Refused<DeckKind>>
+    fn line_of_unit(&mut self, kind: UnitKind, text: &[u8]) -> Result<(), Refused<DeckKind>>
         requires { room_of self.old.units self.old.unit ≡ most_entries * block_length kind }
         ensures { Gives (line_of_unit kind self.old text.now) self.new result }
     {
         match kind {
-            Kind::Tape => self.line_of_words(Kind::Tape, text),
-            Kind::Disk => self.line_of_words(Kind::Disk, text),
-            Kind::CardReader => self.line_of_text(Kind::CardReader, text),
-            Kind::CardPunch | Kind::Printer => match self.blank_or(DeckKind::NoInput, text) {
+            UnitKind::Tape => self.line_of_words(UnitKind::Tape, text),
+            UnitKind::Disk => self.line_of_words(UnitKind::Disk, text),
+            UnitKind::CardReader => self.line_of_text(UnitKind::CardReader, text),
+            UnitKind::CardPunch | UnitKind::Printer => match self.blank_or(
+                DeckKind::NoInput,
+                text,
+            ) {
                 Ok(()) => Ok(()),
                 Err(kind) => Err(Refused::Fault(kind)),
             },
-            Kind::Typewriter => self.line_of_text(Kind::Typewriter, text),
-            Kind::PaperTape => self.line_of_text(Kind::PaperTape, text),
+            UnitKind::Typewriter => self.line_of_text(UnitKind::Typewriter, text),
+            UnitKind::PaperTape => self.line_of_text(UnitKind::PaperTape, text),
         }
     }
 
     // A line of a tape or a disk: words.
-    fn line_of_words(&mut self, kind: Kind, text: &[u8]) -> Result<(), Refused<DeckKind>>
+    fn line_of_words(&mut self, kind: UnitKind, text: &[u8]) -> Result<(), Refused<DeckKind>>
         requires { room_of self.old.units self.old.unit ≡ most_entries * block_length kind }
         ensures { Gives (line_of_words kind self.old text.now) self.new result }
     {
-        let room = MOST_BLOCKS * usize::from(kind.block_length()) - self.words.len();
+        let room = MAX_BLOCKS * usize::from(kind.block_length()) - self.words.len();
         if has_more_words(text, room) {
             return Err(Refused::Fault(DeckKind::TooManyBlocks));
         }
@@ -187,13 +190,13 @@ impl Reader {
     }
 
     // A line of cards or text: one block, five characters a word.
-    fn line_of_text(&mut self, kind: Kind, text: &[u8]) -> Result<(), Refused<DeckKind>>
+    fn line_of_text(&mut self, kind: UnitKind, text: &[u8]) -> Result<(), Refused<DeckKind>>
         requires { room_of self.old.units self.old.unit ≡ most_entries * block_length kind }
         ensures { Gives (line_of_text kind self.old text.now) self.new result }
     {
         let length = kind.block_length();
         let columns = 5 * usize::from(length);
-        if self.words.len() + usize::from(length) > MOST_BLOCKS * usize::from(length) {
+        if self.words.len() + usize::from(length) > MAX_BLOCKS * usize::from(length) {
             return Err(Refused::Fault(DeckKind::TooManyBlocks));
         }
         if is_too_long(text, columns) {
@@ -210,13 +213,13 @@ impl Reader {
 }
 
 // Whether a unit reads nothing.
-fn reads_nothing(kind: Kind) -> bool
+fn reads_nothing(kind: UnitKind) -> bool
     ensures { result ≡ reads_nothing kind }
 {
     match kind {
-        Kind::CardPunch | Kind::Printer => true,
-        Kind::Tape | Kind::Disk | Kind::CardReader => false,
-        Kind::Typewriter | Kind::PaperTape => false,
+        UnitKind::CardPunch | UnitKind::Printer => true,
+        UnitKind::Tape | UnitKind::Disk | UnitKind::CardReader => false,
+        UnitKind::Typewriter | UnitKind::PaperTape => false,
     }
 }
 

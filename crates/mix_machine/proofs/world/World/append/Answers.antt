@@ -4,7 +4,7 @@ use Rattle.mix_machine.specs.View.{view_of}
 use Rattle.mix_machine.specs.UnitAction.{transfer_end}
 use Rattle.mix_machine.specs.Write.{set, busy, grow, words_out, place_after}
 use Rattle.mix_machine.specs.law.Wrote.{Wrote}
-use Rattle.mix_machine.specs.units.Kind.{has_place, has_medium}
+use Rattle.mix_machine.specs.units.UnitKind.{has_place, has_medium}
 use Rattle.mix_machine.specs.law.Plans.{fits-until-in}
 use Rattle.mix_machine.specs.law.Units.{fits-place-grown}
 use Rattle.mix_machine.specs.declared.old.Old.TheVariants.{Len, Until}

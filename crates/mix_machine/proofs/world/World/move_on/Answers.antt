@@ -1,5 +1,5 @@
 use Rattle.std.proofs.Common.{◌≡◌, ◌∙◌, true, false, sym}
-use Rattle.mix_machine.specs.units.Kind.{has_place}
+use Rattle.mix_machine.specs.units.UnitKind.{has_place}
 use Rattle.mix_machine.proofs.WriteLemmas.{wrote-none}
 use Rattle.mix_machine.proofs.world.World.move_on.Goals as goal
 

@@ -2,7 +2,7 @@ use Rattle.std.proofs.Common.{◌++◌, ◌∷◌, [], ap, sym, refl, ◌∙◌}
 use Rattle.mix_machine.specs.View.{view_of}
 use Rattle.mix_machine.specs.Write.{busy, print, words_out}
 use Rattle.mix_machine.specs.law.Wrote.{Wrote}
-use Rattle.mix_machine.specs.units.Kind.{has_medium}
+use Rattle.mix_machine.specs.units.UnitKind.{has_medium}
 use Rattle.mix_machine.specs.units.Row.{row_of}
 use Rattle.mix_machine.specs.declared.old.Old.TheVariants.{Len}
 use Rattle.mix_machine.specs.UnitAction.{transfer_end}

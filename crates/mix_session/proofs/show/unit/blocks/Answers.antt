@@ -1,8 +1,7 @@
 use Rattle.std.proofs.Common.{ap, Some, []}
-use Rattle.mix_session.specs.ShowUnit.{block_text}
-use Rattle.mix_session.proofs.ShowLemmas.{flat_map-indexed}
+use Rattle.mix_session.proofs.ShowLemmas.{texts-indexed}
 use Rattle.mix_session.proofs.show.unit.blocks.Goals as goal
 
 pub returns : goal.returns
-returns c =
-    rw (c.between.ensures.of, c.between.ensures.first, c.between.ensures.end) (ap Some (flat_map-indexed block_text [] c.args.unit.now.blocks _ c.blocks-2.ensures))
+returns g c =
+    rw (c.between.ensures.of, c.between.ensures.first, c.between.ensures.end) (ap Some (texts-indexed g.B.BlockText.text [] c.args.unit.now.blocks _ c.blocks-2.ensures))

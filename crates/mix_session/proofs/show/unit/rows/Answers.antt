@@ -1,8 +1,8 @@
 use Rattle.std.proofs.Common.{ap, Some, None}
 use Rattle.mix_session.specs.ShowUnit.{row_line}
-use Rattle.mix_session.proofs.ShowLemmas.{flat_map-indexed}
+use Rattle.mix_session.proofs.ShowLemmas.{texts-indexed}
 use Rattle.mix_session.proofs.show.unit.rows.Goals as goal
 
 pub returns : goal.returns
 returns c =
-    rw (c.between.ensures.of, c.between.ensures.first, c.between.ensures.end) (ap Some (flat_map-indexed row_line None c.args.unit.now.rows _ c.rows.ensures))
+    rw (c.between.ensures.of, c.between.ensures.first, c.between.ensures.end) (ap Some (texts-indexed row_line None c.args.unit.now.rows _ c.rows.ensures))

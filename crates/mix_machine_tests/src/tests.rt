@@ -1,0 +1,69 @@
+//! Steps, changes and decks as rows of text, each judged by the one function that reads its kind of row; and what is no row.
+mod decks;
+mod journal;
+mod reader;
+mod rows;
+mod same;
+mod stands;
+mod steps;
+mod texts;
+
+use self::decks::{has_fault, is_filled, is_refused};
+use self::steps::{is_right, is_right_change};
+use std::test::Fail;
+
+#[test]
+fn steps_are_right(rt: HostRuntime) {
+    for table in &rows::STEPS {
+        for row in table.lines() {
+            assert_eq!(rt; is_right(rt.alloc(), row), Some(true), "{row}");
+        }
+    }
+}
+
+#[test]
+fn steps_with_units_are_right(rt: HostRuntime) {
+    for table in &rows::UNITS {
+        for row in table.lines() {
+            assert_eq!(rt; is_right(rt.alloc(), row), Some(true), "{row}");
+        }
+    }
+}
+
+#[test]
+fn wrong_rows_are_seen(rt: HostRuntime) {
+    for row in rows::wrong::ROWS.lines() {
+        assert!(rt; is_right(rt.alloc(), row) != Some(true), "{row}");
+    }
+}
+
+#[test]
+fn changes_are_right(rt: HostRuntime) {
+    for row in rows::change::ROWS.lines() {
+        assert_eq!(rt; is_right_change(rt.alloc(), row), Some(true), "{row}");
+    }
+}
+
+#[test]
+fn decks_are_refused(rt: HostRuntime) {
+    for row in rows::deck::REFUSED.lines() {
+        assert_eq!(rt; is_refused(rt.alloc(), row), Some(true), "{row}");
+    }
+}
+
+#[test]
+fn a_deck_is_too_long(rt: HostRuntime) -> Result<(), Fail> {
+    let long = vec![in rt.alloc(); b'%'; 33_554_433]?;
+    let found = has_fault(rt.alloc(), &long, "line 1: K9 deck too long");
+    assert_eq!(rt; found, Some(true));
+    Ok(())
+}
+
+#[test]
+fn decks_fill_units(rt: HostRuntime) {
+    for table in &rows::deck::ACCEPTED {
+        for row in table.lines() {
+            assert_eq!(rt; is_filled(rt.alloc(), row), Some(true), "{row}");
+        }
+    }
+}

@@ -1,0 +1,63 @@
+//! Whether a deck is refused, or fills the units, as its row says: the deck, where `/` ends a line and `{3 AB}` is AB three times; `|`; and the
+//! fault as it is written, or values that stand in the units.
+use super::stands::stands_in_units;
+use mix_machine::Units;
+use std::alloc::Global;
+use undo_core::Refused;
+
+/// Whether the first fault of a deck is the one of its row.
+pub fn is_refused(alloc: Global, row: &str) -> Option<bool> {
+    let (deck, expected) = row.split_once('|')?;
+    has_fault(alloc, &bytes_of(alloc, deck)?, expected)
+}
+
+/// Whether this is the first fault of a deck.
+pub fn has_fault(alloc: Global, deck: &[u8], expected: &str) -> Option<bool> {
+    match Units::read(alloc, deck) {
+        Err(Refused::Fault(fault)) => {
+            let text = format!(in alloc; "{fault}").ok()?;
+            Some(text.as_str() == expected)
+        }
+        Err(Refused::Memory) => None,
+        Ok(_) => Some(false),
+    }
+}
+
+/// Whether all values of a row stand in the units that its deck fills.
+pub fn is_filled(alloc: Global, row: &str) -> Option<bool> {
+    let (deck, values) = row.split_once('|')?;
+    let units = Units::read(alloc, &bytes_of(alloc, deck)?).ok()?;
+    for value in values.split_whitespace() {
+        if !stands_in_units(&units, value)? {
+            return Some(false);
+        }
+    }
+    Some(true)
+}
+
+fn bytes_of(alloc: Global, deck: &str) -> Option<Vec<u8>> {
+    let mut bytes = Vec::new(alloc);
+    match deck.split_once('{') {
+        None => push_all(&mut bytes, deck)?,
+        Some((start, rest)) => {
+            let (repeated, end) = rest.split_once('}')?;
+            let (times, piece) = repeated.split_once(' ')?;
+            let mut once = Vec::new(alloc);
+            push_all(&mut once, piece)?;
+            push_all(&mut bytes, start)?;
+            for _time in 0..times.parse::<u32>().ok()? {
+                bytes.extend_from_slice(&once).ok()?;
+            }
+            push_all(&mut bytes, end)?;
+        }
+    }
+    Some(bytes)
+}
+
+fn push_all(bytes: &mut Vec<u8>, text: &str) -> Option<()> {
+    for byte in text.as_bytes() {
+        let next = if *byte == b'/' { b'\n' } else { *byte };
+        bytes.push(next).ok()?;
+    }
+    Some(())
+}

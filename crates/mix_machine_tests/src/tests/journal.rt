@@ -1,0 +1,137 @@
+//! What is no row: changes one after the other, one of them taken back; a loaded machine read; and a change reverted.
+ghost use Rattle.std.specs.Prelude.{◌≡◌};
+
+use super::reader::{machine, word};
+use super::steps::number_of;
+use mix_machine::{Change, Cmp, Place, Reg, Sign, Units, Word, World, halt_law, kept_count_law};
+use std::alloc::Global;
+use std::test::Fail;
+use undo_core::{Journal, Undo};
+
+// ENT1 101, MOVE 100(63), where cell 100 holds 7.
+#[test]
+fn a_move_over_itself(rt: HostRuntime) -> Result<(), Fail> {
+    let world = machine(rt.alloc(), "+101,0,2,49 +100,0,63,7", "").ok_or("no machine")?;
+    let mut journal = Journal::new(rt.alloc(), world);
+    let seven = Word::of(Sign::Plus, 7);
+    let first = Place::of(100).expect(&rt, "a place");
+    assert_eq!(rt; number_of(journal.go(Change::SetCell(first, seven))), 0);
+    assert_eq!(rt; number_of(journal.go(Change::Step)), 0);
+    assert_eq!(rt; number_of(journal.go(Change::Step)), 0);
+    assert_eq!(rt; count_of(journal.state(), 100, seven), 64);
+    assert_eq!(rt;
+        journal.state().register(Reg::I1),
+        Word::of(Sign::Plus, 164)
+    );
+    assert_eq!(rt; (journal.state().loc(), journal.state().clock()), (2, 128));
+    assert_eq!(rt; journal.kept_len(), 70);
+    assert!(rt; journal.back());
+    assert_eq!(rt; count_of(journal.state(), 100, seven), 1);
+    assert_eq!(rt; (journal.state().loc(), journal.state().clock()), (1, 1));
+    Ok(())
+}
+
+// How many cells from one on hold this word.
+fn count_of(world: &World, from: u16, word: Word) -> u16 {
+    let mut count = 0;
+    for n in from..4000 {
+        match Place::of(n) {
+            Some(place) if world.cell(place) == word => count = n + 1 - from,
+            _ => return count,
+        }
+    }
+    count
+}
+
+// Breakpoints at cells of one number and of the next; one of them is cleared, and that is taken back.
+#[test]
+fn breakpoints(rt: HostRuntime) -> Result<(), Fail> {
+    let mut journal = Journal::new(rt.alloc(), machine(rt.alloc(), "", "").ok_or("no machine")?);
+    for n in [0, 62, 63, 64, 3999] {
+        let place = Place::of(n).expect(&rt, "a place");
+        assert_eq!(rt; number_of(journal.go(Change::Break(place))), 0);
+    }
+    assert_eq!(rt; breaks_of(journal.state()), (5, 0 + 62 + 63 + 64 + 3999));
+    let cleared = Place::of(63).expect(&rt, "a place");
+    assert_eq!(rt; number_of(journal.go(Change::Clear(cleared))), 0);
+    assert_eq!(rt; breaks_of(journal.state()), (4, 0 + 62 + 64 + 3999));
+    assert_eq!(rt; journal.kept_len(), 6);
+    assert!(rt; journal.back());
+    assert_eq!(rt; breaks_of(journal.state()), (5, 0 + 62 + 63 + 64 + 3999));
+    Ok(())
+}
+
+// How many breakpoints there are, and the sum of their cells' numbers.
+fn breaks_of(world: &World) -> (u16, u32) {
+    let mut count: u16 = 0;
+    let mut sum: u32 = 0;
+    for n in 0..4000 {
+        match Place::of(n) {
+            Some(place) if world.is_break(place) => {
+                count = count.saturating_add(1);
+                sum = sum.saturating_add(u32::from(n));
+            }
+            _ => {}
+        }
+    }
+    (count, sum)
+}
+
+#[test]
+fn a_loaded_machine_is_read(rt: HostRuntime) -> Result<(), Fail> {
+    let start = Place::of(3998).expect(&rt, "a place");
+    let halt = word("+0,0,2,5").ok_or("no word")?;
+    let words = [(start, Word::of(Sign::Plus, 1)), (start, halt)];
+    let units = Units::empty(rt.alloc())?;
+    let world = World::load(rt.alloc(), &words, start, units)?;
+    for r in Reg::ALL {
+        assert_eq!(rt; world.register(r), Word::ZERO, "{r:?}");
+    }
+    let first = Place::of(0).expect(&rt, "a place");
+    assert_eq!(rt; world.cell(first), Word::ZERO);
+    assert_eq!(rt; world.cell(start), halt, "the later word wins");
+    assert_eq!(rt; world.loc(), 3998);
+    assert_eq!(rt; world.over(), false);
+    assert_eq!(rt; world.cmp(), Cmp::Equal);
+    assert_eq!(rt; world.clock(), 0);
+    assert!(rt; !world.is_break(start));
+    assert!(rt; world.next_is_halt());
+    halt_law();
+    kept_count_law();
+    Ok(())
+}
+
+// A change done and taken back at once: how many values it kept, or none where it was refused.
+fn try_out(alloc: Global, world: &mut World, change: Change) -> Option<usize>
+    ensures { world.new ≡ world.old }
+{
+    let mut kept = Vec::new(alloc);
+    match world.apply(&change, &mut kept) {
+        Err(_) => None,
+        Ok(()) => {
+            let count = kept.len();
+            world.revert(&mut kept, 0);
+            Some(count)
+        }
+    }
+}
+
+#[test]
+fn a_change_is_reverted(rt: HostRuntime) -> Result<(), Fail> {
+    let mut world = machine(rt.alloc(), "-9,0,2,48", "").ok_or("no machine")?;
+    assert!(rt; !world.next_is_halt());
+    assert_eq!(rt; try_out(rt.alloc(), &mut world, Change::Step), Some(3));
+    assert_eq!(rt;
+        try_out(rt.alloc(), &mut world, Change::SetOver(true)),
+        Some(1)
+    );
+    let large = Change::SetReg(Reg::I1, Word::of(Sign::Plus, 4096));
+    assert_eq!(rt; try_out(rt.alloc(), &mut world, large), None);
+    assert_eq!(rt; world.register(Reg::A), Word::ZERO);
+    assert_eq!(rt; world.clock(), 0);
+    let mut kept = Vec::new(rt.alloc());
+    assert_eq!(rt; number_of(world.apply(&Change::Step, &mut kept)), 0);
+    assert_eq!(rt; kept.len(), 3);
+    assert_eq!(rt; world.register(Reg::A), Word::of(Sign::Minus, 9));
+    Ok(())
+}

@@ -1,0 +1,59 @@
+-- What `show value` writes: a word as its bytes, as its number and in characters.
+use Rattle.std.specs.Prelude.{ℕ, ◌+◌, List, [], ◌∷◌, ◌++◌, codes, flat_map}
+use Rattle.mix_word.specs.Word.{WordValue, byte_of}
+use Rattle.mix_word.specs.Text.{word_text, short_text}
+use Rattle.mix_word.specs.Characters.{character_of}
+use Rattle.mix_word.specs.Instruction.{number_text}
+use Rattle.mix_word.specs.Register.{all_registers, name_of_register}
+use Rattle.mix_word.specs.declared.register.Reg.{Reg}
+use Rattle.mix_word.specs.declared.register.Reg.TheVariants as reg
+use Rattle.mix_machine.specs.World.{WorldState, register_of, cell_of}
+use Rattle.mix_session.specs.Columns.{left_in, right_in}
+use Rattle.mix_session.specs.Reply.{location_text}
+use Rattle.mix_session.specs.Each.{texts}
+use Rattle.mix_session.specs.ShowUnit.{letters_text}
+
+-- the bytes left in their places, the number right in its places, and the characters in quotes
+unfoldable pub columns_text : List ℕ → WordValue → List ℕ → List ℕ
+columns_text bytes word letters =
+    left_in 16 bytes ++ codes " " ++ right_in 11 (number_text word) ++ codes "  \"" ++ letters ++ codes "\"" ++ 10 ∷ []
+
+-- a word of five bytes
+abbrev pub value_line : WordValue → List ℕ
+value_line word = columns_text (word_text word) word (letters_text word)
+
+-- the characters of the two bytes of an index register
+abbrev pub short_letters : WordValue → List ℕ
+short_letters word = character_of (byte_of word 4) ∷ character_of (byte_of word 5) ∷ []
+
+-- a word of two bytes
+abbrev pub short_line : WordValue → List ℕ
+short_line word = columns_text (short_text word) word (short_letters word)
+
+-- what a register holds: five bytes of rA and rX, two of the others
+abbrev pub register_columns : Reg → WordValue → List ℕ
+register_columns reg.A word = value_line word
+register_columns reg.X word = value_line word
+register_columns reg.I1 word = short_line word
+register_columns reg.I2 word = short_line word
+register_columns reg.I3 word = short_line word
+register_columns reg.I4 word = short_line word
+register_columns reg.I5 word = short_line word
+register_columns reg.I6 word = short_line word
+register_columns reg.J word = short_line word
+
+-- a register, by its name left in two places and a blank
+abbrev pub register_values : WorldState → Reg → List ℕ
+register_values w r = left_in 2 (name_of_register r) ++ codes " " ++ register_columns r (register_of w r)
+
+-- a cell, by its location
+abbrev pub cell_values : WorldState → ℕ → List ℕ
+cell_values w p = location_text p ++ codes " " ++ value_line (cell_of w p)
+
+-- the reply of `show values`, of the registers
+abbrev pub values_text : WorldState → List ℕ
+values_text w = flat_map (register_values w) all_registers
+
+-- and of cells
+abbrev pub cell_values_text : WorldState → ℕ → ℕ → List ℕ
+cell_values_text w first last = texts (cell_values w) first (last + 1)

@@ -1,0 +1,142 @@
+//! What `show code` writes: cells as instructions, and the lines of the source that they come from.
+
+ghost use Rattle.std.specs.Prelude.{◌≡◌, ◌++◌, OnOk, IfOk};
+ghost use Rattle.mixal_asm.specs.Row.{source_value};
+ghost use Rattle.mixal_asm.specs.Source.{source_at};
+ghost use Rattle.mix_session.specs.ShowCode.{is_overwritten, mark_text, line_number, line_bytes, line_text, code_text, code_line, codes_text};
+
+use crate::reply::Location;
+use crate::show::cells::place_at;
+use crate::show::columns::{add_blanks, add_left, add_right};
+use crate::show::lines::{Lines, add_lines};
+use mix_machine::{Place, Word, World};
+use mix_word::Instruction;
+use mixal_asm::{Program, Source};
+use std::alloc::{AllocError, Global};
+
+/// The lines of the cells from a first to a last one.
+pub(super) fn code_lines(
+    alloc: Global,
+    program: &Program<'_>,
+    world: &World,
+    first: Place,
+    last: Place,
+) -> Result<Vec<u8>, AllocError>
+    ensures { IfOk result (λ text. text.items ≡ codes_text program.now world.now first last) }
+{
+    let mut text = Vec::new(alloc);
+    let lines = CodeLines { program, world };
+    add_lines(alloc, &mut text, &lines, first.number(), last.number() + 1)?;
+    Ok(text)
+}
+
+/// A program, and the machine whose cells are shown.
+#[derive(Clone, Copy)]
+struct CodeLines<'a, 's> {
+    program: &'a Program<'s>,
+    world: &'a World,
+}
+
+impl Lines for CodeLines<'_, '_> {
+    ghost line = { λ l. code_line l.program.now l.world.now };
+
+    fn add(&self, alloc: Global, text: &mut Vec<u8>, number: u16) -> Result<(), AllocError> {
+        add_code(alloc, text, self.program, self.world, place_at(number))
+    }
+}
+
+// The line of a cell.
+#[tactic(auto, unfolding(crate::specs::ShowCode::code_line))]
+fn add_code(
+    alloc: Global,
+    text: &mut Vec<u8>,
+    program: &Program<'_>,
+    world: &World,
+    place: Place,
+) -> Result<(), AllocError>
+    ensures { OnOk result (text.new.items ≡ text.old.items ++ code_line program.now world.now place) }
+{
+    let (location, word) = (Location(place.number()), world.cell(place));
+    let front = format!(in alloc; "{location}  {word}  ")?;
+    text.extend_from_slice(front.as_bytes())?;
+    add_instruction(alloc, text, program, world, place)?;
+    text.push(b'\n')?;
+    Ok(())
+}
+
+// The instruction of a cell, and the line that it comes from, if it comes from one.
+fn add_instruction(
+    alloc: Global,
+    text: &mut Vec<u8>,
+    program: &Program<'_>,
+    world: &World,
+    place: Place,
+) -> Result<(), AllocError>
+    ensures { OnOk result (text.new.items ≡ text.old.items ++ code_text program.now world.now place (source_at program.now place)) }
+{
+    let instruction = Instruction(world.cell(place));
+    let instruction = format!(in alloc; "{instruction}")?;
+    match program.source_at(place) {
+        None => text.extend_from_slice(instruction.as_bytes()),
+        Some(source) => {
+            add_left(text, 17, instruction.as_bytes())?;
+            text.extend_from_slice(b"  ")?;
+            add_line(alloc, text, is_overwritten(program, world, place), source)
+        }
+    }
+}
+
+// Whether a cell holds another word than the last one that the source put there.
+fn is_overwritten(program: &Program<'_>, world: &World, place: Place) -> bool
+    ensures { result ≡ is_overwritten program.now world.now place }
+{
+    match program.word_at(place) {
+        None => false,
+        Some(put) => !put.is_same(world.cell(place)),
+    }
+}
+
+/// A line of the source: its number, a mark where its cell is overwritten, a blank, and its bytes.
+#[tactic(auto, unfolding(crate::specs::ShowCode::line_text))]
+pub(super) fn add_line(
+    alloc: Global,
+    text: &mut Vec<u8>,
+    overwritten: bool,
+    source: &Source<'_>,
+) -> Result<(), AllocError>
+    ensures { OnOk result (text.new.items ≡ text.old.items ++ line_text overwritten (source_value source.now)) }
+{
+    add_number(alloc, text, source)?;
+    text.push(if overwritten { b'*' } else { b' ' })?;
+    text.push(b' ')?;
+    add_bytes(text, source)
+}
+
+// The number of a line, which no inserted line has.
+fn add_number(alloc: Global, text: &mut Vec<u8>, source: &Source<'_>) -> Result<(), AllocError>
+    ensures { OnOk result (text.new.items ≡ text.old.items ++ line_number (source_value source.now)) }
+{
+    match source {
+        Source::Line(number, _) => {
+            let number = format!(in alloc; "{number}")?;
+            add_right(text, 5, number.as_bytes())
+        }
+        Source::Literal(_) | Source::Name(_) => add_blanks(text, 5),
+    }
+}
+
+// The bytes of a line.
+fn add_bytes(text: &mut Vec<u8>, source: &Source<'_>) -> Result<(), AllocError>
+    ensures { OnOk result (text.new.items ≡ text.old.items ++ line_bytes (source_value source.now)) }
+{
+    match source {
+        Source::Line(_, line) => text.extend_from_slice(line),
+        Source::Literal(literal) => {
+            text.push(b'=')?;
+            text.extend_from_slice(literal)?;
+            text.push(b'=')?;
+            Ok(())
+        }
+        Source::Name(symbol) => text.extend_from_slice(symbol.name()),
+    }
+}
