@@ -97,5 +97,5 @@ fn is_told(program: &Program<'_>, number: u16, line: u32) -> bool {
         return false
     };
     let at_place = matches!(program.source_at(place), Some(Source::Line(n, _)) if *n == line);
-    at_place && program.cell_from(line) == Some(place)
+    at_place && program.cell_from(u64::from(line)) == Some(place)
 }

@@ -33,7 +33,7 @@ const PLACES: [(&str, u16, Option<(u32, &str)>); 13] = [
 ];
 
 /// A source, a line, and the cell of the first word from it on, or none.
-const CELLS: [(&str, u32, Option<u16>); 18] = [
+const CELLS: [(&str, u64, Option<u16>); 18] = [
     (TWICE, 1, Some(0)),
     (TWICE, 2, Some(0)),
     (TWICE, 3, Some(0)),
@@ -43,15 +43,15 @@ const CELLS: [(&str, u32, Option<u16>); 18] = [
     (TWICE, 7, Some(2)),
     (TWICE, 8, None),
     (TWICE, 9, None),
-    (TWICE, u32::MAX, None),
+    (TWICE, u64::MAX, None),
     (BACK, 1, Some(3)),
     (BACK, 2, Some(3)),
     (BACK, 3, Some(0)),
     (BACK, 4, Some(0)),
     (BACK, 5, None),
-    (BACK, u32::MAX, None),
+    (BACK, u64::MAX, None),
     (EMPTY, 1, None),
-    (EMPTY, u32::MAX, None),
+    (EMPTY, u64::MAX, None),
 ];
 
 /// A source, and its symbols in order, a line each.
