@@ -1,13 +1,17 @@
 -- The values that are kept lead back from the state after any of the changes done to the one before it.
 use Rattle.std.proofs.Common.{◌≡◌, ℕ, zero, suc, ◌+◌, ◌-◌, ◌<◌, ◌≤◌, List, [], ◌∷◌, ◌++◌, length, take, drop, get_or, Option, Some, Result, refl, ◌∙◌, ap, subst, arith}
 use Rattle.std.proofs.lemmas.List.{length-take-le, take_all, take_more, take-take}
-use Rattle.undo_core.specs.Replay.{replay, put_back, unwound}
+use Rattle.undo_core.specs.Replay.{replay, put_back, unwound, TakesBack}
 use Rattle.undo_core.specs.Leads.{IsSound}
 use Rattle.undo_core.proofs.Sound.{sound_replay, last_of, back_sound}
 
 -- where the values of the first k changes end: those of the next one start there
 abbrev pub end_at : {O : Type 0} → List ℕ → List O → ℕ → ℕ
 end_at starts kept k = get_or starts k (length kept)
+
+-- the values of the change after the first k
+abbrev pub values_at : {O : Type 0} → List ℕ → List O → ℕ → List O
+values_at starts kept k = drop (end_at starts kept k) (take (end_at starts kept (k + 1)) kept)
 
 -- the state after the first k changes, and the values that they keep
 pub record IsFront {S C O F : Type 0} (gives : S → C → Result S F) (keeps : S → C → List O) (put : S → O → Option S)
@@ -20,7 +24,7 @@ pub record IsFront {S C O F : Type 0} (gives : S → C → Result S F) (keeps : 
 pub record IsStep {S C O F : Type 0} (gives : S → C → Result S F) (keeps : S → C → List O) (put : S → O → Option S)
     (first : S) (kept : List O) (changes : List C) (starts : List ℕ) (k : ℕ) (before after : S) : Type 0 where
   pub front : IsFront gives keeps put first kept changes starts k before
-  pub undone : put_back put (drop (end_at starts kept k) (take (end_at starts kept (k + 1)) kept)) after ≡ Some before
+  pub undone : put_back put (values_at starts kept k) after ≡ Some before
   pub order : end_at starts kept k ≤ end_at starts kept (k + 1)
 
 past : (xs : List ℕ) (d : ℕ) → get_or xs (length xs) d ≡ d
@@ -74,58 +78,33 @@ module _ {S C O F : Type 0} {gives : S → C → Result S F} {keeps : S → C �
       rw (take-take k (length starts) changes within)
       (rw (f.from, length-take-le k starts within) at (sound_replay f.sound))
 
--- a change of those done is taken back by its values
-pub record IsUnwound {S C O F : Type 0} (gives : S → C → Result S F) (put : S → O → Option S)
-    (first : S) (kept : List O) (changes : List C) (starts : List ℕ) (k : ℕ) (before after : S) : Type 0 where
-  pub order : end_at starts kept k ≤ end_at starts kept (k + 1)
-  pub within : end_at starts kept (k + 1) ≤ length kept
-  pub undone : put_back put (drop (end_at starts kept k) (take (end_at starts kept (k + 1)) kept)) after ≡ Some before
-  pub replayed : replay gives first (take k (take (length starts) changes)) ≡ Some before
-
-pub unwinds : {S C O F : Type 0} (gives : S → C → Result S F) (keeps : S → C → List O) (put : S → O → Option S)
+-- the values of a change of those done take it back
+unwinds : {S C O F : Type 0} (gives : S → C → Result S F) (keeps : S → C → List O) (put : S → O → Option S)
     (state : S) (kept : List O) (changes : List C) (starts : List ℕ) → IsSound gives keeps put state kept changes starts →
-    (k : ℕ) → k < length (take (length starts) changes) → (after : S) →
-    replay gives (unwound put kept state) (take (k + 1) (take (length starts) changes)) ≡ Some after →
-    (before : S) × IsUnwound gives put (unwound put kept state) kept changes starts k before after
+    (k : ℕ) → k < length (take (length starts) changes) →
+    TakesBack gives put (unwound put kept state) (take (length starts) changes) k (values_at starts kept k)
 unwinds {S} gives keeps put state kept changes starts sound k below after came =
     let less : k < length starts = omega (arith, length-take-le (length starts) changes sound.within) in
     let m = length starts - (k + 1) in
     let f = front_of {first = unwound put kept state} state sound refl m (k + 1) (omega arith) in
     let there = replay_of (k + 1) (omega arith) f.0 f.1 in
     let same : f.0 ≡ after = cc in
-    let step = step_of k less f.0 f.1 in (
-      step.0,
-      record {
-        order = step.1.order;
-        within = f.1.within;
-        undone = subst (λ (u : S). put_back put (drop (end_at starts kept k) (take (end_at starts kept (k + 1)) kept)) u ≡ Some step.0) same step.1.undone;
-        replayed = replay_of k (omega arith) step.0 step.1.front;
-      },
-    )
+    let step = step_of k less f.0 f.1 in
+    (step.0, subst (λ (u : S). put_back put (values_at starts kept k) u ≡ Some step.0) same step.1.undone, replay_of k (omega arith) step.0 step.1.front)
 
 -- a start that was read
 pub start_is : {O : Type 0} (read : ℕ) (items starts : List ℕ) (kept : List O) (k all : ℕ) → read ≡ get_or items k all → items ≡ starts → all ≡ length kept →
     read ≡ end_at starts kept k
 start_is read items starts kept k all is same whole = rw (is, same, whole) refl
 
--- the part of the values that was read puts the state after a change back to the one before it
-pub record IsPart {S C O F : Type 0} (gives : S → C → Result S F) (put : S → O → Option S)
-    (first : S) (values : List O) (changes : List C) (k start end : ℕ) (before after : S) : Type 0 where
-  pub order : start ≤ end
-  pub within : end ≤ length values
-  pub undone : put_back put (drop start (take end values)) after ≡ Some before
-  pub replayed : replay gives first (take k changes) ≡ Some before
-
-pub part_of : {S C O F : Type 0} {gives : S → C → Result S F} {keeps : S → C → List O} {put : S → O → Option S}
-    {state after : S} {kept values : List O} {changes : List C} {starts : List ℕ} {k start end : ℕ} → IsSound gives keeps put state kept changes starts →
-    k < length (take (length starts) changes) → replay gives (unwound put kept state) (take (k + 1) (take (length starts) changes)) ≡ Some after →
-    start ≡ end_at starts kept k → end ≡ end_at starts kept (k + 1) → values ≡ kept →
-    (before : S) × IsPart gives put (unwound put kept state) values (take (length starts) changes) k start end before after
-part_of {gives = gives} {keeps = keeps} {put = put} {state = state} {after = after} {kept = kept} {changes = changes} {starts = starts} {k = k} sound below came first_is end_is read =
-    let u = unwinds gives keeps put state kept changes starts sound k below after came in (
-      u.0,
-      rw (first_is, end_is, read) (record { order = u.1.order; within = u.1.within; undone = u.1.undone; replayed = u.1.replayed }),
-    )
+-- the values that were read: those after the start, of those before the end
+pub takes_back : {S C O F : Type 0} {gives : S → C → Result S F} {keeps : S → C → List O} {put : S → O → Option S}
+    {state : S} {kept values front all : List O} {changes : List C} {starts : List ℕ} {k start end : ℕ} → IsSound gives keeps put state kept changes starts →
+    k < length (take (length starts) changes) → start ≡ end_at starts kept k → end ≡ end_at starts kept (k + 1) →
+    all ≡ kept → front ≡ take end all → values ≡ drop start front →
+    TakesBack gives put (unwound put kept state) (take (length starts) changes) k values
+takes_back {gives = gives} {keeps = keeps} {put = put} {state = state} {kept = kept} {changes = changes} {starts = starts} {k = k} sound below first_is end_is read cut rest =
+    rw (rest, cut, read, first_is, end_is) (unwinds gives keeps put state kept changes starts sound k below)
 
 -- all of a list, by the number of its last item
 pub whole : {A : Type 0} (xs : List A) (n : ℕ) → n + 1 ≡ length xs → take (n + 1) xs ≡ xs

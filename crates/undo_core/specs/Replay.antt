@@ -1,5 +1,5 @@
 -- A list of changes done again from a first state, and a list of old values put back.
-use Rattle.std.specs.Prelude.{ℕ, ◌+◌, List, [], ◌∷◌, length, Option, Some, Result, unwrap_or}
+use Rattle.std.specs.Prelude.{◌≡◌, ℕ, ◌+◌, List, [], ◌∷◌, length, take, Option, Some, Result, unwrap_or}
 use Rattle.std.specs.Option.{option_and_then, option_map_or}
 use Rattle.std.specs.Result.{result_ok}
 
@@ -22,3 +22,9 @@ put_back put (o ∷ os) s = option_and_then (λ t. put t o) (put_back put os s)
 -- the state that putting the values back gives
 abbrev pub unwound : {S O : Type 0} → (S → O → Option S) → List O → S → S
 unwound put kept s = unwrap_or (put_back put kept s) s
+
+-- The values take a change back, the one after the first n: put back, they lead from the state after it to the one before it.
+abbrev pub TakesBack : {S C O F : Type 0} → (S → C → Result S F) → (S → O → Option S) → S → List C → ℕ → List O → Type 0
+TakesBack {S} gives put first changes n values =
+    (after : S) → replay gives first (take (n + 1) changes) ≡ Some after →
+    (before : S) × (put_back put values after ≡ Some before) × (replay gives first (take n changes) ≡ Some before)

@@ -2,7 +2,7 @@
 ghost use Rattle.std.specs.Prelude.{◌≡◌, ◌+◌, ◌-◌, ◌<◌, ◌≤◌, ◌↔◌, ◌++◌, [], ◌∷◌, length, take, drop, get_or, vec_len, vec_capacity, Some, Ok, Err, IsSome, IsTrue, OnOk, OnErr, IfOk};
 ghost use Rattle.std.specs.Bool.{OnFalse};
 ghost use Rattle.mix_refused.specs.Refused.{IfFault};
-ghost use Rattle.undo_core.specs.Replay.{replay, count_kept, put_back};
+ghost use Rattle.undo_core.specs.Replay.{replay, count_kept, TakesBack};
 
 use crate::undo::Undo;
 use mix_refused::{Memory, Refused};
@@ -53,16 +53,26 @@ fn start_or(starts: &[usize], number: usize, all: usize) -> usize
     }
 }
 
-// Puts the values of a part of a list back, the last one first.
-fn restore_part<S: Undo>(state: &mut S, kept: &[S::Old], start: usize, end: usize)
-    requires order { start ≤ end }
-    requires within { end ≤ length kept.now }
-    requires fits { IsSome (put_back S.put (drop start (take end kept.now)) state.old) }
-    ensures { put_back S.put (drop start (take end kept.now)) state.old ≡ Some state.new }
+// The first items of a list, or all where there are fewer.
+fn first_of<T>(items: &[T], count: usize) -> &[T]
+    ensures { result.now ≡ take count items.now }
 {
-    let (front, _) = kept.split_at(end);
-    let (_, values) = front.split_at(start);
-    state.restore_all(values);
+    if count < items.len() {
+        &items[..count]
+    } else {
+        items
+    }
+}
+
+// The items of a list after the first ones, or none where there are no more.
+fn rest_of<T>(items: &[T], count: usize) -> &[T]
+    ensures { result.now ≡ drop count items.now }
+{
+    if count < items.len() {
+        &items[count..]
+    } else {
+        &[]
+    }
 }
 
 impl<S: Undo> Journal<S> {
@@ -159,6 +169,24 @@ impl<S: Undo> Journal<S> {
         &self.changes[..self.starts.len()]
     }
 
+    /// All changes, those done and after them those ahead. It takes no memory.
+    pub fn all(&self) -> &[S::Change]
+        ensures { result.now ≡ self.now.changes ++ self.now.ahead }
+    {
+        self.changes.as_slice()
+    }
+
+    /// The values that the change of this number, counted from 0, overwrote, in the order in which it overwrote them. It takes no memory.
+    pub fn kept(&self, number: usize) -> &[S::Old]
+        requires { number < length self.now.changes }
+        ensures { TakesBack S.gives S.put self.now.first self.now.changes number result.now }
+    {
+        let all = self.kept.len();
+        let start = start_or(&self.starts, number, all);
+        let end = start_or(&self.starts, number + 1, all);
+        rest_of(first_of(&self.kept, end), start)
+    }
+
     /// Leads a state from after the change of this number, counted from 0, back to before it, by the values that are kept. It takes no
     /// memory.
     pub fn unwind(&self, number: usize, state: &mut S)
@@ -166,10 +194,7 @@ impl<S: Undo> Journal<S> {
         requires after { replay S.gives self.now.first (take (number + 1) self.now.changes) ≡ Some state.old }
         ensures { replay S.gives self.now.first (take number self.now.changes) ≡ Some state.new }
     {
-        let all = self.kept.len();
-        let start = start_or(&self.starts, number, all);
-        let end = start_or(&self.starts, number + 1, all);
-        restore_part(state, &self.kept, start, end);
+        state.restore_all(self.kept(number));
     }
 
     /// How many changes stand ahead. It takes no memory.

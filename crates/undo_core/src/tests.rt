@@ -121,6 +121,11 @@ fn a_journal_of_a_counter(rt: HostRuntime) -> Result<(), Fail> {
         assert_eq!(rt; journal.changes(), changes, "{does:?}, changes {changes:?}");
         assert_eq!(rt; journal.ahead(), ahead, "{does:?}, changes {changes:?}");
         assert_eq!(rt;
+            journal.all().len(),
+            changes.len() + ahead,
+            "{does:?}, changes {changes:?}"
+        );
+        assert_eq!(rt;
             journal.kept_len(),
             changes.len(),
             "{does:?}, changes {changes:?}"
@@ -151,13 +156,17 @@ fn many_changes(rt: HostRuntime) {
     assert_eq!(rt; journal.ahead(), 100_000);
 }
 
-// The number before the last change, if there is one, from the values that it keeps.
+// The number before the last change, if there is one, from the values that it keeps, of which there is one.
 #[tactic(auto, using(crate::proofs::Unwinding::whole))]
 fn before_last(journal: &Journal<Counter>) -> Option<u8> {
     let last = journal.changes().len().checked_sub(1)?;
     let mut state = *journal.state();
     journal.unwind(last, &mut state);
-    Some(state.number)
+    if journal.kept(last) == [state.number].as_slice() {
+        Some(state.number)
+    } else {
+        None
+    }
 }
 
 #[test]
