@@ -1,5 +1,6 @@
 pub mod LeadsLemmas
-pub mod ReplayLemmas
+pub mod Redoing
+mod ReplayLemmas
 pub mod Sound
 pub mod Reverting
 pub mod Unwinding

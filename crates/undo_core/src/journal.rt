@@ -197,6 +197,21 @@ impl<S: Undo> Journal<S> {
         state.restore_all(self.kept(number));
     }
 
+    /// Does the change of this number of all, counted from 0, once more, on a state as it was before it. What it overwrites is appended to `kept`.
+    pub fn redo(&self, number: usize, state: &mut S, kept: &mut Vec<S::Old>) -> Result<(), Memory>
+        requires within { number < length (self.now.changes ++ self.now.ahead) }
+        requires before { replay S.gives self.now.first (take number (self.now.changes ++ self.now.ahead)) ≡ Some state.old }
+        ensures { OnOk result (replay S.gives self.now.first (take (number + 1) (self.now.changes ++ self.now.ahead)) ≡ Some state.new) }
+    {
+        let change = self.changes[number];
+        match state.apply(&change, kept) {
+            Ok(()) => {}
+            Err(Refused::Memory) => return Err(Memory),
+            Err(Refused::Fault(_)) => unreachable!(),
+        }
+        Ok(())
+    }
+
     /// How many changes stand ahead. It takes no memory.
     pub fn ahead(&self) -> usize
         ensures { result ≡ length self.now.ahead }

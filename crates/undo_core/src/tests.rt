@@ -3,6 +3,7 @@ ghost use Rattle.std.specs.Prelude.{◌≡◌, ◌+◌, [], ◌∷◌, Some, Ok,
 ghost use Rattle.undo_core.specs.declared.tests.CounterFault.TheVariants.{PastNine};
 
 use crate::{Journal, Memory, Refused, Undo};
+use std::alloc::Global;
 use std::test::Fail;
 
 #[derive(Clone, Copy, Debug, PartialEq, Eq)]
@@ -166,6 +167,31 @@ fn before_last(journal: &Journal<Counter>) -> Option<u8> {
         Some(state.number)
     } else {
         None
+    }
+}
+
+// The number after the next change ahead, if there is one.
+#[tactic(auto, using(std::proofs::Math::Seq::take-append_seam))]
+fn after_next(alloc: Global, journal: &Journal<Counter>) -> Option<u8> {
+    if journal.ahead() == 0 {
+        return None;
+    }
+    let mut state = *journal.state();
+    let mut kept = Vec::new(alloc);
+    let done = journal.changes().len();
+    journal.redo(done, &mut state, &mut kept).ok()?;
+    Some(state.number)
+}
+
+#[test]
+fn the_next_change_done_again(rt: HostRuntime) {
+    let mut journal = Journal::new(rt.alloc(), Counter { number: 0 });
+    for by in [4, 3] {
+        assert_eq!(rt; perform(&mut journal, Act::Go(by)), Told::Yes, "{by}");
+    }
+    for after in [None, Some(7), Some(4)] {
+        assert_eq!(rt; after_next(rt.alloc(), &journal), after);
+        perform(&mut journal, Act::Back);
     }
 }
 
