@@ -2,6 +2,7 @@
 use Rattle.std.proofs.Common.{◌≡◌, ℕ, ◌+◌, ◌<◌, ◌++◌, List, [], ◌∷◌, length, take, drop, get_or, Option, Some, Result, Ok, Err, IsSome, refl, sym, ◌∙◌, ap, append_assoc}
 use Rattle.std.specs.Option.{option_and_then}
 use Rattle.std.specs.Result.{result_ok}
+use Rattle.std.proofs.Math.Seq.{take-append_seam}
 use Rattle.std.proofs.lemmas.List.{take-append-drop, take_more}
 use Rattle.undo_core.specs.Replay.{replay, unwound}
 use Rattle.undo_core.specs.Leads.{IsSound}
@@ -53,3 +54,7 @@ module _ {S C O F : Type 0} {gives : S → C → Result S F} {keeps : S → C �
   given_of n c before sound done_is ahead_is below is came =
       let all : take (length starts) changes ++ drop (length starts) changes ≡ changes = take-append-drop (length starts) changes in
       rw (done_is, ahead_is, all) (given_again n c before sound (rw (done_is, ahead_is, all) at below) is (rw (done_is, ahead_is, all) at came))
+
+-- the changes done are the first of all
+pub done_of : {A : Type 0} (done ahead : List A) (n : ℕ) → n ≡ length done → take n (done ++ ahead) ≡ done
+done_of done ahead n is = rw (is, take-append_seam) refl

@@ -171,7 +171,7 @@ fn before_last(journal: &Journal<Counter>) -> Option<u8> {
 }
 
 // The number after the next change ahead, if there is one.
-#[tactic(auto, using(std::proofs::Math::Seq::take-append_seam))]
+#[tactic(auto, using(crate::proofs::Redoing::done_of))]
 fn after_next(alloc: Global, journal: &Journal<Counter>) -> Option<u8> {
     if journal.ahead() == 0 {
         return None;
