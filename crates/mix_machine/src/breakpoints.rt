@@ -28,6 +28,13 @@ impl Breakpoints {
         Breakpoints { words: [0; 63] }
     }
 
+    /// The same breakpoints.
+    pub(crate) fn copied(&self) -> Breakpoints
+        ensures { result ≡ self.now }
+    {
+        Breakpoints { words: self.words }
+    }
+
     /// Whether a cell has a breakpoint.
     #[tactic(auto, using(crate::proofs::BreakLemmas::reads))]
     pub(crate) fn get(&self, p: Place) -> bool

@@ -1,14 +1,18 @@
 //! What follows from the definitions alone.
-ghost use Rattle.std.specs.Prelude.{◌≡◌, ◌≤◌, ◌*◌, ◌↔◌, IsTrue, List, Ok, length};
-ghost use Rattle.undo_core.specs.Replay.{count_kept};
+ghost use Rattle.std.specs.Prelude.{◌≡◌, ◌≤◌, ◌*◌, ◌↔◌, IsTrue, List, Ok, Some, length};
+ghost use Rattle.undo_core.specs.Replay.{count_kept, put_back};
 ghost use Rattle.mix_word.specs.declared.operation.Operation.TheVariants.{Hlt};
 ghost use Rattle.mix_word.specs.declared.decoding.Decoded.TheVariants.{Named};
 ghost use Rattle.mix_machine.specs.World.{WorldState, IsWorld};
 ghost use Rattle.mix_machine.specs.Decode.{decode_at};
 ghost use Rattle.mix_machine.specs.Do.{does, is_halt_next, kept_values};
 ghost use Rattle.mix_machine.specs.KeptCount.{kept_count, most_kept};
+ghost use Rattle.mix_machine.specs.Write.{put_value};
+ghost use Rattle.mix_machine.specs.Part.{IsPart, mark_of, mark_before};
 ghost use Rattle.mix_machine.specs.declared.old.Change.{Change};
 ghost use Rattle.mix_machine.specs.declared.old.Change.TheVariants.{Step};
+ghost use Rattle.mix_machine.specs.declared.old.Old.{Old};
+ghost use Rattle.mix_machine.specs.declared.part.Part.{Part};
 
 use mix_word::decode_law;
 
@@ -26,3 +30,9 @@ pub fn halt_law()
 {
     decode_law();
 }
+
+/// Values that are put back say the marks of the state before: `mark_before` of them is the mark of each part then. So a part's past can be
+/// read from what is kept, and nothing has to be put back.
+pub fn mark_law()
+    ensures before { (olds : List Old) (w v : WorldState) (part : Part) → IsWorld w → IsPart part → put_back put_value olds w ≡ Some v → mark_before olds part (mark_of w part) ≡ mark_of v part }
+{}

@@ -30,6 +30,13 @@ impl Registers {
         }
     }
 
+    /// The same registers.
+    pub(crate) fn copied(&self) -> Registers
+        ensures { result ≡ self.now }
+    {
+        Registers { words: self.words }
+    }
+
     /// What a register holds.
     #[inline(always)]
     #[tactic(auto, using(crate::proofs::RegisterLemmas::register_at))]

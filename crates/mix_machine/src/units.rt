@@ -52,6 +52,17 @@ impl Units {
         Ok(Units { list })
     }
 
+    /// The same units. `Memory` where there is no room for what they hold.
+    pub(crate) fn copied(&self, alloc: Global) -> Result<Units, Memory>
+        ensures { IfOk result (λ u. u ≡ self.now) }
+    {
+        let mut list = Vec::new(alloc);
+        for unit in &self.list {
+            list.push(unit.copied(alloc)?)?;
+        }
+        Ok(Units { list })
+    }
+
     /// One unit (1.3.1).
     pub fn unit(&self, n: UnitNo) -> &Unit
         ensures { result.now ≡ unit_of self.now n }

@@ -1,5 +1,5 @@
 //! The state of the machine, and what can be read of it (1.3.1).
-ghost use Rattle.std.specs.Prelude.{◌≡◌, ◌<◌, ◌≤◌, ◌==◌, ◌&&◌, ◌↔◌, IsTrue};
+ghost use Rattle.std.specs.Prelude.{◌≡◌, ◌<◌, ◌≤◌, ◌==◌, ◌&&◌, ◌↔◌, IsTrue, IfOk};
 ghost use Rattle.mix_machine.specs.World.{register_of, cell_of, unit_at, has_break, last_clock};
 ghost use Rattle.mix_machine.specs.Do.{is_halt_next};
 
@@ -7,7 +7,9 @@ use crate::breakpoints::Breakpoints;
 use crate::registers::Registers;
 use crate::units::{Unit, UnitNo, Units};
 use mix_word::{Cmp, Decoded, Operation, Place, Reg, Word, decode};
+use std::alloc::Global;
 use std::marker::Model;
+use undo_core::Memory;
 
 /// The machine (1.3.1): registers, overflow toggle, comparison indicator, 4,000 cells, location, clock, units and breakpoints.
 #[derive(Drop)]
@@ -35,6 +37,25 @@ impl Model for World {
 }
 
 impl World {
+    /// The same machine: registers, toggle, indicator, cells, location, clock, units and breakpoints. `Memory` where there is no room for
+    /// the cells and what the units hold.
+    pub fn copied(&self, alloc: Global) -> Result<World, Memory>
+        ensures { IfOk result (λ w. w ≡ self.now) }
+    {
+        let cells = Vec::from_slice(alloc, &self.cells)?;
+        let units = self.units.copied(alloc)?;
+        Ok(World {
+            registers: self.registers.copied(),
+            over: self.over,
+            cmp: self.cmp,
+            cells,
+            loc: self.loc,
+            clock: self.clock,
+            units,
+            breaks: self.breaks.copied(),
+        })
+    }
+
     /// What a register holds; of an index register and of rJ the magnitude is below 4096.
     pub fn register(&self, r: Reg) -> Word
         ensures { result ≡ register_of self.now r }

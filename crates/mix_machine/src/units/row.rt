@@ -39,6 +39,17 @@ impl Row {
         }
     }
 
+    /// The same row.
+    pub(crate) fn copied(&self) -> Row
+        ensures { result ≡ self.now }
+    {
+        Row {
+            words: self.words,
+            len: self.len,
+            is_page: self.is_page,
+        }
+    }
+
     /// A page mark.
     pub(crate) fn page() -> Row
         ensures { result ≡ None }

@@ -1,5 +1,5 @@
 //! One unit (1.3.1, "Input-output operators"): its blocks and its place among them, the rows that it has written, and its times.
-ghost use Rattle.std.specs.Prelude.{◌≡◌, ◌<◌, ◌≤◌, ◌+◌, ◌*◌, ◌/◌, ◌%◌, ◌++◌, None, Some, MatchOption, OnOk, OnErr, length, replicate, vec_len, vec_capacity, IsTrue, slice_get};
+ghost use Rattle.std.specs.Prelude.{◌≡◌, ◌<◌, ◌≤◌, ◌+◌, ◌*◌, ◌/◌, ◌%◌, ◌++◌, None, Some, MatchOption, IfOk, OnOk, OnErr, length, replicate, vec_len, vec_capacity, IsTrue, slice_get};
 ghost use Rattle.mix_word.specs.Word.{zero_word};
 ghost use Rattle.mix_machine.specs.units.UnitKind.{block_length};
 ghost use Rattle.mix_machine.specs.units.Unit.{IsUnit, empty_unit, word_of, with_word, with_blocks, with_row, filled, most_entries, last_delay, last_until};
@@ -111,6 +111,23 @@ impl Unit {
             delay: 0,
             until: 0,
         }
+    }
+
+    /// The same unit. `Memory` where there is no room for what it holds.
+    pub(crate) fn copied(&self, alloc: Global) -> Result<Unit, Memory>
+        ensures { IfOk result (λ u. u ≡ self.now) }
+    {
+        let words = Vec::from_slice(alloc, &self.words)?;
+        let rows = rows_copied(alloc, &self.rows)?;
+        Ok(Unit {
+            kind: self.kind,
+            place: self.place,
+            count: self.count,
+            words,
+            rows,
+            delay: self.delay,
+            until: self.until,
+        })
     }
 
     /// What the unit is.
@@ -227,6 +244,17 @@ impl Unit {
         self.rows.push(row)?;
         Ok(())
     }
+}
+
+// The same rows.
+fn rows_copied(alloc: Global, rows: &[Row]) -> Result<Vec<Row>, Memory>
+    ensures { IfOk result (λ v. v.items ≡ rows.now) }
+{
+    let mut list = Vec::new(alloc);
+    for row in rows {
+        list.push(row.copied())?;
+    }
+    Ok(list)
 }
 
 // Where word j of block i is among the words of so many blocks of a length.
