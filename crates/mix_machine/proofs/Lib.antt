@@ -1,3 +1,4 @@
+pub mod AlteredLemmas
 pub mod BlockLemmas
 pub mod BreakLemmas
 pub mod CopyLemmas
@@ -5,8 +6,10 @@ pub mod Counting
 pub mod DeckLemmas
 pub mod EachLemmas
 pub mod Halting
+pub mod MarkLemmas
 pub mod RegisterLemmas
 pub mod Reverting
+pub mod SameUnit
 pub mod StageLemmas
 pub mod TransferLemmas
 pub mod UnitLemmas

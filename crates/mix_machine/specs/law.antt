@@ -2,7 +2,6 @@
 pub mod Accepted
 pub mod Carried
 pub mod Fits
-pub mod Marks
 pub mod Passed
 pub mod Plans
 pub mod Stages

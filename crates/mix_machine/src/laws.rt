@@ -1,5 +1,5 @@
 //! What follows from the definitions alone.
-ghost use Rattle.std.specs.Prelude.{◌≡◌, ◌≤◌, ◌*◌, ◌↔◌, IsTrue, List, Ok, Some, length};
+ghost use Rattle.std.specs.Prelude.{◌≡◌, ◌≤◌, ◌*◌, ◌↔◌, IsTrue, not, List, Ok, Some, length};
 ghost use Rattle.undo_core.specs.Replay.{count_kept, put_back};
 ghost use Rattle.mix_word.specs.declared.operation.Operation.TheVariants.{Hlt};
 ghost use Rattle.mix_word.specs.declared.decoding.Decoded.TheVariants.{Named};
@@ -7,8 +7,9 @@ ghost use Rattle.mix_machine.specs.World.{WorldState, IsWorld};
 ghost use Rattle.mix_machine.specs.Decode.{decode_at};
 ghost use Rattle.mix_machine.specs.Do.{does, is_halt_next, kept_values};
 ghost use Rattle.mix_machine.specs.KeptCount.{kept_count, most_kept};
+ghost use Rattle.mix_machine.specs.units.Unit.{UnitState};
 ghost use Rattle.mix_machine.specs.Write.{put_value};
-ghost use Rattle.mix_machine.specs.Part.{IsPart, mark_of, mark_before};
+ghost use Rattle.mix_machine.specs.Part.{IsPart, mark_of, mark_before, is_same_mark, is_same_unit, is_altered};
 ghost use Rattle.mix_machine.specs.declared.old.Change.{Change};
 ghost use Rattle.mix_machine.specs.declared.old.Change.TheVariants.{Step};
 ghost use Rattle.mix_machine.specs.declared.old.Old.{Old};
@@ -31,8 +32,12 @@ pub fn halt_law()
     decode_law();
 }
 
-/// Values that are put back say the marks of the state before: `mark_before` of them is the mark of each part then. So a part's past can be
-/// read from what is kept, and nothing has to be put back.
+/// What the marks of parts say. Values that are put back say the marks of the state before, which is one of the machine; so a part's past is
+/// read from what is kept, and nothing has to be put back. A change alters a part exactly where it alters its mark. Two units are the same
+/// exactly where they are equal.
 pub fn mark_law()
     ensures before { (olds : List Old) (w v : WorldState) (part : Part) → IsWorld w → IsPart part → put_back put_value olds w ≡ Some v → mark_before olds part (mark_of w part) ≡ mark_of v part }
+    ensures world { (olds : List Old) (w v : WorldState) → IsWorld w → put_back put_value olds w ≡ Some v → IsWorld v }
+    ensures altered { (v w : WorldState) (c : Change) (part : Part) → IsWorld v → IsPart part → does v c ≡ Ok w → is_altered part v w ≡ not (is_same_mark (mark_of v part) (mark_of w part)) }
+    ensures same { (u v : UnitState) → IsTrue (is_same_unit u v) ↔ (u ≡ v) }
 {}

@@ -53,7 +53,7 @@ cell-either cells p q v false e l =
     ap mark.Word (sym (get_or-set_other cells p q v zero_word other))
 
 -- a unit altered in another part than its time keeps each time
-until-kept : (us : UnitsState) (n m : ℕ) (u : UnitState) → u.until ≡ (unit_of us n).until →
+pub until-kept : (us : UnitsState) (n m : ℕ) (u : UnitState) → u.until ≡ (unit_of us n).until →
     (unit_of us m).until ≡ (unit_of (with_unit us n u) m).until
 until-kept [] n m u e = refl
 until-kept (x ∷ us) zero zero u e = sym e
@@ -67,7 +67,7 @@ until-cut-either u k true o = refl
 until-cut-either u k false true = refl
 until-cut-either u k false false = refl
 
-until-cut : (u : UnitState) (k : ℕ) → (cut_to k u).until ≡ u.until
+pub until-cut : (u : UnitState) (k : ℕ) → (cut_to k u).until ≡ u.until
 until-cut u k = until-cut-either u k (has_medium u.kind) (has_output u.kind)
 
 -- the time of a unit after one was set
