@@ -10,6 +10,7 @@ mod deck_fault;
 mod kind;
 mod number;
 mod row;
+mod same;
 mod unit;
 
 use crate::units::kind::KINDS;

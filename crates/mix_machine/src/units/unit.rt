@@ -3,10 +3,12 @@ ghost use Rattle.std.specs.Prelude.{◌≡◌, ◌<◌, ◌≤◌, ◌+◌, ◌*
 ghost use Rattle.mix_word.specs.Word.{zero_word};
 ghost use Rattle.mix_machine.specs.units.UnitKind.{block_length};
 ghost use Rattle.mix_machine.specs.units.Unit.{IsUnit, empty_unit, word_of, with_word, with_blocks, with_row, filled, most_entries, last_delay, last_until};
+ghost use Rattle.mix_machine.specs.Part.{is_same_unit};
 ghost use Rattle.mix_machine.specs.units.Units.{cut_to, can_cut, length_of};
 
 use crate::units::kind::UnitKind;
 use crate::units::row::Row;
+use crate::units::same::{are_same_rows, are_same_words};
 use mix_word::Word;
 use std::alloc::Global;
 use std::marker::Model;
@@ -96,6 +98,20 @@ impl Unit {
         ensures bound { result ≤ last_until }
     {
         self.until
+    }
+
+    /// Whether two units are the same in all that they hold: kind, place, blocks, rows and times (1.3.1).
+    pub fn is_same(&self, other: &Unit) -> bool
+        ensures { result ≡ is_same_unit self.now other.now }
+    {
+        self.kind.is_same(other.kind)
+            && self.place == other.place
+            && self.until == other.until
+            && self.delay == other.delay
+            && self.count == other.count
+            && self.rows.len() == other.rows.len()
+            && are_same_words(&self.words, &other.words)
+            && are_same_rows(&self.rows, &other.rows)
     }
 
     /// A unit of a kind with nothing in it.
