@@ -7,6 +7,7 @@ pub mod EachLemmas
 pub mod Halting
 pub mod RegisterLemmas
 pub mod Reverting
+pub mod SameLemmas
 pub mod StageLemmas
 pub mod TransferLemmas
 pub mod UnitLemmas

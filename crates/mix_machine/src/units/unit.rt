@@ -4,6 +4,7 @@ ghost use Rattle.mix_word.specs.Word.{zero_word};
 ghost use Rattle.mix_machine.specs.units.UnitKind.{block_length};
 ghost use Rattle.mix_machine.specs.units.Unit.{IsUnit, empty_unit, word_of, with_word, with_blocks, with_row, filled, most_entries, last_delay, last_until};
 ghost use Rattle.mix_machine.specs.Part.{is_same_unit};
+ghost use Rattle.mix_machine.specs.units.Alike.{is_alike};
 ghost use Rattle.mix_machine.specs.units.Units.{cut_to, can_cut, length_of};
 
 use crate::units::kind::UnitKind;
@@ -104,14 +105,23 @@ impl Unit {
     pub fn is_same(&self, other: &Unit) -> bool
         ensures { result ≡ is_same_unit self.now other.now }
     {
-        self.kind.is_same(other.kind)
+        if !self.is_alike(other) {
+            return false;
+        }
+        are_same_words(&self.words, &other.words) && are_same_rows(&self.rows, &other.rows)
+    }
+
+    // Whether two units are the same but for what stands in their blocks and rows, of which they have as many.
+    #[tactic(auto, using(crate::proofs::BlockLemmas::blocks))]
+    fn is_alike(&self, other: &Unit) -> bool
+        ensures { result ≡ is_alike self.now other.now }
+    {
+        self.until == other.until
             && self.place == other.place
-            && self.until == other.until
-            && self.delay == other.delay
             && self.count == other.count
             && self.rows.len() == other.rows.len()
-            && are_same_words(&self.words, &other.words)
-            && are_same_rows(&self.rows, &other.rows)
+            && self.delay == other.delay
+            && self.kind.is_same(other.kind)
     }
 
     /// A unit of a kind with nothing in it.
