@@ -1,6 +1,6 @@
 -- Two units are the same where their fields are.
 use Rattle.std.proofs.Common.{ℕ, zero, suc, Bool, true, false, ◌&&◌, ◌==◌, ◌*◌, ◌≡◌, ◌∙◌, List, [], ◌∷◌, length, take, drop, refl, ap, sym, arith}
-use Rattle.std.proofs.Math.Bool.{and_assoc, and-true, and-false}
+use Rattle.std.proofs.Math.Bool.{and_assoc}
 use Rattle.std.proofs.lemmas.Bool.Decides.{nat_tests}
 use Rattle.std.proofs.lemmas.List.{nil_from_length, length-drop}
 use Rattle.std.specs.Cmp.Lexicographic.{pointwise, as_long}

@@ -1,4 +1,4 @@
-use Rattle.std.proofs.Common.{Bool, true, false, ◌&&◌, ◌≡◌, ◌∙◌, sym, ap}
+use Rattle.std.proofs.Common.{true, false, ◌&&◌, ◌≡◌, ◌∙◌, sym, ap}
 use Rattle.std.specs.Cmp.Lexicographic.{pointwise}
 use Rattle.mix_word.specs.Word.{is_same_word}
 use Rattle.mix_machine.specs.Part.{is_same_row}
