@@ -27,7 +27,9 @@ pub use mix_word::{Cmp, Place, Reg, Sign, Word};
 pub use old::{Change, Old};
 pub use part::{Mark, Part, mark_before};
 pub use time::Time;
-pub use units::{DeckFault, DeckKind, MAX_DECK_BYTES, Row, Unit, UnitKind, UnitNo, Units};
+pub use units::{
+    DeckFault, DeckKind, MAX_DECK_BYTES, Row, Unit, UnitKind, UnitNo, Units, are_same_words,
+};
 pub use world::World;
 
 #[cfg(test)]

@@ -10,6 +10,7 @@ mod deck_fault;
 mod kind;
 mod number;
 mod row;
+mod same;
 mod unit;
 
 use crate::units::kind::KINDS;
@@ -19,6 +20,7 @@ pub use kind::UnitKind;
 use mix_word::Word;
 pub use number::UnitNo;
 pub use row::Row;
+pub use same::are_same_words;
 use std::alloc::Global;
 use std::marker::Model;
 use undo_core::Memory;

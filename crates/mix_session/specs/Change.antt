@@ -1,0 +1,66 @@
+-- The line of a change: its number, where it was done, what it did, how long it took, and what it altered.
+use Rattle.std.specs.Prelude.{ℕ, ◌+◌, ◌-◌, List, [], ◌∷◌, ◌++◌, codes, take, get_or, length, unwrap_or, nat_lt, if◌then◌else◌}
+use Rattle.std.specs.Fmt.{decimal}
+use Rattle.undo_core.specs.Replay.{replay}
+use Rattle.mix_word.specs.Instruction.{instruction_text}
+use Rattle.mix_word.specs.Register.{name_of_register}
+use Rattle.mix_machine.specs.World.{WorldState, cell_of}
+use Rattle.mix_machine.specs.Do.{does}
+use Rattle.mix_machine.specs.declared.old.Change.{Change}
+use Rattle.mix_machine.specs.declared.old.Change.TheVariants.{Step, SetReg, SetCell, SetLoc, SetOver, SetCmp, Break, Clear}
+use Rattle.mix_session.specs.Columns.{left_in, right_in}
+use Rattle.mix_session.specs.Differences.{register_items, position_items, place_items, differences}
+use Rattle.mix_session.specs.Each.{texts}
+use Rattle.mix_session.specs.Reply.{location_text}
+use Rattle.mix_session.specs.Timeline.{Timeline}
+use Rattle.mix_session.specs.declared.show.differences.Layout.TheVariants.{Lines, Columns}
+
+-- all changes, those done and those ahead
+abbrev pub all_changes : Timeline → List Change
+all_changes t = t.changes ++ t.ahead
+
+-- the machine after the first n of all changes (where one of them were a fault: the first state)
+unfoldable pub world_at : Timeline → ℕ → WorldState
+world_at t n = unwrap_or (replay does t.first (take n (all_changes t))) t.first
+
+-- the change of a number, counted from 1
+abbrev pub change_at : Timeline → ℕ → Change
+change_at t n = get_or (all_changes t) (n - 1) Step
+
+-- what was done: of a step, the instruction at the location
+abbrev pub change_text : WorldState → Change → List ℕ
+change_text w Step = if nat_lt w.loc 4000 then instruction_text (cell_of w w.loc) else []
+change_text w (SetReg r v) = codes "set " ++ name_of_register r
+change_text w (SetCell p v) = codes "set cell " ++ location_text p
+change_text w (SetLoc p) = codes "set loc"
+change_text w (SetOver b) = codes "set over"
+change_text w (SetCmp c) = codes "set cmp"
+change_text w (Break p) = codes "break " ++ location_text p
+change_text w (Clear p) = codes "clear " ++ location_text p
+
+-- what was altered; of a step but for the location and the clock, which each step alters
+abbrev pub altered_text : Change → WorldState → WorldState → List ℕ
+altered_text Step v w = register_items Columns v w ++ place_items Columns v w
+altered_text other v w = differences Columns v w
+
+-- the columns of a line before what was altered
+unfoldable pub change_columns : ℕ → Change → WorldState → ℕ → List ℕ
+change_columns n change v time =
+    right_in 7 (decimal n) ++ codes "  " ++ location_text v.loc ++ codes "  " ++ left_in 17 (change_text v change) ++ codes "  " ++ right_in 3 (decimal time) ++ codes "u"
+
+-- a change of a number, from one state to another
+unfoldable pub change_line : ℕ → Change → WorldState → WorldState → List ℕ
+change_line n change v w = change_columns n change v (w.clock - v.clock) ++ altered_text change v w ++ 10 ∷ []
+
+-- the line of the change of a number, counted from 1
+abbrev pub line_of : Timeline → ℕ → List ℕ
+line_of t n = change_line n (change_at t n) (world_at t (n - 1)) (world_at t n)
+
+-- the lines of the last n changes that are done, or of all where there are fewer
+abbrev pub last_lines : Timeline → ℕ → List ℕ
+last_lines t n = texts (line_of t) (length t.changes - n + 1) (length t.changes + 1)
+
+-- the reply of `show diff`: what differs between the state after the first n changes and now
+abbrev pub diff_text : Timeline → ℕ → List ℕ
+diff_text t n =
+    codes "diff " ++ decimal n ++ codes " to " ++ decimal (length t.changes) ++ 10 ∷ [] ++ differences Lines (world_at t n) (world_at t (length t.changes))

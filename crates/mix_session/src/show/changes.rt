@@ -1,0 +1,207 @@
+//! The lines of the changes: what each did, and what it altered.
+
+ghost use Rattle.std.specs.Prelude.{◌≡◌, ◌≤◌, ◌-◌, ◌++◌, OnOk, IfOk, length, reverse, string_bytes};
+ghost use Rattle.mix_machine.specs.declared.old.Change.TheVariants.{Step};
+ghost use Rattle.mix_session.specs.Change.{world_at, change_text, altered_text, change_columns, change_line, last_lines, diff_text, all_changes};
+
+use crate::reply::Location;
+use crate::show::columns::{add_left, add_right};
+use crate::show::differences::{Layout, Worlds, add_differences, add_places, add_registers};
+use crate::timeline::world_of;
+use mix_machine::{Change, Place, World};
+use mix_word::Instruction;
+use std::alloc::{AllocError, Global};
+use undo_core::{Journal, Memory};
+
+/// The lines of the last changes that are done, or of all where there are fewer. They are told from now backwards, by what the journal keeps: no
+/// change is done again.
+pub(crate) fn last_lines(
+    alloc: Global,
+    journal: &Journal<World>,
+    count: u64,
+) -> Result<Vec<u8>, Memory>
+    ensures { IfOk result (λ text. text.items ≡ last_lines journal.now count) }
+{
+    let done = journal.changes().len();
+    let first = done.saturating_sub(count as usize);
+    let (mut before, mut after) = (
+        world_of(journal).copied(alloc)?,
+        world_of(journal).copied(alloc)?,
+    );
+    let mut text = Vec::new(alloc);
+    let mut number = done;
+    while number > first {
+        journal.unwind(number - 1, &mut before);
+        let worlds = Worlds {
+            before: &before,
+            after: &after,
+        };
+        let line = line_of(alloc, number, journal.changes()[number - 1], worlds)?;
+        add_reversed(&mut text, &line)?;
+        journal.unwind(number - 1, &mut after);
+        number -= 1;
+    }
+    text.reverse();
+    Ok(text)
+}
+
+// Appends bytes, the last one first.
+fn add_reversed(text: &mut Vec<u8>, bytes: &[u8]) -> Result<(), AllocError>
+    ensures { OnOk result (text.new.items ≡ text.old.items ++ reverse bytes.now) }
+{
+    let mut left = bytes.len();
+    while left > 0 {
+        left -= 1;
+        text.push(bytes[left])?;
+    }
+    Ok(())
+}
+
+// The line of a change of a number.
+#[tactic(auto, unfolding(crate::specs::Change::change_line))]
+fn line_of(
+    alloc: Global,
+    number: usize,
+    change: Change,
+    worlds: Worlds<'_>,
+) -> Result<Vec<u8>, AllocError>
+    ensures { IfOk result (λ text. text.items ≡ change_line number change worlds.entry.before.now worlds.entry.after.now) }
+{
+    let mut text = Vec::new(alloc);
+    let time = worlds.after.clock().saturating_sub(worlds.before.clock());
+    add_columns(alloc, &mut text, number, change, worlds.before, time)?;
+    add_altered(alloc, &mut text, change, worlds)?;
+    text.push(b'\n')?;
+    Ok(text)
+}
+
+// The columns of a line: the number, the location, what was done, and how long it took.
+#[tactic(auto, unfolding(crate::specs::Change::change_columns))]
+fn add_columns(
+    alloc: Global,
+    text: &mut Vec<u8>,
+    number: usize,
+    change: Change,
+    world: &World,
+    time: u64,
+) -> Result<(), AllocError>
+    ensures { OnOk result (text.new.items ≡ text.old.items ++ change_columns number change world.now time) }
+{
+    let number = format!(in alloc; "{number}")?;
+    let location = Location(world.loc());
+    let location = format!(in alloc; "  {location}  ")?;
+    let change = change_text(alloc, change, world)?;
+    let time = format!(in alloc; "{time}")?;
+    add_right(text, 7, number.as_bytes())?;
+    text.extend_from_slice(location.as_bytes())?;
+    add_left(text, 17, change.as_bytes())?;
+    text.extend_from_slice(b"  ")?;
+    add_right(text, 3, time.as_bytes())?;
+    text.push(b'u')?;
+    Ok(())
+}
+
+// What was done.
+fn change_text(alloc: Global, change: Change, world: &World) -> Result<String, AllocError>
+    ensures { IfOk result (λ s. string_bytes s ≡ change_text world.now change) }
+{
+    match change {
+        Change::Step => instruction_at(alloc, world),
+        Change::SetReg(register, _) => {
+            let name = register.name();
+            Ok(format!(in alloc; "set {name}")?)
+        }
+        Change::SetCell(place, _) => {
+            let location = Location(place.number());
+            Ok(format!(in alloc; "set cell {location}")?)
+        }
+        Change::SetLoc(_) => Ok(format!(in alloc; "set loc")?),
+        Change::SetOver(_) => Ok(format!(in alloc; "set over")?),
+        Change::SetCmp(_) => Ok(format!(in alloc; "set cmp")?),
+        Change::Break(place) => {
+            let location = Location(place.number());
+            Ok(format!(in alloc; "break {location}")?)
+        }
+        Change::Clear(place) => {
+            let location = Location(place.number());
+            Ok(format!(in alloc; "clear {location}")?)
+        }
+    }
+}
+
+// The instruction at the location.
+fn instruction_at(alloc: Global, world: &World) -> Result<String, AllocError>
+    ensures { IfOk result (λ s. string_bytes s ≡ change_text world.now Step) }
+{
+    match Place::of(world.loc()) {
+        None => Ok(String::new(alloc)),
+        Some(place) => {
+            let instruction = Instruction(world.cell(place));
+            Ok(format!(in alloc; "{instruction}")?)
+        }
+    }
+}
+
+// What was altered; of a step but for the location and the clock.
+fn add_altered(
+    alloc: Global,
+    text: &mut Vec<u8>,
+    change: Change,
+    worlds: Worlds<'_>,
+) -> Result<(), AllocError>
+    ensures { OnOk result (text.new.items ≡ text.old.items ++ altered_text change worlds.entry.before.now worlds.entry.after.now) }
+{
+    match change {
+        Change::Step => {
+            add_registers(alloc, text, Layout::Columns, worlds)?;
+            add_places(alloc, text, Layout::Columns, worlds)
+        }
+        Change::SetReg(..)
+        | Change::SetCell(..)
+        | Change::SetLoc(_)
+        | Change::SetOver(_)
+        | Change::SetCmp(_)
+        | Change::Break(_)
+        | Change::Clear(_) => add_differences(alloc, text, Layout::Columns, worlds),
+    }
+}
+
+/// What differs between the state after the first changes of all and the state now.
+pub(super) fn diff_lines(
+    alloc: Global,
+    journal: &Journal<World>,
+    number: usize,
+) -> Result<Vec<u8>, Memory>
+    requires { number ≤ length (all_changes journal.now) }
+    ensures { IfOk result (λ text. text.items ≡ diff_text journal.now number) }
+{
+    let then = world_at(alloc, journal, number)?;
+    let done = journal.changes().len();
+    let mut text = format!(in alloc; "diff {number} to {done}\n")?.into_bytes();
+    let worlds = Worlds {
+        before: &then,
+        after: world_of(journal),
+    };
+    add_differences(alloc, &mut text, Layout::Lines, worlds)?;
+    Ok(text)
+}
+
+// The machine after the first changes of all, those done and those ahead: a copy that is led there.
+fn world_at(alloc: Global, journal: &Journal<World>, number: usize) -> Result<World, Memory>
+    requires { number ≤ length (all_changes journal.now) }
+    ensures { IfOk result (λ w. w ≡ world_at journal.now number) }
+{
+    let mut world = world_of(journal).copied(alloc)?;
+    let mut at = journal.changes().len();
+    while at > number {
+        at -= 1;
+        journal.unwind(at, &mut world);
+    }
+    let mut kept = Vec::new(alloc);
+    while at < number {
+        journal.redo(at, &mut world, &mut kept)?;
+        kept.clear();
+        at += 1;
+    }
+    Ok(world)
+}
