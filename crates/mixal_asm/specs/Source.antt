@@ -1,8 +1,13 @@
--- What a program tells of its source (1.3.2): of a place its line, of a line its cell, and the symbols.
-use Rattle.std.specs.Prelude.{ℕ, nat_eq, nat_le, Bool, false, List, slice_get, Option, Some, None, if◌then◌else◌}
+-- What a program tells of its source (1.3.2): of a place its line, whether that is an instruction's, of a line its cell, and the
+-- symbols.
+use Rattle.std.specs.Prelude.{ℕ, nat_eq, nat_le, Bool, true, false, List, slice_get, Option, Some, None, Result, Ok, Err, if◌then◌else◌}
 use Rattle.std.specs.Option.{option_map}
 use Rattle.std.specs.List.{filter_map, last_or}
 use Rattle.mix_word.specs.Word.{WordValue}
+use Rattle.mixal_text.specs.declared.fault.TextFault.{TextFault}
+use Rattle.mixal_text.specs.declared.op.Op.{Op}
+use Rattle.mixal_text.specs.declared.op.Op.TheVariants.{Machine, Equ, Orig, Con, Alf, End}
+use Rattle.mixal_text.specs.Line.{LineValue, Remark, Code, line_of}
 use Rattle.mixal_asm.specs.declared.key.Key.{Key}
 use Rattle.mixal_asm.specs.declared.key.Key.TheVariants.{Name, Local, Literal}
 use Rattle.mixal_asm.specs.declared.row.Shows.{Shows}
@@ -40,6 +45,31 @@ word_in place word = if nat_eq word.0 place then Some word.1 else None
 -- the last word that was put at a place
 abbrev pub word_at : ProgramValue → ℕ → Option WordValue
 word_at program place = last_or None (filter_map (word_in place) program.words)
+
+-- ---- whether a line is an instruction's: its OP is a symbolic operation of MIX, and no pseudo-operation
+
+abbrev pub is_machine : Op → Bool
+is_machine (Machine code f) = true
+is_machine Equ = false
+is_machine Orig = false
+is_machine Con = false
+is_machine (Alf word) = false
+is_machine End = false
+
+-- what a line says, if it is an instruction: a remark is none, and neither is a line with a fault
+abbrev pub says_instruction : LineValue → Bool
+says_instruction Remark = false
+says_instruction (Code loc op address) = is_machine op
+
+abbrev pub is_instruction_read : Result LineValue TextFault → Bool
+is_instruction_read (Ok line) = says_instruction line
+is_instruction_read (Err fault) = false
+
+-- a line of the source by its text; what is inserted before END is a constant
+abbrev pub is_instruction : SourceValue → Bool
+is_instruction (Line number text) = is_instruction_read (line_of text)
+is_instruction (OfLiteral text) = false
+is_instruction (OfName symbol) = false
 
 -- ---- of a line its cell: that of the first word of the lines of the source from this one on
 

@@ -1,7 +1,11 @@
 //! What the listing has of a line.
+ghost use Rattle.std.specs.Prelude.{◌≡◌};
+ghost use Rattle.mixal_text.specs.Line.{line_of, value_of_line};
+ghost use Rattle.mixal_asm.specs.Row.{source_value};
+ghost use Rattle.mixal_asm.specs.Source.{is_instruction, is_instruction_read, says_instruction};
 
 use mix_word::Word;
-use mixal_text::Symbol;
+use mixal_text::{Line, Op, Symbol, read_line};
 
 /// What a row shows beside its text: nothing; the value that EQU gives; the word of this number, from 0 on, in the order
 /// of the words, with its place; or the start.
@@ -20,6 +24,39 @@ pub enum Source<'s> {
     Line(u32, &'s [u8]),
     Literal(&'s [u8]),
     Name(Symbol),
+}
+
+impl Source<'_> {
+    /// Whether it is the line of an instruction (1.3.2): a line of the source whose OP is a symbolic operation of MIX, and no
+    /// pseudo-operation; no inserted line is one. It takes no memory.
+    pub fn is_instruction(&self) -> bool
+        ensures { result ≡ is_instruction (source_value self.now) }
+    {
+        match self {
+            Source::Line(_, text) => is_instruction_text(text),
+            Source::Literal(_) | Source::Name(_) => false,
+        }
+    }
+}
+
+// Whether the text of a line is an instruction: one with a fault is none.
+fn is_instruction_text(text: &[u8]) -> bool
+    ensures { result ≡ is_instruction_read (line_of text.now) }
+{
+    match read_line(text) {
+        Ok(line) => says_instruction(&line),
+        Err(_) => false,
+    }
+}
+
+// Whether what a line says is an instruction: a remark is none.
+fn says_instruction(line: &Line<'_>) -> bool
+    ensures { result ≡ says_instruction (value_of_line line.now) }
+{
+    match line {
+        Line::Code { op, .. } => matches!(op, Op::Machine { .. }),
+        Line::Remark => false,
+    }
 }
 
 /// A row of the listing.

@@ -1,4 +1,4 @@
-//! Of a place its line, of a line its cell, and the symbols in order.
+//! Of a place its line, whether that is an instruction's, and its word; of a line its cell; and the symbols in order.
 use crate::program::Program;
 use crate::row::Source;
 use crate::source::assemble;
@@ -11,6 +11,9 @@ const TWICE: &str = "* twice\n JMP X\n ORIG 0\nX CON 7\nY EQU -2\n LDA =7=\n JMP
 const AGAIN: &str = " ORIG 1\n NOP\n ORIG 0\n HLT\n CON 1\n ORIG 1\n CON 2\n END 0\n";
 
 const BACK: &str = " ORIG 3\n NOP\n ORIG 0\n HLT\n END 0\n";
+
+const KINDS: &str =
+    "* NOP\nNOP LDA NOP\n hlt\n con 5\n ALF HLT\nHLT CON HLT\nY EQU 3\n STA =5=\n JMP Z\n ORIG 9\n ADD 1\n ORIG 9\n CON 0\n CON 0\n ORIG *-1\n ENTA 1\n END NOP\n";
 
 const EMPTY: &str = " END 0\n";
 
@@ -26,6 +29,42 @@ const PLACES: [(&str, u16, Option<(u32, &str)>); 13] = [
     (TWICE, 3999, None),
     (AGAIN, 0, Some((4, " HLT"))),
     (AGAIN, 1, Some((7, " CON 2"))),
+    (AGAIN, 2, None),
+    (AGAIN, 3999, None),
+    (EMPTY, 0, None),
+    (EMPTY, 3999, None),
+];
+
+/// A source, a place, and whether its line is an instruction's; none where no word was put.
+const INSTRUCTIONS: [(&str, u16, Option<bool>); 15] = [
+    (KINDS, 0, Some(true)),
+    (KINDS, 1, Some(true)),
+    (KINDS, 2, Some(false)),
+    (KINDS, 3, Some(false)),
+    (KINDS, 4, Some(false)),
+    (KINDS, 5, Some(true)),
+    (KINDS, 6, Some(true)),
+    (KINDS, 7, None),
+    (KINDS, 9, Some(false)),
+    (KINDS, 10, Some(true)),
+    (KINDS, 11, Some(false)),
+    (KINDS, 12, Some(false)),
+    (KINDS, 13, None),
+    (TWICE, 0, Some(false)),
+    (EMPTY, 0, None),
+];
+
+/// A source, a place, and the last word that was put there, as the source gives it.
+const WORDS: [(&str, u16, Option<&str>); 13] = [
+    (TWICE, 0, Some("+ 00 00 00 00 07")),
+    (TWICE, 1, Some("+ 00 03 00 05 08")),
+    (TWICE, 2, Some("+ 00 04 00 00 39")),
+    (TWICE, 3, Some("+ 00 00 00 00 07")),
+    (TWICE, 4, Some("+ 00 00 00 00 00")),
+    (TWICE, 5, None),
+    (TWICE, 3999, None),
+    (AGAIN, 0, Some("+ 00 00 00 02 05")),
+    (AGAIN, 1, Some("+ 00 00 00 00 02")),
     (AGAIN, 2, None),
     (AGAIN, 3999, None),
     (EMPTY, 0, None),
@@ -78,6 +117,48 @@ fn lines_of_places(rt: HostRuntime) -> Result<(), Fail> {
         let program = assemble(rt.alloc(), source.as_bytes())?;
         let want = line.map(|(number, text)| (number, text.as_bytes()));
         assert!(rt; line_of(&program, place) == want, "{source}, {place}");
+    }
+    Ok(())
+}
+
+fn is_instruction(program: &Program<'_>, number: u16) -> Option<bool> {
+    Some(program.source_at(Place::of(number)?)?.is_instruction())
+}
+
+#[test]
+fn instructions_of_places(rt: HostRuntime) -> Result<(), Fail> {
+    for (source, place, is_one) in INSTRUCTIONS {
+        let program = assemble(rt.alloc(), source.as_bytes())?;
+        assert!(rt;
+            is_instruction(&program, place) == is_one,
+            "{source}, {place}"
+        );
+    }
+    Ok(())
+}
+
+// Whether a text says the last word that was put at a place, or none does where no word was put.
+fn is_word(
+    alloc: Global,
+    program: &Program<'_>,
+    number: u16,
+    text: Option<&str>,
+) -> Result<bool, AllocError> {
+    match Place::of(number).and_then(|place| program.word_at(place)) {
+        Some(word) => {
+            let word = format!(in alloc; "{word}")?;
+            Ok(text == Some(word.as_str()))
+        }
+        None => Ok(text.is_none()),
+    }
+}
+
+#[test]
+fn words_of_places(rt: HostRuntime) -> Result<(), Fail> {
+    let alloc = rt.alloc();
+    for (source, place, word) in WORDS {
+        let program = assemble(alloc, source.as_bytes())?;
+        assert!(rt; is_word(alloc, &program, place, word)?, "{source}, {place}");
     }
     Ok(())
 }
