@@ -1,5 +1,5 @@
 -- What a request answers: whether it is accepted, and its text, which is read from the program and from the timeline that it led to.
-use Rattle.std.specs.Prelude.{ℕ, List, [], codes}
+use Rattle.std.specs.Prelude.{ℕ, ◌+◌, List, [], ◌++◌, codes, length}
 use Rattle.mix_machine.specs.World.{WorldState}
 use Rattle.mix_session.specs.Reply.{ran_text, moved_text, ok_text, refused_text, told_of_end}
 use Rattle.mixal_asm.specs.Program.{ProgramValue}
@@ -7,7 +7,9 @@ use Rattle.mix_session.specs.Timeline.{Timeline, world_of}
 use Rattle.mix_session.specs.Topic.{topic_text}
 use Rattle.mix_session.specs.declared.reply.End.{End}
 use Rattle.mix_session.specs.declared.answer.Answer.{Answer}
-use Rattle.mix_session.specs.declared.answer.Answer.TheVariants.{Nothing, Ran, Back, Forth, Done, Shows, Refused}
+use Rattle.mix_session.specs.declared.answer.Answer.TheVariants.{Nothing, Ran, Traced, Back, BackUntil, Forth, ForthUntil, Done, Shows, Refused}
+use Rattle.mix_session.specs.declared.reply.End.TheVariants.{Halt, Until, Break, Limit, Fault}
+use Rattle.mix_session.specs.Change.{change_line_at, last_lines}
 use Rattle.mix_session.specs.declared.reply.Told.{Told}
 use Rattle.mix_session.specs.declared.reply.Told.TheVariants as told
 
@@ -15,8 +17,11 @@ use Rattle.mix_session.specs.declared.reply.Told.TheVariants as told
 abbrev pub told_of : Answer → Told
 told_of Nothing = told.Accepted
 told_of (Ran done end) = told_of_end end
+told_of (Traced done end) = told_of_end end
 told_of (Back count) = told.Accepted
+told_of (BackUntil count) = told.Accepted
 told_of (Forth count) = told.Accepted
+told_of (ForthUntil count) = told.Accepted
 told_of Done = told.Accepted
 told_of (Shows topic) = told.Accepted
 told_of (Refused refusal) = told.Refused
@@ -29,12 +34,23 @@ moved_to way count w = moved_text way count w.loc w.clock
 abbrev pub ran_to : ℕ → End → WorldState → List ℕ
 ran_to done end w = ran_text done w.loc w.clock end
 
+-- how many changes are told before the line of steps: the one that met what was waited for
+abbrev pub told_before : End → ℕ
+told_before Halt = 0
+told_before Until = 1
+told_before Break = 0
+told_before Limit = 0
+told_before (Fault f) = 0
+
 -- the text of an answer
 unfoldable pub text_of : Answer → ProgramValue → Timeline → List ℕ
 text_of Nothing program t = []
-text_of (Ran done end) program t = ran_to done end (world_of t)
+text_of (Ran done end) program t = last_lines t (told_before end) ++ ran_to done end (world_of t)
+text_of (Traced done end) program t = last_lines t done ++ ran_to done end (world_of t)
 text_of (Back count) program t = moved_to (codes "back") count (world_of t)
+text_of (BackUntil count) program t = change_line_at t (length t.changes + 1) ++ moved_to (codes "back") count (world_of t)
 text_of (Forth count) program t = moved_to (codes "forth") count (world_of t)
+text_of (ForthUntil count) program t = last_lines t 1 ++ moved_to (codes "forth") count (world_of t)
 text_of Done program t = ok_text
 text_of (Shows topic) program t = topic_text topic program t
 text_of (Refused refusal) program t = refused_text refusal

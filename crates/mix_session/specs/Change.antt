@@ -12,7 +12,7 @@ use Rattle.mix_session.specs.Columns.{left_in, right_in}
 use Rattle.mix_session.specs.Differences.{register_items, position_items, place_items, differences}
 use Rattle.mix_session.specs.Each.{texts}
 use Rattle.mix_session.specs.Reply.{location_text}
-use Rattle.mix_session.specs.Timeline.{Timeline}
+use Rattle.mix_session.specs.Timeline.{Timeline, world_of}
 use Rattle.mix_session.specs.declared.show.differences.Layout.TheVariants.{Lines, Columns}
 
 -- all changes, those done and those ahead
@@ -53,14 +53,14 @@ unfoldable pub change_line : ℕ → Change → WorldState → WorldState → Li
 change_line n change v w = change_columns n change v (w.clock - v.clock) ++ altered_text change v w ++ 10 ∷ []
 
 -- the line of the change of a number, counted from 1
-abbrev pub line_of : Timeline → ℕ → List ℕ
-line_of t n = change_line n (change_at t n) (world_at t (n - 1)) (world_at t n)
+abbrev pub change_line_at : Timeline → ℕ → List ℕ
+change_line_at t n = change_line n (change_at t n) (world_at t (n - 1)) (world_at t n)
 
 -- the lines of the last n changes that are done, or of all where there are fewer
 abbrev pub last_lines : Timeline → ℕ → List ℕ
-last_lines t n = texts (line_of t) (length t.changes - n + 1) (length t.changes + 1)
+last_lines t n = texts (change_line_at t) (length t.changes - n + 1) (length t.changes + 1)
 
 -- the reply of `show diff`: what differs between the state after the first n changes and now
-abbrev pub diff_text : Timeline → ℕ → List ℕ
+unfoldable pub diff_text : Timeline → ℕ → List ℕ
 diff_text t n =
-    codes "diff " ++ decimal n ++ codes " to " ++ decimal (length t.changes) ++ 10 ∷ [] ++ differences Lines (world_at t n) (world_at t (length t.changes))
+    codes "diff " ++ decimal n ++ codes " to " ++ decimal (length t.changes) ++ 10 ∷ [] ++ differences Lines (world_at t n) (world_of t)

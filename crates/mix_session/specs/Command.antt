@@ -11,16 +11,23 @@ use Rattle.mix_machine.specs.declared.old.Change.{Change}
 use Rattle.mix_machine.specs.declared.old.Change.TheVariants.{Step}
 use Rattle.mix_machine.specs.declared.fault.MixFault.{MixFault}
 use Rattle.mix_session.specs.Timeline.{Timeline, world_of, with_change, with_steps, back_by, forth_by, is_at_break}
+use Rattle.mix_session.specs.Change.{all_changes}
+use Rattle.mix_session.specs.Condition.{is_reached}
 use Rattle.mix_session.specs.Request.{request_of}
 use Rattle.mix_session.specs.Answer.{text_of}
 use Rattle.mix_session.specs.declared.fault.Refusal.{Refusal}
-use Rattle.mix_session.specs.declared.fault.Refusal.TheVariants.{TooFewChanges, RefusedByMachine}
+use Rattle.mix_session.specs.declared.fault.Refusal.TheVariants.{TooFewChanges, RefusedByMachine, NoSuchChange}
+use Rattle.mix_session.specs.declared.condition.Condition.{Condition}
+use Rattle.mix_session.specs.declared.command.Stops.{Stops}
+use Rattle.mix_session.specs.declared.command.Stops.TheVariants as stops
+use Rattle.mix_session.specs.declared.request.Topic.{Topic}
+use Rattle.mix_session.specs.declared.request.Topic.TheVariants as topic
 use Rattle.mix_session.specs.declared.request.Request.{Request}
 use Rattle.mix_session.specs.declared.request.Request.TheVariants as ask
 use Rattle.mix_session.specs.declared.answer.Answer.{Answer}
 use Rattle.mix_session.specs.declared.answer.Answer.TheVariants as answers
 use Rattle.mix_session.specs.declared.reply.End.{End}
-use Rattle.mix_session.specs.declared.reply.End.TheVariants.{Halt, Break, Limit, Fault}
+use Rattle.mix_session.specs.declared.reply.End.TheVariants.{Halt, Until, Break, Limit, Fault}
 
 -- The effect of a request: the stages by which it is done, numbered from 0 to the last one, and its answer. Of a request that is done at
 -- once, stage 0 is the last. Only where memory is refused may the timeline stand at another stage than the last.
@@ -47,29 +54,54 @@ abbrev pub fault_end : Result WorldState MixFault → Option End
 fault_end (Ok world) = None
 fault_end (Err fault) = Some (Fault fault)
 
--- what ends a command once a step is done, if that does: the step was a halt, or, where breakpoints stop, it came to one
-abbrev pub end_of_step : Bool → Bool → WorldState → Option End
-end_of_step halts at_breaks now = if halts then Some Halt else (if at_breaks && is_at_break now then Some Break else None)
+-- whether a step from one state to another meets what is waited for
+abbrev pub is_until : Stops → WorldState → WorldState → Bool
+is_until stops.Nothing before now = false
+is_until stops.Breaks before now = false
+is_until (stops.Until condition) before now = is_reached condition before now now
+
+-- whether breakpoints stop the steps
+abbrev pub at_breaks : Stops → Bool
+at_breaks stops.Nothing = false
+at_breaks stops.Breaks = true
+at_breaks (stops.Until condition) = true
+
+-- what ends a command once a step is done, if that does: the step was a halt; or it met what is waited for; or, where breakpoints stop, it came
+-- to one
+abbrev pub end_of_step : Bool → Stops → WorldState → WorldState → Option End
+end_of_step halts stops before now =
+    if halts then Some Halt else if is_until stops before now then Some Until else
+    if at_breaks stops && is_at_break now then Some Break else None
 
 -- what ends a command after k steps, by the last of them
-abbrev pub end_of_last : Bool → Timeline → ℕ → Option End
-end_of_last at_breaks t zero = None
-end_of_last at_breaks t (suc k) = end_of_step (is_halt_next (world_of (with_steps t k))) at_breaks (world_of (with_steps t (suc k)))
+abbrev pub end_of_last : Stops → Timeline → ℕ → Option End
+end_of_last stops t zero = None
+end_of_last stops t (suc k) =
+    end_of_step (is_halt_next (world_of (with_steps t k))) stops (world_of (with_steps t k)) (world_of (with_steps t (suc k)))
 
 -- what ends n steps after k of them, if anything does: the last of them, or k is n, or one more is a fault
-unfoldable pub end_at : Bool → Timeline → ℕ → ℕ → Option End
-end_at at_breaks t n k =
-    option_or (end_of_last at_breaks t k) (if k == n then Some Limit else fault_end (does (world_of (with_steps t k)) Step))
+unfoldable pub end_at : Stops → Timeline → ℕ → ℕ → Option End
+end_at stops t n k =
+    option_or (end_of_last stops t k) (if k == n then Some Limit else fault_end (does (world_of (with_steps t k)) Step))
 
 -- how many of n steps are done: the least number at which an end holds
-unfoldable pub count_of_steps : Bool → Timeline → ℕ → ℕ
-count_of_steps at_breaks t n = least_below n (λ k. is_some (end_at at_breaks t n k))
+unfoldable pub count_of_steps : Stops → Timeline → ℕ → ℕ
+count_of_steps stops t n = least_below n (λ k. is_some (end_at stops t n k))
 
--- `step N`, and `run N`, which a breakpoint stops too: a stage is a step
-unfoldable pub effect_of_steps : Bool → Timeline → ℕ → Effect
-effect_of_steps at_breaks t n =
-    let k = count_of_steps at_breaks t n in
-    record { stage = with_steps t; last = k; answer = answers.Ran k (unwrap_or (end_at at_breaks t n k) Limit) }
+-- `step N`, which nothing stops but a halt, and `run N`: a stage is a step
+unfoldable pub effect_of_steps : Stops → Timeline → ℕ → Effect
+effect_of_steps stops t n =
+    let k = count_of_steps stops t n in
+    record { stage = with_steps t; last = k; answer = answers.Ran k (unwrap_or (end_at stops t n k) Limit) }
+
+-- an answer whose steps are told one by one
+abbrev pub traced : Answer → Answer
+traced (answers.Ran k end) = answers.Traced k end
+traced answer = answer
+
+-- `trace N`, which does what `step N` does
+abbrev pub effect_of_trace : Timeline → ℕ → Effect
+effect_of_trace t n = let effect = effect_of_steps stops.Nothing t n in record effect { answer = traced effect.answer }
 
 -- what is done at once
 abbrev pub at_once : Timeline → Answer → Effect
@@ -94,6 +126,41 @@ is_break_after t k = nat_lt 0 k && is_at_break (world_of (back_by t k))
 -- how many changes `back break` takes back: the least number that comes to a breakpoint, or all where none does
 unfoldable pub count_to_break : Timeline → ℕ
 count_to_break t = least_below (length t.changes) (is_break_after t)
+
+-- whether taking back one change more than k meets a condition
+abbrev pub is_reached_back : Condition → Timeline → ℕ → Bool
+is_reached_back condition t k =
+    let after = world_of (back_by t k) in let before = world_of (back_by t (suc k)) in is_reached condition before after before
+
+-- how many changes `back until` takes back but one: the least number at which one more meets the condition
+unfoldable pub count_back : Condition → Timeline → ℕ
+count_back condition t = least_below (length t.changes) (is_reached_back condition t)
+
+-- `back until`: nothing is taken back where no change meets the condition
+unfoldable pub effect_of_back_until : Condition → Timeline → Effect
+effect_of_back_until condition t =
+    let k = count_back condition t in
+    if nat_lt k (length t.changes) then at_once (back_by t (suc k)) (answers.BackUntil (suc k)) else refusal_effect t NoSuchChange
+
+-- whether doing again one change more than k meets a condition
+abbrev pub is_reached_forth : Condition → Timeline → ℕ → Bool
+is_reached_forth condition t k =
+    let before = world_of (forth_by t k) in let after = world_of (forth_by t (suc k)) in is_reached condition before after after
+
+-- how many changes `forth until` does again but one
+unfoldable pub count_forth : Condition → Timeline → ℕ
+count_forth condition t = least_below (length t.ahead) (is_reached_forth condition t)
+
+-- on the way to the end of what stands ahead, and back where that is reached
+abbrev pub sought : Timeline → ℕ → Timeline
+sought t k = if nat_lt k (length t.ahead) then forth_by t k else t
+
+-- `forth until`: where no change meets the condition, all are done again and taken back
+unfoldable pub effect_of_forth_until : Condition → Timeline → Effect
+effect_of_forth_until condition t =
+    let k = count_forth condition t in
+    if nat_lt k (length t.ahead) then record { stage = forth_by t; last = suc k; answer = answers.ForthUntil (suc k) }
+    else record { stage = sought t; last = length t.ahead; answer = answers.Refused NoSuchChange }
 
 -- the next n changes ahead are done again: a stage is one of them
 abbrev pub effect_of_forth : Timeline → ℕ → Effect
@@ -122,19 +189,33 @@ effect_of_result t change (Err fault) = refusal_effect t (RefusedByMachine fault
 unfoldable pub effect_of_change : Timeline → Change → Effect
 effect_of_change t change = effect_of_result t change (does (world_of t) change)
 
+-- `show diff`: a state that no list of changes comes to is not shown
+abbrev pub effect_of_diff : Timeline → ℕ → Effect
+effect_of_diff t n =
+    if nat_lt (length (all_changes t)) n then refusal_effect t TooFewChanges else at_once t (answers.Shows (topic.Diff n))
+
+-- what is shown
+abbrev pub effect_of_show : Timeline → Topic → Effect
+effect_of_show t (topic.Diff n) = effect_of_diff t n
+effect_of_show t other = at_once t (answers.Shows other)
+
 -- what a request does; each request has an effect, whoever makes it
 unfoldable pub effect_of : Timeline → Request → Effect
 effect_of t ask.Nothing = at_once t answers.Nothing
-effect_of t (ask.Step n) = effect_of_steps false t n
-effect_of t (ask.Run n) = effect_of_steps true t n
+effect_of t (ask.Step n) = effect_of_steps stops.Nothing t n
+effect_of t (ask.Trace n) = effect_of_trace t n
+effect_of t (ask.Run n) = effect_of_steps stops.Breaks t n
+effect_of t (ask.RunUntil n condition) = effect_of_steps (stops.Until condition) t n
 effect_of t (ask.Back n) = effect_of_back_within t n
 effect_of t ask.BackAll = effect_of_back t (length t.changes)
 effect_of t ask.BackBreak = effect_of_back t (count_to_break t)
+effect_of t (ask.BackUntil condition) = effect_of_back_until condition t
 effect_of t (ask.Forth n) = effect_of_forth_within t n
 effect_of t ask.ForthAll = effect_of_forth t (length t.ahead)
+effect_of t (ask.ForthUntil condition) = effect_of_forth_until condition t
 effect_of t (ask.Goto n) = effect_of_goto t n
 effect_of t (ask.Change change) = effect_of_change t change
-effect_of t (ask.Show topic) = at_once t (answers.Shows topic)
+effect_of t (ask.Show topic) = effect_of_show t topic
 
 -- what a line does that was read: its request, or its refusal
 abbrev pub effect_of_line : Timeline → Result Request Refusal → Effect

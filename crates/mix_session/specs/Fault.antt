@@ -5,7 +5,7 @@ use Rattle.mix_machine.specs.units.deck.Fault.{deck_fault_text}
 use Rattle.mix_session.specs.declared.fault.ToolFault.{ToolFault}
 use Rattle.mix_session.specs.declared.fault.ToolFault.TheVariants.{Memory, Read, Write, Deck, Long}
 use Rattle.mix_session.specs.declared.fault.Refusal.{Refusal}
-use Rattle.mix_session.specs.declared.fault.Refusal.TheVariants.{NoSuchCommand, BadArgument, OutOfRange, TooFewChanges, RefusedByMachine}
+use Rattle.mix_session.specs.declared.fault.Refusal.TheVariants.{NoSuchCommand, BadArgument, OutOfRange, TooFewChanges, RefusedByMachine, NoSuchChange}
 
 -- the letter and the number, a blank and the words
 abbrev pub numbered : List ℕ → ℕ → List ℕ → List ℕ
@@ -46,6 +46,7 @@ refusal_number BadArgument = 2
 refusal_number OutOfRange = 3
 refusal_number TooFewChanges = 4
 refusal_number (RefusedByMachine fault) = 5
+refusal_number NoSuchChange = 6
 
 -- its words
 abbrev pub refusal_name : Refusal → List ℕ
@@ -54,6 +55,7 @@ refusal_name BadArgument = codes "bad argument"
 refusal_name OutOfRange = codes "number out of range"
 refusal_name TooFewChanges = codes "fewer changes than asked"
 refusal_name (RefusedByMachine fault) = codes "refused by the machine"
+refusal_name NoSuchChange = codes "no such change"
 
 -- what is reported after the words: of the machine its own fault
 abbrev pub refusal_detail : Refusal → List ℕ
@@ -62,6 +64,7 @@ refusal_detail BadArgument = []
 refusal_detail OutOfRange = []
 refusal_detail TooFewChanges = []
 refusal_detail (RefusedByMachine fault) = codes ": " ++ fault_line fault
+refusal_detail NoSuchChange = []
 
 -- `C1 no such command`, `C5 refused by the machine: M7 index overflow`
 abbrev pub refusal_text : Refusal → List ℕ

@@ -11,9 +11,11 @@ use Rattle.mix_session.specs.declared.keyword.BackWord.TheVariants as back
 use Rattle.mix_session.specs.declared.keyword.ForthWord.{ForthWord}
 use Rattle.mix_session.specs.declared.keyword.ForthWord.TheVariants as forth
 use Rattle.mix_session.specs.declared.keyword.ShowWord.{ShowWord}
-use Rattle.mix_session.specs.declared.keyword.ShowWord.TheVariants.{Registers, Cells, Clock, Breaks, Changes, Unit, All, Code, Value, Values, Symbols}
+use Rattle.mix_session.specs.declared.keyword.ShowWord.TheVariants.{Registers, Cells, Clock, Breaks, Changes, Unit, All, Code, Value, Values, Symbols, Last, Diff, Counts}
 use Rattle.mix_session.specs.declared.keyword.SetWord.{SetWord}
 use Rattle.mix_session.specs.declared.keyword.SetWord.TheVariants.{Register, Cell, Location, Toggle, Indicator}
+use Rattle.mix_session.specs.declared.keyword.UntilWord.{UntilWord}
+use Rattle.mix_session.specs.declared.keyword.UntilWord.TheVariants as until
 
 -- whether a word is this name, in capitals or small letters
 abbrev pub is_name : List ℕ → List ℕ → Bool
@@ -34,25 +36,28 @@ command_name command.Set = codes "set"
 command_name command.Break = codes "break"
 command_name command.Clear = codes "clear"
 command_name command.Show = codes "show"
+command_name command.Trace = codes "trace"
 
 abbrev pub all_commands : List CommandWord
 all_commands =
-    command.Step ∷ command.Run ∷ command.Back ∷ command.Forth ∷ command.Goto ∷ command.Set ∷ command.Break ∷ command.Clear ∷ command.Show ∷ []
+    command.Step ∷ command.Run ∷ command.Back ∷ command.Forth ∷ command.Goto ∷ command.Set ∷ command.Break ∷ command.Clear ∷ command.Show ∷ command.Trace ∷ []
 
 -- what may stand after `back` in place of a number
 abbrev pub back_name : BackWord → List ℕ
 back_name back.All = codes "all"
 back_name back.Break = codes "break"
+back_name back.Until = codes "until"
 
 abbrev pub all_backs : List BackWord
-all_backs = back.All ∷ back.Break ∷ []
+all_backs = back.All ∷ back.Break ∷ back.Until ∷ []
 
 -- what may stand after `forth` in place of a number
 abbrev pub forth_name : ForthWord → List ℕ
 forth_name forth.All = codes "all"
+forth_name forth.Until = codes "until"
 
 abbrev pub all_forths : List ForthWord
-all_forths = forth.All ∷ []
+all_forths = forth.All ∷ forth.Until ∷ []
 
 -- what `show` may show
 abbrev pub show_name : ShowWord → List ℕ
@@ -67,9 +72,12 @@ show_name Code = codes "code"
 show_name Value = codes "value"
 show_name Values = codes "values"
 show_name Symbols = codes "symbols"
+show_name Last = codes "last"
+show_name Diff = codes "diff"
+show_name Counts = codes "counts"
 
 abbrev pub all_shows : List ShowWord
-all_shows = Registers ∷ Cells ∷ Clock ∷ Breaks ∷ Changes ∷ Unit ∷ All ∷ Code ∷ Value ∷ Values ∷ Symbols ∷ []
+all_shows = Registers ∷ Cells ∷ Clock ∷ Breaks ∷ Changes ∷ Unit ∷ All ∷ Code ∷ Value ∷ Values ∷ Symbols ∷ Last ∷ Diff ∷ Counts ∷ []
 
 -- what `set` may set
 abbrev pub set_name : SetWord → List ℕ
@@ -81,6 +89,14 @@ set_name Indicator = codes "cmp"
 
 abbrev pub all_sets : List SetWord
 all_sets = map Register all_registers ++ Cell ∷ Location ∷ Toggle ∷ Indicator ∷ []
+
+-- what a command may wait for: a unit, or what `set` names
+abbrev pub until_name : UntilWord → List ℕ
+until_name (until.Set word) = set_name word
+until_name until.Unit = codes "unit"
+
+abbrev pub all_untils : List UntilWord
+all_untils = map until.Set all_sets ++ until.Unit ∷ []
 
 -- the overflow toggle
 abbrev pub toggle_name : Bool → List ℕ

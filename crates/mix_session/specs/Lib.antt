@@ -1,9 +1,14 @@
 pub mod Answer
+pub mod Change
 pub mod Columns
 pub mod Command
+pub mod Condition
+pub mod Counts
+pub mod Differences
 pub mod Each
 pub mod Fault
 pub mod Keyword
+pub mod Marks
 pub mod Names
 pub mod Reply
 pub mod Request

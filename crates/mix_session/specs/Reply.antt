@@ -5,13 +5,14 @@ use Rattle.mix_machine.specs.Fault.{fault_line}
 use Rattle.mix_session.specs.Fault.{refusal_text}
 use Rattle.mix_session.specs.declared.fault.Refusal.{Refusal}
 use Rattle.mix_session.specs.declared.reply.End.{End}
-use Rattle.mix_session.specs.declared.reply.End.TheVariants.{Halt, Break, Limit, Fault}
+use Rattle.mix_session.specs.declared.reply.End.TheVariants.{Halt, Until, Break, Limit, Fault}
 use Rattle.mix_session.specs.declared.reply.Told.{Told}
 use Rattle.mix_session.specs.declared.reply.Told.TheVariants.{Accepted, Refused}
 
 -- whether `step` or `run` is accepted: only a fault refuses
 abbrev pub told_of_end : End → Told
 told_of_end Halt = Accepted
+told_of_end Until = Accepted
 told_of_end Break = Accepted
 told_of_end Limit = Accepted
 told_of_end (Fault f) = Refused
@@ -32,6 +33,7 @@ position_text loc clock = location_text loc ++ codes " clock " ++ decimal clock
 -- why no more steps were done
 abbrev pub end_text : End → List ℕ
 end_text Halt = codes "halt"
+end_text Until = codes "until"
 end_text Break = codes "break"
 end_text Limit = codes "limit"
 end_text (Fault f) = codes "fault " ++ fault_line f

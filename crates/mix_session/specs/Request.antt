@@ -1,7 +1,7 @@
 -- What a line of the script asks for: its words, in capitals or small letters, or what is wrong with them. A word that is missing,
 -- unknown, bad or too many is reported before a number that is out of range.
 use Rattle.std.specs.Prelude.{◌==◌, ℕ, ℤ, pos, negsuc, List, [], ◌∷◌, codes, Option, Some, None, Result, Ok, Err, nat_lt, ok_or, if◌then◌else◌}
-use Rattle.mix_session.specs.Keyword.{is_name, keyword_named, command_name, all_commands, back_name, all_backs, forth_name, all_forths, set_name, all_sets, show_name, all_shows, toggle_name, all_toggles, indicator_name, all_indicators}
+use Rattle.mix_session.specs.Keyword.{is_name, keyword_named, command_name, all_commands, back_name, all_backs, forth_name, all_forths, set_name, all_sets, until_name, all_untils, show_name, all_shows, toggle_name, all_toggles, indicator_name, all_indicators}
 use Rattle.mix_lines.specs.Lines.{words, is_comment}
 use Rattle.mix_lines.specs.Number.{decimal_number}
 use Rattle.mix_word.specs.Word.{WordValue, number_of}
@@ -23,10 +23,15 @@ use Rattle.mix_session.specs.declared.keyword.ForthWord.{ForthWord}
 use Rattle.mix_session.specs.declared.keyword.ForthWord.TheVariants as forth
 use Rattle.mix_session.specs.declared.keyword.SetWord.{SetWord}
 use Rattle.mix_session.specs.declared.keyword.SetWord.TheVariants as set
+use Rattle.mix_session.specs.declared.keyword.UntilWord.{UntilWord}
+use Rattle.mix_session.specs.declared.keyword.UntilWord.TheVariants as until
 use Rattle.mix_session.specs.declared.keyword.ShowWord.{ShowWord}
 use Rattle.mix_session.specs.declared.keyword.ShowWord.TheVariants as show
+use Rattle.mix_session.specs.declared.condition.Condition.{Condition}
+use Rattle.mix_session.specs.declared.condition.Condition.TheVariants.{Alters, At}
 use Rattle.mix_session.specs.declared.request.Request.{Request}
 use Rattle.mix_session.specs.declared.request.Request.TheVariants as ask
+use Rattle.mix_machine.specs.declared.part.Part.TheVariants as part
 use Rattle.mix_machine.specs.declared.old.Change.{Change}
 use Rattle.mix_machine.specs.declared.old.Change.TheVariants.{SetReg, SetCell, SetLoc, SetOver, SetCmp, Break, Clear}
 use Rattle.mix_session.specs.declared.request.Topic.{Topic}
@@ -100,63 +105,24 @@ place_of w = place_of_number (number_of w)
 abbrev pub max_steps : ℕ
 max_steps = 1000000
 
--- how many steps: from 1 to the most of one command
-abbrev pub steps_in : List ℕ → Result ℕ Refusal
-steps_in word = do
-  n ← number_in word
+-- so many steps: from 1 to the most of one command
+abbrev pub steps_of : ℕ → Result ℕ Refusal
+steps_of n = do
   some ← from_one n
   up_to max_steps some
 
--- `step`, `step N`
-unfoldable pub step_request : List (List ℕ) → Result Request Refusal
-step_request [] = Ok (ask.Step 1)
-step_request (word ∷ more) = do
+-- how many steps
+abbrev pub steps_in : List ℕ → Result ℕ Refusal
+steps_in word = do
+  n ← number_in word
+  steps_of n
+
+-- `step`, `step N`, and `trace` in the same manner: how many steps
+unfoldable pub count_request : List (List ℕ) → Result ℕ Refusal
+count_request [] = Ok 1
+count_request (word ∷ more) = do
   none ← no_word more
-  steps ← steps_in word
-  Ok (ask.Step steps)
-
--- `run N`
-unfoldable pub run_request : List (List ℕ) → Result Request Refusal
-run_request words = do
-  word ← one_word words
-  steps ← steps_in word
-  Ok (ask.Run steps)
-
--- how much is taken back: a keyword, or a number
-abbrev pub amount_request : List ℕ → Option BackWord → Result Request Refusal
-amount_request word (Some back.All) = Ok ask.BackAll
-amount_request word (Some back.Break) = Ok ask.BackBreak
-amount_request word None = do
-  n ← number_in word
-  count ← from_one n
-  Ok (ask.Back count)
-
--- `back N`, `back all`, `back break`
-unfoldable pub back_request : List (List ℕ) → Result Request Refusal
-back_request words = do
-  word ← one_word words
-  amount_request word (keyword_named back_name all_backs word)
-
--- how much is done again: a keyword, or a number
-abbrev pub ahead_request : List ℕ → Option ForthWord → Result Request Refusal
-ahead_request word (Some forth.All) = Ok ask.ForthAll
-ahead_request word None = do
-  n ← number_in word
-  count ← from_one n
-  Ok (ask.Forth count)
-
--- `forth N`, `forth all`
-unfoldable pub forth_request : List (List ℕ) → Result Request Refusal
-forth_request words = do
-  word ← one_word words
-  ahead_request word (keyword_named forth_name all_forths word)
-
--- `goto N`
-unfoldable pub goto_request : List (List ℕ) → Result Request Refusal
-goto_request words = do
-  word ← one_word words
-  n ← number_in word
-  Ok (ask.Goto n)
+  steps_in word
 
 -- the cell that a word names, by an expression
 abbrev pub place_named : NamesValue → WordValue → List ℕ → Result ℕ Refusal
@@ -169,6 +135,115 @@ abbrev pub one_place : NamesValue → WordValue → List (List ℕ) → Result �
 one_place names here words = do
   word ← one_word words
   place_named names here word
+
+-- the number of the last unit
+abbrev pub last_unit : ℕ
+last_unit = 20
+
+-- the unit that the only word names
+abbrev pub one_unit : List (List ℕ) → Result ℕ Refusal
+one_unit words = do
+  word ← one_word words
+  n ← number_in word
+  up_to last_unit n
+
+-- what is waited for, after which there is no word
+abbrev pub condition_alone : Condition → List (List ℕ) → Result Condition Refusal
+condition_alone condition words = do
+  none ← no_word words
+  Ok condition
+
+-- what is waited for, by its keyword and the words after it
+abbrev pub condition_of : NamesValue → WordValue → UntilWord → List (List ℕ) → Result Condition Refusal
+condition_of names here (until.Set (set.Register r)) words = condition_alone (Alters (part.Register r)) words
+condition_of names here (until.Set set.Toggle) words = condition_alone (Alters part.Over) words
+condition_of names here (until.Set set.Indicator) words = condition_alone (Alters part.Cmp) words
+condition_of names here (until.Set set.Cell) words = do
+  place ← one_place names here words
+  Ok (Alters (part.Cell place))
+condition_of names here (until.Set set.Location) words = do
+  place ← one_place names here words
+  Ok (At place)
+condition_of names here until.Unit words = do
+  unit ← one_unit words
+  Ok (Alters (part.Unit unit))
+
+-- `REG`, `over`, `cmp`, `cell E`, `unit N`, `loc E`
+unfoldable pub condition_in : NamesValue → WordValue → List (List ℕ) → Result Condition Refusal
+condition_in names here words = do
+  first ← first_keyword until_name all_untils words
+  condition_of names here first.0 first.1
+
+-- steps until a condition is met
+abbrev pub run_until : NamesValue → WordValue → List ℕ → List (List ℕ) → Result Request Refusal
+run_until names here word words = do
+  n ← number_in word
+  condition ← condition_in names here words
+  steps ← steps_of n
+  Ok (ask.RunUntil steps condition)
+
+-- the words after the number of `run`
+abbrev pub run_after : NamesValue → WordValue → List ℕ → List (List ℕ) → Result Request Refusal
+run_after names here word [] = do
+  steps ← steps_in word
+  Ok (ask.Run steps)
+run_after names here word (next ∷ more) = if is_name next (codes "until") then run_until names here word more else Err BadArgument
+
+-- `run N`, `run N until COND`
+unfoldable pub run_request : NamesValue → WordValue → List (List ℕ) → Result Request Refusal
+run_request names here [] = Err BadArgument
+run_request names here (word ∷ more) = run_after names here word more
+
+-- a request after which there is no word
+abbrev pub request_alone : Request → List (List ℕ) → Result Request Refusal
+request_alone request words = do
+  none ← no_word words
+  Ok request
+
+-- how many changes, the only word left
+abbrev pub amount_in : List ℕ → List (List ℕ) → Result ℕ Refusal
+amount_in word more = do
+  none ← no_word more
+  n ← number_in word
+  from_one n
+
+-- how much is taken back: a keyword, or a number
+abbrev pub back_by_word : NamesValue → WordValue → List ℕ → List (List ℕ) → Option BackWord → Result Request Refusal
+back_by_word names here word more (Some back.All) = request_alone ask.BackAll more
+back_by_word names here word more (Some back.Break) = request_alone ask.BackBreak more
+back_by_word names here word more (Some back.Until) = do
+  condition ← condition_in names here more
+  Ok (ask.BackUntil condition)
+back_by_word names here word more None = do
+  count ← amount_in word more
+  Ok (ask.Back count)
+
+-- `back N`, `back all`, `back break`, `back until COND`
+unfoldable pub back_request : NamesValue → WordValue → List (List ℕ) → Result Request Refusal
+back_request names here [] = Err BadArgument
+back_request names here (word ∷ more) = back_by_word names here word more (keyword_named back_name all_backs word)
+
+-- how much is done again: a keyword, or a number
+abbrev pub forth_by_word : NamesValue → WordValue → List ℕ → List (List ℕ) → Option ForthWord → Result Request Refusal
+forth_by_word names here word more (Some forth.All) = request_alone ask.ForthAll more
+forth_by_word names here word more (Some forth.Until) = do
+  condition ← condition_in names here more
+  Ok (ask.ForthUntil condition)
+forth_by_word names here word more None = do
+  count ← amount_in word more
+  Ok (ask.Forth count)
+
+-- `forth N`, `forth all`, `forth until COND`
+unfoldable pub forth_request : NamesValue → WordValue → List (List ℕ) → Result Request Refusal
+forth_request names here [] = Err BadArgument
+forth_request names here (word ∷ more) = forth_by_word names here word more (keyword_named forth_name all_forths word)
+
+-- `goto N`
+unfoldable pub goto_request : List (List ℕ) → Result Request Refusal
+goto_request words = do
+  word ← one_word words
+  n ← number_in word
+  Ok (ask.Goto n)
 
 -- what `set` changes
 abbrev pub change_of : NamesValue → WordValue → SetWord → List (List ℕ) → Result Change Refusal
@@ -263,17 +338,26 @@ value_of names here words = do
   value ← word_in names here word
   Ok (topic.Value value)
 
--- the number of the last unit
-abbrev pub last_unit : ℕ
-last_unit = 20
-
 -- `show unit N`
 abbrev pub unit_topic : List (List ℕ) → Result Topic Refusal
 unit_topic words = do
+  unit ← one_unit words
+  Ok (topic.Unit unit)
+
+-- `show last N`
+abbrev pub last_topic : List (List ℕ) → Result Topic Refusal
+last_topic words = do
   word ← one_word words
   n ← number_in word
-  unit ← up_to last_unit n
-  Ok (topic.Unit unit)
+  count ← from_one n
+  Ok (topic.Last count)
+
+-- `show diff N`
+abbrev pub diff_topic : List (List ℕ) → Result Topic Refusal
+diff_topic words = do
+  word ← one_word words
+  n ← number_in word
+  Ok (topic.Diff n)
 
 -- what `show` shows
 abbrev pub topic_of : NamesValue → WordValue → ShowWord → List (List ℕ) → Result Topic Refusal
@@ -288,6 +372,9 @@ topic_of names here show.Code words = code_of names here words
 topic_of names here show.Value words = value_of names here words
 topic_of names here show.Values words = values_of names here words
 topic_of names here show.Symbols words = alone topic.Symbols words
+topic_of names here show.Last words = last_topic words
+topic_of names here show.Diff words = diff_topic words
+topic_of names here show.Counts words = alone topic.Counts words
 
 -- `show regs`, `show cells E E`, `show clock`, and so on: a keyword and what it takes
 unfoldable pub topic_in : NamesValue → WordValue → List (List ℕ) → Result Topic Refusal
@@ -297,10 +384,15 @@ topic_in names here words = do
 
 -- the words after a command's first; `break E`, `break line N`, and `clear` in the same manner
 abbrev pub request_after : ProgramValue → WordValue → CommandWord → List (List ℕ) → Result Request Refusal
-request_after program here command.Step words = step_request words
-request_after program here command.Run words = run_request words
-request_after program here command.Back words = back_request words
-request_after program here command.Forth words = forth_request words
+request_after program here command.Step words = do
+  steps ← count_request words
+  Ok (ask.Step steps)
+request_after program here command.Trace words = do
+  steps ← count_request words
+  Ok (ask.Trace steps)
+request_after program here command.Run words = run_request (names_of program) here words
+request_after program here command.Back words = back_request (names_of program) here words
+request_after program here command.Forth words = forth_request (names_of program) here words
 request_after program here command.Goto words = goto_request words
 request_after program here command.Set words = do
   change ← change_in (names_of program) here words

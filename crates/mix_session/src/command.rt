@@ -3,13 +3,17 @@
 ghost use Rattle.std.specs.Prelude.{◌≡◌, ◌≤◌, ◌<◌, ℕ, IfErr, IfOk, length, true, false, Ok, Some, None};
 ghost use Rattle.mix_session.specs.Timeline.{with_steps, back_by, forth_by, is_at_break};
 ghost use Rattle.mix_session.specs.Command.{effect_of, effect_of_steps, effect_of_back, effect_of_back_within, effect_of_forth, effect_of_forth_within, effect_of_goto, effect_of_change};
-ghost use Rattle.mix_session.specs.Command.{end_of_step, end_at, count_to_break, Begun, HasEffect};
+ghost use Rattle.mix_session.specs.Command.{effect_of_trace, effect_of_back_until, effect_of_forth_until, effect_of_diff, effect_of_show, end_at, count_to_break, count_back, count_forth, at_breaks, Begun, HasEffect};
+ghost use Rattle.mix_session.specs.Marks.{watched_by, is_stop, end_by_marks};
+ghost use Rattle.mix_machine.specs.Part.{mark_of};
 
 use crate::answer::Answer;
+use crate::condition::Condition;
 use crate::fault::Refusal;
 use crate::reply::End;
-use crate::request::Request;
-use mix_machine::{Change, Place, World};
+use crate::request::{Request, Topic};
+use crate::timeline::world_of;
+use mix_machine::{Change, Mark, Part, Place, World, mark_before};
 use undo_core::{Journal, Memory, Refused};
 
 /// Does what a request asks for.
@@ -19,50 +23,67 @@ pub(crate) fn execute(journal: &mut Journal<World>, request: Request) -> Result<
 {
     match request {
         Request::Nothing => Ok(Answer::Nothing),
-        Request::Step(count) => run(journal, count, false),
-        Request::Run(count) => run(journal, count, true),
+        Request::Step(count) => run(journal, count, Stops::Nothing),
+        Request::Trace(count) => trace(journal, count),
+        Request::Run(count) => run(journal, count, Stops::Breaks),
+        Request::RunUntil(count, condition) => run(journal, count, Stops::Until(condition)),
         Request::Back(count) => Ok(back(journal, count)),
         Request::BackAll => {
             let count = journal.changes().len();
             Ok(take_back(journal, count))
         }
         Request::BackBreak => Ok(Answer::Back(go_back_to_break(journal))),
+        Request::BackUntil(condition) => Ok(back_until(journal, condition)),
         Request::Forth(count) => forth(journal, count),
         Request::ForthAll => {
             let count = journal.ahead();
             do_again(journal, count)
         }
+        Request::ForthUntil(condition) => forth_until(journal, condition),
         Request::Goto(number) => go_to(journal, number),
         Request::Change(change) => change_by(journal, change),
-        Request::Show(topic) => Ok(Answer::Shows(topic)),
+        Request::Show(topic) => Ok(show(journal, topic)),
     }
 }
 
-// So many steps, which breakpoints may stop.
-fn run(journal: &mut Journal<World>, count: u32, at_breaks: bool) -> Result<Answer, Memory>
-    ensures { HasEffect (effect_of_steps at_breaks journal.old count) journal.old journal.new result }
+/// What stops steps beside a halt, a fault and their number: nothing, breakpoints, or a condition and breakpoints.
+#[derive(Clone, Copy)]
+pub(crate) enum Stops {
+    Nothing,
+    Breaks,
+    Until(Condition),
+}
+
+// So many steps, which something may stop.
+fn run(journal: &mut Journal<World>, count: u32, stops: Stops) -> Result<Answer, Memory>
+    ensures { HasEffect (effect_of_steps stops journal.old count) journal.old journal.new result }
 {
-    let (done, end) = run_steps(journal, count, at_breaks)?;
+    let (done, end) = run_steps(journal, count, stops)?;
     Ok(Answer::Ran(done, end))
 }
 
+// So many steps, which are told one by one.
+fn trace(journal: &mut Journal<World>, count: u32) -> Result<Answer, Memory>
+    ensures { HasEffect (effect_of_trace journal.old count) journal.old journal.new result }
+{
+    let (done, end) = run_steps(journal, count, Stops::Nothing)?;
+    Ok(Answer::Traced(done, end))
+}
+
 // Steps until one of the ends holds, and how many were done.
-fn run_steps(
-    journal: &mut Journal<World>,
-    count: u32,
-    at_breaks: bool,
-) -> Result<(u32, End), Memory>
+fn run_steps(journal: &mut Journal<World>, count: u32, stops: Stops) -> Result<(u32, End), Memory>
     ensures first { journal.new.first ≡ journal.old.first }
     ensures steps { IfOk result (λ r. journal.new ≡ with_steps journal.old r.0) }
     ensures within { IfOk result (λ r. r.0 ≤ count) }
-    ensures end { IfOk result (λ r. end_at at_breaks journal.old count r.0 ≡ Some r.1) }
-    ensures least { IfOk result (λ r. (k : ℕ) → k < r.0 → end_at at_breaks journal.old count k ≡ None) }
-    ensures memory { IfErr result (λ _. Begun (effect_of_steps at_breaks journal.old count) journal.new) }
+    ensures end { IfOk result (λ r. end_at stops journal.old count r.0 ≡ Some r.1) }
+    ensures least { IfOk result (λ r. (k : ℕ) → k < r.0 → end_at stops journal.old count k ≡ None) }
+    ensures memory { IfErr result (λ _. Begun (effect_of_steps stops journal.old count) journal.new) }
 {
     for done in 0..count {
         let halts = journal.state().next_is_halt();
+        let mark = mark_of(stops, journal.state());
         match journal.go(Change::Step) {
-            Ok(()) => match end_of_step(halts, at_breaks, journal.state()) {
+            Ok(()) => match end_of_step(halts, stops, mark, journal.state()) {
                 Some(end) => return Ok((done + 1, end)),
                 None => {}
             },
@@ -73,16 +94,51 @@ fn run_steps(
     Ok((count, End::Limit))
 }
 
-// What ends a command once a step is done, if that does.
-fn end_of_step(halts: bool, at_breaks: bool, world: &World) -> Option<End>
-    ensures { result ≡ end_of_step halts at_breaks world.now }
+// The mark by which it is seen whether steps meet what is waited for; where nothing is waited for, that of the location.
+fn mark_of(stops: Stops, world: &World) -> Mark
+    ensures { result ≡ mark_of world.now (watched_by stops) }
+{
+    match stops {
+        Stops::Nothing | Stops::Breaks => world.mark(Part::Loc),
+        Stops::Until(condition) => world.mark(condition.watched()),
+    }
+}
+
+// What ends a command once a step is done, if that does, by the mark before the step.
+fn end_of_step(halts: bool, stops: Stops, mark: Mark, world: &World) -> Option<End>
+    ensures { result ≡ end_by_marks halts stops mark world.now }
 {
     if halts {
         Some(End::Halt)
-    } else if at_breaks && is_at_break(world) {
+    } else if is_stop(stops, mark, world) {
+        Some(End::Until)
+    } else if at_breaks(stops) && is_at_break(world) {
         Some(End::Break)
     } else {
         None
+    }
+}
+
+// Whether a step met what is waited for, by the mark before it.
+fn is_stop(stops: Stops, mark: Mark, world: &World) -> bool
+    ensures { result ≡ is_stop stops mark world.now }
+{
+    match stops {
+        Stops::Nothing | Stops::Breaks => false,
+        Stops::Until(condition) => {
+            let after = world.mark(condition.watched());
+            condition.is_met(mark, after, after)
+        }
+    }
+}
+
+// Whether breakpoints stop the steps.
+fn at_breaks(stops: Stops) -> bool
+    ensures { result ≡ at_breaks stops }
+{
+    match stops {
+        Stops::Nothing => false,
+        Stops::Breaks | Stops::Until(_) => true,
     }
 }
 
@@ -138,6 +194,54 @@ fn go_back_to_break(journal: &mut Journal<World>) -> usize
     all
 }
 
+fn back_until(journal: &mut Journal<World>, condition: Condition) -> Answer
+    ensures { HasEffect (effect_of_back_until condition journal.old) journal.old journal.new (Ok result) }
+{
+    let all = journal.changes().len();
+    let count = count_back(journal, condition);
+    if count < all {
+        go_back(journal, count + 1);
+        Answer::BackUntil(count + 1)
+    } else {
+        Answer::Refused(Refusal::NoSuchChange)
+    }
+}
+
+// How many changes stand after the last one that meets the condition, or all where none does. It reads what the journal keeps.
+fn count_back(journal: &Journal<World>, condition: Condition) -> usize
+    ensures { result ≡ count_back condition journal.now }
+{
+    let part = condition.watched();
+    let mut mark = world_of(journal).mark(part);
+    let all = journal.changes().len();
+    for count in 0..all {
+        let before = mark_before(journal.kept(all - 1 - count), part, mark);
+        if condition.is_met(before, mark, before) {
+            return count;
+        }
+        mark = before;
+    }
+    all
+}
+
+fn forth_until(journal: &mut Journal<World>, condition: Condition) -> Result<Answer, Memory>
+    ensures { HasEffect (effect_of_forth_until condition journal.old) journal.old journal.new result }
+{
+    let part = condition.watched();
+    let mut mark = journal.state().mark(part);
+    let all = journal.ahead();
+    for done in 0..all {
+        journal.forth()?;
+        let after = journal.state().mark(part);
+        if condition.is_met(mark, after, after) {
+            return Ok(Answer::ForthUntil(done + 1));
+        }
+        mark = after;
+    }
+    go_back(journal, all);
+    Ok(Answer::Refused(Refusal::NoSuchChange))
+}
+
 fn forth(journal: &mut Journal<World>, count: u64) -> Result<Answer, Memory>
     ensures { HasEffect (effect_of_forth_within journal.old count) journal.old journal.new result }
 {
@@ -187,5 +291,17 @@ fn change_by(journal: &mut Journal<World>, change: Change) -> Result<Answer, Mem
         Ok(()) => Ok(Answer::Done),
         Err(Refused::Fault(fault)) => Ok(Answer::Refused(Refusal::RefusedByMachine(fault))),
         Err(Refused::Memory) => Err(Memory),
+    }
+}
+
+// What is shown, if there is the state that it is shown of.
+fn show(journal: &mut Journal<World>, topic: Topic) -> Answer
+    ensures { HasEffect (effect_of_show journal.old topic) journal.old journal.new (Ok result) }
+{
+    match topic {
+        Topic::Diff(number) if (journal.all().len() as u64) < number => {
+            Answer::Refused(Refusal::TooFewChanges)
+        }
+        _ => Answer::Shows(topic),
     }
 }

@@ -58,7 +58,7 @@ impl fmt::Display for ToolFault {
     }
 }
 
-/// Why a command is refused: C1 to C5, in the order of their numbers.
+/// Why a command is refused: C1 to C6, in the order of their numbers.
 #[derive(Clone, Copy, Debug, PartialEq, Eq)]
 pub enum Refusal {
     NoSuchCommand,
@@ -66,10 +66,11 @@ pub enum Refusal {
     OutOfRange,
     TooFewChanges,
     RefusedByMachine(MixFault),
+    NoSuchChange,
 }
 
 impl Refusal {
-    /// The number after the letter C, 1 to 5.
+    /// The number after the letter C, 1 to 6.
     pub fn number(self) -> u8
         ensures { result ≡ refusal_number self }
     {
@@ -79,6 +80,7 @@ impl Refusal {
             Refusal::OutOfRange => 3,
             Refusal::TooFewChanges => 4,
             Refusal::RefusedByMachine(_) => 5,
+            Refusal::NoSuchChange => 6,
         }
     }
 
@@ -92,6 +94,7 @@ impl Refusal {
             Refusal::OutOfRange => "number out of range",
             Refusal::TooFewChanges => "fewer changes than asked",
             Refusal::RefusedByMachine(_) => "refused by the machine",
+            Refusal::NoSuchChange => "no such change",
         }
     }
 }
@@ -106,7 +109,8 @@ impl fmt::Display for Refusal {
             Refusal::NoSuchCommand
             | Refusal::BadArgument
             | Refusal::OutOfRange
-            | Refusal::TooFewChanges => Ok(()),
+            | Refusal::TooFewChanges
+            | Refusal::NoSuchChange => Ok(()),
         }
     }
 }

@@ -2,8 +2,8 @@
 
 ghost use Rattle.std.specs.Prelude.{◌≡◌, ℕ, List, Some, refl, true, false};
 ghost use Rattle.mix_session.specs.Keyword.{keyword_named, is_name, command_name, all_commands, back_name, all_backs, forth_name, all_forths, show_name, all_shows};
-ghost use Rattle.mix_session.specs.Keyword.{set_name, all_sets, toggle_name, all_toggles, indicator_name, all_indicators};
-ghost use Rattle.mix_session.specs.law.Named.{set_named};
+ghost use Rattle.mix_session.specs.Keyword.{set_name, all_sets, until_name, all_untils, toggle_name, all_toggles, indicator_name, all_indicators};
+ghost use Rattle.mix_session.specs.law.Named.{set_named, until_named};
 ghost use Rattle.mix_session.specs.declared.keyword.CommandWord.TheVariants as command;
 ghost use Rattle.mix_session.specs.declared.keyword.BackWord.TheVariants as back;
 ghost use Rattle.mix_session.specs.declared.keyword.ForthWord.TheVariants as forth;
@@ -57,6 +57,7 @@ pub(crate) enum CommandWord {
     Break,
     Clear,
     Show,
+    Trace,
 }
 
 impl Keyword for CommandWord {
@@ -75,6 +76,7 @@ impl Keyword for CommandWord {
             CommandWord::Break => "break",
             CommandWord::Clear => "clear",
             CommandWord::Show => "show",
+            CommandWord::Trace => "trace",
         }
     }
 
@@ -83,10 +85,11 @@ impl Keyword for CommandWord {
         &[
             CommandWord::Step, CommandWord::Run, CommandWord::Back, CommandWord::Forth,
             CommandWord::Goto, CommandWord::Set, CommandWord::Break, CommandWord::Clear, CommandWord::Show,
+            CommandWord::Trace,
         ]
     }
 
-    ghost named = { elim [ command.Step ↦ refl | command.Run ↦ refl | command.Back ↦ refl | command.Forth ↦ refl | command.Goto ↦ refl | command.Set ↦ refl | command.Break ↦ refl | command.Clear ↦ refl | command.Show ↦ refl ] };
+    ghost named = { elim [ command.Step ↦ refl | command.Run ↦ refl | command.Back ↦ refl | command.Forth ↦ refl | command.Goto ↦ refl | command.Set ↦ refl | command.Break ↦ refl | command.Clear ↦ refl | command.Show ↦ refl | command.Trace ↦ refl ] };
 }
 
 /// What may stand after `back` in place of a number.
@@ -94,6 +97,7 @@ impl Keyword for CommandWord {
 pub(crate) enum BackWord {
     All,
     Break,
+    Until,
 }
 
 impl Keyword for BackWord {
@@ -105,20 +109,22 @@ impl Keyword for BackWord {
         match self {
             BackWord::All => "all",
             BackWord::Break => "break",
+            BackWord::Until => "until",
         }
     }
 
     fn all() -> &'static [BackWord] {
-        &[BackWord::All, BackWord::Break]
+        &[BackWord::All, BackWord::Break, BackWord::Until]
     }
 
-    ghost named = { elim [ back.All ↦ refl | back.Break ↦ refl ] };
+    ghost named = { elim [ back.All ↦ refl | back.Break ↦ refl | back.Until ↦ refl ] };
 }
 
 /// What may stand after `forth` in place of a number.
 #[derive(Clone, Copy)]
 pub(crate) enum ForthWord {
     All,
+    Until,
 }
 
 impl Keyword for ForthWord {
@@ -129,14 +135,15 @@ impl Keyword for ForthWord {
     fn name(self) -> &'static str {
         match self {
             ForthWord::All => "all",
+            ForthWord::Until => "until",
         }
     }
 
     fn all() -> &'static [ForthWord] {
-        &[ForthWord::All]
+        &[ForthWord::All, ForthWord::Until]
     }
 
-    ghost named = { elim [ forth.All ↦ refl ] };
+    ghost named = { elim [ forth.All ↦ refl | forth.Until ↦ refl ] };
 }
 
 /// What `show` may show.
@@ -153,6 +160,9 @@ pub(crate) enum ShowWord {
     Value,
     Values,
     Symbols,
+    Last,
+    Diff,
+    Counts,
 }
 
 impl Keyword for ShowWord {
@@ -173,6 +183,9 @@ impl Keyword for ShowWord {
             ShowWord::Value => "value",
             ShowWord::Values => "values",
             ShowWord::Symbols => "symbols",
+            ShowWord::Last => "last",
+            ShowWord::Diff => "diff",
+            ShowWord::Counts => "counts",
         }
     }
 
@@ -182,10 +195,11 @@ impl Keyword for ShowWord {
             ShowWord::Registers, ShowWord::Cells, ShowWord::Clock, ShowWord::Breaks,
             ShowWord::Changes, ShowWord::Unit, ShowWord::All, ShowWord::Code,
             ShowWord::Value, ShowWord::Values, ShowWord::Symbols,
+            ShowWord::Last, ShowWord::Diff, ShowWord::Counts,
         ]
     }
 
-    ghost named = { elim [ show.Registers ↦ refl | show.Cells ↦ refl | show.Clock ↦ refl | show.Breaks ↦ refl | show.Changes ↦ refl | show.Unit ↦ refl | show.All ↦ refl | show.Code ↦ refl | show.Value ↦ refl | show.Values ↦ refl | show.Symbols ↦ refl ] };
+    ghost named = { elim [ show.Registers ↦ refl | show.Cells ↦ refl | show.Clock ↦ refl | show.Breaks ↦ refl | show.Changes ↦ refl | show.Unit ↦ refl | show.All ↦ refl | show.Code ↦ refl | show.Value ↦ refl | show.Values ↦ refl | show.Symbols ↦ refl | show.Last ↦ refl | show.Diff ↦ refl | show.Counts ↦ refl ] };
 }
 
 /// What `set` may set.
@@ -232,6 +246,47 @@ impl Keyword for SetWord {
     }
 
     ghost named = { set_named };
+}
+
+/// What a command may wait for: a unit, or what `set` names.
+#[derive(Clone, Copy)]
+pub(crate) enum UntilWord {
+    Set(SetWord),
+    Unit,
+}
+
+impl Keyword for UntilWord {
+    ghost name_of = { until_name };
+
+    ghost all_of = { all_untils };
+
+    fn name(self) -> &'static str {
+        match self {
+            UntilWord::Set(word) => word.name(),
+            UntilWord::Unit => "unit",
+        }
+    }
+
+    fn all() -> &'static [UntilWord] {
+        &[
+            UntilWord::Set(SetWord::Register(Reg::A)),
+            UntilWord::Set(SetWord::Register(Reg::X)),
+            UntilWord::Set(SetWord::Register(Reg::I1)),
+            UntilWord::Set(SetWord::Register(Reg::I2)),
+            UntilWord::Set(SetWord::Register(Reg::I3)),
+            UntilWord::Set(SetWord::Register(Reg::I4)),
+            UntilWord::Set(SetWord::Register(Reg::I5)),
+            UntilWord::Set(SetWord::Register(Reg::I6)),
+            UntilWord::Set(SetWord::Register(Reg::J)),
+            UntilWord::Set(SetWord::Cell),
+            UntilWord::Set(SetWord::Location),
+            UntilWord::Set(SetWord::Toggle),
+            UntilWord::Set(SetWord::Indicator),
+            UntilWord::Unit,
+        ]
+    }
+
+    ghost named = { until_named };
 }
 
 /// The overflow toggle.

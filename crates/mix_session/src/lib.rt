@@ -3,6 +3,7 @@
 
 mod answer;
 mod command;
+mod condition;
 mod fault;
 mod keyword;
 mod laws;
@@ -13,6 +14,7 @@ mod show;
 mod timeline;
 
 pub use answer::Answer;
+pub use condition::Condition;
 pub use fault::{Refusal, ToolFault};
 pub use laws::back_and_forth_law;
 pub use mix_machine::{DeckFault, DeckKind};

@@ -31,6 +31,7 @@ impl Told {
 #[derive(Clone, Copy, Debug, PartialEq, Eq)]
 pub enum End {
     Halt,
+    Until,
     Break,
     Limit,
     Fault(MixFault),
@@ -42,7 +43,7 @@ impl End {
         ensures { result ≡ told_of_end self }
     {
         match self {
-            End::Halt | End::Break | End::Limit => Told::Accepted,
+            End::Halt | End::Until | End::Break | End::Limit => Told::Accepted,
             End::Fault(_) => Told::Refused,
         }
     }
@@ -54,6 +55,7 @@ impl fmt::Display for End {
     fn fmt<W: fmt::Write>(&self, f: &mut fmt::Formatter<W>) -> fmt::Result {
         match self {
             End::Halt => write!(f, "halt"),
+            End::Until => write!(f, "until"),
             End::Break => write!(f, "break"),
             End::Limit => write!(f, "limit"),
             End::Fault(fault) => write!(f, "fault {fault}"),

@@ -3,33 +3,42 @@
 ghost use Rattle.std.specs.Prelude.{◌≡◌, ◌≤◌, ◌∷◌, [], Ok, Err, MatchResult, IfOk, codes, option_copied};
 ghost use Rattle.mix_lines.specs.Lines.{words};
 ghost use Rattle.mix_session.specs.Request.{no_word, one_word, two_words, keyword_in, first_keyword, number_in, word_in, expression_in, place_of, from_one, up_to, last_unit};
-ghost use Rattle.mix_session.specs.Request.{steps_in, step_request, run_request, back_request, forth_request, goto_request, place_named, one_place, line_place, break_place, change_of, change_in, alone, range_of, cells_of, code_of, values_of, value_of, unit_topic, topic_in, request_after, request_of_words, request_of};
+ghost use Rattle.mix_session.specs.Request.{steps_of, steps_in, count_request, one_unit, condition_of, condition_alone, condition_in, run_until, run_after, run_request, request_alone, amount_in, back_request, forth_request, goto_request, last_topic, diff_topic, place_named, one_place, line_place, break_place, change_of, change_in, alone, range_of, cells_of, code_of, values_of, value_of, unit_topic, topic_in, request_after, request_of_words, request_of};
 
+use crate::condition::Condition;
 use crate::fault::Refusal;
-use crate::keyword::{BackWord, CommandWord, ForthWord, Keyword, SetWord, ShowWord, named};
+use crate::keyword::{
+    BackWord, CommandWord, ForthWord, Keyword, SetWord, ShowWord, UntilWord, named,
+};
 use mix_lines::{Words, is_comment, number};
-use mix_machine::{Change, Place, UnitNo, Word};
+use mix_machine::{Change, Part, Place, UnitNo, Word};
 use mixal_asm::Program;
 use mixal_text::{Names, w_value, whole_expression};
 
-/// What may be asked of a session: nothing, steps, steps that a breakpoint stops too, changes taken back (so many, all, or up to a
-/// breakpoint), changes done again (so many, or all), the state after so many changes, a change of the machine, or what is to be shown.
+/// What may be asked of a session: nothing; steps, steps told one by one, steps that a breakpoint stops too, or a condition besides; changes
+/// taken back (so many, all, up to a breakpoint, or until a condition is met); changes done again (so many, all, or until a condition is met); the
+/// state after so many changes; a change of the machine; or what is to be shown.
 #[derive(Clone, Copy, Debug, PartialEq, Eq)]
 pub enum Request {
     Nothing,
     Step(u32),
+    Trace(u32),
     Run(u32),
+    RunUntil(u32, Condition),
     Back(u64),
     BackAll,
     BackBreak,
+    BackUntil(Condition),
     Forth(u64),
     ForthAll,
+    ForthUntil(Condition),
     Goto(u64),
     Change(Change),
     Show(Topic),
 }
 
-/// What is to be shown; of `Cells`, `Code` and `CellValues` the first and the last cell.
+/// What is to be shown; of `Cells`, `Code` and `CellValues` the first and the last cell, of `Last` how many changes, of `Diff` the number of
+/// changes after which the other state stands.
 #[derive(Clone, Copy, Debug, PartialEq, Eq)]
 pub enum Topic {
     Registers,
@@ -44,6 +53,9 @@ pub enum Topic {
     Values,
     CellValues(Place, Place),
     Symbols,
+    Last(u64),
+    Diff(u64),
+    Counts,
 }
 
 /// The most steps that one command may ask for.
@@ -86,10 +98,11 @@ fn read_arguments(
     ensures { result ≡ request_after program.now here command words.old }
 {
     match command {
-        CommandWord::Step => read_step(words),
-        CommandWord::Run => read_run(words),
-        CommandWord::Back => read_back(words),
-        CommandWord::Forth => read_forth(words),
+        CommandWord::Step => Ok(Request::Step(read_count(words)?)),
+        CommandWord::Trace => Ok(Request::Trace(read_count(words)?)),
+        CommandWord::Run => read_run(words, program, here),
+        CommandWord::Back => read_back(words, program, here),
+        CommandWord::Forth => read_forth(words, program, here),
         CommandWord::Goto => read_goto(words),
         CommandWord::Set => Ok(Request::Change(read_change(words, program, here)?)),
         CommandWord::Break => Ok(Request::Change(Change::Break(read_break(words, program, here)?))),
@@ -98,61 +111,129 @@ fn read_arguments(
     }
 }
 
-#[tactic(auto, unfolding(crate::specs::Request::step_request))]
-fn read_step(words: &mut Words) -> Result<Request, Refusal>
-    ensures { result ≡ step_request words.old }
+// How many steps, where none said is one.
+#[tactic(auto, unfolding(crate::specs::Request::count_request))]
+fn read_count(words: &mut Words) -> Result<u32, Refusal>
+    ensures { result ≡ count_request words.old }
 {
     let Some(word) = words.next() else {
-        return Ok(Request::Step(1));
+        return Ok(1);
     };
     no_word(words)?;
-    Ok(Request::Step(steps_in(word)?))
+    steps_in(word)
 }
 
 #[tactic(auto, unfolding(crate::specs::Request::run_request))]
-fn read_run(words: &mut Words) -> Result<Request, Refusal>
-    ensures { result ≡ run_request words.old }
+fn read_run<N: Names>(words: &mut Words, names: &N, here: Word) -> Result<Request, Refusal>
+    ensures { result ≡ run_request (N.names names.now) here words.old }
 {
-    let word = one_word(words)?;
-    Ok(Request::Run(steps_in(word)?))
+    let word = first_word(words)?;
+    let Some(next) = words.next() else {
+        return Ok(Request::Run(steps_in(word)?));
+    };
+    if next.eq_ignore_ascii_case(b"until") {
+        read_run_until(word, words, names, here)
+    } else {
+        Err(Refusal::BadArgument)
+    }
+}
+
+// Steps until a condition is met.
+fn read_run_until<N: Names>(
+    word: &[u8],
+    words: &mut Words,
+    names: &N,
+    here: Word,
+) -> Result<Request, Refusal>
+    ensures { result ≡ run_until (N.names names.now) here word.now words.old }
+{
+    let count = number_in(word)?;
+    let condition = read_condition(words, names, here)?;
+    Ok(Request::RunUntil(steps_of(count)?, condition))
 }
 
 // How many steps a word asks for.
 fn steps_in(word: &[u8]) -> Result<u32, Refusal>
     ensures { result ≡ steps_in word.now }
 {
-    let count = from_one(number_in(word)?)?;
-    let steps = up_to(MAX_STEPS, count)?;
+    steps_of(number_in(word)?)
+}
+
+fn steps_of(count: u64) -> Result<u32, Refusal>
+    ensures { result ≡ steps_of count }
+{
+    let steps = up_to(MAX_STEPS, from_one(count)?)?;
     Ok(steps as u32)
 }
 
-#[tactic(auto, unfolding(crate::specs::Request::back_request))]
-fn read_back(words: &mut Words) -> Result<Request, Refusal>
-    ensures { result ≡ back_request words.old }
+// What is waited for.
+#[tactic(auto, unfolding(crate::specs::Request::condition_in))]
+fn read_condition<N: Names>(words: &mut Words, names: &N, here: Word) -> Result<Condition, Refusal>
+    ensures { result ≡ condition_in (N.names names.now) here words.old }
 {
-    let word = one_word(words)?;
-    match named(word) {
-        Some(BackWord::All) => Ok(Request::BackAll),
-        Some(BackWord::Break) => Ok(Request::BackBreak),
-        None => {
-            let count = from_one(number_in(word)?)?;
-            Ok(Request::Back(count))
+    let word: UntilWord = first_keyword(words)?;
+    match word {
+        UntilWord::Set(SetWord::Register(register)) => {
+            condition_alone(Condition::Alters(Part::Register(register)), words)
         }
+        UntilWord::Set(SetWord::Toggle) => condition_alone(Condition::Alters(Part::Over), words),
+        UntilWord::Set(SetWord::Indicator) => condition_alone(Condition::Alters(Part::Cmp), words),
+        UntilWord::Set(SetWord::Cell) => {
+            let place = one_place(words, names, here)?;
+            Ok(Condition::Alters(Part::Cell(place)))
+        }
+        UntilWord::Set(SetWord::Location) => Ok(Condition::At(one_place(words, names, here)?)),
+        UntilWord::Unit => Ok(Condition::Alters(Part::Unit(one_unit(words)?))),
+    }
+}
+
+// A condition after which no word is left.
+fn condition_alone(condition: Condition, words: &mut Words) -> Result<Condition, Refusal>
+    ensures { result ≡ condition_alone condition words.old }
+{
+    no_word(words)?;
+    Ok(condition)
+}
+
+#[tactic(auto, unfolding(crate::specs::Request::back_request))]
+fn read_back<N: Names>(words: &mut Words, names: &N, here: Word) -> Result<Request, Refusal>
+    ensures { result ≡ back_request (N.names names.now) here words.old }
+{
+    let word = first_word(words)?;
+    match named(word) {
+        Some(BackWord::All) => request_alone(Request::BackAll, words),
+        Some(BackWord::Break) => request_alone(Request::BackBreak, words),
+        Some(BackWord::Until) => Ok(Request::BackUntil(read_condition(words, names, here)?)),
+        None => Ok(Request::Back(amount_in(word, words)?)),
     }
 }
 
 #[tactic(auto, unfolding(crate::specs::Request::forth_request))]
-fn read_forth(words: &mut Words) -> Result<Request, Refusal>
-    ensures { result ≡ forth_request words.old }
+fn read_forth<N: Names>(words: &mut Words, names: &N, here: Word) -> Result<Request, Refusal>
+    ensures { result ≡ forth_request (N.names names.now) here words.old }
 {
-    let word = one_word(words)?;
+    let word = first_word(words)?;
     match named(word) {
-        Some(ForthWord::All) => Ok(Request::ForthAll),
-        None => {
-            let count = from_one(number_in(word)?)?;
-            Ok(Request::Forth(count))
-        }
+        Some(ForthWord::All) => request_alone(Request::ForthAll, words),
+        Some(ForthWord::Until) => Ok(Request::ForthUntil(read_condition(words, names, here)?)),
+        None => Ok(Request::Forth(amount_in(word, words)?)),
     }
+}
+
+// A request after which no word is left.
+fn request_alone(request: Request, words: &mut Words) -> Result<Request, Refusal>
+    ensures { result ≡ request_alone request words.old }
+{
+    no_word(words)?;
+    Ok(request)
+}
+
+// How many changes a word asks for, after which no word is left.
+fn amount_in(word: &[u8], words: &mut Words) -> Result<u64, Refusal>
+    ensures { result ≡ amount_in word.now words.old }
+{
+    no_word(words)?;
+    from_one(number_in(word)?)
 }
 
 #[tactic(auto, unfolding(crate::specs::Request::goto_request))]
@@ -230,6 +311,9 @@ fn read_topic<N: Names>(words: &mut Words, names: &N, here: Word) -> Result<Topi
         ShowWord::Value => Ok(Topic::Value(word_in(one_word(words)?, names, here)?)),
         ShowWord::Values => read_values(words, names, here),
         ShowWord::Symbols => alone(Topic::Symbols, words),
+        ShowWord::Last => read_last(words),
+        ShowWord::Diff => read_diff(words),
+        ShowWord::Counts => alone(Topic::Counts, words),
     }
 }
 
@@ -289,8 +373,29 @@ fn read_range<N: Names>(words: &mut Words, names: &N, here: Word) -> Result<(Pla
 fn read_unit(words: &mut Words) -> Result<Topic, Refusal>
     ensures { result ≡ unit_topic words.old }
 {
+    Ok(Topic::Unit(one_unit(words)?))
+}
+
+// The unit that the only word left names.
+fn one_unit(words: &mut Words) -> Result<UnitNo, Refusal>
+    ensures { result ≡ one_unit words.old }
+{
     let number = number_in(one_word(words)?)?;
-    Ok(Topic::Unit(unit_of(number)?))
+    unit_of(number)
+}
+
+fn read_last(words: &mut Words) -> Result<Topic, Refusal>
+    ensures { result ≡ last_topic words.old }
+{
+    let count = from_one(number_in(one_word(words)?)?)?;
+    Ok(Topic::Last(count))
+}
+
+fn read_diff(words: &mut Words) -> Result<Topic, Refusal>
+    ensures { result ≡ diff_topic words.old }
+{
+    let number = number_in(one_word(words)?)?;
+    Ok(Topic::Diff(number))
 }
 
 // The unit of this number.

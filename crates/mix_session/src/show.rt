@@ -7,8 +7,11 @@ ghost use Rattle.mix_session.specs.Topic.{topic_text};
 
 mod all;
 mod cells;
+pub(crate) mod changes;
 mod code;
 mod columns;
+mod counts;
+mod differences;
 mod each;
 mod lines;
 mod unit;
@@ -20,7 +23,9 @@ use crate::reply::position_of;
 use crate::request::Topic;
 use crate::show::all::all_lines;
 use crate::show::cells::{Breakpoints, CELLS, CellLines, Cells};
+use crate::show::changes::{diff_lines, last_lines};
 use crate::show::code::code_lines;
+use crate::show::counts::count_lines;
 use crate::show::each::Each;
 use crate::show::unit::unit_lines;
 use crate::show::values::{cell_value_lines, register_value_lines, value_lines};
@@ -55,6 +60,9 @@ pub(crate) fn topic_lines(
         Topic::Values => Ok(register_value_lines(alloc, world)?),
         Topic::CellValues(first, last) => Ok(cell_value_lines(alloc, world, first, last)?),
         Topic::Symbols => program.symbols_text(alloc),
+        Topic::Last(count) => last_lines(alloc, journal, count),
+        Topic::Diff(number) => diff_lines(alloc, journal, number),
+        Topic::Counts => count_lines(alloc, program, journal),
     }
 }
 

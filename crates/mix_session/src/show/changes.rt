@@ -1,8 +1,8 @@
 //! The lines of the changes: what each did, and what it altered.
 
-ghost use Rattle.std.specs.Prelude.{◌≡◌, ◌≤◌, ◌-◌, ◌++◌, OnOk, IfOk, length, reverse, string_bytes};
+ghost use Rattle.std.specs.Prelude.{◌≡◌, ◌≤◌, ◌-◌, ◌+◌, ◌++◌, OnOk, IfOk, length, reverse, string_bytes};
 ghost use Rattle.mix_machine.specs.declared.old.Change.TheVariants.{Step};
-ghost use Rattle.mix_session.specs.Change.{world_at, change_text, altered_text, change_columns, change_line, last_lines, diff_text, all_changes};
+ghost use Rattle.mix_session.specs.Change.{world_at, change_at, change_text, altered_text, change_columns, change_line, change_line_at, last_lines, diff_text};
 
 use crate::reply::Location;
 use crate::show::columns::{add_left, add_right};
@@ -24,11 +24,14 @@ pub(crate) fn last_lines(
 {
     let done = journal.changes().len();
     let first = done.saturating_sub(count as usize);
+    let mut text = Vec::new(alloc);
+    if first == done {
+        return Ok(text);
+    }
     let (mut before, mut after) = (
         world_of(journal).copied(alloc)?,
         world_of(journal).copied(alloc)?,
     );
-    let mut text = Vec::new(alloc);
     let mut number = done;
     while number > first {
         journal.unwind(number - 1, &mut before);
@@ -43,6 +46,30 @@ pub(crate) fn last_lines(
     }
     text.reverse();
     Ok(text)
+}
+
+/// The line of the next change ahead.
+pub(crate) fn next_line(alloc: Global, journal: &Journal<World>) -> Result<Vec<u8>, Memory>
+    ensures { IfOk result (λ text. text.items ≡ change_line_at journal.now (length journal.now.changes + 1)) }
+{
+    let number = journal.changes().len() + 1;
+    let after = world_at(alloc, journal, number)?;
+    let worlds = Worlds {
+        before: world_of(journal),
+        after: &after,
+    };
+    let change = next_change(journal);
+    Ok(line_of(alloc, number, change, worlds)?)
+}
+
+// The next change ahead; a step where there is none.
+fn next_change(journal: &Journal<World>) -> Change
+    ensures { result ≡ change_at journal.now (length journal.now.changes + 1) }
+{
+    match journal.all().get(journal.changes().len()) {
+        None => Change::Step,
+        Some(change) => *change,
+    }
 }
 
 // Appends bytes, the last one first.
@@ -167,15 +194,15 @@ fn add_altered(
 }
 
 /// What differs between the state after the first changes of all and the state now.
+#[tactic(auto, unfolding(crate::specs::Change::diff_text))]
 pub(super) fn diff_lines(
     alloc: Global,
     journal: &Journal<World>,
-    number: usize,
+    number: u64,
 ) -> Result<Vec<u8>, Memory>
-    requires { number ≤ length (all_changes journal.now) }
     ensures { IfOk result (λ text. text.items ≡ diff_text journal.now number) }
 {
-    let then = world_at(alloc, journal, number)?;
+    let then = world_at(alloc, journal, number as usize)?;
     let done = journal.changes().len();
     let mut text = format!(in alloc; "diff {number} to {done}\n")?.into_bytes();
     let worlds = Worlds {
@@ -188,17 +215,17 @@ pub(super) fn diff_lines(
 
 // The machine after the first changes of all, those done and those ahead: a copy that is led there.
 fn world_at(alloc: Global, journal: &Journal<World>, number: usize) -> Result<World, Memory>
-    requires { number ≤ length (all_changes journal.now) }
     ensures { IfOk result (λ w. w ≡ world_at journal.now number) }
 {
     let mut world = world_of(journal).copied(alloc)?;
     let mut at = journal.changes().len();
     while at > number {
+        journal.unwind(at - 1, &mut world);
         at -= 1;
-        journal.unwind(at, &mut world);
     }
     let mut kept = Vec::new(alloc);
-    while at < number {
+    let end = number.min(journal.all().len());
+    while at < end {
         journal.redo(at, &mut world, &mut kept)?;
         kept.clear();
         at += 1;

@@ -38,6 +38,8 @@ struct CodeLines<'a, 's> {
 }
 
 impl Lines for CodeLines<'_, '_> {
+    ghost count = { λ _. 4000 };
+
     ghost line = { λ l. code_line l.program.now l.world.now };
 
     fn add(&self, alloc: Global, text: &mut Vec<u8>, number: u16) -> Result<(), AllocError> {

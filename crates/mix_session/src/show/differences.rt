@@ -87,7 +87,10 @@ fn add_register(
 ) -> Result<(), AllocError>
     ensures { OnOk result (text.new.items ≡ text.old.items ++ register_item layout worlds.entry.before.now worlds.entry.after.now register) }
 {
-    let (before, after) = (worlds.before.register(register), worlds.after.register(register));
+    let (before, after) = (
+        worlds.before.register(register),
+        worlds.after.register(register),
+    );
     if before.is_same(after) {
         return Ok(());
     }
@@ -323,7 +326,13 @@ fn unit_changes(
     let number = number.number();
     let mut text = format!(in alloc; "unit {number}")?.into_bytes();
     let blocks = Blocks(before, after);
-    add_lines(alloc, &mut text, &blocks, 0, before.blocks().min(after.blocks()))?;
+    add_lines(
+        alloc,
+        &mut text,
+        &blocks,
+        0,
+        before.blocks().min(after.blocks()),
+    )?;
     let (place, then) = (u64::from(before.place()), u64::from(after.place()));
     add_number(alloc, &mut text, "place", place, then)?;
     let (count, then) = (u64::from(before.blocks()), u64::from(after.blocks()));

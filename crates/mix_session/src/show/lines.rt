@@ -5,18 +5,21 @@ ghost use Rattle.mix_session.specs.Each.{texts};
 
 use std::alloc::{AllocError, Global};
 
-/// What has a line for each cell, in bytes that may be no text: a source has any bytes in its remarks.
+/// What has a text for each of its numbers, in bytes that may be no text: a source has any bytes in its remarks.
 pub(super) trait Lines {
-    // The line of the cell of a number.
+    // How many numbers it has.
+    ghost count: { Self → ℕ };
+
+    // The text of a number.
     ghost line: { Self → ℕ → List ℕ };
 
-    /// Appends the line of the cell of a number.
+    /// Appends the text of a number.
     fn add(&self, alloc: Global, text: &mut Vec<u8>, number: u16) -> Result<(), AllocError>
-        requires { number < 4000 }
+        requires { number < count self.now }
         ensures { OnOk result (text.new.items ≡ text.old.items ++ line self.now number) };
 }
 
-/// Appends the lines of the cells from a first one up to the one before an end.
+/// Appends the texts of the numbers from a first one up to the one before an end.
 #[tactic(auto, unfolding(crate::specs::Each::texts))]
 pub(super) fn add_lines<L: Lines>(
     alloc: Global,
@@ -25,7 +28,7 @@ pub(super) fn add_lines<L: Lines>(
     first: u16,
     end: u16,
 ) -> Result<(), AllocError>
-    requires { end ≤ 4000 }
+    requires { end ≤ L.count lines.now }
     ensures { OnOk result (text.new.items ≡ text.old.items ++ texts (L.line lines.now) first end) }
 {
     for number in first..end {

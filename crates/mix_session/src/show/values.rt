@@ -52,6 +52,8 @@ pub(super) fn cell_value_lines(
 struct CellValues<'a>(&'a World);
 
 impl Lines for CellValues<'_> {
+    ghost count = { λ _. 4000 };
+
     ghost line = { λ l. cell_values l.0.now };
 
     fn add(&self, alloc: Global, text: &mut Vec<u8>, number: u16) -> Result<(), AllocError> {
