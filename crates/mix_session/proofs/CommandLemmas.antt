@@ -11,6 +11,7 @@ use Rattle.mix_session.specs.Timeline.{Timeline, world_of, with_steps, back_by, 
 use Rattle.mix_session.specs.Command.{effect_of_steps, effect_of_change, effect_of_result, refusal_effect, change_stage, count_of_steps, least_below, end_of_step, end_of_last, end_at, fault_end, is_break_after, count_to_break, Begun}
 use Rattle.mix_session.specs.declared.fault.Refusal.TheVariants.{RefusedByMachine}
 use Rattle.mix_session.specs.declared.answer.Answer.TheVariants.{Ran, Done}
+use Rattle.mix_session.specs.declared.command.Stops.{Stops}
 use Rattle.mix_session.specs.declared.reply.End.{End}
 use Rattle.mix_session.specs.declared.reply.End.TheVariants.{Limit}
 use Rattle.mix_session.proofs.TimelineLemmas.{world_of-is}
@@ -31,47 +32,47 @@ least_below-beyond (suc n) (suc k) p within below =
     rw (below 0 (omega arith)) (omega arith)
 
 -- how one step more ends a command
-pub end_of_last-next : (at_breaks halts : Bool) (t : Timeline) (k : ℕ) (before now : WorldState) → world_of (with_steps t k) ≡ before →
-    world_of (with_steps t (k + 1)) ≡ now → halts ≡ is_halt_next before → end_of_last at_breaks t (k + 1) ≡ end_of_step halts at_breaks now
-end_of_last-next at_breaks halts t k before now e f g =
+pub end_of_last-next : (stops : Stops) (halts : Bool) (t : Timeline) (k : ℕ) (before now : WorldState) → world_of (with_steps t k) ≡ before →
+    world_of (with_steps t (k + 1)) ≡ now → halts ≡ is_halt_next before → end_of_last stops t (k + 1) ≡ end_of_step halts stops before now
+end_of_last-next stops halts t k before now e f g =
     let next : world_of (with_steps t (suc k)) ≡ now = rw add-one at f in
     rw (add-one, e, next, g) refl
 
-pub end_at-last : (at_breaks : Bool) (t : Timeline) (n k : ℕ) (end : End) → end_of_last at_breaks t k ≡ Some end → end_at at_breaks t n k ≡ Some end
+pub end_at-last : (stops : Stops) (t : Timeline) (n k : ℕ) (end : End) → end_of_last stops t k ≡ Some end → end_at stops t n k ≡ Some end
 unfolding end_at
-end_at-last at_breaks t n k end e = rw e refl
+end_at-last stops t n k end e = rw e refl
 
-pub end_at-limit : (at_breaks : Bool) (t : Timeline) (n : ℕ) → end_of_last at_breaks t n ≡ None → end_at at_breaks t n n ≡ Some Limit
+pub end_at-limit : (stops : Stops) (t : Timeline) (n : ℕ) → end_of_last stops t n ≡ None → end_at stops t n n ≡ Some Limit
 unfolding end_at
-end_at-limit at_breaks t n e = let same : eqb n n ≡ true = grind (arith, nat_tests) in rw (e, same) refl
+end_at-limit stops t n e = let same : eqb n n ≡ true = grind (arith, nat_tests) in rw (e, same) refl
 
-pub end_at-more : (at_breaks : Bool) (t : Timeline) (n k : ℕ) (world : WorldState) → end_of_last at_breaks t k ≡ None → k < n →
-    world_of (with_steps t k) ≡ world → end_at at_breaks t n k ≡ fault_end (does world Step)
+pub end_at-more : (stops : Stops) (t : Timeline) (n k : ℕ) (world : WorldState) → end_of_last stops t k ≡ None → k < n →
+    world_of (with_steps t k) ≡ world → end_at stops t n k ≡ fault_end (does world Step)
 unfolding end_at
-end_at-more at_breaks t n k world e below here = let other : eqb k n ≡ false = grind (arith, nat_tests) in rw (e, other, here) refl
+end_at-more stops t n k world e below here = let other : eqb k n ≡ false = grind (arith, nat_tests) in rw (e, other, here) refl
 
 -- one more step was done, so no end held before it
-pub none_before-next : (at_breaks : Bool) (t : Timeline) (n k : ℕ) (world next : WorldState) → end_of_last at_breaks t k ≡ None → k < n →
-    world_of (with_steps t k) ≡ world → does world Step ≡ Ok next → ((j : ℕ) → j < k → end_at at_breaks t n j ≡ None) →
-    (j : ℕ) → j < k + 1 → end_at at_breaks t n j ≡ None
-none_before-next at_breaks t n k world next e below here given before =
-    below_more (λ j. end_at at_breaks t n j ≡ None) k before (end_at-more at_breaks t n k world e below here ∙ ap fault_end given)
+pub none_before-next : (stops : Stops) (t : Timeline) (n k : ℕ) (world next : WorldState) → end_of_last stops t k ≡ None → k < n →
+    world_of (with_steps t k) ≡ world → does world Step ≡ Ok next → ((j : ℕ) → j < k → end_at stops t n j ≡ None) →
+    (j : ℕ) → j < k + 1 → end_at stops t n j ≡ None
+none_before-next stops t n k world next e below here given before =
+    below_more (λ j. end_at stops t n j ≡ None) k before (end_at-more stops t n k world e below here ∙ ap fault_end given)
 
 -- so many steps are done and this end holds, with none before it: that is what `step` or `run` does
-pub effect_of_steps-is : (at_breaks : Bool) (t : Timeline) (n k : ℕ) (end : End) → k ≤ n → end_at at_breaks t n k ≡ Some end →
-    ((j : ℕ) → j < k → end_at at_breaks t n j ≡ None) → effect_of_steps at_breaks t n ≡ record { stage = with_steps t; last = k; answer = Ran k end }
+pub effect_of_steps-is : (stops : Stops) (t : Timeline) (n k : ℕ) (end : End) → k ≤ n → end_at stops t n k ≡ Some end →
+    ((j : ℕ) → j < k → end_at stops t n j ≡ None) → effect_of_steps stops t n ≡ record { stage = with_steps t; last = k; answer = Ran k end }
 unfolding effect_of_steps count_of_steps
-effect_of_steps-is at_breaks t n k end within holds before =
-    let count : least_below n (λ j. is_some (end_at at_breaks t n j)) ≡ k =
-    least_below-is n k (λ j. is_some (end_at at_breaks t n j)) within (λ _. ap is_some holds) (λ j below. ap is_some (before j below)) in
+effect_of_steps-is stops t n k end within holds before =
+    let count : least_below n (λ j. is_some (end_at stops t n j)) ≡ k =
+    least_below-is n k (λ j. is_some (end_at stops t n j)) within (λ _. ap is_some holds) (λ j below. ap is_some (before j below)) in
     rw (count, holds) refl
 
 -- k of the steps, with no end before them
-pub Begun-steps : (at_breaks : Bool) (t now : Timeline) (n k : ℕ) → now ≡ with_steps t k → k ≤ n → ((j : ℕ) → j < k → end_at at_breaks t n j ≡ None) →
-    Begun (effect_of_steps at_breaks t n) now
+pub Begun-steps : (stops : Stops) (t now : Timeline) (n k : ℕ) → now ≡ with_steps t k → k ≤ n → ((j : ℕ) → j < k → end_at stops t n j ≡ None) →
+    Begun (effect_of_steps stops t n) now
 unfolding effect_of_steps count_of_steps
-Begun-steps at_breaks t now n k e within before =
-    (k, least_below-beyond n k (λ j. is_some (end_at at_breaks t n j)) within (λ j below. ap is_some (before j below)), e)
+Begun-steps stops t now n k e within before =
+    (k, least_below-beyond n k (λ j. is_some (end_at stops t n j)) within (λ j below. ap is_some (before j below)), e)
 
 -- a change that is not done
 pub Begun-unchanged : (t : Timeline) (change : Change) → Begun (effect_of_change t change) t

@@ -3,9 +3,10 @@
 ghost use Rattle.std.specs.Prelude.{◌≡◌, ◌≤◌, ◌<◌, ℕ, IfErr, IfOk, length, true, false, Ok, Some, None};
 ghost use Rattle.mix_session.specs.Timeline.{with_steps, back_by, forth_by, is_at_break};
 ghost use Rattle.mix_session.specs.Command.{effect_of, effect_of_steps, effect_of_back, effect_of_back_within, effect_of_forth, effect_of_forth_within, effect_of_goto, effect_of_change};
-ghost use Rattle.mix_session.specs.Command.{effect_of_trace, effect_of_back_until, effect_of_forth_until, effect_of_diff, effect_of_show, end_at, count_to_break, count_back, count_forth, at_breaks, Begun, HasEffect};
+ghost use Rattle.mix_session.specs.Command.{effect_of_trace, effect_of_back_until, effect_of_forth_until, effect_of_diff, effect_of_show, end_at, count_to_break, count_back, is_reached_forth, at_breaks, Begun, HasEffect};
 ghost use Rattle.mix_session.specs.Marks.{watched_by, is_stop, end_by_marks};
-ghost use Rattle.mix_machine.specs.Part.{mark_of};
+ghost use Rattle.mix_machine.specs.Part.{mark_of, mark_before};
+ghost use Rattle.mix_session.specs.Condition.{watched, is_met};
 
 use crate::answer::Answer;
 use crate::condition::Condition;
@@ -13,7 +14,7 @@ use crate::fault::Refusal;
 use crate::reply::End;
 use crate::request::{Request, Topic};
 use crate::timeline::world_of;
-use mix_machine::{Change, Mark, Part, Place, World, mark_before};
+use mix_machine::{Change, Mark, Old, Part, Place, World, mark_before};
 use undo_core::{Journal, Memory, Refused};
 
 /// Does what a request asks for.
@@ -33,13 +34,13 @@ pub(crate) fn execute(journal: &mut Journal<World>, request: Request) -> Result<
             Ok(take_back(journal, count))
         }
         Request::BackBreak => Ok(Answer::Back(go_back_to_break(journal))),
-        Request::BackUntil(condition) => Ok(back_until(journal, condition)),
+        Request::BackUntil(condition) => Ok(back_until(journal, &condition)),
         Request::Forth(count) => forth(journal, count),
         Request::ForthAll => {
             let count = journal.ahead();
             do_again(journal, count)
         }
-        Request::ForthUntil(condition) => forth_until(journal, condition),
+        Request::ForthUntil(condition) => forth_until(journal, &condition),
         Request::Goto(number) => go_to(journal, number),
         Request::Change(change) => change_by(journal, change),
         Request::Show(topic) => Ok(show(journal, topic)),
@@ -81,9 +82,9 @@ fn run_steps(journal: &mut Journal<World>, count: u32, stops: Stops) -> Result<(
 {
     for done in 0..count {
         let halts = journal.state().next_is_halt();
-        let mark = mark_of(stops, journal.state());
+        let mark = mark_of(&stops, journal.state());
         match journal.go(Change::Step) {
-            Ok(()) => match end_of_step(halts, stops, mark, journal.state()) {
+            Ok(()) => match end_of_step(halts, &stops, &mark, journal.state()) {
                 Some(end) => return Ok((done + 1, end)),
                 None => {}
             },
@@ -95,8 +96,8 @@ fn run_steps(journal: &mut Journal<World>, count: u32, stops: Stops) -> Result<(
 }
 
 // The mark by which it is seen whether steps meet what is waited for; where nothing is waited for, that of the location.
-fn mark_of(stops: Stops, world: &World) -> Mark
-    ensures { result ≡ mark_of world.now (watched_by stops) }
+fn mark_of(stops: &Stops, world: &World) -> Mark
+    ensures { result ≡ mark_of world.now (watched_by stops.now) }
 {
     match stops {
         Stops::Nothing | Stops::Breaks => world.mark(Part::Loc),
@@ -105,8 +106,8 @@ fn mark_of(stops: Stops, world: &World) -> Mark
 }
 
 // What ends a command once a step is done, if that does, by the mark before the step.
-fn end_of_step(halts: bool, stops: Stops, mark: Mark, world: &World) -> Option<End>
-    ensures { result ≡ end_by_marks halts stops mark world.now }
+fn end_of_step(halts: bool, stops: &Stops, mark: &Mark, world: &World) -> Option<End>
+    ensures { result ≡ end_by_marks halts stops.now mark.now world.now }
 {
     if halts {
         Some(End::Halt)
@@ -120,21 +121,21 @@ fn end_of_step(halts: bool, stops: Stops, mark: Mark, world: &World) -> Option<E
 }
 
 // Whether a step met what is waited for, by the mark before it.
-fn is_stop(stops: Stops, mark: Mark, world: &World) -> bool
-    ensures { result ≡ is_stop stops mark world.now }
+fn is_stop(stops: &Stops, mark: &Mark, world: &World) -> bool
+    ensures { result ≡ is_stop stops.now mark.now world.now }
 {
     match stops {
         Stops::Nothing | Stops::Breaks => false,
         Stops::Until(condition) => {
             let after = world.mark(condition.watched());
-            condition.is_met(mark, after, after)
+            condition.is_met(mark, &after, &after)
         }
     }
 }
 
 // Whether breakpoints stop the steps.
-fn at_breaks(stops: Stops) -> bool
-    ensures { result ≡ at_breaks stops }
+fn at_breaks(stops: &Stops) -> bool
+    ensures { result ≡ at_breaks stops.now }
 {
     match stops {
         Stops::Nothing => false,
@@ -194,8 +195,8 @@ fn go_back_to_break(journal: &mut Journal<World>) -> usize
     all
 }
 
-fn back_until(journal: &mut Journal<World>, condition: Condition) -> Answer
-    ensures { HasEffect (effect_of_back_until condition journal.old) journal.old journal.new (Ok result) }
+fn back_until(journal: &mut Journal<World>, condition: &Condition) -> Answer
+    ensures { HasEffect (effect_of_back_until condition.now journal.old) journal.old journal.new (Ok result) }
 {
     let all = journal.changes().len();
     let count = count_back(journal, condition);
@@ -208,15 +209,15 @@ fn back_until(journal: &mut Journal<World>, condition: Condition) -> Answer
 }
 
 // How many changes stand after the last one that meets the condition, or all where none does. It reads what the journal keeps.
-fn count_back(journal: &Journal<World>, condition: Condition) -> usize
-    ensures { result ≡ count_back condition journal.now }
+fn count_back(journal: &Journal<World>, condition: &Condition) -> usize
+    ensures { result ≡ count_back condition.now journal.now }
 {
     let part = condition.watched();
     let mut mark = world_of(journal).mark(part);
     let all = journal.changes().len();
     for count in 0..all {
-        let before = mark_before(journal.kept(all - 1 - count), part, mark);
-        if condition.is_met(before, mark, before) {
+        let (before, is_met) = step_back(condition, journal.kept(all - 1 - count), &mark);
+        if is_met {
             return count;
         }
         mark = before;
@@ -224,22 +225,43 @@ fn count_back(journal: &Journal<World>, condition: Condition) -> usize
     all
 }
 
-fn forth_until(journal: &mut Journal<World>, condition: Condition) -> Result<Answer, Memory>
-    ensures { HasEffect (effect_of_forth_until condition journal.old) journal.old journal.new result }
+// The mark before a change that kept these values, and whether taking the change back meets the condition.
+fn step_back(condition: &Condition, kept: &[Old], mark: &Mark) -> (Mark, bool)
+    ensures before { result.0 ≡ mark_before kept.now (watched condition.now) mark.now }
+    ensures met { result.1 ≡ is_met condition.now result.0 mark.now result.0 }
 {
-    let part = condition.watched();
-    let mut mark = journal.state().mark(part);
+    let before = mark_before(kept, condition.watched(), *mark);
+    let is_met = condition.is_met(&before, mark, &before);
+    (before, is_met)
+}
+
+fn forth_until(
+    journal: &mut Journal<World>,
+    condition: &Condition,
+) -> Result<Answer, Memory>
+    ensures { HasEffect (effect_of_forth_until condition.now journal.old) journal.old journal.new result }
+{
     let all = journal.ahead();
     for done in 0..all {
-        journal.forth()?;
-        let after = journal.state().mark(part);
-        if condition.is_met(mark, after, after) {
+        if step_forth(journal, condition)? {
             return Ok(Answer::ForthUntil(done + 1));
         }
-        mark = after;
     }
     go_back(journal, all);
     Ok(Answer::Refused(Refusal::NoSuchChange))
+}
+
+// Does the next change ahead again, and tells whether it meets the condition.
+fn step_forth(journal: &mut Journal<World>, condition: &Condition) -> Result<bool, Memory>
+    requires { 0 < length journal.old.ahead }
+    ensures forth { IfOk result (λ _. journal.new ≡ forth_by journal.old 1) }
+    ensures met { IfOk result (λ b. b ≡ is_reached_forth condition.now journal.old 0) }
+    ensures memory { IfErr result (λ _. journal.new ≡ journal.old) }
+{
+    let before = journal.state().mark(condition.watched());
+    journal.forth()?;
+    let after = journal.state().mark(condition.watched());
+    Ok(condition.is_met(&before, &after, &after))
 }
 
 fn forth(journal: &mut Journal<World>, count: u64) -> Result<Answer, Memory>

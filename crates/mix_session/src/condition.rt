@@ -14,21 +14,21 @@ pub enum Condition {
 
 impl Condition {
     /// The part by whose marks it is seen whether the condition is met.
-    pub(crate) fn watched(self) -> Part
-        ensures { result ≡ watched self }
+    pub(crate) fn watched(&self) -> Part
+        ensures { result ≡ watched self.now }
     {
         match self {
-            Condition::Alters(part) => part,
+            Condition::Alters(part) => *part,
             Condition::At(_) => Part::Loc,
         }
     }
 
     /// Whether a change meets the condition, by the marks before and after it, of which the machine has come to `now`.
-    pub(crate) fn is_met(self, before: Mark, after: Mark, now: Mark) -> bool
-        ensures { result ≡ is_met self before after now }
+    pub(crate) fn is_met(&self, before: &Mark, after: &Mark, now: &Mark) -> bool
+        ensures { result ≡ is_met self.now before.now after.now now.now }
     {
         match self {
-            Condition::Alters(_) => !before.is_same(after),
+            Condition::Alters(_) => !before.is_same(*after),
             Condition::At(place) => now.is_same(Mark::Location(place.number())),
         }
     }

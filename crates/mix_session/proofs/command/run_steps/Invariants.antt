@@ -7,6 +7,6 @@ abbrev pub invariant-loop-done : goal.invariant-loop-done
 invariant-loop-done l = record {
   first : l.journal.first ≡ l.fn.journal.first;
   steps : l.journal ≡ with_steps l.fn.journal l.done;
-  going : end_of_last l.at_breaks l.fn.journal l.done ≡ None;
-  before : (k : ℕ) → k < l.done → end_at l.at_breaks l.fn.journal l.count k ≡ None;
+  going : end_of_last l.stops l.fn.journal l.done ≡ None;
+  before : (k : ℕ) → k < l.done → end_at l.stops l.fn.journal l.count k ≡ None;
 }
