@@ -115,7 +115,7 @@ marks-step o os w v (Some t) h e =
     record {
       is_world = subst IsWorld fit.1 (world-set_value t o before.is_world fit.0);
       marks =
-      λ part p. ap (unwrap_or (mark_given o part)) (before.marks part p) ∙ mark-set_value t o part before.is_world p ∙ ap (λ (s : WorldState). mark_of s part) fit.1;
+          λ part p. ap (unwrap_or (mark_given o part)) (before.marks part p) ∙ mark-set_value t o part before.is_world p ∙ ap (λ (s : WorldState). mark_of s part) fit.1;
     }
 
 pub marks-before : (olds : List Old) (w v : WorldState) → IsWorld w → put_back put_value olds w ≡ Some v → MarksBefore olds w v

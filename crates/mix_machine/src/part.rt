@@ -32,8 +32,8 @@ pub enum Mark {
 }
 
 impl Part {
-    /// Whether two parts are the same, as `==` has it.
-    pub fn is_same(self, other: Part) -> bool
+    // Whether two parts are the same.
+    fn is_same(self, other: Part) -> bool
         ensures { result ≡ is_same_part self other }
     {
         match self {

@@ -142,9 +142,9 @@ fn copies(rt: HostRuntime) {
 }
 
 // The mark of a part before what is kept, and the one after.
-fn marks_of(world: &World, kept: &[Old], part: Part) -> (Mark, Mark) {
-    let after = world.mark(part);
-    (mark_before(kept, part, after), after)
+fn marks_of(world: &World, kept: &[Old], part: &Part) -> (Mark, Mark) {
+    let before = mark_before(kept, *part, world.mark(*part));
+    (before, world.mark(*part))
 }
 
 // The marks of rA, the toggle and the location before two changes of rA and one of the toggle, and after them.
@@ -160,16 +160,19 @@ fn marks(alloc: Global) -> Option<[(Mark, Mark); 3]> {
         world.apply(change, &mut kept).ok()?;
     }
     Some([
-        marks_of(&world, &kept, Part::Register(Reg::A)),
-        marks_of(&world, &kept, Part::Over),
-        marks_of(&world, &kept, Part::Loc),
+        marks_of(&world, &kept, &Part::Register(Reg::A)),
+        marks_of(&world, &kept, &Part::Over),
+        marks_of(&world, &kept, &Part::Loc),
     ])
 }
 
 #[test]
 fn marks_before_and_after(rt: HostRuntime) {
     let expected = [
-        (Mark::Word(Word::of(Plus, 0)), Mark::Word(Word::of(Minus, 0))),
+        (
+            Mark::Word(Word::of(Plus, 0)),
+            Mark::Word(Word::of(Minus, 0)),
+        ),
         (Mark::Toggle(false), Mark::Toggle(true)),
         (Mark::Location(7), Mark::Location(7)),
     ];
