@@ -12,10 +12,10 @@ use Rattle.mix_word.specs.Word.{WordValue, zero_word}
 use Rattle.mix_word.specs.declared.register.Reg.{Reg}
 use Rattle.mix_word.specs.declared.register.Reg.TheVariants.{A, X, I1, I2, I3, I4, I5, I6, J}
 use Rattle.mix_machine.specs.Registers.{RegistersState, held_in, with_register}
-use Rattle.mix_machine.specs.World.{WorldState, IsWorld, unit_at}
+use Rattle.mix_machine.specs.World.{WorldState, IsWorld}
 use Rattle.mix_machine.specs.units.UnitKind.{has_medium, has_output}
 use Rattle.mix_machine.specs.units.Unit.{UnitState, empty_unit, with_word}
-use Rattle.mix_machine.specs.units.Units.{UnitsState, AreUnits, unit_of, with_unit, cut_to}
+use Rattle.mix_machine.specs.units.Units.{UnitsState, unit_of, with_unit, cut_to}
 use Rattle.mix_machine.specs.Write.{set_value, fits, put_value}
 use Rattle.mix_machine.specs.Part.{is_same_register, mark_of, mark_given, mark_before, IsPart}
 use Rattle.mix_machine.specs.law.Fits.{world-set_value}
@@ -25,7 +25,6 @@ use Rattle.mix_machine.specs.declared.old.Old.{Old}
 use Rattle.mix_machine.specs.declared.old.Old.TheVariants as old
 use Rattle.mix_machine.specs.declared.part.Part.{Part}
 use Rattle.mix_machine.specs.declared.part.Part.TheVariants.{Register, Over, Cmp as Indicated, Cell, Unit as Device, Loc, Clock}
-use Rattle.mix_machine.specs.declared.part.Mark.{Mark}
 use Rattle.mix_machine.specs.declared.part.Mark.TheVariants as mark
 
 -- what a register holds after one was set

@@ -1,9 +1,9 @@
 -- The parts of the machine, whether a change altered one, and the mark by which that is seen without comparing the
 -- whole part.
-use Rattle.std.specs.Prelude.{ℕ, Bool, true, false, not, ◌==◌, ◌&&◌, ◌<◌, if◌then◌else◌, List, [], ◌∷◌, Option, None, Some, unwrap_or}
+use Rattle.std.specs.Prelude.{Bool, true, false, not, ◌==◌, ◌&&◌, ◌<◌, if◌then◌else◌, List, [], ◌∷◌, Option, None, Some, unwrap_or}
 use Rattle.std.specs.Bool.{beq}
 use Rattle.std.specs.Cmp.Lexicographic.{pointwise}
-use Rattle.mix_word.specs.Word.{WordValue, is_same_word}
+use Rattle.mix_word.specs.Word.{is_same_word}
 use Rattle.mix_word.specs.Register.{number_of_register}
 use Rattle.mix_word.specs.declared.register.Reg.{Reg}
 use Rattle.mix_word.specs.declared.word.Cmp.{Cmp}

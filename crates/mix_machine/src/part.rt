@@ -1,6 +1,7 @@
 //! The parts of the machine, and the marks by which it is seen that a change altered one.
 ghost use Rattle.std.specs.Prelude.{◌≡◌};
-ghost use Rattle.mix_machine.specs.Part.{is_same_register, is_same_part, is_same_indicator, is_same_mark, mark_of, mark_in, mark_given, mark_before};
+ghost use Rattle.mix_machine.specs.World.{IsWorld};
+ghost use Rattle.mix_machine.specs.Part.{IsPart, is_same_part, is_same_indicator, is_same_mark, mark_of, mark_in, mark_given, mark_before};
 
 use crate::old::Old;
 use crate::units::UnitNo;
@@ -31,8 +32,8 @@ pub enum Mark {
 }
 
 impl Part {
-    /// Whether two parts are the same, as `==` has it.
-    pub fn is_same(self, other: Part) -> bool
+    // Whether two parts are the same.
+    fn is_same(self, other: Part) -> bool
         ensures { result ≡ is_same_part self other }
     {
         match self {
@@ -75,14 +76,20 @@ fn is_same_indicator(c: Cmp, d: Cmp) -> bool
 impl World {
     /// The mark of a part of the machine.
     pub fn mark(&self, part: Part) -> Mark
-        ensures { result ≡ mark_of self.now part }
+        ensures is { result ≡ mark_of self.now part }
+        ensures world { IsWorld self.now }
+        ensures real { IsPart part }
     {
         match part {
             Part::Register(r) => Mark::Word(self.register(r)),
             Part::Over => Mark::Toggle(self.over),
             Part::Cmp => Mark::Indicator(self.cmp),
-            Part::Cell(p) => Mark::Word(self.cell(p)),
-            Part::Unit(n) => Mark::Time(self.unit(n).until()),
+            Part::Cell(p) => Mark::Word(self.cells[usize::from(p.number())]),
+            Part::Unit(n) => {
+                // (the proof knows the range of the number where it is taken)
+                let _ = n.number();
+                Mark::Time(self.unit(n).until())
+            }
             Part::Loc => Mark::Location(self.loc),
             Part::Clock => Mark::Time(self.clock),
         }

@@ -1,11 +1,13 @@
-// Steps past the last cell and near the end of the clock, which no call sets, and the two halves of a time. All other rows stand in
-// the crate `mix_machine_tests`.
+// Steps past the last cell and near the end of the clock, which no call sets, the two halves of a time, a copy of the machine, and the
+// marks of its parts. All other rows stand in the crate `mix_machine_tests`.
 use crate::MixFault::{
     ClockFull, IndexOverflow, NegativeShift, NoBlock, NoCell, NoCellAtLocation, NoOperation,
 };
 use crate::Sign::{Minus, Plus};
 use crate::time::Time;
-use crate::{Change, MixFault, Place, Reg, Sign, UnitNo, Units, Word, World};
+use crate::{
+    Change, Mark, MixFault, Old, Part, Place, Reg, Sign, UnitNo, Units, Word, World, mark_before,
+};
 use std::alloc::Global;
 use undo_core::{Journal, Refused, Undo};
 
@@ -126,4 +128,53 @@ fn times_in_two_halves(rt: HostRuntime) {
     for n in [0, 0xffff_ffff, 0x1_0000_0000, LAST_CLOCK, u64::MAX] {
         assert_eq!(rt; Time::of(n).number(), n, "{n}");
     }
+}
+
+fn is_copied(alloc: Global) -> Option<bool> {
+    let world = begun(alloc, (Plus, 5, 1, 2, 5), 7, 3, 11)?;
+    let copy = world.copied(alloc).ok()?;
+    Some(is_same(&world, &copy))
+}
+
+#[test]
+fn copies(rt: HostRuntime) {
+    assert_eq!(rt; is_copied(rt.alloc()), Some(true));
+}
+
+// The mark of a part before what is kept, and the one after.
+fn marks_of(world: &World, kept: &[Old], part: &Part) -> (Mark, Mark) {
+    let before = mark_before(kept, *part, world.mark(*part));
+    (before, world.mark(*part))
+}
+
+// The marks of rA, the toggle and the location before two changes of rA and one of the toggle, and after them.
+fn marks(alloc: Global) -> Option<[(Mark, Mark); 3]> {
+    let mut world = begun(alloc, (Plus, 0, 0, 0, 0), 0, 7, 0)?;
+    let mut kept = Vec::new(alloc);
+    let changes = [
+        Change::SetReg(Reg::A, Word::of(Minus, 1)),
+        Change::SetReg(Reg::A, Word::of(Minus, 0)),
+        Change::SetOver(true),
+    ];
+    for change in &changes {
+        world.apply(change, &mut kept).ok()?;
+    }
+    Some([
+        marks_of(&world, &kept, &Part::Register(Reg::A)),
+        marks_of(&world, &kept, &Part::Over),
+        marks_of(&world, &kept, &Part::Loc),
+    ])
+}
+
+#[test]
+fn marks_before_and_after(rt: HostRuntime) {
+    let expected = [
+        (
+            Mark::Word(Word::of(Plus, 0)),
+            Mark::Word(Word::of(Minus, 0)),
+        ),
+        (Mark::Toggle(false), Mark::Toggle(true)),
+        (Mark::Location(7), Mark::Location(7)),
+    ];
+    assert_eq!(rt; marks(rt.alloc()), Some(expected));
 }
