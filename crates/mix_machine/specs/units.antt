@@ -1,4 +1,5 @@
 -- The units: their kinds, what each holds, the deck that fills them, and the lemmas on their blocks.
+pub mod Alike
 pub mod Back
 pub mod Keep
 pub mod UnitKind

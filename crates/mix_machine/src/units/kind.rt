@@ -1,5 +1,6 @@
 //! The kinds of units (1.3.1, "Input-output operators"): what each can do, and how long its blocks are.
 ghost use Rattle.std.specs.Prelude.{◌≡◌, ◌<◌, ◌≤◌};
+ghost use Rattle.mix_machine.specs.Part.{is_same_kind};
 ghost use Rattle.mix_machine.specs.units.UnitKind.{kinds, kind_of, block_length, has_place, has_medium, has_output};
 
 /// What a unit is (1.3.1): a tape, a disk, a card reader, a card punch, a printer, a typewriter or a paper tape.
@@ -52,6 +53,13 @@ impl UnitKind {
             UnitKind::Printer => 24,
             UnitKind::Typewriter | UnitKind::PaperTape => 14,
         }
+    }
+
+    /// Whether two kinds are the same, as `==` has it.
+    pub(crate) fn is_same(self, other: UnitKind) -> bool
+        ensures { result ≡ is_same_kind self other }
+    {
+        self == other
     }
 
     /// Whether the unit reads block after block, from a place on.

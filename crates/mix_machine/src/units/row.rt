@@ -1,7 +1,9 @@
 //! A row that a unit has written: the words of a line or a card, or a page mark.
 ghost use Rattle.std.specs.Prelude.{◌≡◌, ◌≤◌, length, None, Some, MatchOption};
+ghost use Rattle.mix_machine.specs.Part.{is_same_row};
 ghost use Rattle.mix_machine.specs.units.Row.{row_of};
 
+use crate::units::unit::same::are_same_words;
 use mix_word::{Sign, Word};
 use std::marker::Model;
 
@@ -47,6 +49,17 @@ impl Row {
             words: self.words,
             len: self.len,
             is_page: self.is_page,
+        }
+    }
+
+    /// Whether two rows are the same.
+    pub(crate) fn is_same(&self, other: &Row) -> bool
+        ensures { result ≡ is_same_row self.now other.now }
+    {
+        match (self.words(), other.words()) {
+            (Some(words), Some(others)) => are_same_words(words, others),
+            (None, None) => true,
+            _ => false,
         }
     }
 

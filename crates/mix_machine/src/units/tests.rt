@@ -1,9 +1,11 @@
 //! Units written by the calls that no other crate has.
 ghost use Rattle.std.specs.Prelude.{◌≡◌, IfOk};
 
-use super::{UnitNo, Units};
+use super::{Row, Unit, UnitKind, UnitNo, Units};
 use mix_word::{Sign, Word};
+use std::alloc::Global;
 use std::test::Fail;
+use undo_core::Memory;
 
 fn numbered(n: u8) -> Result<UnitNo, Fail>
     ensures { IfOk result (λ u. u ≡ n) }
@@ -61,5 +63,49 @@ fn blocks_of_a_tape(rt: HostRuntime) -> Result<(), Fail> {
     }
     units.cut(tape, 2);
     assert_eq!(rt; units.unit(tape).blocks(), 2);
+    Ok(())
+}
+
+// A unit of two blocks and two rows, with this place, last word, first row, and a page mark or a row of no words.
+fn with_two_rows(
+    alloc: Global,
+    place: u16,
+    word: Word,
+    row: u32,
+    is_page: bool,
+) -> Result<Unit, Memory> {
+    let mut unit = Unit::empty(alloc, UnitKind::Tape);
+    unit.add_blocks(1, &[Word::ZERO; 100])?;
+    unit.set_word(1, 99, word);
+    if place <= unit.blocks() {
+        unit.set_place(place);
+    }
+    unit.add_row(Row::of(&[Word::of(Sign::Plus, row % 64); 14]))?;
+    unit.add_row(if is_page { Row::page() } else { Row::of(&[]) })?;
+    Ok(unit)
+}
+
+// Place, last word, first row and page mark of a unit, and whether it is the same as that of the first of these rows.
+const SAME: [(u16, Sign, u32, u32, bool, bool); 6] = [
+    (1, Sign::Plus, 0, 5, true, true),
+    (2, Sign::Plus, 0, 5, true, false),
+    (1, Sign::Minus, 0, 5, true, false),
+    (1, Sign::Plus, 7, 5, true, false),
+    (1, Sign::Plus, 0, 6, true, false),
+    (1, Sign::Plus, 0, 5, false, false),
+];
+
+#[test]
+fn units_that_are_the_same(rt: HostRuntime) -> Result<(), Fail> {
+    let unit = with_two_rows(rt.alloc(), 1, Word::ZERO, 5, true)?;
+    for (place, sign, number, row, is_page, is_same) in SAME {
+        let word = Word::of(sign, number % 64);
+        let other = with_two_rows(rt.alloc(), place, word, row, is_page)?;
+        assert_eq!(rt;
+            (unit.is_same(&other), other.is_same(&unit)),
+            (is_same, is_same),
+            "{place} {number} {row}"
+        );
+    }
     Ok(())
 }

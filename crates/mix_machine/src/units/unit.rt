@@ -5,6 +5,8 @@ ghost use Rattle.mix_machine.specs.units.UnitKind.{block_length};
 ghost use Rattle.mix_machine.specs.units.Unit.{IsUnit, empty_unit, word_of, with_word, with_blocks, with_row, filled, most_entries, last_delay, last_until};
 ghost use Rattle.mix_machine.specs.units.Units.{cut_to, can_cut, length_of};
 
+pub(crate) mod same;
+
 use crate::units::kind::UnitKind;
 use crate::units::row::Row;
 use mix_word::Word;
