@@ -9,7 +9,7 @@ pub mod Halting
 pub mod MarkLemmas
 pub mod RegisterLemmas
 pub mod Reverting
-pub mod SameLemmas
+pub mod SameFields
 pub mod SameUnit
 pub mod StageLemmas
 pub mod TransferLemmas

@@ -36,7 +36,7 @@ same-word v w =
       (λ e. parts.1 (ap (λ (u : WordValue). u.sign) e, ap (λ (u : WordValue). u.magnitude) e)),
     )
 
-same-kind : (k l : UnitKind) → Decides (is_same_kind k l) (k ≡ l)
+pub same-kind : (k l : UnitKind) → Decides (is_same_kind k l) (k ≡ l)
 same-kind Tape Tape = ((λ e. refl), (λ e. refl))
 same-kind Disk Disk = ((λ e. refl), (λ e. refl))
 same-kind CardReader CardReader = ((λ e. refl), (λ e. refl))

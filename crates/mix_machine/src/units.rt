@@ -10,7 +10,6 @@ mod deck_fault;
 mod kind;
 mod number;
 mod row;
-mod same;
 mod unit;
 
 use crate::units::kind::KINDS;
@@ -20,11 +19,11 @@ pub use kind::UnitKind;
 use mix_word::Word;
 pub use number::UnitNo;
 pub use row::Row;
-pub use same::are_same_words;
 use std::alloc::Global;
 use std::marker::Model;
 use undo_core::Memory;
 pub use unit::Unit;
+pub use unit::same::are_same_words;
 
 /// The 21 units of the machine (1.3.1), 0 to 20.
 #[derive(Drop)]

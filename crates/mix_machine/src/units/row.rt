@@ -3,7 +3,7 @@ ghost use Rattle.std.specs.Prelude.{◌≡◌, ◌≤◌, length, None, Some, Ma
 ghost use Rattle.mix_machine.specs.Part.{is_same_row};
 ghost use Rattle.mix_machine.specs.units.Row.{row_of};
 
-use crate::units::same::are_same_words;
+use crate::units::unit::same::are_same_words;
 use mix_word::{Sign, Word};
 use std::marker::Model;
 

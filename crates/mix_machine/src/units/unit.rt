@@ -3,13 +3,12 @@ ghost use Rattle.std.specs.Prelude.{◌≡◌, ◌<◌, ◌≤◌, ◌+◌, ◌*
 ghost use Rattle.mix_word.specs.Word.{zero_word};
 ghost use Rattle.mix_machine.specs.units.UnitKind.{block_length};
 ghost use Rattle.mix_machine.specs.units.Unit.{IsUnit, empty_unit, word_of, with_word, with_blocks, with_row, filled, most_entries, last_delay, last_until};
-ghost use Rattle.mix_machine.specs.Part.{is_same_unit};
-ghost use Rattle.mix_machine.specs.units.Alike.{is_alike};
 ghost use Rattle.mix_machine.specs.units.Units.{cut_to, can_cut, length_of};
+
+pub(crate) mod same;
 
 use crate::units::kind::UnitKind;
 use crate::units::row::Row;
-use crate::units::same::{are_same_rows, are_same_words};
 use mix_word::Word;
 use std::alloc::Global;
 use std::marker::Model;
@@ -99,29 +98,6 @@ impl Unit {
         ensures bound { result ≤ last_until }
     {
         self.until
-    }
-
-    /// Whether two units are the same in all that they hold: kind, place, blocks, rows and times (1.3.1).
-    pub fn is_same(&self, other: &Unit) -> bool
-        ensures { result ≡ is_same_unit self.now other.now }
-    {
-        if !self.is_alike(other) {
-            return false;
-        }
-        are_same_words(&self.words, &other.words) && are_same_rows(&self.rows, &other.rows)
-    }
-
-    // Whether two units are the same but for what stands in their blocks and rows, of which they have as many.
-    #[tactic(auto, using(crate::proofs::BlockLemmas::blocks))]
-    fn is_alike(&self, other: &Unit) -> bool
-        ensures { result ≡ is_alike self.now other.now }
-    {
-        self.until == other.until
-            && self.place == other.place
-            && self.count == other.count
-            && self.rows.len() == other.rows.len()
-            && self.delay == other.delay
-            && self.kind.is_same(other.kind)
     }
 
     /// A unit of a kind with nothing in it.

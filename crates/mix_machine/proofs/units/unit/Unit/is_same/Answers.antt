@@ -2,7 +2,7 @@ use Rattle.std.proofs.Common.{true, false, ◌&&◌, ◌≡◌, ◌∙◌, sym, 
 use Rattle.std.specs.Cmp.Lexicographic.{pointwise}
 use Rattle.mix_word.specs.Word.{is_same_word}
 use Rattle.mix_machine.specs.Part.{is_same_row}
-use Rattle.mix_machine.proofs.SameLemmas.{same-units}
+use Rattle.mix_machine.proofs.SameFields.{same-units}
 use Rattle.mix_machine.proofs.units.unit.Unit.is_same.Goals as goal
 
 pub returns-then-are_same_words : goal.returns-then-are_same_words

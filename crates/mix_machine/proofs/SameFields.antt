@@ -1,18 +1,17 @@
 -- Two units are the same where their fields are.
-use Rattle.std.proofs.Common.{ℕ, zero, suc, Bool, true, false, ◌&&◌, ◌==◌, ◌*◌, ◌≡◌, ◌∙◌, List, [], ◌∷◌, length, take, drop, refl, ap, sym, arith}
+use Rattle.std.proofs.Common.{ℕ, zero, suc, Bool, true, ◌&&◌, ◌*◌, ◌≡◌, ◌∙◌, List, [], ◌∷◌, length, take, drop, refl, ap, sym, arith}
 use Rattle.std.proofs.Math.Bool.{and_assoc}
 use Rattle.std.proofs.lemmas.Bool.Decides.{nat_tests}
 use Rattle.std.proofs.lemmas.List.{nil_from_length, length-drop}
-use Rattle.std.specs.Cmp.Lexicographic.{pointwise, as_long}
+use Rattle.std.specs.Cmp.Lexicographic.{pointwise}
 use Rattle.mix_word.specs.Word.{WordValue, is_same_word}
 use Rattle.mix_machine.specs.Part.{is_same_kind, is_same_row, is_same_unit}
 use Rattle.mix_machine.specs.units.UnitKind.{block_length}
 use Rattle.mix_machine.specs.units.Unit.{UnitState, blocks_in}
 use Rattle.mix_machine.proofs.BlockLemmas.{length-blocks_in}
+use Rattle.mix_machine.proofs.SameUnit.{same-kind}
 use Rattle.mix_machine.specs.units.Alike.{is_alike}
 use Rattle.mix_machine.specs.units.View.{unit_of_fields, AreFields}
-use Rattle.mix_machine.specs.declared.units.kind.UnitKind.{UnitKind}
-use Rattle.mix_machine.specs.declared.units.kind.UnitKind.TheVariants.{Tape, Disk, CardReader, CardPunch, Printer, Typewriter, PaperTape}
 use Rattle.mix_machine.specs.declared.units.unit.Unit.TheInside.{Inside}
 
 -- two lists are the same where their beginnings and their rests are
@@ -37,22 +36,9 @@ blocks-same (suc n) size ws vs h k =
     pointwise-cut is_same_word size ws vs
     ∙ ap (λ b. pointwise is_same_word (take size ws) (take size vs) && b) (blocks-same n size (drop size ws) (drop size vs) rest rest-2)
 
-same-kind : (a b : UnitKind) → is_same_kind a b ≡ true → a ≡ b
-same-kind Tape Tape e = refl
-same-kind Disk Disk e = refl
-same-kind CardReader CardReader e = refl
-same-kind CardPunch CardPunch e = refl
-same-kind Printer Printer e = refl
-same-kind Typewriter Typewriter e = refl
-same-kind PaperTape PaperTape e = refl
-same-kind _ _ e = absurd (cc)
-
 all-true : (s t : UnitState) → is_alike s t ≡ true →
     is_same_unit s t ≡ (pointwise (pointwise is_same_word) s.blocks t.blocks && pointwise is_same_row s.rows t.rows)
-all-true s t h = by (s.until == t.until) (s.place == t.place) (length s.blocks == length t.blocks) (length s.rows == length t.rows) (s.delay == t.delay) (is_same_kind s.kind t.kind) (pointwise (pointwise is_same_word) s.blocks t.blocks) (pointwise is_same_row s.rows t.rows) h
-  where
-    by : (u p c r d k b w : Bool) → (u && p && c && r && d && k) ≡ true → (k && p && b && w && d && u) ≡ (b && w)
-    by u p c r d k b w h = grind (arith, nat_tests)
+all-true s t h = grind (arith, nat_tests)
 
 alike-kind : (s t : UnitState) → is_alike s t ≡ true → is_same_kind s.kind t.kind ≡ true
 alike-kind s t h = grind (arith, nat_tests)
@@ -60,15 +46,12 @@ alike-kind s t h = grind (arith, nat_tests)
 alike-count : (s t : UnitState) → is_alike s t ≡ true → length s.blocks ≡ length t.blocks
 alike-count s t h = grind (arith, nat_tests)
 
-as-long : {X : Type 0} (E : X → X → Bool) (xs ys : List X) → pointwise E xs ys ≡ true → (length xs == length ys) ≡ true
-as-long E xs ys e = let len = as_long E xs ys e in grind (arith, nat_tests)
-
 -- of units that are alike, what stands in the fields decides
 same-fields : (u v : Inside) → AreFields u → AreFields v → is_alike (unit_of_fields u) (unit_of_fields v) ≡ true →
     (pointwise is_same_word u.words.items v.words.items && pointwise is_same_row u.rows.items v.rows.items)
     ≡ is_same_unit (unit_of_fields u) (unit_of_fields v)
 same-fields u v f g h =
-    let kind : v.kind ≡ u.kind = sym (same-kind u.kind v.kind (alike-kind (unit_of_fields u) (unit_of_fields v) h)) in
+    let kind : v.kind ≡ u.kind = sym ((same-kind u.kind v.kind).0 (alike-kind (unit_of_fields u) (unit_of_fields v) h)) in
     let len = alike-count (unit_of_fields u) (unit_of_fields v) h in
     let own = length-blocks_in u.count (block_length u.kind) u.words.items in
     let other = length-blocks_in v.count (block_length v.kind) v.words.items in
@@ -84,13 +67,3 @@ pub same-units : (u v : Inside) (s t : UnitState) → unit_of_fields u ≡ s →
 same-units u v s t e k f g h =
     let alike = ap (λ (a : UnitState). is_alike a (unit_of_fields v)) e ∙ ap (is_alike s) k ∙ h in
     same-fields u v f g alike ∙ ap (λ (a : UnitState). is_same_unit a (unit_of_fields v)) e ∙ ap (is_same_unit s) k
-
--- and others are not the same
-pub other-units : (s t : UnitState) → is_alike s t ≡ false → false ≡ is_same_unit s t
-other-units s t h =
-    by (s.until == t.until) (s.place == t.place) (length s.blocks == length t.blocks) (length s.rows == length t.rows) (s.delay == t.delay) (is_same_kind s.kind t.kind) (pointwise (pointwise is_same_word) s.blocks t.blocks) (pointwise is_same_row s.rows t.rows)
-    (as-long (pointwise is_same_word) s.blocks t.blocks) (as-long is_same_row s.rows t.rows) h
-  where
-    by : (u p c r d k b w : Bool) → (b ≡ true → c ≡ true) → (w ≡ true → r ≡ true) → (u && p && c && r && d && k) ≡ false →
-        false ≡ (k && p && b && w && d && u)
-    by u p c r d k b w f g h = grind (arith, nat_tests)
