@@ -1,4 +1,5 @@
 mod CommandLemmas
+mod ConditionLemmas
 mod ShowLemmas
 mod TimelineLemmas
 mod UnitLemmas

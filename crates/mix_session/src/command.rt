@@ -5,7 +5,7 @@ ghost use Rattle.mix_session.specs.Timeline.{with_steps, back_by, forth_by, is_a
 ghost use Rattle.mix_session.specs.Command.{effect_of, effect_of_steps, effect_of_back, effect_of_back_within, effect_of_forth, effect_of_forth_within, effect_of_goto, effect_of_change};
 ghost use Rattle.mix_session.specs.Command.{effect_of_trace, effect_of_back_until, effect_of_forth_until, effect_of_diff, effect_of_show, end_at, count_to_break, count_back, is_reached_forth, at_breaks, Begun, HasEffect};
 ghost use Rattle.mix_session.specs.Marks.{watched_by, is_stop, end_by_marks};
-ghost use Rattle.mix_machine.specs.Part.{mark_of, mark_before};
+ghost use Rattle.mix_machine.specs.Part.{IsPart, mark_of, mark_before};
 ghost use Rattle.mix_session.specs.Condition.{watched, is_met};
 
 use crate::answer::Answer;
@@ -14,7 +14,7 @@ use crate::fault::Refusal;
 use crate::reply::End;
 use crate::request::{Request, Topic};
 use crate::timeline::world_of;
-use mix_machine::{Change, Mark, Old, Part, Place, World, mark_before};
+use mix_machine::{Change, Mark, Old, Part, Place, World, mark_before, mark_law};
 use undo_core::{Journal, Memory, Refused};
 
 /// Does what a request asks for.
@@ -80,6 +80,7 @@ fn run_steps(journal: &mut Journal<World>, count: u32, stops: Stops) -> Result<(
     ensures least { IfOk result (λ r. (k : ℕ) → k < r.0 → end_at stops journal.old count k ≡ None) }
     ensures memory { IfErr result (λ _. Begun (effect_of_steps stops journal.old count) journal.new) }
 {
+    mark_law();
     for done in 0..count {
         let halts = journal.state().next_is_halt();
         let mark = mark_of(&stops, journal.state());
@@ -97,7 +98,8 @@ fn run_steps(journal: &mut Journal<World>, count: u32, stops: Stops) -> Result<(
 
 // The mark by which it is seen whether steps meet what is waited for; where nothing is waited for, that of the location.
 fn mark_of(stops: &Stops, world: &World) -> Mark
-    ensures { result ≡ mark_of world.now (watched_by stops.now) }
+    ensures is { result ≡ mark_of world.now (watched_by stops.now) }
+    ensures real { IsPart (watched_by stops.now) }
 {
     match stops {
         Stops::Nothing | Stops::Breaks => world.mark(Part::Loc),

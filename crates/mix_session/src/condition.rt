@@ -1,6 +1,7 @@
 //! What a command waits for.
 
 ghost use Rattle.std.specs.Prelude.{◌≡◌};
+ghost use Rattle.mix_machine.specs.Part.{IsPart};
 ghost use Rattle.mix_session.specs.Condition.{watched, is_met};
 
 use mix_machine::{Mark, Part, Place};
@@ -15,7 +16,8 @@ pub enum Condition {
 impl Condition {
     /// The part by whose marks it is seen whether the condition is met.
     pub(crate) fn watched(&self) -> Part
-        ensures { result ≡ watched self.now }
+        ensures is { result ≡ watched self.now }
+        ensures real { IsPart (watched self.now) }
     {
         match self {
             Condition::Alters(part) => *part,
