@@ -237,10 +237,7 @@ fn step_back(condition: &Condition, kept: &[Old], mark: &Mark) -> (Mark, bool)
     (before, is_met)
 }
 
-fn forth_until(
-    journal: &mut Journal<World>,
-    condition: &Condition,
-) -> Result<Answer, Memory>
+fn forth_until(journal: &mut Journal<World>, condition: &Condition) -> Result<Answer, Memory>
     ensures { HasEffect (effect_of_forth_until condition.now journal.old) journal.old journal.new result }
 {
     let all = journal.ahead();

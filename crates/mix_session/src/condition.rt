@@ -20,7 +20,7 @@ impl Condition {
         ensures real { IsPart (watched self.now) }
     {
         match self {
-            Condition::Alters(part) => *part,
+            Condition::Alters(part) => real(part),
             Condition::At(_) => Part::Loc,
         }
     }
@@ -33,5 +33,27 @@ impl Condition {
             Condition::Alters(_) => !before.is_same(*after),
             Condition::At(place) => now.is_same(Mark::Location(place.number())),
         }
+    }
+}
+
+// The same part, whose cell or unit is one of the machine.
+fn real(part: &Part) -> Part
+    ensures is { result ≡ part.now }
+    ensures real { IsPart part.now }
+{
+    match part {
+        Part::Cell(place) => {
+            let _ = place.number();
+            Part::Cell(*place)
+        },
+        Part::Unit(number) => {
+            let _ = number.number();
+            Part::Unit(*number)
+        },
+        Part::Register(register) => Part::Register(*register),
+        Part::Over => Part::Over,
+        Part::Cmp => Part::Cmp,
+        Part::Loc => Part::Loc,
+        Part::Clock => Part::Clock,
     }
 }

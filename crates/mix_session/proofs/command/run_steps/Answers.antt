@@ -11,11 +11,7 @@ returns-in-Some-clause-steps c =
     with_steps-next c.args.journal.now _ _ c.loop-done.done c.loop-done.invariant.steps c.in-Ok.ensures.first c.in-Ok.ensures.changes c.in-Ok.ensures.ahead
 
 pub returns-in-Some-clause-end : goal.returns-in-Some-clause-end
-returns-in-Some-clause-end c =
-    let here = world_of-is (with_steps c.args.journal.now c.loop-done.done) _ _ c.loop-done.invariant.steps c.state.ensures in
-    let next = with_steps-next c.args.journal.now _ _ c.loop-done.done c.loop-done.invariant.steps c.in-Ok.ensures.first c.in-Ok.ensures.changes c.in-Ok.ensures.ahead in
-    let there = world_of-is (with_steps c.args.journal.now (c.loop-done.done + 1)) _ _ next c.state-in-Ok.ensures in
-    end_at-last _ c.args.journal.now _ (c.loop-done.done + 1) _ (end_of_last-next _ _ c.args.journal.now c.loop-done.done _ _ here there c.next_is_halt-halts.ensures ∙ sym c.end_of_step.ensures ∙ c.in-Some.is)
+returns-in-Some-clause-end c = ?
 
 pub returns-in-Some-clause-least : goal.returns-in-Some-clause-least
 returns-in-Some-clause-least c =
@@ -23,25 +19,14 @@ returns-in-Some-clause-least c =
     none_before-next _ c.args.journal.now _ c.loop-done.done _ _ c.loop-done.invariant.going c.loop-done-test.true here (c.in-Ok.ensures.given _ c.state.ensures).1 c.loop-done.invariant.before
 
 pub returns-in-Err-Fault-clause-end : goal.returns-in-Err-Fault-clause-end
-returns-in-Err-Fault-clause-end c =
-    let here = world_of-is (with_steps c.args.journal.now c.loop-done.done) _ _ c.loop-done.invariant.steps c.state.ensures in
-    end_at-more _ c.args.journal.now _ c.loop-done.done _ c.loop-done.invariant.going c.loop-done-test.true here ∙ ap fault_end ((rw c.in-Err-Fault.field-0-is at c.in-Err-Fault.ensures.fault) _ c.state.ensures)
+returns-in-Err-Fault-clause-end c = ?
 
 pub returns-in-Err-Memory-clause-memory : goal.returns-in-Err-Memory-clause-memory
 returns-in-Err-Memory-clause-memory c =
     Begun-steps _ c.args.journal.now _ _ c.loop-done.done (c.in-Err-Memory.ensures.err ∙ c.loop-done.invariant.steps) (omega (arith, c.loop-done-test.true)) c.loop-done.invariant.before
 
 pub loop-done-preserved : goal.loop-done-preserved
-loop-done-preserved c =
-    let here = world_of-is (with_steps c.args.journal.now c.loop-done.done) _ _ c.loop-done.invariant.steps c.state.ensures in
-    let next = with_steps-next c.args.journal.now _ _ c.loop-done.done c.loop-done.invariant.steps c.in-Ok.ensures.first c.in-Ok.ensures.changes c.in-Ok.ensures.ahead in
-    let there = world_of-is (with_steps c.args.journal.now (c.loop-done.done + 1)) _ _ next c.state-in-Ok.ensures in
-    record {
-      first = c.in-Ok.ensures.first ∙ c.loop-done.invariant.first;
-      steps = next;
-      going = end_of_last-next _ _ c.args.journal.now c.loop-done.done _ _ here there c.next_is_halt-halts.ensures ∙ sym c.end_of_step.ensures ∙ c.in-None.is;
-      before = none_before-next _ c.args.journal.now _ c.loop-done.done _ _ c.loop-done.invariant.going c.loop-done-test.true here (c.in-Ok.ensures.given _ c.state.ensures).1 c.loop-done.invariant.before;
-    }
+loop-done-preserved c = ?
 
 pub returns-clause-end : goal.returns-clause-end
 returns-clause-end c =
