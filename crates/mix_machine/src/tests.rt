@@ -141,14 +141,18 @@ fn copies(rt: HostRuntime) {
     assert_eq!(rt; is_copied(rt.alloc()), Some(true));
 }
 
-// The mark of a part before what is kept, and the one after.
-fn marks_of(world: &World, kept: &[Old], part: &Part) -> (Mark, Mark) {
+// The mark of a part before what is kept and the one after, and whether they are the same.
+fn marks_of(world: &World, kept: &[Old], part: &Part) -> (Mark, Mark, bool) {
     let before = mark_before(kept, *part, world.mark(*part));
-    (before, world.mark(*part))
+    (before, world.mark(*part), is_kept(world, kept, part))
+}
+
+fn is_kept(world: &World, kept: &[Old], part: &Part) -> bool {
+    mark_before(kept, *part, world.mark(*part)).is_same(world.mark(*part))
 }
 
 // The marks of rA, the toggle and the location before two changes of rA and one of the toggle, and after them.
-fn marks(alloc: Global) -> Option<[(Mark, Mark); 3]> {
+fn marks(alloc: Global) -> Option<[(Mark, Mark, bool); 3]> {
     let mut world = begun(alloc, (Plus, 0, 0, 0, 0), 0, 7, 0)?;
     let mut kept = Vec::new(alloc);
     let changes = [
@@ -172,9 +176,10 @@ fn marks_before_and_after(rt: HostRuntime) {
         (
             Mark::Word(Word::of(Plus, 0)),
             Mark::Word(Word::of(Minus, 0)),
+            false,
         ),
-        (Mark::Toggle(false), Mark::Toggle(true)),
-        (Mark::Location(7), Mark::Location(7)),
+        (Mark::Toggle(false), Mark::Toggle(true), false),
+        (Mark::Location(7), Mark::Location(7), true),
     ];
     assert_eq!(rt; marks(rt.alloc()), Some(expected));
 }
