@@ -1,6 +1,6 @@
 -- What a request does to the timeline of a session, and what it answers. The machine is run anew, from its first state on the changes
 -- done, wherever something of it is asked; no value from before a `back` is left to be shown.
-use Rattle.std.specs.Prelude.{◌≡◌, ◌≤◌, ◌-◌, ◌==◌, ◌&&◌, ℕ, zero, suc, List, length, Bool, true, false, Option, None, Some, Result, Ok, Err, is_some, unwrap_or, nat_lt, if◌then◌else◌}
+use Rattle.std.specs.Prelude.{◌≡◌, ◌≤◌, ◌+◌, ◌-◌, ◌==◌, ◌&&◌, ℕ, zero, suc, List, length, Bool, true, false, Option, None, Some, Result, Ok, Err, is_some, unwrap_or, nat_lt, if◌then◌else◌}
 use Rattle.std.specs.Option.{option_or}
 use Rattle.mix_refused.specs.declared.refused.Memory.{Memory}
 use Rattle.mix_word.specs.Word.{plus}
@@ -130,7 +130,7 @@ count_to_break t = least_below (length t.changes) (is_break_after t)
 -- whether taking back one change more than k meets a condition
 abbrev pub is_reached_back : Condition → Timeline → ℕ → Bool
 is_reached_back condition t k =
-    let after = world_of (back_by t k) in let before = world_of (back_by t (suc k)) in is_reached condition before after before
+    let after = world_of (back_by t k) in let before = world_of (back_by t (k + 1)) in is_reached condition before after before
 
 -- how many changes `back until` takes back but one: the least number at which one more meets the condition
 unfoldable pub count_back : Condition → Timeline → ℕ
@@ -140,12 +140,12 @@ count_back condition t = least_below (length t.changes) (is_reached_back conditi
 unfoldable pub effect_of_back_until : Condition → Timeline → Effect
 effect_of_back_until condition t =
     let k = count_back condition t in
-    if nat_lt k (length t.changes) then at_once (back_by t (suc k)) (answers.BackUntil (suc k)) else refusal_effect t NoSuchChange
+    if nat_lt k (length t.changes) then at_once (back_by t (k + 1)) (answers.BackUntil (k + 1)) else refusal_effect t NoSuchChange
 
 -- whether doing again one change more than k meets a condition
 abbrev pub is_reached_forth : Condition → Timeline → ℕ → Bool
 is_reached_forth condition t k =
-    let before = world_of (forth_by t k) in let after = world_of (forth_by t (suc k)) in is_reached condition before after after
+    let before = world_of (forth_by t k) in let after = world_of (forth_by t (k + 1)) in is_reached condition before after after
 
 -- how many changes `forth until` does again but one
 unfoldable pub count_forth : Condition → Timeline → ℕ
@@ -159,7 +159,7 @@ sought t k = if nat_lt k (length t.ahead) then forth_by t k else t
 unfoldable pub effect_of_forth_until : Condition → Timeline → Effect
 effect_of_forth_until condition t =
     let k = count_forth condition t in
-    if nat_lt k (length t.ahead) then record { stage = forth_by t; last = suc k; answer = answers.ForthUntil (suc k) }
+    if nat_lt k (length t.ahead) then record { stage = forth_by t; last = k + 1; answer = answers.ForthUntil (k + 1) }
     else record { stage = sought t; last = length t.ahead; answer = answers.Refused NoSuchChange }
 
 -- the next n changes ahead are done again: a stage is one of them

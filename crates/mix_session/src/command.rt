@@ -5,6 +5,7 @@ ghost use Rattle.mix_session.specs.Timeline.{with_steps, back_by, forth_by, is_a
 ghost use Rattle.mix_session.specs.Command.{effect_of, effect_of_steps, effect_of_back, effect_of_back_within, effect_of_forth, effect_of_forth_within, effect_of_goto, effect_of_change};
 ghost use Rattle.mix_session.specs.Command.{effect_of_trace, effect_of_back_until, effect_of_forth_until, effect_of_diff, effect_of_show, end_at, count_to_break, count_back, is_reached_forth, at_breaks, Begun, HasEffect};
 ghost use Rattle.mix_session.specs.Marks.{watched_by, is_stop, end_by_marks};
+ghost use Rattle.mix_machine.specs.World.{IsWorld};
 ghost use Rattle.mix_machine.specs.Part.{IsPart, mark_of, mark_before};
 ghost use Rattle.mix_session.specs.Condition.{watched, is_met};
 
@@ -13,7 +14,6 @@ use crate::condition::Condition;
 use crate::fault::Refusal;
 use crate::reply::End;
 use crate::request::{Request, Topic};
-use crate::timeline::world_of;
 use mix_machine::{Change, Mark, Old, Part, Place, World, mark_before, mark_law};
 use undo_core::{Journal, Memory, Refused};
 
@@ -99,6 +99,7 @@ fn run_steps(journal: &mut Journal<World>, count: u32, stops: Stops) -> Result<(
 // The mark by which it is seen whether steps meet what is waited for; where nothing is waited for, that of the location.
 fn mark_of(stops: &Stops, world: &World) -> Mark
     ensures is { result ≡ mark_of world.now (watched_by stops.now) }
+    ensures world { IsWorld world.now }
     ensures real { IsPart (watched_by stops.now) }
 {
     match stops {
@@ -214,8 +215,8 @@ fn back_until(journal: &mut Journal<World>, condition: &Condition) -> Answer
 fn count_back(journal: &Journal<World>, condition: &Condition) -> usize
     ensures { result ≡ count_back condition.now journal.now }
 {
-    let part = condition.watched();
-    let mut mark = world_of(journal).mark(part);
+    mark_law();
+    let mut mark = journal.state().mark(condition.watched());
     let all = journal.changes().len();
     for count in 0..all {
         let (before, is_met) = step_back(condition, journal.kept(all - 1 - count), &mark);
@@ -257,6 +258,7 @@ fn step_forth(journal: &mut Journal<World>, condition: &Condition) -> Result<boo
     ensures met { IfOk result (λ b. b ≡ is_reached_forth condition.now journal.old 0) }
     ensures memory { IfErr result (λ _. journal.new ≡ journal.old) }
 {
+    mark_law();
     let before = journal.state().mark(condition.watched());
     journal.forth()?;
     let after = journal.state().mark(condition.watched());

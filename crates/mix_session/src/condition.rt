@@ -1,7 +1,6 @@
 //! What a command waits for.
 
 ghost use Rattle.std.specs.Prelude.{◌≡◌};
-ghost use Rattle.mix_machine.specs.Part.{IsPart};
 ghost use Rattle.mix_session.specs.Condition.{watched, is_met};
 
 use mix_machine::{Mark, Part, Place};
@@ -16,11 +15,10 @@ pub enum Condition {
 impl Condition {
     /// The part by whose marks it is seen whether the condition is met.
     pub(crate) fn watched(&self) -> Part
-        ensures is { result ≡ watched self.now }
-        ensures real { IsPart (watched self.now) }
+        ensures { result ≡ watched self.now }
     {
         match self {
-            Condition::Alters(part) => real(part),
+            Condition::Alters(part) => *part,
             Condition::At(_) => Part::Loc,
         }
     }
@@ -33,27 +31,5 @@ impl Condition {
             Condition::Alters(_) => !before.is_same(*after),
             Condition::At(place) => now.is_same(Mark::Location(place.number())),
         }
-    }
-}
-
-// The same part, whose cell or unit is one of the machine.
-fn real(part: &Part) -> Part
-    ensures is { result ≡ part.now }
-    ensures real { IsPart part.now }
-{
-    match part {
-        Part::Cell(place) => {
-            let _ = place.number();
-            Part::Cell(*place)
-        },
-        Part::Unit(number) => {
-            let _ = number.number();
-            Part::Unit(*number)
-        },
-        Part::Register(register) => Part::Register(*register),
-        Part::Over => Part::Over,
-        Part::Cmp => Part::Cmp,
-        Part::Loc => Part::Loc,
-        Part::Clock => Part::Clock,
     }
 }

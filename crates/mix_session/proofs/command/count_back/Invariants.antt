@@ -1,0 +1,14 @@
+use Rattle.std.proofs.Common.{◌≡◌, ◌<◌, ℕ, false}
+use Rattle.mix_machine.specs.World.{WorldState}
+use Rattle.mix_machine.specs.Part.{IsPart}
+use Rattle.mix_session.specs.Command.{is_reached_back}
+use Rattle.mix_session.specs.Condition.{watched}
+use Rattle.mix_session.proofs.ConditionLemmas.{IsSeen}
+use Rattle.mix_session.proofs.command.count_back.Given as goal
+
+abbrev pub invariant-loop-count : goal.invariant-loop-count
+invariant-loop-count l = record {
+  real : IsPart (watched l.condition);
+  seen : (w : WorldState) × IsSeen l.journal l.condition l.count l.mark w;
+  none : (j : ℕ) → j < l.count → is_reached_back l.condition l.journal j ≡ false;
+}
