@@ -3,30 +3,19 @@
 import random
 import sys
 
-import draw_asm
 import draw_commands as others
-import draw_units
-from draw_text import dressed
-from parts import from_words, has
+import draw_sources as sources
+from draw_sources import number
+from parts import from_words
 
 REGISTERS = b"A X I1 I2 I3 I4 I5 I6 J".split()
-COUNTS = b"0 1 1 2 2 3 4 5 7 10 20 100 0000000002 00000000002 9999999999 -1 X".split()
 UNITS = b"0 0 1 8 8 16 16 18 18 19 19 20 17 21 x 1+1".split()
 WRONG = b"""step 3 until A/run 3 until/run 3 until reg A/run 0 until cell Q/run 0 until cell 4000/run 3 until unit 21/run until A/run 3 until A 1
-back until/back until break/back 1 until A/back until cell 4000/back until unit 99999999999/back until loc Q/forth until/forth until loc 4000/forth all 1
-forth until break/goto/goto -1/goto 1 2/goto all/goto 99999999999/trace 0/trace 1 2/trace all/trace 1000001/break line/break line 0/break line 99999
-break line X/clear line 0/clear all/clear line 9999999999/show last/show last 0/show last -1/show diff/show diff X/show diff 9999/show code 0/show code 1 0
-show code 0 4000/show code Q 4000/show counts 1/show value/show value 1 2/show value 1(6)/show values 1/show values 2 1/show symbols 1
+back until/back until break/back 1 until A/back until cell 4000/back until unit 99999999999/back until loc Q/forth until/forth until loc 4000
+forth until break/trace 0/trace 1 2/trace all/trace 1000001/show last/show last 0/show last -1/show diff/show diff X/show diff 9999/show counts 1
 run 0 until unit 1+1/run 1000001 until A/run 3 until unit 20/back until over 1/run 3 until loc -1/run 3 until cmp L""".replace(b"\n", b"/").split(b"/")
-MORE = [program.split("/") for program in (
-    "X ENTA 0/ ENNA 0/LOOP STA Y/ STA Y/ STA Y(0:2)/ HLT/ MOVE 0(4)/ JMP X/Y CON 0/Z CON -5/ END X",
-    " LDA =3=/ JMP NOWHERE/ ORIG 1/X STA 9,1(4:5) later line, same cell/Y NOP/ ORIG X/LOOP INCA 1/START HLT/ END X",
-    " OUT 0(0)/ OUT 0(0)/ IOC 0(0)/ INCA 1/ STA 50/ OUT 0(0)/ IOC 0(18)/X OUT 0(19)/ OUT 0(19)/ HLT/ END 0",
-    " IN 0(16)/X IN 100(8)/ OUT 200(8)/LOOP ENTX 1/ OUT 0(8)/ OUT 0(8)/ HLT/ END 0",
-    "START ENT1 3/LOOP INCA 0,1/X CMPA =4=/ DEC1 1/ J1P LOOP/ STA Y/ HLT/Y CON 0/ END START",
-    " ORIG 3998/X INCA 1/ STA 3998/ END X")]
-DECKS = [[b"%UNIT 16", b"", b"HELLO"], [b"%UNIT 8"] + [b"+0000000000"] * 200 + [b"%UNIT 16", b"A", b"%UNIT 19 delay 9"],
-         [b"%UNIT 19 delay 9", b"%UNIT 0 delay 3"]]
+LONG = [b" JMP */ END 0", b" ENT2 0/LOOP INC2 1/ ST2 7/ ENT1 300,2/ MOVE 0(9)/ J2P LOOP/ END 0", b"LOOP OUT 200(8)/ IN 300(8)/ OUT 100(19)/ INCX 1/ JMP LOOP/ END 0"]
+FAR = b"A X I1 I2 J over".split() + [b"cell 7", b"cell 300", b"cell 310", b"cell 900", b"unit 8", b"unit 19", b"loc 0", b"loc 3", b"loc 9"]
 
 
 def cond(r):
@@ -42,61 +31,49 @@ def cond(r):
     return b"loc %s" % (b"%d" % r.randrange(11) if r.randrange(2) else others.place(r))
 
 
-def number(r):
-    return b"%d" % r.randrange(12) if r.randrange(6) else r.choice(COUNTS)
-
-
 def command(r):
-    # without `history` those of `sources` alone
-    kind = r.randrange(30) if has("history") else r.choice((12, 13, 14, 17, 18, 23, 24, 27, 28, 29))
+    kind = r.randrange(30)
     if kind < 5:
         return b"run %s until %s" % (r.choice((b"1", b"2", b"9", b"100", number(r))), cond(r))
     if kind < 9:
         return b"back until " + cond(r)
     if kind < 12:
         return b"forth until " + cond(r)
-    if kind < 13:
-        return b"forth all"
-    if kind < 15:
-        return b"goto " + number(r)
-    if kind < 17:
+    if kind < 14:
         return r.choice((b"trace", b"trace %s" % number(r)))
-    if kind < 19:
-        return r.choice((b"break", b"break", b"clear")) + b" line " + number(r)
-    if kind < 21:
+    if kind < 16:
         return b"show last " + number(r)
-    if kind < 23:
+    if kind < 18:
         return b"show diff " + number(r)
-    if kind < 25:
-        return r.choice((b"show code", b"show code 0 9", b"show code %s %s" % (others.place(r), others.place(r)), b"show code 3990 3999"))
-    if kind < 27:
+    if kind < 20:
         return b"show counts"
-    if kind < 29:
-        return r.choice((b"show value " + others.value(r), b"show values", b"show values 0 9", b"show symbols"))
-    return r.choice(WRONG)
+    if kind < 21:
+        return r.choice(WRONG)
+    return sources.command(r)
 
 
-def script(r):
-    lines = []
-    for _ in range(r.choice((4, 8, 12, 20))):
-        line = command(r) if r.randrange(3) else others.command(r)
-        if line.startswith(b"step 1000000") or line.startswith(b"run 1000000"):
-            line = b"step 3"
-        if r.randrange(8) == 0:  # a word of any kind, with its text
-            lines += [b"set cell 0 %s" % others.value(r), b"show code 0 0"]
-        lines.append(line if r.randrange(8) else dressed(r, line))
-    if r.randrange(3) == 0:
-        lines += [b"back until " + cond(r), b"forth until A", b"show regs", b"show last 3", b"show counts", b"forth all"]
-    return lines
+def last(r):
+    kind = r.randrange(4)
+    if kind == 0:
+        return [b"back until " + cond(r), b"forth until A", b"show regs", b"show last 3", b"show counts", b"forth all"]
+    if kind == 1:  # more than one end of a run holds
+        return [b"goto 0", b"break %d" % r.randrange(1, 9), b"break %d" % r.randrange(1, 9)] + [b"run 9 until " + cond(r) for _ in range(4)]
+    return []
+
+
+def long(r):
+    """A run of many steps, and conditions that are met far back, far ahead or nowhere."""
+    script = [b"set X 1", b"run %d" % r.choice((2000, 5000, 10000)), b"show counts", b"show last 3"]
+    for _ in range(6):
+        script += [r.choice((b"back until ", b"back until ", b"forth until ", b"run 3000 until ")) + r.choice(FAR), b"show diff %d" % r.randrange(2000), b"show changes"]
+    return r.choice(LONG).replace(b"/", b"\n") + b"\n%SCRIPT\n" + b"\n".join(script) + b"\n"
 
 
 def numbered(seed, k):
     """Bundle K of a seed, whichever were drawn before it."""
-    r = random.Random("%s/%d" % (seed, k))
-    source = [line.encode() for line in r.choice(MORE)] if r.randrange(2) else others.source(r)
-    deck = r.choice(DECKS if r.randrange(2) else others.DECKS)
-    return draw_asm.joined(r, source).rstrip(b"\r\n") + b"\n" + (b"%DEVICES\n" + draw_units.joined(r, deck) if deck else b"") + \
-        b"%SCRIPT\n" + draw_asm.joined(r, script(r))
+    if k % 100 == 99:
+        return long(random.Random("%s/%d" % (seed, k)))
+    return sources.numbered(seed, k, command, last)
 
 
 if __name__ == "__main__":

@@ -1,9 +1,6 @@
 """Which parts the program has that is modelled: all of them, or those that `--parts` names, for a program that has fewer."""
 
-WHOLE = ("assembler", "units", "commands", "expressions", "show-all", "sources")
-
-# Off unless it is named, as in `--parts all,history`; it stands on all the others.
-NAMED_ALONE = ("history",)
+WHOLE = ("assembler", "units", "commands", "expressions", "show-all", "sources", "history")
 
 taken = set(WHOLE)
 
@@ -25,8 +22,8 @@ def from_words(words):
         names = set()
         for name in named.split(","):
             names.update({"all": WHOLE, "none": ()}.get(name, (name,)))
-        if not names <= set(WHOLE + NAMED_ALONE) or "history" in names and not names >= set(WHOLE):
-            raise SystemExit("--parts takes all, none, or some of %s with commas between, or all,history" % ", ".join(WHOLE))
+        if not names <= set(WHOLE):
+            raise SystemExit("--parts takes all, none, or some of %s with commas between" % ", ".join(WHOLE))
         del words[at:at + 2]
         taken.clear()
         taken.update(names)

@@ -440,7 +440,7 @@ def row_test(name, lines):
     is_so(name, (found, errors, status), (wanted, b"", 3 if refused else 0))
 
 
-with_parts(*WHOLE, "history")
+with_parts(*WHOLE)
 for row in re.split("^== ", ROWS, flags=re.M)[1:]:
     name, *lines = row.rstrip("\n").split("\n")
     row_test(name, lines)

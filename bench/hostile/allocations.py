@@ -50,6 +50,8 @@ ROWS = [
     ("back all", FIRST, b"step 4\n", b"back all", [], b"back 4 to 0000 clock 0\n"),
     ("back break", FIRST, b"step 4\n", b"back break", [], b"back 4 to 0000 clock 0\n"),
     ("forth", FIRST, b"step 4\nback 2\n", b"forth 2", [], b"forth 2 to 0004 clock 14\n"),
+    ("forth all", FIRST, b"step 4\nback 2\n", b"forth all", [], b"forth 2 to 0004 clock 14\n"),
+    ("goto", FIRST, b"step 4\n", b"goto 1", [], b"back 3 to 0001 clock 1\n"),
     ("a step again, where changes stand ahead", FIRST, b"step 4\nback 4\n", b"step", AHEAD, b"ran 1 to 0001 clock 1: limit\n"),
     ("set", FIRST, b"", b"set A 5", [*LISTS, 4 * VALUE], b"ok\n"),
     ("the second set", FIRST, b"set A 5\n", b"set X 5", [], b"ok\n"),
@@ -63,6 +65,7 @@ ROWS = [
     ("a bad argument", FIRST, b"", b"step 0 x", [], b"? C2 bad argument\n"),
     ("a number out of range", FIRST, b"", b"step 0", [], b"? C3 number out of range\n"),
     ("fewer changes than asked", FIRST, b"", b"back 1", [], b"? C4 fewer changes than asked\n"),
+    ("no such change", FIRST, b"step 4\n", b"back until X", [], b"? C6 no such change\n"),
 ]
 STEPS = 100000
 

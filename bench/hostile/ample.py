@@ -10,7 +10,9 @@ import bundle as model
 TYPED = lines(" OUT 100(19)", " OUT 100(19)", "LOOP ENTA 5", " JMP LOOP", " HLT", " END 0")
 REPLIES = lines("step 2", "show clock", "show unit 19", "step", "run 3", "back 1", "back 2", "forth 2", "forth 1", "back break", "forth 2", "set A -7", "set I1 4096",
                 "set loc 4", "break LOOP", "clear LOOP", "break 4", "set over on", "set cmp G", "show breaks", "show changes", "show cells 0 4", "show regs", "step",
-                "jump", "step 0", "back 99", "forth 99", "show all", "back all", "show clock", "show regs")
+                "jump", "step 0", "back 99", "forth 99", "show all", "trace 2", "run 9 until loc 4", "back until unit 19", "forth until unit 19",
+                "forth until over", "forth all", "goto 3", "show last 9", "show diff 0", "show diff 14", "show counts", "show code 0 4", "show values", "back until X",
+                "back all", "show clock", "show regs")
 LOOP = lines(" JMP *", " END 0")
 STEPS = 300000
 KEPT = 1666667  # steps of a jump to itself, each of which keeps three values: 5,000,001 of them
@@ -39,7 +41,13 @@ def jumps():
               (b"forth 1", b"forth 1 to 0000 clock 1666667\n"), (b"show breaks", b"breaks 0000\n"), (b"clear 0", b"ok\n"), (b"set A 1", b"ok\n"), (b"set loc 0", b"ok\n"),
               (b"step", b"ran 1 to 0000 clock 1666668: limit\n"), (b"back break", b"back 4 to 0000 clock 1666667\n"), (b"set J -0", b"? C5 refused by the machine: M7 index overflow\n"),
               (b"back 1666669", b"? C4 fewer changes than asked\n"), (b"back all", b"back 1666668 to 0000 clock 0\n"), (b"forth 1666667", b"forth 1666667 to 0000 clock 1666667\n"),
-              (b"back break", b"back 1666667 to 0000 clock 0\n")]
+              (b"back until A", b"? C6 no such change\n"), (b"show diff 0", b"diff 0 to 1666667\nJ + 00 00 -> + 00 01\nclock 0 -> 1666667\n"),
+              (b"show last 2", b"1666666  0000  JMP 0                1u\n1666667  0000  JMP 0                1u\n"),
+              (b"show counts", b"   1666667     1666667  0000      1   JMP *\n   1666667     1666667  total\n"),
+              (b"back until J", b"      1  0000  JMP 0                1u  J + 00 00 -> + 00 01\nback 1666667 to 0000 clock 0\n"),
+              (b"forth until A", b"1666670  0000  set A                0u  A + 00 00 00 00 00 -> + 00 00 00 00 01\nforth 1666670 to 0000 clock 1666667\n"),
+              (b"forth until X", b"? C6 no such change\n"), (b"goto 1666666", b"back 4 to 0000 clock 1666666\n"),
+              (b"forth until loc 0", b"1666667  0000  JMP 0                1u\nforth 1 to 0000 clock 1666667\n"), (b"back break", b"back 1666667 to 0000 clock 0\n")]
     yield "each reply where 5,000,001 values are kept", LOOP + b"%SCRIPT\n" + b"".join(line + b"\n" for line, _ in script), (b"".join(reply for _, reply in script), b"", 3)
 
 

@@ -28,7 +28,8 @@ DECK = lines("%UNIT 0", *(" ".join("%s0063%06d" % ("+-"[k % 2], 3 * line + k) fo
              "%unit 16 delay 7", "THE FIRST CARD", "", "AND THE LAST: (1+2)*3/4=$<>@;'")
 READ = lines("run 9", "show unit 0", "show unit 16", "show cells 300 302", "back all")
 
-REFUSED = lines("set I1 4096", "set loc 4000", "jump", "back 0", "set A 5", "step 2", "show regs", "back 1", "forth 1")
+REFUSED = lines("set I1 4096", "set loc 4000", "jump", "back 0", "set A 5", "step 2", "show regs", "back 1", "forth 1", "trace 2", "run 9 until cell 100",
+                "back until A", "forth until loc 2", "goto 3", "show last 2", "show diff 1", "show counts", "back until X")
 BYTES = (0, 10, 34, 63, 255)
 ENDS = {0, 1, 3}  # and T5
 

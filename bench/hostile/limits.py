@@ -79,8 +79,11 @@ def counts():
     yield "1,000,000 steps", b" JMP *\n" + END + b"%SCRIPT\nrun 1000000\nback 999999\nforth 999999\nstep 1000000\nback all\nshow changes\n", \
         (b"ran 1000000 to 0000 clock 1000000: limit\nback 999999 to 0000 clock 1\nforth 999999 to 0000 clock 1000000\n"
          b"ran 1000000 to 0000 clock 2000000: limit\nback 2000000 to 0000 clock 0\nchanges 0\n", b"", 0)
-    yield "1,000,001 steps", END + b"%SCRIPT\nrun 1000001\nstep 1000001\nshow changes\n", \
-        (b"? C3 number out of range\n" * 2 + b"changes 0\n", b"", 3)
+    yield "1,000,000 steps told", b" JMP *\n" + END + b"%SCRIPT\ntrace 1000000\n", \
+        (b"      1  0000  JMP 0                1u  J + 00 00 -> + 00 01\n" + b"".join(b"%7d  0000  JMP 0                1u\n" % k for k in range(2, 1000001)) +
+         b"ran 1000000 to 0000 clock 1000000: limit\n", b"", 0)
+    yield "1,000,001 steps", END + b"%SCRIPT\nrun 1000001\nstep 1000001\ntrace 1000001\nrun 1000001 until A\nshow changes\n", \
+        (b"? C3 number out of range\n" * 4 + b"changes 0\n", b"", 3)
     typed = b" OUT 100(19)\n OUT 100(19)\n NOP\n" + END + b"%DEVICES\n%UNIT 19 delay "
     script = b"\n%SCRIPT\nstep 2\nstep\nshow clock\nback all\nshow clock\n"
     full = b"fault M14 clock full\n"

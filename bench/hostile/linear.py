@@ -45,9 +45,15 @@ TEXTS = [
     ("a script of commands", lambda n: bundle(b" END 0\n", b"show clock\n" * n), 500),
     ("steps", lambda n: bundle(b" JMP *\n END 0\n", b"run %d\n" % n), 20000),
     ("steps taken back", lambda n: bundle(b" JMP *\n END 0\n", b"run 80000\nback %d\n" % n), 20000),
+    ("steps looked through in vain", lambda n: bundle(b" JMP *\n END 0\n", b"run %d\nback until cell 3999\n" % n), 20000),
+    ("steps looked through up to the first", lambda n: bundle(b" JMP *\n END 0\n", b"run %d\nback until J\nforth until A\n" % n), 20000),
+    ("steps counted", lambda n: bundle(b" JMP *\n END 0\n", b"run %d\nshow counts\n" % n), 20000),
+    ("steps told", lambda n: bundle(b" JMP *\n END 0\n", b"trace %d\nshow last %d\n" % (n, n)), 5000),
+    ("steps between two states", lambda n: bundle(b" JMP *\n END 0\n", b"run %d\nshow diff 0\n" % n), 20000),
     ("a long line", lambda n: b"*" * n + b"\n END 0\n", 50000),
 ]
-COMMANDS = [b"step 3", b"run 3", b"back 2", b"forth 1", b"set A 7", b"set I1 5000", b"break 3", b"back 1", b"show clock", b"show changes", b"show breaks", b"show regs", b"jump"]
+COMMANDS = [b"step 3", b"run 3", b"back 2", b"forth 1", b"set A 7", b"set I1 5000", b"break 3", b"back 1", b"show clock", b"show changes", b"show breaks", b"show regs",
+            b"jump", b"trace 3", b"run 3 until A", b"back until loc 0", b"forth until loc 0", b"show last 3"]
 
 
 def rows(program, workers, quick=False):

@@ -1,4 +1,4 @@
-"""10,000,000 steps in one script, and the last 100,000 taken back one by one: the replies, and the memory that they took.
+"""10,000,000 steps in one script, the last 100,000 taken back one by one, and all that stand counted: the replies, and the memory that they took.
 
 A step of ` JMP *` keeps three values: the location, the clock and rJ. So the journal holds three values a step, a change and where its values
 begin; the memory that the process has touched is compared with these, by the bytes of each, and with that of a tenth of the steps."""
@@ -41,11 +41,12 @@ def rows(program, workers, quick=False):
     with folder() as place:
         touched = {}
         for runs, backs in [(1, 0), (10, 0), (10, 100000)]:
-            script = b"run 1000000\n" * runs + b"back 1\n" * backs + b"show changes\n"
+            script = b"run 1000000\n" * runs + b"back 1\n" * backs + b"show changes\nshow counts\n"
             output, status, most, seconds = run(program, place, SOURCE + script)
             steps = 1000000 * runs
             wanted = b"".join(b"ran 1000000 to 0000 clock %d: limit\n" % (1000000 * k) for k in range(1, runs + 1)) + \
-                b"".join(b"back 1 to 0000 clock %d\n" % (steps - k) for k in range(1, backs + 1)) + b"changes %d\n" % (steps - backs)
+                b"".join(b"back 1 to 0000 clock %d\n" % (steps - k) for k in range(1, backs + 1)) + b"changes %d\n" % (steps - backs) + \
+                b"%10d  %10d  0000      1   JMP *\n%10d  %10d  total\n" % ((steps - backs,) * 4)
             count.row("%d steps and %d back" % (steps, backs), (output, status) == (wanted, 0), repr(output[-200:]))
             count.row("memory of %d steps and %d back" % (steps, backs), most <= steps * STEP_BYTES + MORE,
                       "%d bytes, and not %d" % (most, steps * STEP_BYTES + MORE))

@@ -37,10 +37,15 @@ EVERY = lines("* a remark", "", "step", "step 2", "back 1", "forth 1", "run 5", 
               "break 3", "break 100", "set A 5", "set X -7", "set I1 -1", "set I6 4095", "set J 9", "set cell 10 1(0:2),-3", "set cell 11 LOOP+1",
               "set loc LOOP", "set over on", "set over off", "set cmp L", "set cmp E", "set cmp G", "show regs", "show cells 0 12", "show clock", "show unit 19",
               "show unit 0", "show breaks", "show changes", "run 3", "back break", "back 2", "forth 1", "jump", "step 0", "step x", "back 1000", "forth 1000",
-              "set I1 4096", "set loc 4000", "show cells 2 1", "back all", "show changes")
+              "set I1 4096", "set loc 4000", "show cells 2 1", "break line 2", "clear line 3", "trace 3", "run 9 until cell 100", "run 9 until unit 19", "run 3 until X",
+              "back until unit 19", "forth until A", "back until X", "forth all", "goto 3", "goto 5", "forth until cmp", "show last 4", "show diff 0", "show diff 9",
+              "show counts", "show code", "show code 0 4", "show value LOOP+1", "show values", "show values 0 2", "show symbols", "trace 0", "show diff 99",
+              "back until unit 21", "back all", "show changes")
 LOOP = lines("LOOP ENTA 5", " OUT 100(19)", " STA 100", " JMP LOOP", " END LOOP")
 MANY = lines("run 3000", "back 2999", "forth 2999", "break 1", "run 10", "back break", "back all")
-FAULTY = lines("step 3", "run 9", "back 1", "forth 1")
+PAST = lines("run 300", "show counts", "show last 20", "back until cell 100", "back until X", "forth until X", "forth until A", "goto 300", "show diff 0", "trace 20",
+             "goto 7", "show diff 320")
+FAULTY = lines("step 3", "run 9", "back 1", "forth 1", "trace 3", "run 3 until X")
 
 
 def bundles(shows_all):
@@ -57,6 +62,9 @@ def bundles(shows_all):
     yield "each unit is written", OUTPUTS, None, lines("step 4", "step 20") + UNITS + lines("back all", "forth 11", "back break") + last
     yield "every command", LOOP, None, EVERY + last
     yield "many steps", LOOP, None, MANY
+    yield "far back", LOOP, None, PAST
+    yield "a move and transfers, told", lines(" ENTA 7", " STA 100", " ENT1 101", " MOVE 100(63)", " OUT 100(0)", " IOC 0(0)", " OUT 0(0)", " OUT 0(18)", " HLT", " END 0"), None, \
+        lines("trace 9", "back until cell 163", "show diff 6", "forth until unit 18", "show last 9", "back until unit 0", "show diff 0", "show counts")
     yield "a fault after some steps", lines(" ENTA 5", " STA 50", " STA 4000", " END 0"), None, FAULTY
     yield "a refused source", lines(" LDA =3=", " JMP NOWHERE", " JUMP 0"), None, b""
     yield "a source without END", lines("X NOP", "Y JMP Z"), None, b""
@@ -200,11 +208,15 @@ def is_unchanged(told, script):
 def may_leave(words, before, more):
     """Whether a command that was refused memory, with so many changes before it, may leave so many more."""
     count = int(words[1]) if len(words) > 1 and words[1].isdigit() else 1
-    if words[0] in (b"step", b"run", b"forth"):
+    if words[0] == b"goto":
+        return 0 <= more <= count - before if before < count else more in (0, count - before)
+    if words[0] in (b"step", b"run", b"trace"):
         return 0 <= more <= count
+    if words[0] == b"forth":
+        return 0 <= more and (more <= count or words[1] in (b"all", b"until"))
     if words[0] in (b"set", b"break", b"clear"):
         return 0 <= more <= 1
-    if words == [b"back", b"break"]:
+    if words[0] == b"back" and words[1] in (b"break", b"until"):
         return -before <= more <= 0
     if words[0] == b"back":
         return more in (0, -before if words[1] == b"all" else -count)

@@ -16,7 +16,8 @@ import bundle as model
 MODEL_SECONDS = 10  # after which a bundle is not compared: the model is slow, and a mutant may ask for a million steps
 EDGES = [b"0", b"1", b"-1", b"63", b"64", b"999", b"1000", b"3999", b"4000", b"4095", b"4096", b"1000000", b"1000001", b"1073741823",
          b"1073741824", b"9999999999", b"99999999999", b"%SCRIPT", b"%DEVICES", b"%UNIT 0", b"%UNIT 16 delay 5", b"run 100000",
-         b"step 1000", b"back all", b"forth 9", b"\"", b"=", b",", b"(", b"*", b"\r", b"\t", b"\x00", b"\xff"]
+         b"step 1000", b"back all", b"forth 9", b"until", b"back until A", b"run 100 until cell 100",
+         b"trace 9", b"show counts", b"show diff 1", b"\"", b"=", b",", b"(", b"*", b"\r", b"\t", b"\x00", b"\xff"]
 
 
 def originals():

@@ -34,9 +34,11 @@ Example:
 
 const MORE_ON_DEBUG: &str = "\
 A source is a text file with a program in the language MIXAL, which ends in a line END. A script is a text file of
-commands, one a line: step N and run N go on, back N takes changes back, forth N does them again, goto N goes to the state
-after the first N, set, break and clear change the machine, and show tells its state. A deck is a text file with what stands
-on tapes, disks and cards before the program runs: a line %UNIT 0, say, and its blocks after it.
+commands, one a line: step N and run N go on, trace N tells each step, back N takes changes back, forth N does them again,
+goto N goes to the state after the first N, set, break and clear change the machine, and show tells its state, the last
+changes, what differs and how often each instruction was executed. With until A, until cell 100 and the like run N, back
+and forth stop where that is altered. A deck is a text file with what stands on tapes, disks and cards before the program
+runs: a line %UNIT 0, say, and its blocks after it.
 
 Example: with the two lines `run 1000` and `show regs` in the file session.txt,
   mixrev debug primes.mix session.txt
