@@ -11,7 +11,7 @@ const TOOL_FAULTS: [(ToolFault, &str); 4] = [
     (ToolFault::Long, "T6 input too long"),
 ];
 
-const REFUSALS: [(Refusal, &str); 6] = [
+const REFUSALS: [(Refusal, &str); 7] = [
     (Refusal::NoSuchCommand, "C1 no such command"),
     (Refusal::BadArgument, "C2 bad argument"),
     (Refusal::OutOfRange, "C3 number out of range"),
@@ -24,6 +24,7 @@ const REFUSALS: [(Refusal, &str); 6] = [
         Refusal::RefusedByMachine(MixFault::NoCellAtLocation),
         "C5 refused by the machine: M15 no cell at the location",
     ),
+    (Refusal::NoSuchChange, "C6 no such change"),
 ];
 
 /// Each fault of a deck at a line, as the tool prints it.

@@ -4,8 +4,10 @@ use mix_machine::MixFault;
 use std::alloc::Global;
 
 // End, what is printed, what is reported.
-const ENDS: [(End, &str, Told); 17] = [
+const ENDS: [(End, &str, Told); 19] = [
     (End::Halt, "halt", Told::Accepted),
+    (End::Until, "until", Told::Accepted),
+    (End::Break, "break", Told::Accepted),
     (End::Limit, "limit", Told::Accepted),
     (
         End::Fault(MixFault::NoOperation),

@@ -2,16 +2,22 @@
 
 use super::{FIRST, open};
 use crate::answer::Answer;
+use crate::condition::Condition;
 use crate::fault::Refusal;
 use crate::reply::{End, Told};
 use crate::request::{Request, Topic};
 use crate::session::Session;
-use mix_machine::{Change, Place, Word};
+use mix_machine::{Change, Part, Place, Reg, Word};
 use std::test::Fail;
+
+// A change of rA, and one of the comparison indicator.
+const A: Condition = Condition::Alters(Part::Register(Reg::A));
+
+const CMP: Condition = Condition::Alters(Part::Cmp);
 
 // A line on the session that the row above left, what it asks for, what is answered, and the text of that.
 #[rattlefmt::skip]
-const LINES: [(&str, Request, Answer, &str); 16] = [
+const LINES: [(&str, Request, Answer, &str); 25] = [
     ("step 4", Request::Step(4), Answer::Ran(4, End::Halt), "ran 4 to 0004 clock 14: halt\n"),
     ("back 3", Request::Back(3), Answer::Back(3), "back 3 to 0001 clock 1\n"),
     ("forth 2", Request::Forth(2), Answer::Forth(2), "forth 2 to 0003 clock 4\n"),
@@ -28,6 +34,15 @@ const LINES: [(&str, Request, Answer, &str); 16] = [
     ("goto 3", Request::Goto(3), Answer::Refused(Refusal::TooFewChanges), "? C4 fewer changes than asked\n"),
     ("show value 0", Request::Show(Topic::Value(Word::ZERO)), Answer::Shows(Topic::Value(Word::ZERO)), "+ 00 00 00 00 00           0  \"     \"\n"),
     ("show symbols", Request::Show(Topic::Symbols), Answer::Shows(Topic::Symbols), "symbols 0\n"),
+    ("trace", Request::Trace(1), Answer::Traced(1, End::Limit), "      3  0002  STA 100              2u  0100 + 00 00 00 00 00 -> + 00 00 00 00 12\nran 1 to 0003 clock 4: limit\n"),
+    ("back until A", Request::BackUntil(A), Answer::BackUntil(2), "      2  0001  INCA 7               1u  A + 00 00 00 00 05 -> + 00 00 00 00 12\nback 2 to 0001 clock 1\n"),
+    ("forth until A", Request::ForthUntil(A), Answer::ForthUntil(1), "      2  0001  INCA 7               1u  A + 00 00 00 00 05 -> + 00 00 00 00 12\nforth 1 to 0002 clock 2\n"),
+    ("run 9 until cmp", Request::RunUntil(9, CMP), Answer::Ran(2, End::Halt), "ran 2 to 0004 clock 14: halt\n"),
+    ("back until cmp", Request::BackUntil(CMP), Answer::Refused(Refusal::NoSuchChange), "? C6 no such change\n"),
+    ("show last 1", Request::Show(Topic::Last(1)), Answer::Shows(Topic::Last(1)), "      4  0003  HLT                 10u\n"),
+    ("show diff 3", Request::Show(Topic::Diff(3)), Answer::Shows(Topic::Diff(3)), "diff 3 to 4\nloc 0003 -> 0004\nclock 4 -> 14\n"),
+    ("show diff 5", Request::Show(Topic::Diff(5)), Answer::Refused(Refusal::TooFewChanges), "? C4 fewer changes than asked\n"),
+    ("goto 2", Request::Goto(2), Answer::Back(2), "back 2 to 0002 clock 2\n"),
 ];
 
 // Requests that no line asks for, after those.

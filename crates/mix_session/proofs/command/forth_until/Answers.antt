@@ -32,7 +32,7 @@ loop-done-preserved c =
     record {
       forth = c.in_ok-step_forth.ensures.forth ∙ ap (λ (t : Timeline). forth_by t 1) c.loop-done.invariant.forth ∙ forth_by-one c.args.journal.now c.loop-done.done;
       none = below_more (λ j. is_reached_forth c.args.condition.now c.args.journal.now j ≡ false) c.loop-done.done c.loop-done.invariant.none
-      (sym here ∙ sym c.in_ok-step_forth.ensures.met ∙ c.if-branch.false);
+          (sym here ∙ sym c.in_ok-step_forth.ensures.met ∙ c.if-branch.false);
     }
 
 pub go_back-requires : goal.go_back-requires
