@@ -1,5 +1,6 @@
 mod CommandLemmas
 mod ConditionLemmas
+mod DifferenceLemmas
 mod ShowLemmas
 mod TimelineLemmas
 mod UnitLemmas
