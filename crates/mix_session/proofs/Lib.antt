@@ -1,3 +1,4 @@
+mod ChangeLemmas
 mod CommandLemmas
 mod ConditionLemmas
 mod DifferenceLemmas
