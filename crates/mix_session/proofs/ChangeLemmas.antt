@@ -1,6 +1,6 @@
 -- Facts of the lines of changes, over plain variables.
-use Rattle.std.proofs.Common.{◌≡◌, ℕ, suc, ◌+◌, ◌-◌, ◌<◌, ◌≤◌, List, [], ◌∷◌, ◌++◌, length, take, min, get_or, reverse, flat_map, Some, refl, sym, ap, ◌∙◌, arith}
-use Rattle.std.proofs.lemmas.List.{take-append-le, reverse-append, reverse-reverse, get_or_default, get_or_append_left, take_min}
+use Rattle.std.proofs.Common.{◌≡◌, ℕ, suc, ◌+◌, ◌-◌, ◌<◌, ◌≤◌, List, [], ◌++◌, length, take, min, get_or, reverse, flat_map, Some, refl, sym, ap, ◌∙◌, arith}
+use Rattle.std.proofs.lemmas.List.{take-append-le, reverse-append, get_or_default, get_or_append_left, take_min}
 use Rattle.std.proofs.Math.Seq.{take-append_seam, take-length}
 use Rattle.std.specs.List.{range_with_len}
 use Rattle.undo_core.specs.Replay.{replay}
@@ -8,7 +8,7 @@ use Rattle.mix_machine.specs.World.{WorldState}
 use Rattle.mix_machine.specs.Do.{does}
 use Rattle.mix_machine.specs.declared.old.Change.{Change}
 use Rattle.mix_machine.specs.declared.old.Change.TheVariants.{Step}
-use Rattle.mix_session.specs.Change.{world_at, change_at, change_line, change_line_at, last_lines}
+use Rattle.mix_session.specs.Change.{world_at, change_at, change_line, change_line_at}
 use Rattle.mix_session.specs.Each.{texts}
 use Rattle.mix_session.specs.Timeline.{Timeline, world_of}
 
@@ -77,7 +77,7 @@ pub reversed-next : (f : ℕ → List ℕ) (k j end : ℕ) (now next : List ℕ)
 reversed-next f k j end now next here below so_far added =
     let whole : texts f j end ≡ f j ++ texts f (j + 1) end = texts-first f j end below in
     rw here (added ∙ ap (λ xs. xs ++ reverse (f (k + 1))) so_far ∙ ap (λ (i : ℕ). reverse (texts f (j + 1) end) ++ reverse (f i)) here
-      ∙ sym (reverse-append (f j) (texts f (j + 1) end)) ∙ ap reverse (sym whole))
+    ∙ sym (reverse-append (f j) (texts f (j + 1) end)) ∙ ap reverse (sym whole))
 
 -- the texts of no numbers
 pub reversed-none : (f : ℕ → List ℕ) (n m : ℕ) → n ≡ m → [] ≡ reverse (texts f n m)

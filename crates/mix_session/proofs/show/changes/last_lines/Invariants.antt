@@ -1,4 +1,4 @@
-use Rattle.std.proofs.Common.{◌≡◌, ◌≤◌, ◌+◌, ◌-◌, length, take, reverse, Some}
+use Rattle.std.proofs.Common.{◌≡◌, ◌≤◌, ◌+◌, length, take, reverse, Some}
 use Rattle.undo_core.specs.Replay.{replay}
 use Rattle.mix_machine.specs.Do.{does}
 use Rattle.mix_session.specs.Change.{change_line_at}

@@ -1,4 +1,4 @@
-use Rattle.std.proofs.Common.{◌≡◌, ◌++◌, flat_map, take}
+use Rattle.std.proofs.Common.{◌≡◌, ◌++◌, take}
 use Rattle.mix_session.specs.Differences.{cell_lines}
 use Rattle.mix_session.proofs.show.differences.add_cell_lines.Given as goal
 
