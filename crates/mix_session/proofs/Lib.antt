@@ -1,5 +1,7 @@
+mod ChangeLemmas
 mod CommandLemmas
 mod ConditionLemmas
+mod DifferenceLemmas
 mod ShowLemmas
 mod TimelineLemmas
 mod UnitLemmas

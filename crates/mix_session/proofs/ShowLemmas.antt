@@ -38,7 +38,8 @@ pub flat_map-next : {X : Type 0} (f : X → List ℕ) (xs : List X) (i : ℕ) (d
 flat_map-next f xs i d below =
     rw (take_more xs i d below) (rw flat_map-append (ap (λ t. flat_map f (take i xs) ++ t) (sym (append-nil (f (get_or xs i d))))))
 
-range-suc : (a n : ℕ) → range_with_len a (suc n) ≡ range_with_len a n ++ (a + n) ∷ []
+-- one number more
+pub range-suc : (a n : ℕ) → range_with_len a (suc n) ≡ range_with_len a n ++ (a + n) ∷ []
 range-suc a zero = rw (add-zero a) refl
 range-suc a (suc n) = let next : (a + 1) + n ≡ a + suc n = omega arith in ap (λ t. a ∷ t) (range-suc (a + 1) n ∙ rw next refl)
 

@@ -9,7 +9,7 @@ use Rattle.mix_machine.specs.Do.{does}
 use Rattle.mix_machine.specs.declared.old.Change.{Change}
 use Rattle.mix_machine.specs.declared.old.Change.TheVariants.{Step, SetReg, SetCell, SetLoc, SetOver, SetCmp, Break, Clear}
 use Rattle.mix_session.specs.Columns.{left_in, right_in}
-use Rattle.mix_session.specs.Differences.{register_items, position_items, place_items, differences}
+use Rattle.mix_session.specs.Differences.{register_items, place_items, differences}
 use Rattle.mix_session.specs.Each.{texts}
 use Rattle.mix_session.specs.Reply.{location_text}
 use Rattle.mix_session.specs.Timeline.{Timeline, world_of}

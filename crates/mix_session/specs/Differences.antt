@@ -49,7 +49,7 @@ position_items layout v w =
 abbrev pub is_other_cell : WorldState → WorldState → ℕ → Bool
 is_other_cell v w p = not (is_same_word (cell_of v p) (cell_of w p))
 
-abbrev pub other_cells : WorldState → WorldState → List ℕ
+unfoldable pub other_cells : WorldState → WorldState → List ℕ
 other_cells v w = filter (is_other_cell v w) (range_with_len 0 4000)
 
 abbrev pub cell_item : Layout → WorldState → WorldState → ℕ → List ℕ

@@ -1,6 +1,8 @@
 //! The lines of the changes: what each did, and what it altered.
 
-ghost use Rattle.std.specs.Prelude.{◌≡◌, ◌≤◌, ◌-◌, ◌+◌, ◌++◌, OnOk, IfOk, length, reverse, string_bytes};
+ghost use Rattle.std.specs.Prelude.{◌≡◌, ◌<◌, ◌≤◌, ◌+◌, ◌++◌, Some, OnOk, IfOk, length, reverse, take, string_bytes};
+ghost use Rattle.undo_core.specs.Replay.{replay};
+ghost use Rattle.mix_machine.specs.Do.{does};
 ghost use Rattle.mix_machine.specs.declared.old.Change.TheVariants.{Step};
 ghost use Rattle.mix_session.specs.Change.{world_at, change_at, change_text, altered_text, change_columns, change_line, change_line_at, last_lines, diff_text};
 
@@ -25,27 +27,42 @@ pub(crate) fn last_lines(
     let done = journal.changes().len();
     let first = done.saturating_sub(count as usize);
     let mut text = Vec::new(alloc);
-    if first == done {
-        return Ok(text);
-    }
     let (mut before, mut after) = (
-        world_of(journal).copied(alloc)?,
-        world_of(journal).copied(alloc)?,
+        journal.state().copied(alloc)?,
+        journal.state().copied(alloc)?,
     );
     let mut number = done;
     while number > first {
-        journal.unwind(number - 1, &mut before);
-        let worlds = Worlds {
-            before: &before,
-            after: &after,
-        };
-        let line = line_of(alloc, number, journal.changes()[number - 1], worlds)?;
-        add_reversed(&mut text, &line)?;
-        journal.unwind(number - 1, &mut after);
         number -= 1;
+        add_line_before(alloc, &mut text, journal, number, &mut before, &mut after)?;
     }
     text.reverse();
     Ok(text)
+}
+
+// Appends the line of the change after the first ones that are done, its last byte first. Two machines as they were after it are led back to
+// before it.
+fn add_line_before(
+    alloc: Global,
+    text: &mut Vec<u8>,
+    journal: &Journal<World>,
+    number: usize,
+    before: &mut World,
+    after: &mut World,
+) -> Result<(), Memory>
+    requires within { number < length journal.now.changes }
+    requires before { replay does journal.now.first (take (number + 1) journal.now.changes) ≡ Some before.old }
+    requires after { replay does journal.now.first (take (number + 1) journal.now.changes) ≡ Some after.old }
+    ensures before { OnOk result (replay does journal.now.first (take number journal.now.changes) ≡ Some before.new) }
+    ensures after { OnOk result (replay does journal.now.first (take number journal.now.changes) ≡ Some after.new) }
+    ensures text { OnOk result (text.new.items ≡ text.old.items ++ reverse (change_line_at journal.now (number + 1))) }
+{
+    journal.unwind(number, before);
+    let change = &journal.changes()[number];
+    let line = line_of(alloc, number + 1, change, Worlds { before, after })?;
+    add_reversed(text, &line)?;
+    journal.unwind(number, after);
+    Ok(())
 }
 
 /// The line of the next change ahead.
@@ -59,7 +76,7 @@ pub(crate) fn next_line(alloc: Global, journal: &Journal<World>) -> Result<Vec<u
         after: &after,
     };
     let change = next_change(journal);
-    Ok(line_of(alloc, number, change, worlds)?)
+    Ok(line_of(alloc, number, &change, worlds)?)
 }
 
 // The next change ahead; a step where there is none.
@@ -89,10 +106,10 @@ fn add_reversed(text: &mut Vec<u8>, bytes: &[u8]) -> Result<(), AllocError>
 fn line_of(
     alloc: Global,
     number: usize,
-    change: Change,
+    change: &Change,
     worlds: Worlds<'_>,
 ) -> Result<Vec<u8>, AllocError>
-    ensures { IfOk result (λ text. text.items ≡ change_line number change worlds.entry.before.now worlds.entry.after.now) }
+    ensures { IfOk result (λ text. text.items ≡ change_line number change.now worlds.entry.before.now worlds.entry.after.now) }
 {
     let mut text = Vec::new(alloc);
     let time = worlds.after.clock().saturating_sub(worlds.before.clock());
@@ -108,11 +125,11 @@ fn add_columns(
     alloc: Global,
     text: &mut Vec<u8>,
     number: usize,
-    change: Change,
+    change: &Change,
     world: &World,
     time: u64,
 ) -> Result<(), AllocError>
-    ensures { OnOk result (text.new.items ≡ text.old.items ++ change_columns number change world.now time) }
+    ensures { OnOk result (text.new.items ≡ text.old.items ++ change_columns number change.now world.now time) }
 {
     let number = format!(in alloc; "{number}")?;
     let location = Location(world.loc());
@@ -129,10 +146,10 @@ fn add_columns(
 }
 
 // What was done.
-fn change_text(alloc: Global, change: Change, world: &World) -> Result<String, AllocError>
-    ensures { IfOk result (λ s. string_bytes s ≡ change_text world.now change) }
+fn change_text(alloc: Global, change: &Change, world: &World) -> Result<String, AllocError>
+    ensures { IfOk result (λ s. string_bytes s ≡ change_text world.now change.now) }
 {
-    match change {
+    match *change {
         Change::Step => instruction_at(alloc, world),
         Change::SetReg(register, _) => {
             let name = register.name();
@@ -173,12 +190,12 @@ fn instruction_at(alloc: Global, world: &World) -> Result<String, AllocError>
 fn add_altered(
     alloc: Global,
     text: &mut Vec<u8>,
-    change: Change,
+    change: &Change,
     worlds: Worlds<'_>,
 ) -> Result<(), AllocError>
-    ensures { OnOk result (text.new.items ≡ text.old.items ++ altered_text change worlds.entry.before.now worlds.entry.after.now) }
+    ensures { OnOk result (text.new.items ≡ text.old.items ++ altered_text change.now worlds.entry.before.now worlds.entry.after.now) }
 {
-    match change {
+    match *change {
         Change::Step => {
             add_registers(alloc, text, Layout::Columns, worlds)?;
             add_places(alloc, text, Layout::Columns, worlds)
@@ -217,18 +234,44 @@ pub(super) fn diff_lines(
 fn world_at(alloc: Global, journal: &Journal<World>, number: usize) -> Result<World, Memory>
     ensures { IfOk result (λ w. w ≡ world_at journal.now number) }
 {
-    let mut world = world_of(journal).copied(alloc)?;
-    let mut at = journal.changes().len();
-    while at > number {
-        journal.unwind(at - 1, &mut world);
-        at -= 1;
-    }
-    let mut kept = Vec::new(alloc);
-    let end = number.min(journal.all().len());
-    while at < end {
-        journal.redo(at, &mut world, &mut kept)?;
-        kept.clear();
-        at += 1;
+    let mut world = journal.state().copied(alloc)?;
+    if number <= journal.changes().len() {
+        lead_back(journal, number, &mut world);
+    } else {
+        lead_forth(alloc, journal, number.min(journal.all().len()), &mut world)?;
     }
     Ok(world)
+}
+
+// Leads the machine back to where it was after the first of the changes done.
+fn lead_back(journal: &Journal<World>, number: usize, world: &mut World)
+    requires within { number ≤ length journal.now.changes }
+    requires now { replay does journal.now.first journal.now.changes ≡ Some world.old }
+    ensures { replay does journal.now.first (take number journal.now.changes) ≡ Some world.new }
+{
+    let mut at = journal.changes().len();
+    while at > number {
+        at -= 1;
+        journal.unwind(at, world);
+    }
+}
+
+// Leads the machine forth to where it is after the first of all changes.
+fn lead_forth(
+    alloc: Global,
+    journal: &Journal<World>,
+    number: usize,
+    world: &mut World,
+) -> Result<(), Memory>
+    requires done { length journal.now.changes ≤ number }
+    requires all { number ≤ length journal.now.changes + length journal.now.ahead }
+    requires now { replay does journal.now.first journal.now.changes ≡ Some world.old }
+    ensures { OnOk result (replay does journal.now.first (take number (journal.now.changes ++ journal.now.ahead)) ≡ Some world.new) }
+{
+    let mut kept = Vec::new(alloc);
+    for at in journal.changes().len()..number {
+        journal.redo(at, world, &mut kept)?;
+        kept.clear();
+    }
+    Ok(())
 }

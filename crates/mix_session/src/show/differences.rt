@@ -4,6 +4,7 @@ ghost use Rattle.std.specs.Prelude.{◌≡◌, ◌<◌, ◌++◌, List, ℕ, OnO
 ghost use Rattle.std.specs.Bool.{beq};
 ghost use Rattle.mix_machine.specs.Part.{is_same_indicator};
 ghost use Rattle.mix_session.specs.Keyword.{toggle_name, indicator_name};
+ghost use Rattle.mix_session.specs.declared.show.differences.Layout.TheVariants.{Columns};
 ghost use Rattle.mix_session.specs.Differences.{item, item_unless, register_item, register_items, position_items, is_other_cell, other_cells, cell_item, span_text, cell_lines, cell_columns, cell_items, break_item, block_text, number_text, numbers_text, unit_changes, unit_item, place_items, differences};
 
 use crate::keyword::Keyword;
@@ -185,6 +186,7 @@ pub(super) fn add_places(
 }
 
 // The cells that hold another word.
+#[tactic(auto, unfolding(crate::specs::Differences::other_cells))]
 fn other_cells(alloc: Global, worlds: Worlds<'_>) -> Result<Vec<Place>, AllocError>
     ensures { IfOk result (λ cells. cells.items ≡ other_cells worlds.entry.before.now worlds.entry.after.now) }
 {
@@ -243,14 +245,23 @@ fn add_cell_columns(
 ) -> Result<(), AllocError>
     ensures { OnOk result (text.new.items ≡ text.old.items ++ cell_columns worlds.entry.before.now worlds.entry.after.now cells.now) }
 {
-    let count = cells.len();
-    if count == 0 {
-        return Ok(());
+    match cells {
+        [] => Ok(()),
+        [cell] => add_cell(alloc, text, Layout::Columns, worlds, *cell),
+        [first, .., last] => add_span(alloc, text, cells.len(), *first, *last),
     }
-    let (first, last) = (cells[0], cells[count - 1]);
-    if count == 1 {
-        return add_cell(alloc, text, Layout::Columns, worlds, first);
-    }
+}
+
+// How many cells, the first and the last.
+fn add_span(
+    alloc: Global,
+    text: &mut Vec<u8>,
+    count: usize,
+    first: Place,
+    last: Place,
+) -> Result<(), AllocError>
+    ensures { OnOk result (text.new.items ≡ text.old.items ++ item Columns (span_text count first last)) }
+{
     let (first, last) = (Location(first.number()), Location(last.number()));
     let body = format!(in alloc; "{count} cells {first} to {last}")?;
     add_item(text, Layout::Columns, body.as_bytes())

@@ -1,0 +1,23 @@
+use Rattle.std.proofs.Common.{arith, ap, ◌∙◌, ◌+◌, List, length}
+use Rattle.mix_machine.specs.declared.old.Change.{Change}
+use Rattle.mix_session.specs.Change.{change_line_at}
+use Rattle.mix_session.proofs.ChangeLemmas.{replay-all, reversed-next, reversed-none}
+use Rattle.mix_session.proofs.show.changes.last_lines.Goals as goal
+
+pub loop-number-init : goal.loop-number-init
+loop-number-init c = record {
+  from = omega arith;
+  within = omega (arith, ap length c.changes-done.ensures);
+  before = replay-all c.args.journal.now _ _ _ c.changes-done.ensures c.state.ensures (c.drop.view_is ∙ c.in_ok-before-inside.ensures);
+  after = replay-all c.args.journal.now _ _ _ c.changes-done.ensures c.state-2.ensures c.in_ok-after.ensures;
+  text = c.new-text.ensures.items ∙ reversed-none (change_line_at c.args.journal.now) _ _ (ap (λ (xs : List Change). length xs + 1) c.changes-done.ensures);
+}
+
+pub loop-number-preserved : goal.loop-number-preserved
+loop-number-preserved c = record {
+  from = omega arith;
+  within = omega arith;
+  before = c.in_ok-add_line_before.ensures.before;
+  after = c.in_ok-add_line_before.ensures.after;
+  text = reversed-next (change_line_at c.args.journal.now) _ _ _ _ _ (omega arith) (omega arith) c.loop-number.invariant.text c.in_ok-add_line_before.ensures.text;
+}
