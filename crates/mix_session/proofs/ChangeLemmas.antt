@@ -80,6 +80,9 @@ reversed-next f k j end now next here below so_far added =
     ∙ sym (reverse-append (f j) (texts f (j + 1) end)) ∙ ap reverse (sym whole))
 
 -- the texts of no numbers
-pub reversed-none : (f : ℕ → List ℕ) (n m : ℕ) → n ≡ m → [] ≡ reverse (texts f n m)
+pub texts-none : (f : ℕ → List ℕ) (n m : ℕ) → n ≡ m → [] ≡ texts f n m
 unfolding texts
-reversed-none f n m e = let none : m - n ≡ 0 = omega (arith, e) in rw none refl
+texts-none f n m e = let none : m - n ≡ 0 = omega (arith, e) in rw none refl
+
+pub reversed-none : (f : ℕ → List ℕ) (n m : ℕ) → n ≡ m → [] ≡ reverse (texts f n m)
+reversed-none f n m e = rw (← texts-none f n m e) refl

@@ -27,6 +27,9 @@ pub(crate) fn last_lines(
     let done = journal.changes().len();
     let first = done.saturating_sub(count as usize);
     let mut text = Vec::new(alloc);
+    if first == done {
+        return Ok(text);
+    }
     let (mut before, mut after) = (
         journal.state().copied(alloc)?,
         journal.state().copied(alloc)?,

@@ -1,7 +1,7 @@
 use Rattle.std.proofs.Common.{arith, ap, ◌∙◌, ◌+◌, List, length}
 use Rattle.mix_machine.specs.declared.old.Change.{Change}
 use Rattle.mix_session.specs.Change.{change_line_at}
-use Rattle.mix_session.proofs.ChangeLemmas.{replay-all, reversed-next, reversed-none}
+use Rattle.mix_session.proofs.ChangeLemmas.{replay-all, reversed-next, reversed-none, texts-none}
 use Rattle.mix_session.proofs.show.changes.last_lines.Goals as goal
 
 pub loop-number-init : goal.loop-number-init
@@ -21,3 +21,8 @@ loop-number-preserved c = record {
   after = c.in_ok-add_line_before.ensures.after;
   text = reversed-next (change_line_at c.args.journal.now) _ _ _ _ _ (omega arith) (omega arith) c.loop-number.invariant.text c.in_ok-add_line_before.ensures.text;
 }
+
+pub returns-then-first-done : goal.returns-then-first-done
+returns-then-first-done c =
+    let done = ap length c.changes-done.ensures in
+    c.new-text.ensures.items ∙ texts-none (change_line_at c.args.journal.now) _ _ (omega (arith, done, c.if-first-done.true))
