@@ -1,5 +1,6 @@
 mod CommandLemmas
 mod ConditionLemmas
 mod ShowLemmas
+mod TallyLemmas
 mod TimelineLemmas
 mod UnitLemmas

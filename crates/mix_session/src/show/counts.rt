@@ -1,14 +1,11 @@
 //! How often each instruction was executed, and how long that took.
 
 ghost use Rattle.std.specs.Prelude.{◌≡◌, ◌<◌, ◌≤◌, ◌++◌, ℕ, IfOk, OnOk, length, replicate, slice_set};
-ghost use Rattle.std.specs.Option.{option_map};
 ghost use Rattle.mix_machine.specs.Part.{mark_before};
-ghost use Rattle.mix_machine.specs.declared.part.Part.TheVariants as part;
-ghost use Rattle.mixal_asm.specs.Row.{source_value};
 ghost use Rattle.mixal_asm.specs.Source.{source_at};
+ghost use Rattle.mix_session.specs.ShowCode.{is_overwritten};
 ghost use Rattle.mix_session.specs.Counts.{is_step, tally_at, tally_of_all, tally_columns, source_text, is_code, tally_line, count_line, total_line, counts_text};
 ghost use Rattle.mix_session.specs.Tally.{HasRoom, no_tally, tally_in, with_one, location_in, time_in};
-ghost use Rattle.mix_session.specs.Timeline.{world_of};
 
 use crate::reply::Location;
 use crate::show::cells::{CELLS, place_at};
@@ -185,8 +182,8 @@ fn tallies_of(alloc: Global, journal: &Journal<World>) -> Result<Tallies, Memory
     mark_law();
     let mut cells = no_tallies(alloc, usize::from(CELLS))?;
     let mut all = NONE;
-    let mut location = world_of(journal).mark(Part::Loc);
-    let mut clock = world_of(journal).mark(Part::Clock);
+    let mut location = journal.state().mark(Part::Loc);
+    let mut clock = journal.state().mark(Part::Clock);
     let mut number = journal.changes().len();
     while number > 0 {
         number -= 1;
@@ -258,8 +255,9 @@ fn with_one(tally: Tally, time: u64) -> Tally
 
 // One execution more in a cell, that took so long; none where there is no such cell.
 fn add_one(tallies: &mut [Tally], number: u16, time: u64)
-    requires { (p : ℕ) → p < length tallies.old → HasRoom (tally_in tallies.old p) }
+    requires { number < length tallies.old → HasRoom (tally_in tallies.old number) }
     ensures cell { number < length tallies.old → tallies.new ≡ slice_set tallies.old number (with_one (tally_in tallies.old number) time) }
+    ensures len { length tallies.new ≡ length tallies.old }
     ensures past { length tallies.old ≤ number → tallies.new ≡ tallies.old }
 {
     let at = usize::from(number);
