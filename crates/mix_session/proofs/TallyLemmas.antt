@@ -1,5 +1,5 @@
 -- What `show counts` has counted, and what is left to count, come to the whole at each change that is gone over.
-use Rattle.std.proofs.Common.{◌≡◌, ℕ, zero, suc, ◌+◌, ◌-◌, ◌*◌, ◌^◌, ◌<◌, ◌≤◌, ◌==◌, ◌&&◌, eqb, ltb, Bool, true, false, List, ◌++◌, flat_map, length, take, get_or, Some, refl, ap, sym, ◌∙◌, arith, ◌≢◌, add-one, unwrap_or, replicate, slice_set}
+use Rattle.std.proofs.Common.{◌≡◌, ℕ, zero, suc, ◌+◌, ◌-◌, ◌*◌, ◌^◌, ◌<◌, ◌≤◌, eqb, ltb, Bool, true, false, List, ◌++◌, flat_map, length, take, get_or, Some, refl, ap, sym, ◌∙◌, arith, ◌≢◌, add-one, replicate, slice_set}
 use Rattle.std.proofs.lemmas.List.{get_or_default, take-append-le, get_or-set_same, get_or-set_other, get_or_append_left, get_or-replicate, length-replicate}
 use Rattle.std.proofs.lemmas.Bool.Decides.{nat_tests}
 use Rattle.std.proofs.Math.Seq.{take-length}
@@ -16,7 +16,7 @@ use Rattle.mix_machine.specs.declared.part.Part.{Part}
 use Rattle.mix_machine.specs.declared.part.Part.TheVariants.{Loc, Clock}
 use Rattle.mix_machine.specs.declared.part.Mark.{Mark}
 use Rattle.mixal_asm.specs.Program.{ProgramValue}
-use Rattle.mix_session.specs.Change.{world_at, change_at, all_changes}
+use Rattle.mix_session.specs.Change.{world_at}
 use Rattle.mix_session.specs.Counts.{is_step, sum_below, number_if, time_of, is_step_after, is_step_at, tally_of, tally_at, tally_of_all, count_line, total_line, counts_text}
 use Rattle.mix_session.specs.Tally.{HasRoom, no_tally, tally_in, with_one, location_in, time_in}
 use Rattle.mix_session.specs.Each.{texts}
@@ -198,14 +198,14 @@ one-at : (t : Timeline) (n place time : ℕ) (cells : List Tally) → Took t n p
 one-at t n place time cells took step tallied real p inside =
     elim (eqb place p) as (λ b. eqb place p ≡ b → IsTallied t (is_step_at t p) n (tally_in (slice_set cells place (with_one (tally_in cells place) time)) p)) [
       | true ↦ λ e.
-        let same : place ≡ p = grind (arith, nat_tests, e) in
-        let now : tally_in (slice_set cells place (with_one (tally_in cells place) time)) p ≡ with_one (tally_in cells p) time =
-        rw (← same) (get_or-set_same cells place (with_one (tally_in cells place) time) no_tally real) in
-        rw now (IsTallied-one t (is_step_at t p) n place time (tally_in cells p) took (at-step t p n place true step took.there e) (tallied.each p inside))
+          let same : place ≡ p = grind (arith, nat_tests, e) in
+          let now : tally_in (slice_set cells place (with_one (tally_in cells place) time)) p ≡ with_one (tally_in cells p) time =
+          rw (← same) (get_or-set_same cells place (with_one (tally_in cells place) time) no_tally real) in
+          rw now (IsTallied-one t (is_step_at t p) n place time (tally_in cells p) took (at-step t p n place true step took.there e) (tallied.each p inside))
       | false ↦ λ e.
-        let other : p ≢ place = grind (arith, nat_tests, e) in
-        rw (get_or-set_other cells place p (with_one (tally_in cells place) time) no_tally other)
-        (IsTallied-other t (is_step_at t p) n (tally_in cells p) took.below (at-step t p n place false step took.there e) (tallied.each p inside))
+          let other : p ≢ place = grind (arith, nat_tests, e) in
+          rw (get_or-set_other cells place p (with_one (tally_in cells place) time) no_tally other)
+          (IsTallied-other t (is_step_at t p) n (tally_in cells p) took.below (at-step t p n place false step took.there e) (tallied.each p inside))
     ] refl
 
 -- a step, at a cell or past the last one
@@ -218,11 +218,11 @@ AreTallied-one t n place time cells next took step tallied long at past =
       each = λ p inside. elim (ltb place (length cells)) as (λ b. ltb place (length cells) ≡ b → IsTallied t (is_step_at t p) n (tally_in next p)) [
         | true ↦ λ e. let real : place < length cells = grind (arith, nat_tests, e) in rw (at real) (one-at t n place time cells took step tallied real p inside)
         | false ↦ λ e.
-          let beyond : length cells ≤ place = grind (arith, nat_tests, e) in
-          let all : length cells ≡ 4000 = tallied.count in
-          let other : eqb place p ≡ false = grind (arith, nat_tests, beyond, all, inside) in
-          rw (past beyond)
-          (IsTallied-other t (is_step_at t p) n (tally_in cells p) took.below (at-step t p n place false step took.there other) (tallied.each p inside))
+            let beyond : length cells ≤ place = grind (arith, nat_tests, e) in
+            let all : length cells ≡ 4000 = tallied.count in
+            let other : eqb place p ≡ false = grind (arith, nat_tests, beyond, all, inside) in
+            rw (past beyond)
+            (IsTallied-other t (is_step_at t p) n (tally_in cells p) took.below (at-step t p n place false step took.there other) (tallied.each p inside))
       ] refl;
     }
 
@@ -233,7 +233,7 @@ AreTallied-other t n cells below step tallied =
     record {
       count = tallied.count;
       each = λ p inside. let none : is_step_at t p n ≡ false = rw step refl in
-        IsTallied-other t (is_step_at t p) n (tally_in cells p) below none (tallied.each p inside);
+          IsTallied-other t (is_step_at t p) n (tally_in cells p) below none (tallied.each p inside);
     }
 
 texts-suc : (f : ℕ → List ℕ) (n : ℕ) → texts f 0 (suc n) ≡ texts f 0 n ++ f n

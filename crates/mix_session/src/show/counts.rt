@@ -25,6 +25,21 @@ struct Tally {
     time: u128,
 }
 
+impl Tally {
+    const NONE: Tally = Tally { count: 0, time: 0 };
+
+    // One execution more, that took so long.
+    fn with_one(self, time: u64) -> Tally
+        requires { HasRoom self }
+        ensures { result ≡ with_one self time }
+    {
+        Tally {
+            count: self.count + 1,
+            time: self.time + u128::from(time),
+        }
+    }
+}
+
 /// The tallies of the cells, and of all of them together.
 #[derive(Drop)]
 struct Tallies {
@@ -68,7 +83,14 @@ impl Lines for CountLines<'_, '_> {
 
     fn add(&self, alloc: Global, text: &mut Vec<u8>, number: u16) -> Result<(), AllocError> {
         let tally = tally_in(self.cells, number);
-        add_count(alloc, text, self.program, self.world, tally, place_at(number))
+        add_count(
+            alloc,
+            text,
+            self.program,
+            self.world,
+            tally,
+            place_at(number),
+        )
     }
 }
 
@@ -77,7 +99,7 @@ fn tally_in(tallies: &[Tally], number: u16) -> Tally
     ensures { result ≡ tally_in tallies.now number }
 {
     match tallies.get(usize::from(number)) {
-        None => NONE,
+        None => Tally::NONE,
         Some(tally) => *tally,
     }
 }
@@ -172,8 +194,6 @@ fn add_tally(alloc: Global, text: &mut Vec<u8>, tally: Tally) -> Result<(), Allo
     text.extend_from_slice(b"  ")
 }
 
-const NONE: Tally = Tally { count: 0, time: 0 };
-
 // The tallies of the changes done. They are gone over from the last one backwards, by what the journal keeps: nothing is run anew.
 fn tallies_of(alloc: Global, journal: &Journal<World>) -> Result<Tallies, Memory>
     ensures cells { IfOk result (λ tallies. (p : ℕ) → p < 4000 → tally_in tallies.cells.items p ≡ tally_at journal.now p) }
@@ -181,7 +201,7 @@ fn tallies_of(alloc: Global, journal: &Journal<World>) -> Result<Tallies, Memory
 {
     mark_law();
     let mut cells = no_tallies(alloc, usize::from(CELLS))?;
-    let mut all = NONE;
+    let mut all = Tally::NONE;
     let mut location = journal.state().mark(Part::Loc);
     let mut clock = journal.state().mark(Part::Clock);
     let mut number = journal.changes().len();
@@ -194,7 +214,7 @@ fn tallies_of(alloc: Global, journal: &Journal<World>) -> Result<Tallies, Memory
         );
         if is_step(journal.changes()[number]) {
             let time = time_in(&clock).saturating_sub(time_in(&start));
-            all = with_one(all, time);
+            all = all.with_one(time);
             add_one(&mut cells, location_in(&place), time);
         }
         (location, clock) = (place, start);
@@ -206,7 +226,7 @@ fn tallies_of(alloc: Global, journal: &Journal<World>) -> Result<Tallies, Memory
 fn no_tallies(alloc: Global, count: usize) -> Result<Vec<Tally>, AllocError>
     ensures { IfOk result (λ tallies. tallies.items ≡ replicate count no_tally) }
 {
-    vec![in alloc; NONE; count]
+    vec![in alloc; Tally::NONE; count]
 }
 
 // The mark of a part before a change that kept these values.
@@ -242,17 +262,6 @@ fn time_in(mark: &Mark) -> u64
     }
 }
 
-// One execution more, that took so long.
-fn with_one(tally: Tally, time: u64) -> Tally
-    requires { HasRoom tally }
-    ensures { result ≡ with_one tally time }
-{
-    Tally {
-        count: tally.count + 1,
-        time: tally.time + u128::from(time),
-    }
-}
-
 // One execution more in a cell, that took so long; none where there is no such cell.
 fn add_one(tallies: &mut [Tally], number: u16, time: u64)
     requires { number < length tallies.old → HasRoom (tally_in tallies.old number) }
@@ -262,6 +271,6 @@ fn add_one(tallies: &mut [Tally], number: u16, time: u64)
 {
     let at = usize::from(number);
     if at < tallies.len() {
-        tallies[at] = with_one(tallies[at], time);
+        tallies[at] = tallies[at].with_one(time);
     }
 }

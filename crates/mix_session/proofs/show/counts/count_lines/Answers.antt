@@ -1,5 +1,5 @@
 -- The lines are those of what is counted.
-use Rattle.std.proofs.Common.{◌≡◌, List, ℕ, ◌++◌, ◌∙◌, ap}
+use Rattle.std.proofs.Common.{List, ℕ, ◌++◌, ◌∙◌, ap}
 use Rattle.mix_session.specs.Counts.{total_line}
 use Rattle.mix_session.proofs.TallyLemmas.{counts_text-is}
 use Rattle.mix_session.proofs.show.counts.count_lines.Goals as goal

@@ -39,7 +39,7 @@ add_one-requires c real =
     let one : c.loop-number.number ≡ suc n = omega (arith, c.loop-number-test.true) in
     let loop = c.loop-number.invariant in
     let passes = Passes-is c.mark_law.ensures.before c.mark_law.ensures.world t c.loop-number.number n c.kept-kept.result.now c.loop-number.location c.loop-number.clock c.before-place.result c.before-start.result
-      one loop.within loop.stands loop.location loop.clock c.kept-kept.ensures c.mark-location.ensures.real c.mark-clock.ensures.real c.before-place.ensures c.before-start.ensures in
+    one loop.within loop.stands loop.location loop.clock c.kept-kept.ensures c.mark-location.ensures.real c.mark-clock.ensures.real c.before-place.ensures c.before-start.ensures in
     let step = step-after t n _ _ _ passes.below c.changes.ensures c.index-changes-number.is c.if-is_step.ensures in
     let took = Took-is t n _ _ _ _ _ _ _ passes c.location_in.ensures c.time_in-then-is_step.ensures c.time_in.ensures c.saturating_sub-time.ensures in
     HasRoom-at t n c.location_in.result _ c.deref_mut.result.now took loop.few step (rw (one, ← c.deref_mut.ensures.value) at loop.cells) real
@@ -51,7 +51,7 @@ loop-number-preserved c =
     let one : c.loop-number.number ≡ suc n = omega (arith, c.loop-number-test.true) in
     let loop = c.loop-number.invariant in
     let passes = Passes-is c.mark_law.ensures.before c.mark_law.ensures.world t c.loop-number.number n c.kept-kept.result.now c.loop-number.location c.loop-number.clock c.before-place.result c.before-start.result
-      one loop.within loop.stands loop.location loop.clock c.kept-kept.ensures c.mark-location.ensures.real c.mark-clock.ensures.real c.before-place.ensures c.before-start.ensures in
+    one loop.within loop.stands loop.location loop.clock c.kept-kept.ensures c.mark-location.ensures.real c.mark-clock.ensures.real c.before-place.ensures c.before-start.ensures in
     record {
       few = loop.few;
       within = omega (arith, passes.below);
@@ -60,22 +60,22 @@ loop-number-preserved c =
       clock = passes.from;
       all = elim c.if-is_step.branch [
         | then-is_step w ↦
-          let step = step-after t n _ _ _ passes.below c.changes.ensures c.index-changes-number.is w.if-is_step.ensures in
-          let took = Took-is t n _ _ _ _ _ _ _ passes w.location_in.ensures w.time_in-then-is_step.ensures w.time_in.ensures w.saturating_sub-time.ensures in
-          rw (w.all-is, w.with_one-all.ensures) (IsTallied-one t (is_step_after t) n w.location_in.result _ c.loop-number.all took step (rw one at loop.all))
+            let step = step-after t n _ _ _ passes.below c.changes.ensures c.index-changes-number.is w.if-is_step.ensures in
+            let took = Took-is t n _ _ _ _ _ _ _ passes w.location_in.ensures w.time_in-then-is_step.ensures w.time_in.ensures w.saturating_sub-time.ensures in
+            rw (w.all-is, w.with_one-all.ensures) (IsTallied-one t (is_step_after t) n w.location_in.result _ c.loop-number.all took step (rw one at loop.all))
         | else-is_step w ↦
-          let step = step-after t n _ _ _ passes.below c.changes.ensures c.index-changes-number.is w.if-is_step.ensures in
-          rw w.all-is (IsTallied-other t (is_step_after t) n c.loop-number.all passes.below step (rw one at loop.all))
+            let step = step-after t n _ _ _ passes.below c.changes.ensures c.index-changes-number.is w.if-is_step.ensures in
+            rw w.all-is (IsTallied-other t (is_step_after t) n c.loop-number.all passes.below step (rw one at loop.all))
       ];
       cells = elim c.if-is_step.branch [
         | then-is_step w ↦
-          let step = step-after t n _ _ _ passes.below c.changes.ensures c.index-changes-number.is w.if-is_step.ensures in
-          let took = Took-is t n _ _ _ _ _ _ _ passes w.location_in.ensures w.time_in-then-is_step.ensures w.time_in.ensures w.saturating_sub-time.ensures in
-          let tallied = rw (one, ← w.deref_mut.ensures.value) at loop.cells in
-          let items = with_items_is c.loop-number.cells w.add_one.new.tallies (w.add_one.ensures.len ∙ w.deref_mut.ensures.len) in
-          rw (w.cells-is, items) (AreTallied-one t n w.location_in.result _ w.deref_mut.result.now w.add_one.new.tallies took step tallied w.add_one.ensures.len w.add_one.ensures.cell w.add_one.ensures.past)
+            let step = step-after t n _ _ _ passes.below c.changes.ensures c.index-changes-number.is w.if-is_step.ensures in
+            let took = Took-is t n _ _ _ _ _ _ _ passes w.location_in.ensures w.time_in-then-is_step.ensures w.time_in.ensures w.saturating_sub-time.ensures in
+            let tallied = rw (one, ← w.deref_mut.ensures.value) at loop.cells in
+            let items = with_items_is c.loop-number.cells w.add_one.new.tallies (w.add_one.ensures.len ∙ w.deref_mut.ensures.len) in
+            rw (w.cells-is, items) (AreTallied-one t n w.location_in.result _ w.deref_mut.result.now w.add_one.new.tallies took step tallied w.add_one.ensures.len w.add_one.ensures.cell w.add_one.ensures.past)
         | else-is_step w ↦
-          let step = step-after t n _ _ _ passes.below c.changes.ensures c.index-changes-number.is w.if-is_step.ensures in
-          rw w.cells-is (AreTallied-other t n c.loop-number.cells.items passes.below step (rw one at loop.cells))
+            let step = step-after t n _ _ _ passes.below c.changes.ensures c.index-changes-number.is w.if-is_step.ensures in
+            rw w.cells-is (AreTallied-other t n c.loop-number.cells.items passes.below step (rw one at loop.cells))
       ];
     }
