@@ -14,7 +14,7 @@ use crate::show::columns::add_right;
 use crate::show::lines::{Lines, add_lines};
 use crate::timeline::world_of;
 use mix_machine::{Change, Mark, Old, Part, Place, World, mark_before, mark_law};
-use mixal_asm::{Program, Source};
+use mixal_asm::Program;
 use std::alloc::{AllocError, Global};
 use undo_core::{Journal, Memory};
 
