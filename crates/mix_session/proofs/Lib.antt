@@ -3,5 +3,6 @@ mod CommandLemmas
 mod ConditionLemmas
 mod DifferenceLemmas
 mod ShowLemmas
+mod TallyLemmas
 mod TimelineLemmas
 mod UnitLemmas

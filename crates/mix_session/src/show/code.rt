@@ -88,8 +88,8 @@ fn add_instruction(
     }
 }
 
-// Whether a cell holds another word than the last one that the source put there.
-fn is_overwritten(program: &Program<'_>, world: &World, place: Place) -> bool
+/// Whether a cell holds another word than the last one that the source put there.
+pub(super) fn is_overwritten(program: &Program<'_>, world: &World, place: Place) -> bool
     ensures { result ≡ is_overwritten program.now world.now place }
 {
     match program.word_at(place) {
