@@ -1,6 +1,6 @@
 -- Nothing differs exactly where two states of the machine are the same.
 use Rattle.std.specs.Prelude.{IsTrue, ◌↔◌}
-use Rattle.std.proofs.Common.{◌≡◌, ℕ, zero, suc, ◌+◌, ◌-◌, ◌<◌, ◌≤◌, List, [], ◌∷◌, ◌++◌, length, get_or, flat_map, Bool, true, false, not, ◌&&◌, ◌==◌, refl, sym, ap, subst, ◌∙◌, arith, if◌then◌else◌}
+use Rattle.std.proofs.Common.{◌≡◌, ℕ, zero, suc, ◌+◌, ◌-◌, ◌<◌, ◌≤◌, List, [], ◌∷◌, ◌++◌, length, flat_map, Bool, true, false, not, ◌&&◌, ◌==◌, refl, sym, ap, subst, ◌∙◌, arith, if◌then◌else◌}
 use Rattle.std.proofs.lemmas.Bool.{and_parts}
 use Rattle.std.proofs.lemmas.Bool.Decides.{nat_tests}
 use Rattle.std.proofs.lemmas.List.{ext_get_or, length-map}
@@ -42,9 +42,9 @@ same-word v w =
     let sign = same-sign v.sign w.sign in
     let magnitude = unsigned_Decides v.magnitude w.magnitude in (
       (λ h. let parts = and_parts (is_same_sign v.sign w.sign) (v.magnitude == w.magnitude) h in
-        ap (λ s. word s v.magnitude) (sign.0 parts.0) ∙ ap (word w.sign) (magnitude.0 parts.1)),
+          ap (λ s. word s v.magnitude) (sign.0 parts.0) ∙ ap (word w.sign) (magnitude.0 parts.1)),
       (λ e. and-true (is_same_sign v.sign w.sign) (v.magnitude == w.magnitude) (sign.1 (ap (λ (u : WordValue). u.sign) e))
-        (magnitude.1 (ap (λ (u : WordValue). u.magnitude) e))),
+          (magnitude.1 (ap (λ (u : WordValue). u.magnitude) e))),
     )
 
 same-indicator : (c d : Cmp) → Decides (is_same_indicator c d) (c ≡ d)
@@ -211,7 +211,7 @@ places-none layout v w same-unit =
     let others = others-none v w in
     both-none (cell_items layout v w ++ texts (break_item layout v w) 0 4000) (texts (unit_item layout v w) 0 21)
     (both-none (cell_items layout v w) (texts (break_item layout v w) 0 4000)
-      ((λ e. others.0 (cells.0 e)), (λ h. cells.1 (others.1 h))) (breaks-none layout v w 4000))
+    ((λ e. others.0 (cells.0 e)), (λ h. cells.1 (others.1 h))) (breaks-none layout v w 4000))
     (units-none layout v w 21 same-unit)
 
 count-units : (us : UnitsState) → AreUnits us → length us ≡ 21
@@ -254,8 +254,8 @@ differences-none layout v w same-unit h k =
     (both-none (register_items layout v w) (position_items layout v w) (registers-none layout v w) (position-none layout v w))
     (places-none layout v w same-unit) in (
       (λ e. let p = all.0 e in
-        joined v w (joined-registers v.registers w.registers p.0.0.0.0) p.0.0.0.1 p.0.0.1 (cells-same v w h k p.1.0.0) p.0.1.0 p.0.1.1
-        (units-same v w h k p.1.1) (breaks-same v w h k p.1.0.1)),
+          joined v w (joined-registers v.registers w.registers p.0.0.0.0) p.0.0.0.1 p.0.0.1 (cells-same v w h k p.1.0.0) p.0.1.0 p.0.1.1
+          (units-same v w h k p.1.1) (breaks-same v w h k p.1.0.1)),
       (λ e. all.1 (
         (
           ((same-registers v.registers w.registers (ap (λ (u : WorldState). u.registers) e), ap (λ (u : WorldState). u.over) e), ap (λ (u : WorldState). u.cmp) e),

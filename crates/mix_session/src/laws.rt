@@ -3,7 +3,7 @@ ghost use Rattle.std.specs.Prelude.{◌≡◌, ◌≤◌, ◌++◌, ◌↔◌, �
 ghost use Rattle.mix_machine.specs.World.{WorldState, IsWorld};
 ghost use Rattle.mix_session.specs.Differences.{differences};
 ghost use Rattle.mix_session.specs.Timeline.{Timeline, back_by, forth_by};
-ghost use Rattle.mix_session.specs.declared.show.differences.Layout.TheVariants.{Lines};
+ghost use Rattle.mix_session.specs.declared.show.differences.Layout.{Layout};
 
 use mix_machine::mark_law;
 
@@ -13,9 +13,9 @@ pub fn back_and_forth_law()
     ensures all { (t : Timeline) (n : ℕ) → (back_by t n).changes ++ (back_by t n).ahead ≡ t.changes ++ t.ahead }
 {}
 
-/// Nothing differs between two machines exactly where they are the same.
+/// Two machines are the same exactly where no item tells a difference between them, on lines of their own or on the line of a change.
 pub fn differences_law()
-    ensures { (v w : WorldState) → IsWorld v → IsWorld w → (differences Lines v w ≡ []) ↔ (v ≡ w) }
+    ensures { (layout : Layout) (v w : WorldState) → IsWorld v → IsWorld w → (differences layout v w ≡ []) ↔ (v ≡ w) }
 {
     mark_law();
 }
