@@ -2,6 +2,7 @@ mod ChangeLemmas
 mod CommandLemmas
 mod ConditionLemmas
 mod DifferenceLemmas
+mod SameWorld
 mod ShowLemmas
 mod TallyLemmas
 mod TimelineLemmas

@@ -7,6 +7,7 @@ use std::alloc::Global;
 use std::test::Fail;
 
 mod answers;
+mod changes;
 mod counts;
 mod forward;
 mod hostile;
