@@ -1,5 +1,5 @@
 -- Whether a condition is met is seen by the marks of the part that is watched.
-use Rattle.std.proofs.Common.{◌≡◌, ◌+◌, ◌-◌, ◌<◌, ◌≤◌, ◌∙◌, ◌++◌, ℕ, zero, suc, Bool, true, false, not, List, [], ◌∷◌, length, take, drop, get_or, Some, Ok, Err, Option, Result, refl, ap, sym, subst, arith, ltb, length-append, if◌then◌else◌}
+use Rattle.std.proofs.Common.{◌≡◌, ◌+◌, ◌-◌, ◌<◌, ◌≤◌, ◌∙◌, ◌++◌, ℕ, Bool, true, false, not, List, [], ◌∷◌, length, take, drop, get_or, Some, Ok, Err, Option, Result, refl, ap, sym, subst, arith, ltb, length-append, if◌then◌else◌}
 use Rattle.std.proofs.lemmas.Bool.Decides.{nat_tests}
 use Rattle.std.proofs.lemmas.List.{take_more, take-append-drop, length-take-le, length-drop}
 use Rattle.std.proofs.Math.Seq.{take-length, take-append_seam, drop-append_seam}

@@ -1,5 +1,5 @@
 -- Each change done again is one more from where the loop began.
-use Rattle.std.proofs.Common.{◌≡◌, ◌+◌, ◌<◌, ◌≤◌, ◌∙◌, ap, arith, below_more, drop, false, length, refl, sym}
+use Rattle.std.proofs.Common.{◌≡◌, ◌+◌, ◌∙◌, ap, arith, below_more, false, refl, sym}
 use Rattle.mix_session.specs.Command.{is_reached_forth}
 use Rattle.mix_session.specs.Timeline.{Timeline, forth_by}
 use Rattle.mix_session.proofs.TimelineLemmas.{forth_by-none}

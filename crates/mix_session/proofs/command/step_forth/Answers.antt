@@ -1,5 +1,4 @@
 -- The change leads from the state before it to the one after it, whose marks tell whether the condition is met.
-use Rattle.std.proofs.Common.{◌∙◌, sym, refl}
 use Rattle.mix_session.proofs.ConditionLemmas.{forth_by_marks}
 use Rattle.mix_session.proofs.command.step_forth.Goals as goal
 
