@@ -94,17 +94,26 @@ given : (s : WorldState) (cs : List Change) (r : Result WorldState MixFault) →
 given s cs (Ok u) h = (u, (refl, h))
 given s cs (Err f) h = absurd (cc)
 
+after-first : (first u : WorldState) (c : Change) (cs : List Change) → does first c ≡ Ok u → replay does first (c ∷ cs) ≡ replay does u cs
+after-first first u c cs e = rw e refl
+
 next-of : (first : WorldState) (changes : List Change) (n : ℕ) → n < length changes → IsSome (replay does first changes) → Next first changes n
 next-of first [] n l h = absurd (omega (arith, l))
 next-of first (c ∷ cs) zero l h =
     let one = given first cs (does first c) h in
     let done : does first c ≡ Ok one.0 = one.1.0 in
-    record { before = first; after = one.0; from = refl; to = rw done refl; done = done }
+    record { before = first; after = one.0; from = refl; to = after-first first one.0 c [] done; done = done }
 next-of first (c ∷ cs) (suc n) l h =
     let one = given first cs (does first c) h in
     let done : does first c ≡ Ok one.0 = one.1.0 in
     let more = next-of one.0 cs n (omega (arith, l)) one.1.1 in
-    record { before = more.before; after = more.after; from = rw done more.from; to = rw done more.to; done = more.done }
+    record {
+      before = more.before;
+      after = more.after;
+      from = after-first first one.0 c (take n cs) done ∙ more.from;
+      to = after-first first one.0 c (take (suc n) cs) done ∙ more.to;
+      done = more.done;
+    }
 
 world_at-is : (t : Timeline) (n : ℕ) (w : WorldState) → n ≤ length t.changes → replay does t.first (take n t.changes) ≡ Some w → world_at t n ≡ w
 unfolding world_at
@@ -215,9 +224,9 @@ ones-taken t (suc n) within =
     let same : is_step_after t n ≡ is_step (get_or t.changes n Step) = ap is_step (change_at-done t n below) in
     let one : number_if (is_step_after t n) 1 ≡ cond (is_step (get_or t.changes n Step)) 1 0 = rw same (number_if-cond (is_step (get_or t.changes n Step))) in
     let more : length (filter is_step (take (suc n) t.changes)) ≡ length (filter is_step (take n t.changes)) + cond (is_step (get_or t.changes n Step)) 1 0 =
-    ap (λ (k : ℕ). length (filter is_step (take k t.changes))) (sym add-one) ∙ length-filter_more is_step t.changes n Step below in
+    ap (λ (k : ℕ). length (filter is_step (take k t.changes))) (sym (add-one n)) ∙ length-filter_more is_step t.changes n Step below in
     omega (arith, ones-taken t n (omega (arith, within)), one, more)
 
 -- the count of all is how many of the changes done are steps
 pub count-of_all : (t : Timeline) → (tally_of_all t).count ≡ steps_done t
-count-of_all t = ones-taken t (length t.changes) (omega arith) ∙ ap (λ (cs : List Change). length (filter is_step cs)) take-length
+count-of_all t = ones-taken t (length t.changes) (omega arith) ∙ ap (λ (cs : List Change). length (filter is_step cs)) (take-length t.changes)
