@@ -1,5 +1,5 @@
 -- The columns of `show counts` add up: each step that is done is counted at one cell, and what the steps took is how far the clock has gone.
-use Rattle.std.proofs.Common.{◌≡◌, ◌≢◌, ℕ, zero, suc, ◌+◌, ◌-◌, ◌&&◌, ◌<◌, ◌≤◌, eqb, Bool, true, false, cond, List, [], ◌∷◌, ◌++◌, length, take, get_or, Option, Some, None, IsSome, Result, Ok, Err, unwrap_or, refl, ap, sym, subst, ◌∙◌, arith, add-one}
+use Rattle.std.proofs.Common.{◌≡◌, ◌≢◌, ℕ, zero, suc, ◌+◌, ◌-◌, ◌&&◌, ◌<◌, ◌≤◌, eqb, Bool, true, false, cond, List, [], ◌∷◌, ◌++◌, length, take, get_or, Some, IsSome, Result, Ok, Err, refl, ap, sym, subst, ◌∙◌, arith, add-one}
 use Rattle.std.proofs.lemmas.List.{take-append-le, get_or_append_left}
 use Rattle.std.proofs.lemmas.Bool.Decides.{nat_tests}
 use Rattle.std.proofs.Math.Seq.{take-length}
@@ -17,7 +17,7 @@ use Rattle.mix_machine.specs.declared.old.Change.{Change}
 use Rattle.mix_machine.specs.declared.old.Change.TheVariants.{Step, SetReg, SetCell, SetLoc, SetOver, SetCmp, Break, Clear}
 use Rattle.mix_word.specs.Word.{WordValue}
 use Rattle.mix_session.specs.Change.{world_at, change_at}
-use Rattle.mix_session.specs.Counts.{is_step, sum_below, number_if, time_of, is_step_after, is_step_at, tally_of, tally_at, tally_of_all}
+use Rattle.mix_session.specs.Counts.{is_step, sum_below, number_if, time_of, is_step_after, tally_at, tally_of_all}
 use Rattle.mix_session.specs.Sums.{sum_of_cells, steps_done, AreReal}
 use Rattle.mix_session.specs.Timeline.{Timeline, world_of}
 use Rattle.mix_session.proofs.ChangeLemmas.{world_at-now}

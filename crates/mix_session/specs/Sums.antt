@@ -1,5 +1,5 @@
 -- What the columns of `show counts` add up to.
-use Rattle.std.specs.Prelude.{ℕ, List, length}
+use Rattle.std.specs.Prelude.{ℕ, length}
 use Rattle.std.specs.List.{filter}
 use Rattle.mix_machine.specs.Do.{IsReal}
 use Rattle.mix_session.specs.Change.{change_at}
