@@ -1,4 +1,6 @@
 """The list of the lessons."""
 import first_programs
+import permutations
+import subroutines
 
-ALL = [*first_programs.LESSONS]
+ALL = [*first_programs.LESSONS, *permutations.LESSONS, *subroutines.LESSONS]
