@@ -88,6 +88,10 @@ class Outcome:
         """The numbers of the words of `show values E E` or `show values`."""
         return [int(line[21:33]) for line in self.lines(command)]
 
+    def words(self, command):
+        """The words of `show cells E E`: of each cell its sign, as 1 or -1, and its five bytes."""
+        return {int(line[:4]): (-1 if line[5] == "-" else 1, [int(byte) for byte in line[7:].split()]) for line in self.lines(command)}
+
     def register(self, name):
         """The number of a register that `show values` told."""
         return next(int(line[19:31]) for line in self.lines("show values") if line.startswith(name))
