@@ -41,6 +41,19 @@ def instruction_of(line):
     return words[0], words[1] if len(words) > 1 else ""
 
 
+def count_at(outcome, instruction):
+    """How often the one line with this operation and address is done."""
+    found = [number for number, line in enumerate(outcome.source, 1) if line[:1] not in ("", "*") and " ".join(instruction_of(line)) == instruction]
+    (number,) = found
+    return outcome.counts()[number][0]
+
+
+def measured(outcome, letters):
+    """The counts of the lines whose times are such a letter alone: from a few of them all others follow (Kirchhoff's law)."""
+    counts = outcome.counts()
+    return {letter: next(counts[number][0] for number, line in enumerate(outcome.source, 1) if times_of(line) == letter) for letter in letters}
+
+
 def times(outcome, waiting=False, **quantities):
     """Compares each count with the column "times", each time with the count, and their sums with the last line.
 

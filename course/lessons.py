@@ -2,7 +2,9 @@
 import first_programs
 import linked_lists
 import permutations
+import searching
+import sorting
 import subroutines
 import trees
 
-ALL = [*first_programs.LESSONS, *permutations.LESSONS, *subroutines.LESSONS, *linked_lists.LESSONS, *trees.LESSONS]
+ALL = [lesson for topic in (first_programs, permutations, subroutines, linked_lists, trees, sorting, searching) for lesson in topic.LESSONS]

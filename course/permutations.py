@@ -4,7 +4,7 @@ import itertools
 from fractions import Fraction
 from math import comb, factorial
 
-from counting import times
+from counting import measured, times
 from lesson import RUN, Lesson
 
 
@@ -63,7 +63,7 @@ def inverse(run):
         ran = run(N=len(images), data=images, script=[*RUN, show])
         yield f"the inverse of {images}", ran.numbers(show), [images.index(m) + 1 for m in range(1, len(images) + 1)]
         yield from times(ran, N=len(images), A=larger_before(images))
-        extra += sum(count for number, (count, _) in ran.counts().items() if "[A]" in ran.source[number - 1]) if len(images) == 4 else 0
+        extra += measured(ran, "A")["A"] if len(images) == 4 else 0
     yield "A in all permutations of four: 4! times 5 H(4) - 8", extra, factorial(4) * (5 * harmonic(4) - 8)
     ran = run("answer.mix", script=[*RUN, show])
     yield "the inverse that takes longest", ran.numbers(show), [2, 3, 4, 5, 6, 1]

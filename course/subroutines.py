@@ -2,7 +2,7 @@
 import math
 import re
 
-from counting import times
+from counting import count_at, times
 from lesson import RUN, Lesson
 
 
@@ -77,7 +77,7 @@ def buffers(run):
             one, two = 11 + n * (22 + 2 * work), 13 + n * (24 + 2 * work) + n - 1  # without the waiting
             yield f"{name}, delay {delay}: the clock", ran.clock, waited + (one if name == "lesson.mix" else two)
     ran = run("answer.mix", script=RUN)
-    yield "no JBUS waits but the first", max(count for number, (count, _) in ran.counts().items() if "JBUS" in ran.source[number - 1]), 220 + 5
+    yield "no JBUS waits but the first: how often it is done", count_at(ran, "JBUS *(READER)"), 220 + 5
 
 
 LESSONS = [
