@@ -1,6 +1,7 @@
 """Facts of the lessons of 1.3.3: Stirling's numbers, numbers of fixed points, and sums over all permutations, none of them by running through cycles
 as the programs do."""
 import itertools
+import re
 from fractions import Fraction
 from math import comb, factorial
 
@@ -34,7 +35,15 @@ def dictionary_order(n):
             "R": sum(count * (k // 2) for k, count in of_length.items())}
 
 
+def told_of_letters(run):
+    """The numbers that the table of README.md has for its letters."""
+    rows = re.findall(r"^\| ([A-Z]) \| .* \| (\d+) \|$", (run.folder / "README.md").read_text(), re.M)
+    return {letter: int(number) for letter, number in rows}
+
+
 def cycles_counted(run):
+    letters = {**dictionary_order(4), "W": factorial(4) * 5 * (harmonic(5) - 1), "C": factorial(4) * harmonic(4)}
+    yield "the table of the letters", told_of_letters(run), letters
     for n in range(1, 7):
         steps = dictionary_order(n)
         ran = run(N=n, script=[*RUN, "show values TALLY+1 TALLY+N"])

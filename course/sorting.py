@@ -19,10 +19,6 @@ def left_minima(keys):
     return sum(all(key < other for other in keys[:at]) for at, key in enumerate(keys) if at)
 
 
-def harmonic(n):
-    return sum(Fraction(1, k) for k in range(1, n + 1))
-
-
 def drawn_tables(seed, sizes):
     draw = random.Random(seed)
     return [draw.sample(range(1, 1000), n) for n in sizes] + [[draw.randrange(1, 9) for _ in range(n)] for n in sizes]
@@ -34,11 +30,10 @@ def insertion(run):
         ran = run(N=len(table), data=table, script=[*RUN, SHOW])
         yield "the keys in order", ran.numbers(SHOW), sorted(table)
         yield from times(ran, N=len(table), A=left_minima(table), B=inversions(table))
-    sums = {"A": 0, "B": 0}
-    for table in itertools.permutations(range(1, 5)):
-        found = measured(run(N=4, data=table, script=RUN), "B")
-        sums["B"] += found["B"]
-    yield "B in all orders of four: 4! times 4 times 3 / 4", sums["B"], factorial(4) * 4 * 3 // 4
+    moves = sum(measured(run(N=4, data=table, script=RUN), "B")["B"] for table in itertools.permutations(range(1, 5)))
+    yield "B in all orders of four: half of the pairs of places", moves, factorial(4) * 6 // 2
+    own = [50, 20, 70, 10, 40, 30, 90, 60, 100, 80]
+    yield "inversions and minima of the lesson's keys, as its text says", (inversions(own), left_minima(own)), (13, 2)
     draw = random.Random(1)
     for n in (6, 30):
         words = [(draw.randrange(1, 60), draw.randrange(1, 5)) for _ in range(n)]
@@ -61,6 +56,7 @@ def passes(table, increments):
 def shell(run):
     book = [46, 9, 33, 58, 15, 3, 61, 27, 40, 52, 8, 21, 64, 36, 12, 5]
     cases = [(book, [8, 4, 2, 1]), (book, [7, 3, 1]), (book, [1]), *((table, [5, 2, 1]) for table in drawn_tables(522, (8, 30)))]
+    yield "inversions of the lesson's keys, as its text says", inversions(book), 66
     for table, increments in cases:
         for name in ("lesson.mix", "answer.mix"):
             ran = run(name, N=len(table), T=len(increments), data={"data": table, "increments": increments}, script=[*RUN, SHOW])

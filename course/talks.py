@@ -1,12 +1,15 @@
-"""The talks that a lesson's README.md shows: commands with their replies, run and compared line by line.
+"""The talks and the counts that a lesson's README.md shows, run and compared line by line.
 
 A talk is a block that begins with "```text NAME.mix". Its lines that begin with `mix> ` are the commands of the bundle, all of them and
-in their order; below each stands its reply, in which a line `..` stands for lines that are left out."""
+in their order; below each stands its reply, in which a line `..` stands for lines that are left out. A block that begins with "```text times NAME.mix N=4 N=7"
+is what `course/times` writes of these values."""
 import re
 
+from columns import columns
 from running import Bundle, replies_of
 
 BLOCK = re.compile(r"^```text (\S+\.mix)\n(.*?)^```$", re.S | re.M)
+COLUMNS = re.compile(r"^```text times (\S+\.mix) (.*?)\n(.*?)^```$", re.S | re.M)
 PROMPT = "mix> "
 LEFT_OUT = ".."
 
@@ -46,5 +49,8 @@ def talks(program, folder):
         for (command, lines), (_, reply) in zip(shown, said):
             right = is_shown(lines, reply)
             yield f"the reply to {command} of {name}", lines if not right else reply, reply
+    for found in COLUMNS.finditer(text):
+        said = columns(program, (folder / found[1]).read_text(), found[2].split())
+        yield f"the counts of {found[1]} for {found[2]}", found[3].splitlines(), said
     for name in ("answer.mix", "lesson.mix"):
         yield f"README.md shows {name}", name in seen, True
