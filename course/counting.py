@@ -55,9 +55,10 @@ def measured(outcome, letters):
 
 
 def times(outcome, waiting=False, **quantities):
-    """Compares each count with the column "times", each time with the count, and their sums with the last line.
+    """Compares the end of the run with a halt, each count with the column "times", each time with the count, and their sums with the last line.
 
     `waiting` is for programs whose transfers wait: then the time of IN, OUT and IOC is not compared."""
+    yield "how the run ends", outcome.end, "halt"
     steps = time = 0
     for number, (count, took) in outcome.counts().items():
         line = outcome.source[number - 1]

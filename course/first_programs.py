@@ -12,6 +12,7 @@ def degrees(run):
         quotient, rest = divmod(abs(9 * celsius), 5)
         sign = -1 if celsius < 0 else 1
         yield f"{celsius} degrees in Fahrenheit, and the fifths left over", ran.numbers("show values CELSIUS REST"), [celsius, sign * quotient + 32, sign * rest]
+        yield f"how the run of {celsius} ends", ran.end, "halt"
         yield f"the lower half of the product of {celsius}", ran.register("X"), 9 * celsius
     for fahrenheit in (98, 20, 0, -40, 451, 99, 100, 101):
         ran = run("answer.mix", script=[f"set cell FAHREN {fahrenheit}", "run 100", "show values FAHREN RESULT"])
@@ -28,7 +29,7 @@ def fields(run):
         put = f"set cell DATE {day}(1:1),{month}(2:2),{year}(4:5)"
         ran = run(script=[put, "run 100", "show cells DATE DATE", "show values DAY YEAR"])
         yield "the date put off", ran.lines("show cells DATE DATE")[0][5:], date_word("-", day, 1, year + 1)
-        yield "its parts before", ran.numbers("show values DAY YEAR"), [day, month, year]
+        yield "its parts before, and how the run ends", (ran.numbers("show values DAY YEAR"), ran.end), ([day, month, year], "halt")
         ran = run("answer.mix", script=[put, "run 100", "show cells DATE DATE"])
         yield "day and month changed", ran.lines("show cells DATE DATE")[0][5:], date_word("+", month, day, year)
 

@@ -89,21 +89,25 @@ def list_lines(name, terms):
     return lines
 
 
-def polynomial_at(words, head):
-    terms, at = [], words[head + 1][1][3] * 64 + words[head + 1][1][4]
-    while at != head:
-        sign, magnitude = words[at]
-        terms.append((tuple(words[at + 1][1][:3]), sign * sum(byte * 64 ** (4 - k) for k, byte in enumerate(magnitude))))
-        at = words[at + 1][1][3] * 64 + words[at + 1][1][4]
-    return terms
-
-
-def free_places(words, first):
+def linked(words, first, last):
+    """The places of the two-word nodes from the first on, up to the place that ends the list; a list that does not end is at fault."""
     places = []
-    while first:
+    while first != last:
+        if first in places:
+            raise ValueError(f"the list comes back to {first}")
         places.append(first)
-        first = words[first + 1][1][3] * 64 + words[first + 1][1][4]
+        first = link_of(words, first)
     return places
+
+
+def link_of(words, place):
+    return words[place + 1][1][3] * 64 + words[place + 1][1][4]
+
+
+def polynomial_at(words, head):
+    """The terms of the list behind a head: exponents and coefficient of each."""
+    numbers = {place: sign * sum(byte * 64 ** (4 - k) for k, byte in enumerate(bytes)) for place, (sign, bytes) in words.items()}
+    return [(tuple(words[place + 1][1][:3]), numbers[place]) for place in linked(words, link_of(words, head), head)]
 
 
 def polynomials(run):
@@ -121,8 +125,8 @@ def polynomials(run):
             words = ran.words("show cells P POOL+40")
             yield f"{name}: the sum", polynomial_at(words, 1100), [(one, total[one]) for one in sorted(total, reverse=True) if total[one]]
             given = len(p) + 1 if name == "answer.mix" else 0
-            free = free_places(words, ran.register("I6"))
-            yield f"{name}: free places, each once", (len(free), len(set(free))), (20 - len(set(p) - both) + gone + given,) * 2
+            free = linked(words, ran.register("I6"), 0)
+            yield f"{name}: free places", len(free), 20 - len(set(p) - both) + gone + given
             if name == "lesson.mix":
                 yield from times(ran, K=20, A=len(both) - gone, B=gone, C=len(set(p) - both), D=len(set(q) - both))
 

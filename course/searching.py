@@ -58,8 +58,9 @@ def search_tree(run):
             compared, greater = compared + len(way), greater + sum(one < key for one in way)
         rights = sum(max(above(keys, at), key=keys.index) < key for at, key in enumerate(keys) if at)
         for name in ("lesson.mix", "answer.mix"):
-            ran = run(name, N=len(row), data=row, script=[*RUN, *(f"show values {part}+1 {part}+{len(keys)}" for part in ("KEY", "LEFT", "RIGHT"))])
+            ran = run(name, N=len(row), data=row, script=[*RUN, "show values", *(f"show values {part}+1 {part}+{len(keys)}" for part in ("KEY", "LEFT", "RIGHT"))])
             yield f"{name}: the keys, each once", ran.numbers(f"show values KEY+1 KEY+{len(keys)}"), keys
+            yield f"{name}: how many were there", ran.register("I5"), len(row) - len(keys)
             parents = {}
             for part in ("LEFT", "RIGHT"):
                 for node, child in enumerate(ran.numbers(f"show values {part}+1 {part}+{len(keys)}"), 1):
@@ -97,6 +98,8 @@ def hashing(run):
             free = [(key, table.index(key)) for key in keys if any(not table[(key % m - step) % m] for step in range((key % m - table.index(key)) % m))]
             yield f"{name}: keys that are not found before a free place", free, []
             yield from times(ran, N=len(keys), C=looked, R=rounds)
+    twice = run(N=5, M=7, data=[5, 12, 5, 4, 12], script=["run 10000", "show values TABLE TABLE+M-1"]).numbers("show values TABLE TABLE+M-1")
+    yield "keys that come twice, each once in the table", twice, [0, 0, 0, 4, 12, 5, 0]
     both = [run(name, script=["run 10000", "show values TABLE TABLE+M-1"]).numbers("show values TABLE TABLE+M-1") for name in ("lesson.mix", "answer.mix")]
     yield "the places that are taken in both orders", *([bool(key) for key in table] for table in both)
 

@@ -73,11 +73,18 @@ def quicksort_averages(n):
     return averages[n]
 
 
+def most_waiting(n):
+    """How many parts wait at most: the larger one of each waits, and the smaller one has less than half of the keys."""
+    return 0 if n < 2 else 1 + most_waiting((n - 1) // 2)
+
+
 def quicksort(run):
     tables = [[50, 20, 70, 10, 40, 30, 90, 60, 100, 80], [7], [2, 1], list(range(1, 11)), list(range(30, 0, -1)), *drawn_tables(523, (20, 60))]
     for table in tables:
-        ran = run(N=len(table), data=table, script=[*RUN, SHOW])
+        waiting = f"show values LOW+1 LOW+{most_waiting(len(table)) + 1}"
+        ran = run(N=len(table), data=table, script=[*RUN, SHOW, waiting])
         yield "the keys in order", ran.numbers(SHOW), sorted(table)
+        yield "places of the stack beyond the most that can wait", ran.numbers(waiting)[-1], 0
         yield from times(ran, N=len(table), **measured(ran, "ABCDL"))
     for n in (3, 4, 5):
         sums = dict.fromkeys("ABCD", 0)

@@ -54,7 +54,23 @@ def coroutines(run):
         yield f"the groups with characters changed of {card}", ran.rows(18), [in_groups(swapped)]
 
 
+# Programs for the small machine, each with what it prints; the cell of COUNT is free for them.
+SMALL = [
+    ("2(PUSH) 3(PUSH) 0(PLUS) 4(PUSH) 5(PUSH) 0(PLUS) 0(TIMES) 0(PRINT) 0(STOP)", [(2 + 3) * (4 + 5)]),
+    ("1(PUSH) 2(PUSH) 3(PUSH) 0(PRINT) 0(PRINT) 0(PRINT) 0(STOP)", [3, 2, 1]),
+    ("7(PUSH) COUNT(SAVE) 8(PUSH) COUNT(LOAD) 0(PRINT) 0(PRINT) 0(STOP)", [7, 8]),
+    ("6(PUSH) 0(PUSH) CODE+5(ZERO) 9(PUSH) 0(PRINT) 0(PRINT) 0(STOP)", [6]),
+    ("6(PUSH) 1(PUSH) CODE+5(ZERO) 9(PUSH) 0(PRINT) 0(PRINT) 0(STOP)", [9, 6]),
+    ("5(PUSH) CODE+3(GOTO) 0(STOP) 0(PRINT) 0(STOP)", [5]),
+]
+
+
 def interpreter(run):
+    for program, printed in SMALL:
+        code = [f"{'CODE' if at == 0 else '':<7} NOP  {address}" for at, address in enumerate(program.split())]
+        ran = run(data={"code": [*code, "DONE    NOP"]}, script=["run 10000", "show unit 18", "show values"])
+        yield f"what is printed by {program}", ran.rows(18), ["%010d" % number for number in printed]
+        yield "what is left on the stack, and how the run ends", (ran.register("I2"), ran.end), (0, "halt")
     for n in (5, 0, 1, 2, 9, 12):
         ran = run(N=n, script=[*RUN, "show unit 18"])
         yield f"the factorial of {n}", ran.rows(18), ["%010d" % math.factorial(n)]

@@ -47,8 +47,9 @@ def talks(program, folder):
         said = talk_of(program, Bundle((folder / name).read_text()))
         yield f"the commands of {name}", [command for command, _ in shown], [command for command, _ in said]
         for (command, lines), (_, reply) in zip(shown, said):
-            right = is_shown(lines, reply)
-            yield f"the reply to {command} of {name}", lines if not right else reply, reply
+            different = [line for line in lines if line != LEFT_OUT and line.rstrip() not in map(str.rstrip, reply)]
+            yield f"lines of the reply to {command} of {name} that are not written", different, []
+            yield f"whether the reply to {command} of {name} is shown whole and in order", is_shown(lines, reply), True
     for found in COLUMNS.finditer(text):
         said = columns(program, (folder / found[1]).read_text(), found[2].split())
         yield f"the counts of {found[1]} for {found[2]}", found[3].splitlines(), said
