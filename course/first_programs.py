@@ -11,7 +11,8 @@ def degrees(run):
         ran = run(script=[f"set cell CELSIUS {celsius}", *RUN, "show values CELSIUS REST", "back until X", "show values"])
         quotient, rest = divmod(abs(9 * celsius), 5)
         sign = -1 if celsius < 0 else 1
-        yield f"{celsius} degrees in Fahrenheit, and the fifths left over", ran.numbers("show values CELSIUS REST"), [celsius, sign * quotient + 32, sign * rest]
+        wanted = [celsius, sign * quotient + 32, sign * rest]
+        yield f"{celsius} degrees in Fahrenheit, and the fifths left over", ran.numbers("show values CELSIUS REST"), wanted
         yield f"how the run of {celsius} ends", ran.end, "halt"
         yield f"the lower half of the product of {celsius}", ran.register("X"), 9 * celsius
     for fahrenheit in (98, 20, 0, -40, 451, 99, 100, 101):

@@ -107,9 +107,9 @@ class Outcome:
 
 
 class Runner:
-    """Runs the bundles of a lesson, the same one instruction changed in each run of `lesson.mix` where a change is given."""
+    """Runs the bundles of a lesson; where a change is given, it is made in the bundle of `lesson.mix` before each run."""
 
-    def __init__(self, program, folder, change=None):
+    def __init__(self, program, folder, change=lambda bundle: None):
         self.program, self.folder, self.change = program, COURSE / folder, change
 
     def bundle(self, name):
@@ -117,8 +117,8 @@ class Runner:
 
     def __call__(self, name="lesson.mix", script=None, deck=None, data=None, **constants):
         bundle = self.bundle(name)
-        if self.change and name == "lesson.mix":
-            bundle.change_instruction(*self.change)
+        if name == "lesson.mix":
+            self.change(bundle)
         bundle.set_constants(constants)
         if isinstance(data, dict):
             for block, lines in data.items():

@@ -58,13 +58,13 @@ def search_tree(run):
             compared, greater = compared + len(way), greater + sum(one < key for one in way)
         rights = sum(max(above(keys, at), key=keys.index) < key for at, key in enumerate(keys) if at)
         for name in ("lesson.mix", "answer.mix"):
-            ran = run(name, N=len(row), data=row, script=[*RUN, "show values", *(f"show values {part}+1 {part}+{len(keys)}" for part in ("KEY", "LEFT", "RIGHT"))])
-            yield f"{name}: the keys, each once", ran.numbers(f"show values KEY+1 KEY+{len(keys)}"), keys
+            shows = [f"show values {part}+1 {part}+{len(keys)}" for part in ("KEY", "LEFT", "RIGHT")]
+            ran = run(name, N=len(row), data=row, script=[*RUN, "show values", *shows])
+            yield f"{name}: the keys, each once", ran.numbers(shows[0]), keys
             yield f"{name}: how many were there", ran.register("I5"), len(row) - len(keys)
             parents = {}
-            for part in ("LEFT", "RIGHT"):
-                for node, child in enumerate(ran.numbers(f"show values {part}+1 {part}+{len(keys)}"), 1):
-                    parents.update({child: (node, part)} if child else {})
+            for part, show in zip(("LEFT", "RIGHT"), shows[1:]):
+                parents.update({child: (node, part) for node, child in enumerate(ran.numbers(show), 1) if child})
             wanted = {}
             for at, key in enumerate(keys[1:], 2):
                 parent = max(above(keys, at - 1), key=keys.index)  # the last that came of those on the way
