@@ -1,4 +1,5 @@
 mod CutLemmas
 mod RunLemmas
+mod TalkLemmas
 mod Truncation
 mod Written

@@ -30,41 +30,41 @@ use Rattle.mix_session.specs.declared.reply.Told.TheVariants.{Accepted, Refused}
 use Rattle.mix_run.proofs.Written.{Appends-then, Appends-same, Appends-nothing, AppendsFront-after}
 
 -- one line more is written
-pub written-next : (s next : SessionState) (line rest more : List ℕ) (a b c : Option (List ℕ)) (whole : List ℕ) →
-    lines rest ≡ line ∷ lines more → next ≡ record s { timeline = after (effect_in s line) } →
-    (done : List ℕ) × Appends a b done × (whole ≡ done ++ (replies s (lines rest)).bytes) → Appends b c (reply_of s.program (effect_in s line)) →
-    (done : List ℕ) × Appends a c done × (whole ≡ done ++ (replies next (lines more)).bytes)
+pub written-next : (s next : SessionState) (line : List ℕ) (rest more : List (List ℕ)) (a b c : Option (List ℕ)) (whole : List ℕ) →
+    rest ≡ line ∷ more → next ≡ record s { timeline = after (effect_in s line) } →
+    (done : List ℕ) × Appends a b done × (whole ≡ done ++ (replies s rest).bytes) → Appends b c (reply_of s.program (effect_in s line)) →
+    (done : List ℕ) × Appends a c done × (whole ≡ done ++ (replies next more).bytes)
 written-next s next line rest more a b c whole split changed so_far reply =
     let said = reply_of s.program (effect_in s line) in
-    let rest_said : (replies s (lines rest)).bytes ≡ said ++ (replies next (lines more)).bytes = rw (split, changed) refl in (
+    let rest_said : (replies s rest).bytes ≡ said ++ (replies next more).bytes = rw (split, changed) refl in (
       so_far.0 ++ said,
       Appends-then a b c so_far.0 said so_far.1 reply,
-      so_far.2 ∙ ap (λ bytes. so_far.0 ++ bytes) rest_said ∙ sym (append_assoc so_far.0 said (replies next (lines more)).bytes),
+      so_far.2 ∙ ap (λ bytes. so_far.0 ++ bytes) rest_said ∙ sym (append_assoc so_far.0 said (replies next more).bytes),
     )
 
 -- a beginning of one line more is written
-pub begun-at : (s : SessionState) (line rest more : List ℕ) (a b c : Option (List ℕ)) (whole : List ℕ) → lines rest ≡ line ∷ lines more →
-    (done : List ℕ) × Appends a b done × (whole ≡ done ++ (replies s (lines rest)).bytes) → AppendsFront b c (reply_of s.program (effect_in s line)) →
+pub begun-at : (s : SessionState) (line : List ℕ) (rest more : List (List ℕ)) (a b c : Option (List ℕ)) (whole : List ℕ) → rest ≡ line ∷ more →
+    (done : List ℕ) × Appends a b done × (whole ≡ done ++ (replies s rest).bytes) → AppendsFront b c (reply_of s.program (effect_in s line)) →
     AppendsFront a c whole
 begun-at s line rest more a b c whole split so_far reply =
-    AppendsFront-after a b c so_far.0 (reply_of s.program (effect_in s line)) (replies (record s { timeline = after (effect_in s line) }) (lines more)).bytes whole so_far.1 reply
+    AppendsFront-after a b c so_far.0 (reply_of s.program (effect_in s line)) (replies (record s { timeline = after (effect_in s line) }) more).bytes whole so_far.1 reply
     (so_far.2 ∙ ap (λ bytes. so_far.0 ++ bytes) (rw split refl))
 
-both-assoc : (a b c : Told) → told_of_both (told_of_both a b) c ≡ told_of_both a (told_of_both b c)
+pub both-assoc : (a b c : Told) → told_of_both (told_of_both a b) c ≡ told_of_both a (told_of_both b c)
 both-assoc Accepted b c = refl
 both-assoc Refused b c = refl
 
-both-accepted : (a : Told) → told_of_both a Accepted ≡ a
+pub both-accepted : (a : Told) → told_of_both a Accepted ≡ a
 both-accepted Accepted = refl
 both-accepted Refused = refl
 
 -- what was reported so far, and of the lines that are left, is reported of all; so it is after one line more
-pub told-next : (s next : SessionState) (line rest more : List ℕ) (so_far one whole : Told) → lines rest ≡ line ∷ lines more →
-    next ≡ record s { timeline = after (effect_in s line) } → told_of_both so_far (replies s (lines rest)).told ≡ whole → one ≡ told_of (effect_in s line).answer →
-    told_of_both (told_of_both so_far one) (replies next (lines more)).told ≡ whole
+pub told-next : (s next : SessionState) (line : List ℕ) (rest more : List (List ℕ)) (so_far one whole : Told) → rest ≡ line ∷ more →
+    next ≡ record s { timeline = after (effect_in s line) } → told_of_both so_far (replies s rest).told ≡ whole → one ≡ told_of (effect_in s line).answer →
+    told_of_both (told_of_both so_far one) (replies next more).told ≡ whole
 told-next s next line rest more so_far one whole split changed before here =
-    let rest_told : (replies s (lines rest)).told ≡ told_of_both one (replies next (lines more)).told = rw (split, changed, here) refl in
-    both-assoc so_far one (replies next (lines more)).told ∙ ap (told_of_both so_far) (sym rest_told) ∙ before
+    let rest_told : (replies s rest).told ≡ told_of_both one (replies next more).told = rw (split, changed, here) refl in
+    both-assoc so_far one (replies next more).told ∙ ap (told_of_both so_far) (sym rest_told) ∙ before
 
 -- no line is left
 pub all-said : (s : SessionState) (a b : Option (List ℕ)) (whole rest : List ℕ) → rest ≡ [] →

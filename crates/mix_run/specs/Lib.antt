@@ -1,2 +1,4 @@
 pub mod Bundle
+pub mod Hearing
 pub mod Output
+pub mod Talk

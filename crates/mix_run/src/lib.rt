@@ -4,6 +4,7 @@
 mod bundle;
 mod list;
 mod run;
+mod talk;
 
 pub use list::run_list;
 pub use mix_session::{
@@ -11,6 +12,7 @@ pub use mix_session::{
     ToolFault, back_and_forth_law,
 };
 pub use run::{run_bundle, run_debug};
+pub use talk::Talker;
 
 #[cfg(test)]
 mod tests;
