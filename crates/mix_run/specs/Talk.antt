@@ -83,3 +83,16 @@ Talks s talker text (Err faults.Long) left old new = AnswersRead s talker text l
 Talks s talker text (Err faults.Memory) left old new = AppendsFront old new (answers s talker (lines text)).bytes
 Talks s talker text (Err faults.Write) left old new = AppendsFront old new (answers s talker (lines text)).bytes
 Talks s talker text (Err (faults.Deck fault)) left old new = ⊥
+
+-- the status of a talk, and its fault
+abbrev pub status_from : Result Told ToolFault → Result ℕ ToolFault
+status_from (Ok told) = Ok (status_of told)
+status_from (Err fault) = Err fault
+
+-- A talk with the program of a source and the units of a deck: where one of them is refused, that is answered, and no line is read.
+abbrev pub TalksWith : Result ProgramValue AsmFault → Result UnitsState DeckFault → Talker → List ℕ → Result ℕ ToolFault
+    → Option (List ℕ) → Option (List ℕ) → Option (List ℕ) → Type 0
+TalksWith (Err fault) units talker text result left old new = Meets (Ended (asm_fault_line fault ++ 10 ∷ []) 1) result old new
+TalksWith (Ok program) (Err fault) talker text result left old new = Meets (DeckRefused fault) result old new
+TalksWith (Ok program) (Ok units) talker text result left old new =
+    (talk : Result Told ToolFault) × (result ≡ status_from talk) × Talks (opened program units) talker text talk left old new
