@@ -53,12 +53,7 @@ pub(crate) fn tell_refusal<E: Out>(
 }
 
 // `prog.mix:3: A2 no such operation`, the line, and the mark.
-fn report(
-    alloc: Global,
-    name: &str,
-    source: &[u8],
-    fault: AsmFault,
-) -> Result<Vec<u8>, Memory> {
+fn report(alloc: Global, name: &str, source: &[u8], fault: AsmFault) -> Result<Vec<u8>, Memory> {
     let head = format!(in alloc; "{name}:{}: {}\n", fault.line, fault.kind)?;
     let mut text = head.into_bytes();
     match line_of(source, fault.line) {
@@ -205,7 +200,8 @@ fn add_mark(text: &mut Vec<u8>, line: &[u8], span: Span) -> Result<(), AllocErro
             _ => text.push(b'^')?,
         }
     }
-    text.push(b'\n')
+    text.push(b'\n')?;
+    Ok(())
 }
 
 #[cfg(test)]

@@ -31,9 +31,10 @@ loop-rest-preserved g c =
 
 pub returns-clause-replies : goal.returns-clause-replies
 returns-clause-replies g c =
-    let none = nil-from_length _ (sym c.loop-rest-test.false ∙ c.is_empty.ensures) in
-    (all-reported c.loop-rest.session c.args.talker _ none _ _ c.loop-rest.invariant.told,
-    all-answered c.loop-rest.session c.args.talker _ none _ _ _ c.loop-rest.invariant.written)
+    let none = nil-from_length _ (sym c.loop-rest-test.false ∙ c.is_empty.ensures) in (
+      all-reported c.loop-rest.session c.args.talker _ none _ _ c.loop-rest.invariant.told,
+      all-answered c.loop-rest.session c.args.talker _ none _ _ _ c.loop-rest.invariant.written,
+    )
 
 pub returns-clause-over : goal.returns-clause-over
 returns-clause-over g c =
