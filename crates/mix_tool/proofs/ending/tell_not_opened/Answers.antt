@@ -2,7 +2,7 @@
 use Rattle.std.specs.Prelude.{string_bytes}
 use Rattle.mix_tool.specs.Ending.{Wrote, memory_line, not_opened}
 use Rattle.mix_tool.proofs.EndingLemmas.{either_told}
-use Rattle.mix_tool.proofs.files.tell_not_opened.Goals as goal
+use Rattle.mix_tool.proofs.ending.tell_not_opened.Goals as goal
 
 pub returns-clause-told : goal.returns-clause-told
 returns-clause-told g c =

@@ -1,5 +1,5 @@
 -- The run that was made is that of `run_debug`.
-use Rattle.mix_tool.proofs.files.run_session.Goals as goal
+use Rattle.mix_tool.proofs.session.run_session.Goals as goal
 
 pub returns-clause-output : goal.returns-clause-output
 returns-clause-output g c s d t hs hd ht =
