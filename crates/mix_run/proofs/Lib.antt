@@ -1,4 +1,5 @@
 mod CutLemmas
+mod PrintLemmas
 mod RunLemmas
 mod TalkLemmas
 mod Truncation

@@ -85,16 +85,37 @@ fn print_step<W: Out>(
         Err(Refused::Fault(fault)) => return Ok(Some(RunEnd::Faulted(fault))),
         Err(Refused::Memory) => return Err(ToolFault::Memory),
     }
-    let after = row_counts(world);
-    if after != *before {
-        print_rows(alloc, world, *before, units, out)?;
-        *before = after;
-    }
+    print_new(alloc, world, before, units, out)?;
     if halts {
         Ok(Some(RunEnd::Halted))
     } else {
         Ok(None)
     }
+}
+
+// The rows that were written after the first ones, of the units that are asked for; their numbers become those of all rows.
+#[inline(always)]
+fn print_new<W: Out>(
+    alloc: Global,
+    world: &World,
+    before: &mut RowCounts,
+    units: UnitSet,
+    out: &mut W,
+) -> Result<(), ToolFault>
+    requires { W.failed out.old < 2 ^ 64 - 1 }
+    ensures counts { OnOk result (HasCounts world.now before.new) }
+    ensures written { OnOk result (Appends (W.told out.old) (W.told out.new) (printed_after units before.old world.now)) }
+    ensures begun { AppendsFront (W.told out.old) (W.told out.new) (printed_after units before.old world.now) }
+    ensures write { CountsFailure (result ≡ Err ToolFault.Write) (W.failed out.old) (W.failed out.new) }
+    ensures only { IfErr result IsMemoryOrWrite }
+{
+    let after = row_counts(world);
+    if after == *before {
+        return Ok(());
+    }
+    print_rows(alloc, world, *before, units, out)?;
+    *before = after;
+    Ok(())
 }
 
 // The rows of the units that are asked for, from these numbers on.
@@ -132,7 +153,8 @@ fn print_rows<W: Out>(
         from.paper_tape,
         units.paper_tape,
         out,
-    )
+    )?;
+    Ok(())
 }
 
 // The rows of a unit from this number on, if it is asked for.
