@@ -213,11 +213,13 @@ fn answer_of(
     let mut sink = Sink::of(size, 0);
     let answer = run_printed(
         alloc,
+        "f",
         &mut source,
         &mut deck,
         &mut cards,
         options_of(case),
         &mut sink,
+        &mut Sink::of(ALL, 0),
     );
     if sink.bytes() == printed.as_bytes() && sink.failures() == 0 {
         Some(answer)
@@ -325,11 +327,13 @@ fn reads_fail(alloc: Global, calls: [u64; 3]) -> (bool, u64, usize) {
     };
     let answer = run_printed(
         alloc,
+        "f",
         &mut source,
         &mut deck,
         &mut cards,
         options,
         &mut sink,
+        &mut Sink::of(ALL, 0),
     );
     let failures = source.failures() + deck.failures() + cards.failures();
     (answer == Err(ToolFault::Read), failures, sink.bytes().len())
@@ -358,11 +362,13 @@ fn fails_at_write(alloc: Global, case: &Case, printed: &str, size: usize, call: 
     let mut sink = Sink::of(size, call);
     let answer = run_printed(
         alloc,
+        "f",
         &mut source,
         &mut deck,
         &mut cards,
         options_of(case),
         &mut sink,
+        &mut Sink::of(ALL, 0),
     );
     let written = sink.bytes();
     if written.len() == printed.len() {
@@ -405,11 +411,13 @@ fn endless_readers_are_refused(rt: HostRuntime) {
     };
     let answer = run_printed(
         rt.alloc(),
+        "f",
         &mut end,
         &mut none,
         &mut endless,
         options,
         &mut sink,
+        &mut Sink::of(ALL, 0),
     );
     let long = DeckFault {
         line: 1,
