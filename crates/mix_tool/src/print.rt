@@ -174,11 +174,31 @@ pub(crate) fn run_opened<F: Read + Drop, W: Out, E: Out>(
     match files.deck {
         Some(deck) => {
             let mut deck = deck;
-            run_with_cards(alloc, name, &mut source, &mut deck, files.cards, steps, units, out, errors)
+            run_with_cards(
+                alloc,
+                name,
+                &mut source,
+                &mut deck,
+                files.cards,
+                steps,
+                units,
+                out,
+                errors,
+            )
         }
         None => {
             let mut deck = Counted::of(io::empty());
-            run_with_cards(alloc, name, &mut source, &mut deck, files.cards, steps, units, out, errors)
+            run_with_cards(
+                alloc,
+                name,
+                &mut source,
+                &mut deck,
+                files.cards,
+                steps,
+                units,
+                out,
+                errors,
+            )
         }
     }
 }

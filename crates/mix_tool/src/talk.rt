@@ -60,11 +60,29 @@ pub(crate) fn talk_opened<F: Read + Drop, R: In, W: Out, E: Out>(
     match deck {
         Some(deck) => {
             let mut deck = deck;
-            talk_with(alloc, name, &mut source, &mut deck, talker, input, out, errors)
+            talk_with(
+                alloc,
+                name,
+                &mut source,
+                &mut deck,
+                talker,
+                input,
+                out,
+                errors,
+            )
         }
         None => {
             let mut deck = Counted::of(io::empty());
-            talk_with(alloc, name, &mut source, &mut deck, talker, input, out, errors)
+            talk_with(
+                alloc,
+                name,
+                &mut source,
+                &mut deck,
+                talker,
+                input,
+                out,
+                errors,
+            )
         }
     }
 }

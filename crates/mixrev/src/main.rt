@@ -1,9 +1,7 @@
 //! The program: what its words ask for, from files or standard input to standard output.
 #![tactic(auto)]
 
-use mix_tool::{
-    Counted, FAILED, LineFault, Talker, ToolFault, line_status, read_words, run_plan,
-};
+use mix_tool::{Counted, FAILED, LineFault, Talker, ToolFault, line_status, read_words, run_plan};
 use std::io::IsTerminal;
 use std::process::ExitCode;
 use std::{env, fmt, io};

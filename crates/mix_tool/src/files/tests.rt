@@ -139,7 +139,15 @@ fn is_met(rt: &HostRuntime, row: &Row, failing: u64) -> bool {
     match read_words(rt.alloc(), row.words) {
         Ok(plan) => {
             let talker = Talker::Program;
-            let status = run_plan(rt, rt.alloc(), &plan, talker, &mut input, &mut out, &mut errors);
+            let status = run_plan(
+                rt,
+                rt.alloc(),
+                &plan,
+                talker,
+                &mut input,
+                &mut out,
+                &mut errors,
+            );
             let told = if failing == 0 { row.told } else { "" };
             status == row.status
                 && out.bytes() == row.written.as_bytes()
