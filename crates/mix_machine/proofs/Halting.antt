@@ -36,12 +36,13 @@ halt-tested c f d false law test =
       | false ↦ λ q. refl
     ] refl
 
-planned : (w t : WorldState) (r : Result Plan MixFault) → plan_of w Step ≡ r → state_after w r ≡ Ok t → (p : Plan) × (plan_of w Step ≡ Ok p)
+-- the plan of an accepted step
+pub planned : (w t : WorldState) (r : Result Plan MixFault) → plan_of w Step ≡ r → state_after w r ≡ Ok t → (p : Plan) × (plan_of w Step ≡ Ok p)
 planned w t (Ok p) e h = (p, e)
 planned w t (Err f) e h = absurd (cc)
 
 -- an accepted step begins at a cell
-at-cell : (w : WorldState) (p : Plan) → IsWorld w → plan_of w Step ≡ Ok p → w.loc < 4000
+pub at-cell : (w : WorldState) (p : Plan) → IsWorld w → plan_of w Step ≡ Ok p → w.loc < 4000
 unfolding plan_of
 at-cell w p h e =
     let all = passed (applies (decode_at w) w (arguments_at w)) (step_plan (operation_or_nop (decode_at w)) w (arguments_at w)) p e in

@@ -1,6 +1,7 @@
 pub mod AlteredLemmas
 pub mod BlockLemmas
 pub mod BreakLemmas
+pub mod ClockLemmas
 pub mod CopyLemmas
 pub mod Counting
 pub mod DeckLemmas

@@ -1,11 +1,11 @@
 //! What follows from the definitions alone.
-ghost use Rattle.std.specs.Prelude.{◌≡◌, ◌≤◌, ◌*◌, ◌↔◌, IsTrue, not, List, Ok, Some, length};
+ghost use Rattle.std.specs.Prelude.{◌≡◌, ◌≢◌, ◌≤◌, ◌<◌, ◌*◌, ◌↔◌, IsTrue, not, List, Ok, Some, length};
 ghost use Rattle.undo_core.specs.Replay.{count_kept, put_back};
 ghost use Rattle.mix_word.specs.declared.operation.Operation.TheVariants.{Hlt};
 ghost use Rattle.mix_word.specs.declared.decoding.Decoded.TheVariants.{Named};
 ghost use Rattle.mix_machine.specs.World.{WorldState, IsWorld};
 ghost use Rattle.mix_machine.specs.Decode.{decode_at};
-ghost use Rattle.mix_machine.specs.Do.{does, is_halt_next, kept_values};
+ghost use Rattle.mix_machine.specs.Do.{does, is_halt_next, kept_values, IsReal};
 ghost use Rattle.mix_machine.specs.KeptCount.{kept_count, most_kept};
 ghost use Rattle.mix_machine.specs.units.Unit.{UnitState};
 ghost use Rattle.mix_machine.specs.Write.{put_value};
@@ -31,6 +31,15 @@ pub fn halt_law()
 {
     decode_law();
 }
+
+/// What a change does to the clock, and where a step is done. The clock goes no way but forward, and none but a step moves it; a step is done
+/// at a cell; and the state after a change is one of the machine.
+pub fn change_law()
+    ensures forward { (v w : WorldState) (c : Change) → does v c ≡ Ok w → v.clock ≤ w.clock }
+    ensures kept { (v w : WorldState) (c : Change) → c ≢ Step → does v c ≡ Ok w → w.clock ≡ v.clock }
+    ensures place { (v w : WorldState) → IsWorld v → does v Step ≡ Ok w → v.loc < 4000 }
+    ensures world { (v w : WorldState) (c : Change) → IsWorld v → IsReal c → does v c ≡ Ok w → IsWorld w }
+{}
 
 /// What the marks of parts say. Values that are put back say the marks of the state before, which is one of the machine; so a part's past is
 /// read from what is kept, and nothing has to be put back. A change alters a part exactly where it alters its mark. Two units are the same

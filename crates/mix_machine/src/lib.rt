@@ -22,7 +22,7 @@ mod world;
 mod write;
 
 pub use fault::MixFault;
-pub use laws::{halt_law, kept_count_law, mark_law};
+pub use laws::{change_law, halt_law, kept_count_law, mark_law};
 pub use mix_word::{Cmp, Place, Reg, Sign, Word};
 pub use old::{Change, Old};
 pub use part::{Mark, Part, mark_before};

@@ -4,6 +4,7 @@ mod ConditionLemmas
 mod DifferenceLemmas
 mod SameWorld
 mod ShowLemmas
+mod SumLemmas
 mod TallyLemmas
 mod TimelineLemmas
 mod UnitLemmas

@@ -17,6 +17,7 @@ pub mod Show
 pub mod ShowCode
 pub mod ShowUnit
 pub mod ShowValue
+pub mod Sums
 pub mod Tally
 pub mod Timeline
 pub mod Topic

@@ -16,7 +16,7 @@ mod timeline;
 pub use answer::Answer;
 pub use condition::Condition;
 pub use fault::{Refusal, ToolFault};
-pub use laws::{back_and_forth_law, differences_law};
+pub use laws::{back_and_forth_law, counts_law, differences_law};
 pub use mix_machine::{DeckFault, DeckKind};
 pub use mixal_asm::{AsmFault, AsmKind, Counted, Failed, In, Out};
 pub use reply::{End, Told};

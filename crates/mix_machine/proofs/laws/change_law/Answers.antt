@@ -1,0 +1,5 @@
+use Rattle.mix_machine.proofs.ClockLemmas.{clock-forward, clock-kept, step-at-cell, world-after}
+use Rattle.mix_machine.proofs.laws.change_law.Goals as goal
+
+pub returns : goal.returns
+returns c = record { forward = clock-forward; kept = clock-kept; place = step-at-cell; world = world-after }
