@@ -1,0 +1,76 @@
+"""The column "times" of a program, which stands in its remarks in square brackets, against what `show counts` says."""
+import ast
+import operator
+
+OPERATORS = {ast.Add: operator.add, ast.Sub: operator.sub, ast.Mult: operator.mul, ast.FloorDiv: operator.floordiv}
+LONG = {"MUL": 10, "DIV": 12, "NUM": 10, "CHAR": 10, "HLT": 10}
+SHIFTS = ("SLA", "SRA", "SLAX", "SRAX", "SLC", "SRC")
+TRANSFERS = ("IN", "OUT", "IOC")
+
+
+def time_of(name, address=""):
+    """The time of an operation in u, as the table of 1.3.1 has it; that of a transfer without waiting."""
+    if name in LONG:
+        return LONG[name]
+    if name == "MOVE":
+        return 1 + 2 * int(address.partition("(")[2].rstrip(")") or 1)
+    return 2 if name[:2] in ("LD", "ST") or name[:3] in ("ADD", "SUB", "CMP") or name in SHIFTS else 1
+
+
+def value_of(text, quantities):
+    """The value of an expression of numbers, names, brackets and + - * //."""
+
+    def value(node):
+        if isinstance(node, ast.BinOp):
+            return OPERATORS[type(node.op)](value(node.left), value(node.right))
+        if isinstance(node, ast.UnaryOp) and isinstance(node.op, ast.USub):
+            return -value(node.operand)
+        return quantities[node.id] if isinstance(node, ast.Name) else ast.literal_eval(node)
+
+    return value(ast.parse(text, mode="eval").body)
+
+
+def times_of(line):
+    """The expression in a line's square brackets, where it has them."""
+    return line.partition("[")[2].partition("]")[0] if line[:1] != "*" and "[" in line else None
+
+
+def instruction_of(line):
+    """The operation and the address of a line of the source."""
+    words = line.split() if line[:1].isspace() else line.split()[1:]
+    return words[0], words[1] if len(words) > 1 else ""
+
+
+def count_at(outcome, instruction):
+    """How often the one line with this operation and address is done."""
+    found = [number for number, line in enumerate(outcome.source, 1) if line[:1] not in ("", "*") and " ".join(instruction_of(line)) == instruction]
+    (number,) = found
+    return outcome.counts()[number][0]
+
+
+def measured(outcome, letters):
+    """The counts of the lines whose times are such a letter alone: from a few of them all others follow (Kirchhoff's law)."""
+    counts = outcome.counts()
+    return {letter: next(counts[number][0] for number, line in enumerate(outcome.source, 1) if times_of(line) == letter) for letter in letters}
+
+
+def times(outcome, waiting=False, **quantities):
+    """Compares the end of the run with a halt, each count with the column "times", each time with the count, and their sums with the last line.
+
+    `waiting` is for programs whose transfers wait: then the time of IN, OUT and IOC is not compared."""
+    yield "how the run ends", outcome.end, "halt"
+    steps = time = 0
+    for number, (count, took) in outcome.counts().items():
+        line = outcome.source[number - 1]
+        name, address = instruction_of(line)
+        told = times_of(line)
+        wanted = value_of(told, quantities) if told is not None else "no times in its line"
+        yield f"how often line {number} is done, {' '.join(line.split())}", count, wanted
+        if not (waiting and name in TRANSFERS):
+            yield f"time of line {number}, {name}", took, count * time_of(name, address)
+            time += count * time_of(name, address)
+        else:
+            time += took
+        steps += count
+    total = outcome.lines("show counts")[-1].split()
+    yield "the total", total, [str(steps), str(time), "total"]

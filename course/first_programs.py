@@ -1,0 +1,128 @@
+"""Facts of the lessons of 1.3.1 and 1.3.2, by Python's own numbers, lists and divisions."""
+import itertools
+import math
+
+from counting import measured, times
+from lesson import RUN, Lesson
+
+
+def degrees(run):
+    for celsius in (37, 0, 100, -40, -7, 12345):
+        ran = run(script=[f"set cell CELSIUS {celsius}", *RUN, "show values CELSIUS REST", "back until X", "show values"])
+        quotient, rest = divmod(abs(9 * celsius), 5)
+        sign = -1 if celsius < 0 else 1
+        wanted = [celsius, sign * quotient + 32, sign * rest]
+        yield f"{celsius} degrees in Fahrenheit, and the fifths left over", ran.numbers("show values CELSIUS REST"), wanted
+        yield f"how the run of {celsius} ends", ran.end, "halt"
+        yield f"the lower half of the product of {celsius}", ran.register("X"), 9 * celsius
+    for fahrenheit in (98, 20, 0, -40, 451, 99, 100, 101):
+        ran = run("answer.mix", script=[f"set cell FAHREN {fahrenheit}", "run 100", "show values FAHREN RESULT"])
+        nearest = round((fahrenheit - 32) * 5 / 9)  # a ninth is never half way
+        yield f"{fahrenheit} degrees in Celsius", ran.numbers("show values FAHREN RESULT"), [fahrenheit, nearest]
+
+
+def date_word(sign, day, month, year):
+    return "%s %02d %02d 00 %02d %02d" % (sign, day, month, *divmod(year, 64))
+
+
+def fields(run):
+    for day, month, year in ((24, 11, 1938), (1, 1, 1), (31, 12, 4094)):
+        put = f"set cell DATE {day}(1:1),{month}(2:2),{year}(4:5)"
+        ran = run(script=[put, "run 100", "show cells DATE DATE", "show values DAY YEAR"])
+        yield "the date put off", ran.lines("show cells DATE DATE")[0][5:], date_word("-", day, 1, year + 1)
+        yield "its parts before, and how the run ends", (ran.numbers("show values DAY YEAR"), ran.end), ([day, month, year], "halt")
+        ran = run("answer.mix", script=[put, "run 100", "show cells DATE DATE"])
+        yield "day and month changed", ran.lines("show cells DATE DATE")[0][5:], date_word("+", month, day, year)
+
+
+def reversal(run):
+    show = "show values TABLE+1 TABLE+N"
+    for n in (1, 2, 3, 7, 10, 31):
+        table = [100 + 7 * k for k in range(n)]
+        for name in ("lesson.mix", "answer.mix"):
+            ran = run(name, N=n, data=table, script=[*RUN, show])
+            yield f"{name}, {n} entries turned round", ran.numbers(show), table[::-1]
+            yield from times(ran, N=n)
+
+
+def rotation(run):
+    show = "show values TABLE+1 TABLE+N"
+    for n, k in ((7, 2), (7, 1), (7, 6), (12, 5), (2, 1)):
+        table = [100 + 7 * m for m in range(n)]
+        for name, by in (("lesson.mix", k), ("answer.mix", n - k)):
+            ran = run(name, N=n, K=k, data=table, script=[*RUN, show])
+            yield f"{name}, {n} entries moved by {k}", ran.numbers(show), table[by:] + table[:by]
+            yield from times(ran, N=n, B=k // 2 + (n - k) // 2 + n // 2)
+
+
+def new_extremes(table, better):
+    """How many entries, from the right but the last, are better than all on their right."""
+    return sum(all(better(one, other) for other in table[at + 1 :]) for at, one in enumerate(table[:-1]))
+
+
+def maximum(run):
+    tables = [[31, 41, 59, 26, 53, 58, 97, 93, 23, 84], [5], [2, 1], [1, 2], [7, 7, 7], list(range(1, 31)), list(range(30, 0, -1))]
+    for table in tables:
+        more, less = (new_extremes(table, better) for better in (lambda a, b: a > b, lambda a, b: a < b))
+        place = len(table) - table[::-1].index(max(table))
+        ran = run(N=len(table), data=table, script=[*RUN, "show values"])
+        yield "the largest entry and its place", (ran.register("A"), ran.register("I2")), (max(table), place)
+        yield from times(ran, N=len(table), A=more)
+        ran = run("answer.mix", N=len(table), data=table, script=[*RUN, "show values"])
+        yield "the largest and the smallest", (ran.register("A"), ran.register("X")), (max(table), min(table))
+        yield from times(ran, N=len(table), A=more, B=less)
+    found = 0
+    for table in itertools.permutations(range(1, 5)):
+        ran = run(N=4, data=table, script=RUN)
+        found += measured(ran, "A")["A"]
+    harmonic = sum(math.factorial(4) // k for k in range(1, 5))  # 4! times the sum of 1/k
+    yield "new largest entries in all orders of four: 4! times H(4) - 1", found, harmonic - math.factorial(4)
+
+
+def is_prime(n):
+    return n > 1 and all(n % d for d in range(2, math.isqrt(n) + 1))
+
+
+def factors(n):
+    return [p for p in range(2, n + 1) if is_prime(p) and n % p == 0]
+
+
+def sieve(run):
+    for n in (100, 4, 25, 400, 3, 1000):
+        root, primes = math.isqrt(n), [p for p in range(2, n + 1) if is_prime(p)]
+        small = [p for p in primes if p <= root]
+        struck = sum(n // p - p + 1 for p in small)
+        listed, cells = f"show values PRIMES+1 PRIMES+{len(primes)}", f"show values TABLE+2 TABLE+{n}"
+        ran = run(N=n, script=[*RUN, listed, cells])
+        yield f"the primes up to {n}", ran.numbers(listed), primes
+        last = [max([p for p in factors(k) if p * p <= k], default=0) for k in range(2, n + 1)]
+        yield "who struck out last: the largest factor whose square is no larger", ran.numbers(cells), last
+        yield from times(ran, N=n, R=root - 1, Q=len(small), S=struck, P=len(primes))
+        ran = run("answer.mix", N=n, script=[*RUN, cells])
+        yield "who struck out first: the smallest factor", ran.numbers(cells), [0 if is_prime(k) else factors(k)[0] for k in range(2, n + 1)]
+
+
+def josephus(run):
+    for n, m in ((10, 3), (8, 4), (24, 11), (5, 1), (2, 2), (41, 3)):
+        men, order, at = list(range(1, n + 1)), [], 0
+        while men:
+            at = (at + m - 1) % len(men)
+            order.append(men.pop(at))
+        show = "show values ORDER+1 ORDER+N"
+        ran = run(N=n, M=m, script=[*RUN, show])
+        yield f"the order of {n} men, each {m}-th", ran.numbers(show), order
+        yield from times(ran, N=n, M=m)
+        ran = run("answer.mix", N=n, M=m, script=[*RUN, "show values LAST LAST"])
+        yield "the last man", ran.numbers("show values LAST LAST"), order[-1:]
+        yield from times(ran, N=n)
+
+
+LESSONS = [
+    Lesson("01_degrees", degrees, ("DIV  =5=", "DIV  =4=")),
+    Lesson("02_fields", fields, ("STA  DATE(2:2)", "STA  DATE(1:2)")),
+    Lesson("03_reversal", reversal, ("JL   SWAP", "JLE  SWAP")),
+    Lesson("04_rotation", rotation, ("ENT1 K+1", "ENT1 K")),
+    Lesson("05_maximum", maximum, ("JGE  NEXT", "JG   NEXT")),
+    Lesson("06_sieve", sieve, ("JG   COLLECT", "JGE  COLLECT")),
+    Lesson("07_josephus", josephus, ("ENT4 M-1", "ENT4 M")),
+]

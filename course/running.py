@@ -1,0 +1,130 @@
+"""Runs a lesson's bundle with a program, with other data or one instruction changed, and reads what it writes."""
+import pathlib
+import re
+import subprocess
+
+COURSE = pathlib.Path(__file__).resolve().parent
+MARK = "show value 1073741823"  # its reply parts the replies of the commands
+MARKED = '+ 63 63 63 63 63  1073741823  "?????"'
+RAN = re.compile(r"ran (\d+) to (\d+) clock (\d+): (.*)")
+COUNTED = re.compile(r" *(\d+) +(\d+)  (\d{4})  ( *\d+)[ *] (.*)")
+
+
+class Refused(Exception):
+    """The source or the deck was refused, so there is nothing to look at."""
+
+
+class Bundle:
+    """The three parts of a bundle, each a list of lines; a part that is not there is None."""
+
+    def __init__(self, text):
+        lines = text.splitlines()
+        script = lines.index("%SCRIPT") if "%SCRIPT" in lines else len(lines)
+        deck = lines.index("%DEVICES") if "%DEVICES" in lines[:script] else script
+        self.source, self.deck, self.script = lines[:deck], lines[deck + 1 : script], lines[script + 1 :]
+
+    def text(self, marked=False):
+        script = [line for command in self.commands() for line in (command, MARK)] if marked else self.script
+        return "".join(line + "\n" for line in [*self.source, "%DEVICES", *self.deck, "%SCRIPT", *script])
+
+    def commands(self):
+        """The lines of the script that are commands."""
+        return [line for line in self.script if line.strip() and not line.startswith("*")]
+
+    def set_constants(self, values):
+        """Gives the symbols that the source defines by EQU other values."""
+        for name, value in values.items():
+            self.replace_line(re.compile(rf"({name} +EQU +)\S+"), rf"\g<1>{value}")
+
+    def replace_line(self, pattern, text):
+        """Replaces what matches at the beginning of one line, and of no other."""
+        found = [number for number, line in enumerate(self.source) if pattern.match(line)]
+        if len(found) != 1:
+            raise ValueError(f"{len(found)} lines of the source match {pattern.pattern}")
+        self.source[found[0]] = pattern.sub(text, self.source[found[0]], count=1)
+
+    def change_instruction(self, old, new):
+        """Changes the one line that has these words for another instruction."""
+        self.replace_line(re.compile(rf"((?:\S+)?\s+){re.escape(old)}(?!\S)".replace(r"\ ", r"\s+")), rf"\g<1>{new}")
+
+    def set_data(self, lines, name="data"):
+        """Puts other lines between the comments `* data` and `* end of data`; a number is a line CON."""
+        first, last = self.source.index(f"* {name}"), self.source.index(f"* end of {name}")
+        self.source[first + 1 : last] = [line if isinstance(line, str) else f"        CON  {line}" for line in lines]
+
+
+def written(program, bundle, marked=False):
+    """What the program writes of a bundle: standard output, and the status."""
+    ran = subprocess.run([program], input=bundle.text(marked).encode(), capture_output=True)
+    if ran.returncode in (1, 2):
+        raise Refused((ran.stdout + ran.stderr).decode().strip())
+    return ran.stdout.decode(), ran.returncode
+
+
+def replies_of(program, bundle):
+    """The replies of each command, a list of lines for each."""
+    replies = [[]]
+    for line in written(program, bundle, marked=True)[0].splitlines():
+        if line == MARKED:
+            replies.append([])
+        else:
+            replies[-1].append(line)
+    return replies[:-1]
+
+
+class Outcome:
+    """The replies to a script, with the numbers that they hold."""
+
+    def __init__(self, bundle, replies):
+        self.source, self.replies = bundle.source, dict(zip(bundle.commands(), replies))
+        runs = [RAN.fullmatch(line) for lines in replies for line in lines if RAN.fullmatch(line)]
+        self.steps, self.location, self.clock = (int(part) for part in runs[-1].groups()[:3]) if runs else (0, 0, 0)
+        self.end = runs[-1][4] if runs else "none"
+
+    def lines(self, command):
+        return self.replies[command]
+
+    def numbers(self, command):
+        """The numbers of the words of `show values E E` or `show values`."""
+        return [int(line[21:33]) for line in self.lines(command)]
+
+    def words(self, command):
+        """The words of `show cells E E`: of each cell its sign, as 1 or -1, and its five bytes."""
+        return {int(line[:4]): (-1 if line[5] == "-" else 1, [int(byte) for byte in line[7:].split()]) for line in self.lines(command)}
+
+    def register(self, name):
+        """The number of a register that `show values` told."""
+        return next(int(line[19:31]) for line in self.lines("show values") if line.startswith(name))
+
+    def rows(self, unit):
+        """The rows of a unit, without the blanks at their ends."""
+        return [line[2:].rstrip() for line in self.lines(f"show unit {unit}") if line.startswith("> ")]
+
+    def counts(self):
+        """Of each line of the source: how often its instruction was done, and the time that it took."""
+        found = [COUNTED.fullmatch(line) for line in self.lines("show counts")]
+        return {int(one[4]): (int(one[1]), int(one[2])) for one in found if one}
+
+
+class Runner:
+    """Runs the bundles of a lesson; where a change is given, it is made in the bundle of `lesson.mix` before each run."""
+
+    def __init__(self, program, folder, change=lambda bundle: None):
+        self.program, self.folder, self.change = program, COURSE / folder, change
+
+    def bundle(self, name):
+        return Bundle((self.folder / name).read_text())
+
+    def __call__(self, name="lesson.mix", script=None, deck=None, data=None, **constants):
+        bundle = self.bundle(name)
+        if name == "lesson.mix":
+            self.change(bundle)
+        bundle.set_constants(constants)
+        if isinstance(data, dict):
+            for block, lines in data.items():
+                bundle.set_data(lines, block)
+        elif data is not None:
+            bundle.set_data(data)
+        bundle.script = bundle.script if script is None else script
+        bundle.deck = bundle.deck if deck is None else deck
+        return Outcome(bundle, replies_of(self.program, bundle))

@@ -1,0 +1,112 @@
+"""Facts of the lessons of chapter 6: places by Python's lists, path lengths by formulas, ancestors by the order of coming, probes in other orders."""
+import random
+
+from counting import measured, times
+from lesson import RUN, Lesson
+
+
+def two_searches(run):
+    draw = random.Random(61)
+    for n in (1, 2, 7, 8, 25):
+        keys = draw.sample(range(1, 1000), n)
+        for wanted in (*keys, 0, 1001):
+            place = keys.index(wanted) + 1 if wanted in keys else 0
+            found, looks, all_looks = int(place > 0), place or n, place or n + 1
+            rounds = (all_looks + 1) // 2
+            for name in ("lesson.mix", "sentinel.mix", "answer.mix"):
+                ran = run(name, N=n, WANTED=wanted, data=keys, script=[*RUN, "show values"])
+                yield f"{name}: the place of {wanted}", ran.register("I2"), place
+                yield from times(ran, N=n, S=found, C=looks, R=rounds, H=all_looks % 2)
+
+
+def binary_search(run):
+    for n in (1, 2, 3, 10, 16, 31):
+        keys = [10 * k for k in range(1, n + 1)]
+        halves = [(n + 2 ** (j - 1)) // 2**j for j in range(1, n.bit_length() + 3)]
+        halves = halves[: halves.index(0) + 1]
+        looks = {}
+        for wanted in range(5, 10 * n + 6, 5):
+            ran = run(N=n, WANTED=wanted, data=keys, script=[*RUN, "show values"])
+            place = wanted // 10 if wanted % 10 == 0 else 0
+            yield f"the place of {wanted}", ran.register("I3"), place
+            found = measured(ran, "CD")
+            looks.setdefault(place > 0, []).append(found["C"])
+            yield from times(ran, N=n, S=int(place > 0), **found)
+            ran = run("answer.mix", N=n, WANTED=wanted, data={"data": keys, "halves": halves}, script=[*RUN, "show values"])
+            yield f"the place of {wanted} by halves", ran.register("I1"), place
+            yield from times(ran, N=n, S=int(place > 0), **measured(ran, "CD"))
+        levels = [k.bit_length() for k in range(1, n + 1)]  # the tree of the search is full but for its last level
+        yield f"looks that find the keys, {n} of them", sorted(looks[True]), levels
+        yield "looks for what lies between them", sum(looks[False]), sum(levels) + n
+
+
+def above(keys, place):
+    """The keys on the way to a key: each that came before it, with no key between the two that came before that one."""
+    key = keys[place]
+    return [one for at, one in enumerate(keys[:place]) if not any(min(one, key) < other < max(one, key) for other in keys[:at])]
+
+
+def search_tree(run):
+    draw = random.Random(622)
+    tables = [[5], [3, 1, 2], list(range(1, 9)), [4, 2, 6, 1, 3, 5, 7], [2, 2, 2]]
+    tables += [[draw.randrange(1, 60) for _ in range(n)] for n in (10, 40)]
+    for row in tables:
+        keys = list(dict.fromkeys(row))
+        compared = greater = 0
+        for key in row[1:]:
+            way = above(keys, keys.index(key))
+            compared, greater = compared + len(way), greater + sum(one < key for one in way)
+        rights = sum(max(above(keys, at), key=keys.index) < key for at, key in enumerate(keys) if at)
+        for name in ("lesson.mix", "answer.mix"):
+            shows = [f"show values {part}+1 {part}+{len(keys)}" for part in ("KEY", "LEFT", "RIGHT")]
+            ran = run(name, N=len(row), data=row, script=[*RUN, "show values", *shows])
+            yield f"{name}: the keys, each once", ran.numbers(shows[0]), keys
+            yield f"{name}: how many were there", ran.register("I5"), len(row) - len(keys)
+            parents = {}
+            for part, show in zip(("LEFT", "RIGHT"), shows[1:]):
+                parents.update({child: (node, part) for node, child in enumerate(ran.numbers(show), 1) if child})
+            wanted = {}
+            for at, key in enumerate(keys[1:], 2):
+                parent = max(above(keys, at - 1), key=keys.index)  # the last that came of those on the way
+                wanted[at] = (keys.index(parent) + 1, "RIGHT" if key > parent else "LEFT")
+            yield f"{name}: the node above each node", parents, wanted
+            yield from times(ran, N=len(row), C=compared, D=greater, F=len(row) - len(keys), I=rights)
+    ran = run("answer.mix", script=RUN)
+    yield from times(ran, N=7, C=2 * 1 + 4 * 2, D=5, F=0, I=3)
+
+
+def probes(keys, m):
+    """How often places are looked at when these keys come in this order, and how often it goes round the end."""
+    table, looked, rounds = [0] * m, 0, 0
+    for key in keys:
+        places = [(key % m - step) % m for step in range(m)]
+        free = next(at for at, place in enumerate(places) if not table[place])
+        looked, rounds = looked + free + 1, rounds + (free > key % m)
+        table[places[free]] = key
+    return looked, rounds
+
+
+def hashing(run):
+    draw, pi = random.Random(64), [31, 415, 926, 535, 897, 932, 384, 626]
+    cases = [(11, pi), (8, pi), (3, [5]), (7, [14, 7, 21]), *((m, draw.sample(range(1, 5000), n)) for m, n in ((13, 10), (31, 30), (64, 40)))]
+    for m, keys in cases:
+        looked, rounds = probes(sorted(keys), m)  # the sums do not depend on the order
+        for name in ("lesson.mix", "answer.mix"):
+            ran = run(name, N=len(keys), M=m, data=keys, script=[*RUN, "show values TABLE TABLE+M-1"])
+            table = ran.numbers("show values TABLE TABLE+M-1")
+            yield f"{name}: the keys of the table", sorted(key for key in table if key), sorted(keys)
+            free = [(key, table.index(key)) for key in keys if any(not table[(key % m - step) % m] for step in range((key % m - table.index(key)) % m))]
+            yield f"{name}: keys that are not found before a free place", free, []
+            yield from times(ran, N=len(keys), C=looked, R=rounds)
+    twice = run(N=5, M=7, data=[5, 12, 5, 4, 12], script=["run 10000", "show values TABLE TABLE+M-1"]).numbers("show values TABLE TABLE+M-1")
+    yield "keys that come twice, each once in the table", twice, [0, 0, 0, 4, 12, 5, 0]
+    both = [run(name, script=["run 10000", "show values TABLE TABLE+M-1"]).numbers("show values TABLE TABLE+M-1") for name in ("lesson.mix", "answer.mix")]
+    yield "the places that are taken in both orders", *([bool(key) for key in table] for table in both)
+
+
+LESSONS = [
+    Lesson("26_two_searches", two_searches, ("ENT1 1-N", "ENT1 2-N")),
+    Lesson("27_binary_search", binary_search, ("ENT1 1,3", "ENT1 0,3")),
+    Lesson("28_search_tree", search_tree, ("LD3  LEFT,2", "LD3  RIGHT,2")),
+    Lesson("29_hashing", hashing, ("ENT2 M-1", "ENT2 M")),
+]

@@ -1,0 +1,104 @@
+"""Facts of the lessons of 1.4: divisions and texts by Python's own means, the times of waiting by closed forms."""
+import math
+import re
+
+from counting import count_at, times
+from lesson import RUN, Lesson
+
+
+def truncated(above, below):
+    """Quotient and rest, the rest with the sign of what is divided."""
+    quotient = abs(above) // abs(below) * (1 if (above < 0) == (below < 0) else -1)
+    return quotient, above - quotient * below
+
+
+def entrances_exits(run):
+    quots, rests = "show values QUOTS+1 QUOTS+N", "show values RESTS+1 RESTS+N"
+    cases = [[(17, 5), (100, 10), (5, 0), (-29, 7)], [(0, 0)], [(63, 64), (0, 9), (-8, -3), (12, -4), (1, 0), (0, 0), (1000000, 999)]]
+    for pairs in cases:
+        data = {"above": [above for above, _ in pairs], "below": [below for _, below in pairs]}
+        found = [truncated(*pair) if pair[1] else (0, 0) for pair in pairs]
+        none = sum(below == 0 for _, below in pairs)
+        whole = sum(below != 0 and above % below == 0 for above, below in pairs)
+        ran = run(N=len(pairs), data=data, script=[*RUN, quots, rests, "show values"])
+        yield "quotients", ran.numbers(quots), [quotient for quotient, _ in found]
+        yield "rests", ran.numbers(rests), [rest for _, rest in found]
+        yield "how many have none", ran.register("I4"), none
+        yield from times(ran, N=len(pairs), Z=none)
+        ran = run("answer.mix", N=len(pairs), data=data, script=[*RUN, rests, "show values"])
+        yield "rests by the third exit", ran.numbers(rests), [rest for _, rest in found]
+        yield "the first and the second exit", (ran.register("I4"), ran.register("I5")), (none, whole)
+        yield from times(ran, N=len(pairs), Z=none, V=whole)
+
+
+def in_groups(text):
+    return "  ".join(text[at : at + 3] for at in range(0, len(text), 3))
+
+
+def expanded(code):
+    return re.sub(r"(\d)(.)", lambda found: found[2] * (int(found[1]) + 1), code)
+
+
+def coroutines(run):
+    for card in ("M2I0X 4+R 9EV.", ".", "A.", "AB.", "A B C.", "9Z9Y8X.REST", "1 2 3 4 5 6.", "A0B1C2D3E4F5G6H7I8J9K."):
+        code = card[: card.index(".") + 1].replace(" ", "")
+        text, units = expanded(code), re.findall(r"\d?.", code)
+        ran = run(deck=["%UNIT 16", card], script=[*RUN, "show unit 18"])
+        yield f"the groups of {card}", ran.rows(18), [in_groups(text)]
+        groups, rest = divmod(len(text), 3)
+        yield from times(ran, T=len(text), K=len(units), D=sum(len(unit) == 2 for unit in units), L=sum(unit[0].isalpha() for unit in units),
+                         B=card[: card.index(".")].count(" "), V=math.ceil((card.index(".") + 1) / 5), G=groups + (rest > 0), H=groups + (rest > 1),
+                         I=groups, J=groups - (rest == 0))
+        ran = run("answer.mix", deck=["%UNIT 16", card], script=[*RUN, "show unit 18"])
+        swapped = re.sub(r"([^.])([^.])", r"\2\1", text)
+        yield f"the groups with characters changed of {card}", ran.rows(18), [in_groups(swapped)]
+
+
+# Programs for the small machine, each with what it prints; the cell of COUNT is free for them.
+SMALL = [
+    ("2(PUSH) 3(PUSH) 0(PLUS) 4(PUSH) 5(PUSH) 0(PLUS) 0(TIMES) 0(PRINT) 0(STOP)", [(2 + 3) * (4 + 5)]),
+    ("1(PUSH) 2(PUSH) 3(PUSH) 0(PRINT) 0(PRINT) 0(PRINT) 0(STOP)", [3, 2, 1]),
+    ("7(PUSH) COUNT(SAVE) 8(PUSH) COUNT(LOAD) 0(PRINT) 0(PRINT) 0(STOP)", [7, 8]),
+    ("6(PUSH) 0(PUSH) CODE+5(ZERO) 9(PUSH) 0(PRINT) 0(PRINT) 0(STOP)", [6]),
+    ("6(PUSH) 1(PUSH) CODE+5(ZERO) 9(PUSH) 0(PRINT) 0(PRINT) 0(STOP)", [9, 6]),
+    ("5(PUSH) CODE+3(GOTO) 0(STOP) 0(PRINT) 0(STOP)", [5]),
+]
+
+
+def interpreter(run):
+    for program, printed in SMALL:
+        code = [f"{'CODE' if at == 0 else '':<7} NOP  {address}" for at, address in enumerate(program.split())]
+        ran = run(data={"code": [*code, "DONE    NOP"]}, script=["run 10000", "show unit 18", "show values"])
+        yield f"what is printed by {program}", ran.rows(18), ["%010d" % number for number in printed]
+        yield "what is left on the stack, and how the run ends", (ran.register("I2"), ran.end), (0, "halt")
+    for n in (5, 0, 1, 2, 9, 12):
+        ran = run(N=n, script=[*RUN, "show unit 18"])
+        yield f"the factorial of {n}", ran.rows(18), ["%010d" % math.factorial(n)]
+        yield from times(ran, N=n)
+        ran = run("answer.mix", N=n, script=[*RUN, "show unit 18"])
+        yield f"the squares down from {n}", ran.rows(18), ["%010d" % (k * k) for k in range(n, 0, -1)]
+
+
+def buffers(run):
+    cards = ["0000000031", "0000000041", "0000000059", "0000000026", "0000000053", "1000000000", "0000000097"]
+    for n, delay, work in ((5, 300, 100), (5, 220, 100), (1, 300, 100), (7, 10, 200), (7, 1000, 10), (3, 0, 50)):
+        deck = [f"%UNIT 16 delay {delay}", *cards[:n]]
+        busy = 20 + 2 * work  # from an IN to the next JBUS, where the program has two buffers
+        waits = {"lesson.mix": n * (delay + 1), "two.mix": delay + 1 + (n - 1) * (max(0, delay - busy) + 1)}
+        for name in ("lesson.mix", "two.mix", "answer.mix"):
+            ran = run(name, deck=deck, N=n, WORK=work, script=[*RUN, "show values SUM SUM"])
+            yield f"{name}, the sum of {n} cards", ran.numbers("show values SUM SUM"), [sum(map(int, cards[:n]))]
+            waited = waits.get(name, waits["two.mix"])
+            yield from times(ran, N=n, WORK=work, DELAY=delay, W=waited)
+            one, two = 11 + n * (22 + 2 * work), 13 + n * (24 + 2 * work) + n - 1  # without the waiting
+            yield f"{name}, delay {delay}: the clock", ran.clock, waited + (one if name == "lesson.mix" else two)
+    ran = run("answer.mix", script=RUN)
+    yield "no JBUS waits but the first: how often it is done", count_at(ran, "JBUS *(READER)"), 220 + 5
+
+
+LESSONS = [
+    Lesson("10_entrances_exits", entrances_exits, ("JXZ  0,3", "JXZ  1,3")),
+    Lesson("11_coroutines", coroutines, ("J5NN 2B", "J5P  2B")),
+    Lesson("12_interpreter", interpreter, ("JANZ STEP", "JAZ  STEP")),
+    Lesson("13_buffers", buffers, ("JBUS *(READER)", "JRED *(READER)")),
+]

@@ -1,0 +1,57 @@
+"""The talks and the counts that a lesson's README.md shows, run and compared line by line.
+
+A talk is a block that begins with "```text NAME.mix". Its lines that begin with `mix> ` are the commands of the bundle, all of them and
+in their order; below each stands its reply, in which a line `..` stands for lines that are left out. A block that begins with "```text times NAME.mix N=4 N=7"
+is what `course/times` writes of these values."""
+import re
+
+from columns import columns
+from running import Bundle, replies_of
+
+BLOCK = re.compile(r"^```text (\S+\.mix)\n(.*?)^```$", re.S | re.M)
+COLUMNS = re.compile(r"^```text times (\S+\.mix) (.*?)\n(.*?)^```$", re.S | re.M)
+PROMPT = "mix> "
+LEFT_OUT = ".."
+
+
+def talk_of(program, bundle):
+    """A bundle's talk: each command, and below it its reply."""
+    return [(command, reply) for command, reply in zip(bundle.commands(), replies_of(program, bundle))]
+
+
+def shown_in(text):
+    """The commands of a block, each with the lines below it."""
+    talk = []
+    for line in text.splitlines():
+        if line.startswith(PROMPT):
+            talk.append((line[len(PROMPT) :], []))
+        elif talk:
+            talk[-1][1].append(line)
+        else:
+            talk.append(("", [line]))
+    return talk
+
+
+def is_shown(shown, written):
+    """Whether the lines that are shown are those that are written, with `..` for some that are left out."""
+    pattern = "".join("(?:.*\n)+?" if line == LEFT_OUT else re.escape(line.rstrip()) + "\n" for line in shown)
+    return re.fullmatch(pattern, "".join(line.rstrip() + "\n" for line in written)) is not None
+
+
+def talks(program, folder):
+    """Compares each talk of a lesson's README.md; that of `lesson.mix` and that of `answer.mix` have to be there."""
+    text, seen = (folder / "README.md").read_text(), set()
+    for found in BLOCK.finditer(text):
+        name, shown = found[1], shown_in(found[2])
+        seen.add(name)
+        said = talk_of(program, Bundle((folder / name).read_text()))
+        yield f"the commands of {name}", [command for command, _ in shown], [command for command, _ in said]
+        for (command, lines), (_, reply) in zip(shown, said):
+            different = [line for line in lines if line != LEFT_OUT and line.rstrip() not in map(str.rstrip, reply)]
+            yield f"lines of the reply to {command} of {name} that are not written", different, []
+            yield f"whether the reply to {command} of {name} is shown whole and in order", is_shown(lines, reply), True
+    for found in COLUMNS.finditer(text):
+        said = columns(program, (folder / found[1]).read_text(), found[2].split())
+        yield f"the counts of {found[1]} for {found[2]}", found[3].splitlines(), said
+    for name in ("answer.mix", "lesson.mix"):
+        yield f"README.md shows {name}", name in seen, True

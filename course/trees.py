@@ -1,0 +1,75 @@
+"""Facts of the lessons of 2.3.1: the orders of a tree by recursion, and its threads by the order."""
+import random
+
+from counting import times
+from lesson import RUN, Lesson
+
+
+def drawn_tree(n, draw):
+    """A tree of n nodes as a dictionary: of each node its left and its right side, and a letter."""
+    tree = {}
+
+    def grown(names):
+        if not names:
+            return 0
+        node, left = names[0], draw.randrange(len(names))
+        tree[node] = (grown(names[1 : left + 1]), grown(names[left + 1 :]), draw.randrange(1, 56))
+        return node
+
+    return tree, grown(draw.sample(range(1, n + 1), n))
+
+
+def symmetric(tree, node):
+    return symmetric(tree, tree[node][0]) + [node] + symmetric(tree, tree[node][1]) if node else []
+
+
+def preorder(tree, node):
+    return [node] + preorder(tree, tree[node][0]) + preorder(tree, tree[node][1]) if node else []
+
+
+def lines(tree):
+    return ["        CON  %d(1:2),%d(3:4),%d(5:5)" % tree[node] for node in sorted(tree)]
+
+
+def threads(tree, root):
+    """The node that each node without a right side leads to."""
+    order = symmetric(tree, root)
+    return {node: following for node, following in zip(order, [*order[1:], 0]) if not tree[node][1]}
+
+
+def drawn_trees():
+    draw = random.Random(231)
+    chain = {node: (node + 1 if node < 6 else 0, 0, node) for node in range(1, 7)}
+    return [({1: (0, 0, 5)}, 1), (chain, 1)] + [drawn_tree(n, draw) for n in (2, 3, 9, 30, 60)]
+
+
+def tree_stack(run):
+    show = "show values ORDER+1 ORDER+N"
+    for tree, root in drawn_trees():
+        for name, order in (("lesson.mix", symmetric), ("answer.mix", preorder)):
+            ran = run(name, N=len(tree), ROOT=root, data=lines(tree), script=[*RUN, show])
+            yield f"{name}: the letters", ran.numbers(show), [tree[node][2] for node in order(tree, root)]
+            yield from times(ran, N=len(tree))
+
+
+def threaded(tree, root):
+    """The words of a threaded tree: sign and bytes."""
+    leads = threads(tree, root)
+    return [(-1 if node in leads else 1, [*divmod(tree[node][0], 64), *divmod(leads.get(node, tree[node][1]), 64), tree[node][2]]) for node in sorted(tree)]
+
+
+def tree_threads(run):
+    show = "show values ORDER+1 ORDER+N"
+    for tree, root in drawn_trees():
+        data = ["        CON  %d(0:0),%d(1:1),%d(2:2),%d(3:3),%d(4:4),%d(5:5)" % (sign, *word) for sign, word in threaded(tree, root)]
+        ran = run(N=len(tree), ROOT=root, data=data, script=[*RUN, show])
+        yield "the letters by the threads", ran.numbers(show), [tree[node][2] for node in symmetric(tree, root)]
+        yield from times(ran, N=len(tree), A=sum(left > 0 for left, _, _ in tree.values()), B=sum(right > 0 for _, right, _ in tree.values()))
+        ran = run("answer.mix", N=len(tree), ROOT=root, data=lines(tree), script=[*RUN, "show cells TREE+1 TREE+N"])
+        yield "the threads", list(ran.words("show cells TREE+1 TREE+N").values()), threaded(tree, root)
+
+
+LESSONS = [
+    Lesson("18_tree_stack", tree_stack, ("INC3 1", "INC3 2")),
+    Lesson("19_tree_threads", tree_threads, ("JANN LEFT", "JAN  LEFT")),
+]
