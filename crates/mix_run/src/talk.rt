@@ -55,6 +55,48 @@ fn talk_with<R: In, W: Out, E: Out>(
     }
 }
 
+// A talk with the program of a source that is still to be read.
+fn talk_of_source<S: In, D: In, R: In, W: Out, E: Out>(
+    alloc: Global,
+    name: &str,
+    source: &mut S,
+    deck: &mut D,
+    talker: Talker,
+    input: &mut R,
+    out: &mut W,
+    errors: &mut E,
+) -> Result<u8, ToolFault>
+    requires source_count { S.failed source.old < 2 ^ 64 - 1 }
+    requires deck_count { D.failed deck.old < 2 ^ 64 - 1 }
+    requires input_count { R.failed input.old < 2 ^ 64 - 1 }
+    requires out_count { W.failed out.old < 2 ^ 64 - 1 }
+    ensures talks { (s d t : List ℕ) → S.rest source.old ≡ Some s → D.rest deck.old ≡ Some d → R.rest input.old ≡ Some t
+        → TalksWith (assembly s) (deck_of d) talker t result (R.rest input.new) (W.told out.old) (W.told out.new) }
+    ensures long { result ≡ Err ToolFault.Long → (t : List ℕ) → R.rest input.old ≡ Some t → max_script_bytes < length t }
+    ensures read { CountsFailure (result ≡ Err ToolFault.Read) (S.failed source.old + D.failed deck.old + R.failed input.old)
+        (S.failed source.new + D.failed deck.new + R.failed input.new) }
+    ensures write { CountsFailure (result ≡ Err ToolFault.Write) (W.failed out.old) (W.failed out.new) }
+    ensures source { ConsumesAtMost (S.rest source.old) (S.rest source.new) (max_source_bytes + 1) }
+    ensures deck { ConsumesAtMost (D.rest deck.old) (D.rest deck.new) (max_deck_bytes + 1) }
+    ensures ends { IfOk result IsStatus }
+{
+    let text = read_up_to(alloc, source, MAX_SOURCE_BYTES + 1)?;
+    match assemble(alloc, &text) {
+        Err(Refused::Memory) => Err(ToolFault::Memory),
+        Err(Refused::Fault(fault)) => {
+            tell_refusal(alloc, name, &text, fault, errors);
+            refuse_source(alloc, fault, out)
+        }
+        Ok(program) => {
+            let units = match read_units(alloc, deck) {
+                Ok(units) => units,
+                Err(fault) => return Err(fault),
+            };
+            talk_with(alloc, program, units, talker, input, out, errors)
+        }
+    }
+}
+
 /// Assembles a source, reads a deck, and talks with the loaded machine: each line of the input is a command, as a line of a script is, which is done
 /// and answered before the next is read. A person is greeted and prompted on the error output, and has `help` and `quit` beside the commands. The
 /// status is 0 where each command was accepted, 3 where one was refused, and 1 where the source is refused: then its first fault is written, and
@@ -63,6 +105,7 @@ fn talk_with<R: In, W: Out, E: Out>(
 ///
 /// It fails with T1 where memory is refused, with T2 or T3 where a read or a write fails, with T5 where the deck is refused, and with T6 where a line
 /// is over 1,048,576 bytes. After T2 and T6 the replies to the lines before it have been written, after T1 and T3 a beginning of them.
+#[tactic(auto, unfolding(crate::specs::Output::output))]
 pub fn run_talk<S: In, D: In, R: In, W: Out, E: Out>(
     alloc: Global,
     name: &str,
@@ -87,6 +130,9 @@ pub fn run_talk<S: In, D: In, R: In, W: Out, E: Out>(
         → talker ≡ Talker.Program → length t ≤ max_script_bytes → result ≢ Err ToolFault.Read
         → Meets (output s d t) result (W.told out.old) (W.told out.new) }
 
+    // Only a line that is too long is refused for its length.
+    ensures long { result ≡ Err ToolFault.Long → (t : List ℕ) → R.rest input.old ≡ Some t → max_script_bytes < length t }
+
     // A read or a write has failed exactly where that is answered.
     ensures read { CountsFailure (result ≡ Err ToolFault.Read) (S.failed source.old + D.failed deck.old + R.failed input.old)
         (S.failed source.new + D.failed deck.new + R.failed input.new) }
@@ -97,19 +143,5 @@ pub fn run_talk<S: In, D: In, R: In, W: Out, E: Out>(
     ensures deck { ConsumesAtMost (D.rest deck.old) (D.rest deck.new) (max_deck_bytes + 1) }
     ensures ends { IfOk result IsStatus }
 {
-    let text = read_up_to(alloc, source, MAX_SOURCE_BYTES + 1)?;
-    match assemble(alloc, &text) {
-        Err(Refused::Memory) => Err(ToolFault::Memory),
-        Err(Refused::Fault(fault)) => {
-            tell_refusal(alloc, name, &text, fault, errors);
-            refuse_source(alloc, fault, out)
-        }
-        Ok(program) => {
-            let units = match read_units(alloc, deck) {
-                Ok(units) => units,
-                Err(fault) => return Err(fault),
-            };
-            talk_with(alloc, program, units, talker, input, out, errors)
-        }
-    }
+    talk_of_source(alloc, name, source, deck, talker, input, out, errors)
 }
