@@ -1,5 +1,6 @@
 mod CutLemmas
 mod PrintLemmas
+mod PrintOutputLemmas
 mod RunLemmas
 mod TalkLemmas
 mod TalkMeets

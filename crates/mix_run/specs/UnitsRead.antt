@@ -2,16 +2,8 @@
 use Rattle.std.specs.Prelude.{◌≡◌, ⊤, Result, Ok, Err}
 use Rattle.mix_machine.specs.units.Units.{UnitsState}
 use Rattle.mix_machine.specs.declared.units.deck_fault.DeckFault.{DeckFault}
-use Rattle.mix_refused.specs.declared.refused.Refused.{Refused}
-use Rattle.mix_refused.specs.declared.refused.Refused.TheVariants as refusals
 use Rattle.mix_session.specs.declared.fault.ToolFault.{ToolFault}
 use Rattle.mix_session.specs.declared.fault.ToolFault.TheVariants as faults
-
--- the refusal of a deck or of cards as the tool's own
-abbrev pub or_fault : Result UnitsState (Refused DeckFault) → Result UnitsState ToolFault
-or_fault (Ok units) = Ok units
-or_fault (Err refusals.Memory) = Err faults.Memory
-or_fault (Err (refusals.Fault fault)) = Err (faults.Deck fault)
 
 -- what the reading of units may answer: the units, their fault, or that memory is refused or a read failed
 abbrev pub GivesUnits : Result UnitsState DeckFault → Result UnitsState ToolFault → Type 0

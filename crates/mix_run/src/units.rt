@@ -3,9 +3,9 @@ ghost use Rattle.std.specs.Prelude.{◌≡◌, ◌≢◌, ◌<◌, ◌+◌, ◌-
 ghost use Rattle.mix_machine.specs.units.deck.Deck.{deck_of, cards_of, max_deck_bytes};
 ghost use Rattle.mix_stream.specs.Stream.{ConsumesAtMost, CountsFailure};
 ghost use Rattle.mix_run.specs.Output.{IsDeckRefusal};
-ghost use Rattle.mix_run.specs.UnitsRead.{GivesUnits, or_fault};
+ghost use Rattle.mix_run.specs.UnitsRead.{GivesUnits};
 
-use mix_machine::{DeckFault, MAX_DECK_BYTES, Units};
+use mix_machine::{MAX_DECK_BYTES, Units};
 use mix_refused::Refused;
 use mix_session::ToolFault;
 use mix_stream::{In, read_up_to};
@@ -16,7 +16,11 @@ pub(crate) fn units_of(alloc: Global, deck: &[u8]) -> Result<Units, ToolFault>
     ensures units { IfOk result (λ units. deck_of deck.now ≡ Ok units) }
     ensures refused { IfErr result (IsDeckRefusal (deck_of deck.now)) }
 {
-    or_fault(Units::read(alloc, deck))
+    match Units::read(alloc, deck) {
+        Err(Refused::Memory) => Err(ToolFault::Memory),
+        Err(Refused::Fault(fault)) => Err(ToolFault::Deck(fault)),
+        Ok(units) => Ok(units),
+    }
 }
 
 /// The units of a deck that is read up to one byte more than it may have.
@@ -45,14 +49,15 @@ pub(crate) fn read_cards<C: In>(
     ensures only { result ≢ Err ToolFault.Write }
 {
     let text = read_up_to(alloc, cards, MAX_DECK_BYTES + 1)?;
-    or_fault(units.with_cards(alloc, &text))
+    with_cards(alloc, units, &text)
 }
 
-// The fault of a deck or of cards as the tool's own.
-fn or_fault(read: Result<Units, Refused<DeckFault>>) -> Result<Units, ToolFault>
-    ensures { result ≡ or_fault read }
+// Units with the cards of a text, or why there are none.
+fn with_cards(alloc: Global, units: Units, text: &[u8]) -> Result<Units, ToolFault>
+    ensures units { IfOk result (λ us. cards_of units text.now ≡ Ok us) }
+    ensures refused { IfErr result (IsDeckRefusal (cards_of units text.now)) }
 {
-    match read {
+    match units.with_cards(alloc, text) {
         Err(Refused::Memory) => Err(ToolFault::Memory),
         Err(Refused::Fault(fault)) => Err(ToolFault::Deck(fault)),
         Ok(units) => Ok(units),
