@@ -1,5 +1,5 @@
 -- A talk that is not begun, and a talk as a script.
-use Rattle.std.proofs.Common.{◌≡◌, ◌∙◌, ◌<◌, ◌≤◌, ℕ, List, [], ◌∷◌, ◌++◌, length, take, Option, None, Some, Result, Ok, Err, refl, sym, ap, subst, arith}
+use Rattle.std.proofs.Common.{◌≡◌, ◌∙◌, ◌+◌, ◌<◌, ◌≤◌, ℕ, List, [], ◌∷◌, ◌++◌, length, take, Option, None, Some, Result, Ok, Err, refl, sym, ap, subst, arith}
 use Rattle.std.proofs.lemmas.Bool.{le-ltb}
 use Rattle.std.specs.Io.KnownBytes.{Appends, Keeps}
 use Rattle.mix_lines.specs.Lines.{lines}
@@ -12,7 +12,7 @@ use Rattle.mix_machine.specs.declared.units.deck_fault.DeckFault.{DeckFault}
 use Rattle.mix_refused.specs.declared.refused.Refused.{Refused as Refusal}
 use Rattle.mix_refused.specs.declared.refused.Refused.TheVariants as reads
 use Rattle.mix_stream.specs.declared.counted.Failed.{Failed}
-use Rattle.mix_stream.specs.Stream.{AppendsFront}
+use Rattle.mix_stream.specs.Stream.{AppendsFront, CountsFailure}
 use Rattle.mix_session.specs.Session.{SessionState, opened}
 use Rattle.mix_session.specs.Wrapped.{fault_of_read}
 use Rattle.mix_session.specs.declared.reply.Told.{Told}
@@ -51,6 +51,16 @@ TalksWith-no_units p units talker t faults.Long left told e given = absurd given
 TalksWith-no_units p units talker t (faults.Deck fault) left told e given =
     subst (λ u. TalksWith (Ok p) u talker t (Err (faults.Deck fault)) left told told) (sym given) (refl, Keeps-same told)
 
+pub not-long : (units : Result UnitsState DeckFault) (fault : ToolFault) → GivesUnits units (Err fault) → fault ≡ faults.Long → ⊥
+not-long units fault given e = let there : GivesUnits units (Err faults.Long) = subst (λ f. GivesUnits units (Err f)) e given in there
+
+-- two readers have failed no more, and a third one as it is answered
+pub counts-after : (P : Type 0) (a b c d old new : ℕ) → b ≡ a → d ≡ c → CountsFailure P old new → CountsFailure P (a + c + old) (b + d + new)
+counts-after P a b c d old new e f counts = (
+  (λ p. let one = counts.0.0 p in omega (arith, e, f, one), λ one. counts.0.1 (omega (arith, e, f, one))),
+  λ no. let same = counts.1 no in omega (arith, e, f, same),
+)
+
 -- the source is what was read of it
 source-is : (s read : List ℕ) (program : Result ProgramValue AsmFault) → read ≡ take 1048577 s → assembly read ≡ program → assembly s ≡ program
 source-is s read program e is = sym (assembly-take s) ∙ sym (ap assembly e) ∙ is
@@ -75,7 +85,7 @@ asked-all (line ∷ rest) = ap (λ l. line ∷ l) (asked-all rest)
 script-said : (s : SessionState) (t : List ℕ) → length t ≤ max_script_bytes
     → outcome_of_script s t ≡ Ended (answers s Program (lines t)).bytes (status_of (answers s Program (lines t)).told)
 unfolding outcome_of_script
-script-said s t le = rw (le-ltb (length t) max_script_bytes le, asked-all (lines t)) refl
+script-said s t le = rw (le-ltb max_script_bytes (length t) le, asked-all (lines t)) refl
 
 module _ (s : SessionState) (t : List ℕ) (le : length t ≤ max_script_bytes) (left old new : Option (List ℕ)) where
   -- the bytes and the status of the talk are those of the script

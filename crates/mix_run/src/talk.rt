@@ -72,7 +72,7 @@ fn talk_of_source<S: In, D: In, R: In, W: Out, E: Out>(
     requires out_count { W.failed out.old < 2 ^ 64 - 1 }
     ensures talks { (s d t : List ℕ) → S.rest source.old ≡ Some s → D.rest deck.old ≡ Some d → R.rest input.old ≡ Some t
         → TalksWith (assembly s) (deck_of d) talker t result (R.rest input.new) (W.told out.old) (W.told out.new) }
-    ensures long { result ≡ Err ToolFault.Long → (t : List ℕ) → R.rest input.old ≡ Some t → max_script_bytes < length t }
+    ensures long { result ≡ Err ToolFault.Long → (d t : List ℕ) → D.rest deck.old ≡ Some d → R.rest input.old ≡ Some t → max_script_bytes < length t }
     ensures read { CountsFailure (result ≡ Err ToolFault.Read) (S.failed source.old + D.failed deck.old + R.failed input.old)
         (S.failed source.new + D.failed deck.new + R.failed input.new) }
     ensures write { CountsFailure (result ≡ Err ToolFault.Write) (W.failed out.old) (W.failed out.new) }
@@ -131,7 +131,7 @@ pub fn run_talk<S: In, D: In, R: In, W: Out, E: Out>(
         → Meets (output s d t) result (W.told out.old) (W.told out.new) }
 
     // Only a line that is too long is refused for its length.
-    ensures long { result ≡ Err ToolFault.Long → (t : List ℕ) → R.rest input.old ≡ Some t → max_script_bytes < length t }
+    ensures long { result ≡ Err ToolFault.Long → (d t : List ℕ) → D.rest deck.old ≡ Some d → R.rest input.old ≡ Some t → max_script_bytes < length t }
 
     // A read or a write has failed exactly where that is answered.
     ensures read { CountsFailure (result ≡ Err ToolFault.Read) (S.failed source.old + D.failed deck.old + R.failed input.old)
