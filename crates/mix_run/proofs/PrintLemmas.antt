@@ -44,14 +44,18 @@ pub run-ended : (units : UnitSet) (steps rest : ℕ) (w next : WorldState) (end 
     (end ≡ whole.end) × (next ≡ whole.world) × Appends a c whole.bytes
 run-ended units steps rest w next Halted a b c whole e so_far ends stands step =
     let run = run-halted units steps rest w next e step.0 step.1 in
-    let bytes = ap (λ r. r.bytes) run ∙ append-nil (printed_between units w next) in
-    (sym (ap (λ r. r.end) run) ∙ ends, sym (ap (λ r. r.world) run) ∙ stands,
-      Appends-same a c _ whole.bytes (sym (so_far.2 ∙ ap (λ t. so_far.0 ++ t) bytes)) (Appends-then a b c so_far.0 _ so_far.1 step.2))
+    let bytes = ap (λ r. r.bytes) run ∙ append-nil (printed_between units w next) in (
+      sym (ap (λ r. r.end) run) ∙ ends,
+      sym (ap (λ r. r.world) run) ∙ stands,
+      Appends-same a c _ whole.bytes (sym (so_far.2 ∙ ap (λ t. so_far.0 ++ t) bytes)) (Appends-then a b c so_far.0 _ so_far.1 step.2),
+    )
 run-ended units steps rest w next (Faulted fault) a b c whole e so_far ends stands step =
     let run = run-faulted units steps rest w fault e step.0 in
-    let bytes = ap (λ r. r.bytes) run in
-    (sym (ap (λ r. r.end) run) ∙ ends, step.1 ∙ sym (ap (λ r. r.world) run) ∙ stands,
-      Appends-same a c _ whole.bytes (sym (so_far.2 ∙ ap (λ t. so_far.0 ++ t) bytes)) (Appends-then a b c so_far.0 _ so_far.1 step.2))
+    let bytes = ap (λ r. r.bytes) run in (
+      sym (ap (λ r. r.end) run) ∙ ends,
+      step.1 ∙ sym (ap (λ r. r.world) run) ∙ stands,
+      Appends-same a c _ whole.bytes (sym (so_far.2 ∙ ap (λ t. so_far.0 ++ t) bytes)) (Appends-then a b c so_far.0 _ so_far.1 step.2),
+    )
 run-ended units steps rest w next UsedUp a b c whole e so_far ends stands step = absurd step
 
 begins : (units : UnitSet) (w : WorldState) (done : Result WorldState MixFault) (halts : Bool) (rest : WorldState → Run) → is_halt_next w ≡ halts →

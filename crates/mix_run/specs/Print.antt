@@ -40,7 +40,7 @@ printed_by asked before after n = printed_from asked (length (unit_at before n).
 abbrev pub printed_between : UnitSet → WorldState → WorldState → List ℕ
 printed_between units before after =
     printed_by units.card_punch before after 17 ++ (printed_by units.printer before after 18
-        ++ (printed_by units.typewriter before after 19 ++ printed_by units.paper_tape before after 20))
+    ++ (printed_by units.typewriter before after 19 ++ printed_by units.paper_tape before after 20))
 
 -- what a run prints, how it ends, and the machine then
 pub record Run : Type 0 where

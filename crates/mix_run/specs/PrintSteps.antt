@@ -22,7 +22,7 @@ pub record HasCounts (w : WorldState) (counts : RowCounts) : Type 0 where
 abbrev pub printed_after : UnitSet → RowCounts → WorldState → List ℕ
 printed_after units counts w =
     printed_from units.card_punch counts.card_punch (unit_at w 17) ++ (printed_from units.printer counts.printer (unit_at w 18)
-        ++ (printed_from units.typewriter counts.typewriter (unit_at w 19) ++ printed_from units.paper_tape counts.paper_tape (unit_at w 20)))
+    ++ (printed_from units.typewriter counts.typewriter (unit_at w 19) ++ printed_from units.paper_tape counts.paper_tape (unit_at w 20)))
 
 abbrev pub bytes_to : UnitSet → WorldState → Result WorldState MixFault → List ℕ
 bytes_to units w (Ok next) = printed_between units w next

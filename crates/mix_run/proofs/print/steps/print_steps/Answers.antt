@@ -32,7 +32,7 @@ pub returns-in-Some-clause-begun : goal.returns-in-Some-clause-begun
 returns-in-Some-clause-begun g c =
     let more : c.loop-left.left ≡ suc (c.loop-left.left - 1) = omega (arith, c.loop-left-test.true) in
     let ended = run-ended c.args.units c.loop-left.left (c.loop-left.left - 1) c.loop-left.world c.print_step.new.world _ _ _ _ (printed c.args.units c.args.steps c.args.world.now) more
-        c.loop-left.invariant.written c.loop-left.invariant.end c.loop-left.invariant.world (rw c.in-Some.is at c.in_ok-print_step.ensures.printed) in
+    c.loop-left.invariant.written c.loop-left.invariant.end c.loop-left.invariant.world (rw c.in-Some.is at c.in_ok-print_step.ensures.printed) in
     AppendsFront-all _ _ _ ended.2
 
 pub returns-clause-begun : goal.returns-clause-begun
