@@ -1,5 +1,5 @@
 -- What a run answers is the outcome: its parts, one after the other.
-use Rattle.std.proofs.Common.{◌≡◌, ◌≤◌, ℕ, Bool, true, false, List, Option, None, Some, Result, Ok, Err, refl, sym, ap, ◌∙◌, take, arith}
+use Rattle.std.proofs.Common.{◌≡◌, ℕ, Bool, true, false, List, Option, Result, Ok, Err, refl, sym, ap, ◌∙◌, take, arith}
 use Rattle.mixal_asm.specs.Assembly.{assembly}
 use Rattle.mixal_asm.specs.Program.{ProgramValue}
 use Rattle.mixal_asm.specs.declared.fault.AsmFault.{AsmFault}

@@ -9,7 +9,7 @@ pub returns-in_err-units-clause-output : goal.returns-in_err-units-clause-output
 returns-in_err-units-clause-output g c d t hd ht =
     let p = err_from_is_err_and c.from_residual.result c.from_residual.ensures.1 in
     rw (p.1, p.2) (Prints-no_units c.args.options c.args.program.now (with_cards (deck_of d) c.args.options.cards t) _ (g.W.Out.told c.args.out.now)
-        (c.in_err-units.ensures.units d t hd ht))
+    (c.in_err-units.ensures.units d t hd ht))
 
 pub returns-clause-output : goal.returns-clause-output
 returns-clause-output g c d t hd ht =

@@ -1,8 +1,7 @@
 -- The outcome looks at the deck by its units alone.
-use Rattle.std.proofs.Common.{◌∙◌, Ok}
 use Rattle.std.proofs.lemmas.Result.{err_from_is_err_and}
 use Rattle.mix_machine.specs.units.deck.Deck.{deck_of}
-use Rattle.mix_run.proofs.RunLemmas.{Meets-no_units, Meets-units, ConsumesAtMost-none}
+use Rattle.mix_run.proofs.RunLemmas.{Meets-no_units, Meets-units}
 use Rattle.mix_run.proofs.run.run_program.Goals as goal
 
 pub returns-in_err-units-clause-output : goal.returns-in_err-units-clause-output

@@ -1,4 +1,4 @@
-use Rattle.std.proofs.Common.{◌≡◌, ◌≤◌, ◌++◌, ◌-◌, List, ℕ, drop, flat_map, length}
+use Rattle.std.proofs.Common.{◌≡◌, ◌++◌, ◌-◌, List, ℕ, drop, flat_map, length}
 use Rattle.std.specs.Io.KnownBytes.{Appends}
 use Rattle.mix_run.specs.Print.{printed_row}
 use Rattle.mix_run.proofs.print.steps.print_from.Given as goal

@@ -1,5 +1,4 @@
 -- One unit after the other.
-use Rattle.std.proofs.Common.{◌++◌}
 use Rattle.mix_run.proofs.PrintLemmas.{begun-front, begun-later}
 use Rattle.mix_run.proofs.Written.{Appends-then, AppendsFront-all}
 use Rattle.mix_run.proofs.print.steps.print_rows.Goals as goal

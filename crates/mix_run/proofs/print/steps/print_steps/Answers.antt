@@ -1,5 +1,5 @@
 -- One step more.
-use Rattle.std.proofs.Common.{◌≡◌, ◌-◌, ◌∙◌, ◌<◌, suc, sym, ap, arith}
+use Rattle.std.proofs.Common.{◌≡◌, ◌-◌, ◌∙◌, suc, sym, ap, arith}
 use Rattle.mix_run.specs.Print.{printed, printed_between}
 use Rattle.mix_run.proofs.PrintLemmas.{run-none, run-on, run-ended, begun-in_step, written-more, written-all}
 use Rattle.mix_run.proofs.Written.{AppendsFront-all}
