@@ -1,5 +1,5 @@
 -- The number that a text writes, as std reads it.
-use Rattle.std.proofs.Common.{◌≡◌, ◌&&◌, ◌^◌, ◌<◌, ℕ, Bool, true, false, refl, List, [], ◌∷◌, length, Option, None, Some, map, Bor}
+use Rattle.std.proofs.Common.{◌≡◌, ◌&&◌, ◌^◌, ◌<◌, ℕ, Bool, true, false, refl, List, [], ◌∷◌, length, None, Some, map, Bor}
 use Rattle.std.specs.List.{list_all, list_any}
 use Rattle.std.specs.Prelude.{nat_lt}
 use Rattle.std.specs.Char.{digit_value}

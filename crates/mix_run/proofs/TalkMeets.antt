@@ -71,6 +71,12 @@ pub TalksWith-source : (s read : List ℕ) (program : Result ProgramValue AsmFau
 TalksWith-source s read program units talker t result left old new e is talks =
     subst (λ p. TalksWith p units talker t result left old new) (sym (source-is s read program e is)) talks
 
+pub TalksWith-refused : (s read : List ℕ) (fault : AsmFault) (units : Result UnitsState DeckFault) (talker : Talker) (t : List ℕ)
+    (result : Result ℕ ToolFault) (left old new : Option (List ℕ)) → read ≡ take 1048577 s → assembly read ≡ Err fault
+    → Meets (Ended (asm_fault_line fault ++ 10 ∷ []) 1) result old new → TalksWith (assembly s) units talker t result left old new
+TalksWith-refused s read fault units talker t result left old new e is met =
+    TalksWith-source s read (Err fault) units talker t result left old new e is met
+
 pub TalksWith-units : (p : ProgramValue) (units : Result UnitsState DeckFault) (some : UnitsState) (talker : Talker) (t : List ℕ)
     (result : Result ℕ ToolFault) (left old new : Option (List ℕ)) → units ≡ Ok some → TalksWith (Ok p) (Ok some) talker t result left old new
     → TalksWith (Ok p) units talker t result left old new

@@ -208,7 +208,7 @@ pub fn run_printed<S: In, D: In, C: In, W: Out, E: Out>(
     match assemble(alloc, &text) {
         Err(Refused::Memory) => Err(ToolFault::Memory),
         Err(Refused::Fault(fault)) => {
-            tell_refusal(alloc, name, &text, fault, errors);
+            tell_refusal(alloc, name, &text, &fault, errors);
             Ok(PrintAnswer::Refused(fault))
         }
         Ok(program) => print_program(alloc, &program, deck, cards, options, out),

@@ -39,7 +39,7 @@ pub(crate) fn tell_refusal<E: Out>(
     alloc: Global,
     name: &str,
     source: &[u8],
-    fault: AsmFault,
+    fault: &AsmFault,
     errors: &mut E,
 ) {
     if errors.failures() == 0 {
@@ -53,7 +53,7 @@ pub(crate) fn tell_refusal<E: Out>(
 }
 
 // `prog.mix:3: A2 no such operation`, the line, and the mark.
-fn report(alloc: Global, name: &str, source: &[u8], fault: AsmFault) -> Result<Vec<u8>, Memory> {
+fn report(alloc: Global, name: &str, source: &[u8], fault: &AsmFault) -> Result<Vec<u8>, Memory> {
     let head = format!(in alloc; "{name}:{}: {}\n", fault.line, fault.kind)?;
     let mut text = head.into_bytes();
     match line_of(source, fault.line) {

@@ -1,9 +1,11 @@
 //! A talk with the program of a source: each line is a command, which is done and answered before the next is read.
 
-ghost use Rattle.std.specs.Prelude.{◌≡◌, ◌≢◌, ◌<◌, ◌≤◌, ◌+◌, ◌-◌, ◌^◌, ℕ, List, Some, Ok, Err, IfOk, length};
+ghost use Rattle.std.specs.Prelude.{◌≡◌, ◌≢◌, ◌<◌, ◌≤◌, ◌+◌, ◌-◌, ◌^◌, ◌++◌, ◌∷◌, [], ℕ, List, Some, Ok, Err, IfErr, IfOk, length};
 ghost use Rattle.mixal_asm.specs.Assembly.{assembly, max_source_bytes};
 ghost use Rattle.mix_machine.specs.units.deck.Deck.{deck_of, max_deck_bytes};
-ghost use Rattle.mix_run.specs.Output.{IsStatus, Meets, max_script_bytes, output};
+ghost use Rattle.mixal_asm.specs.Fault.{asm_fault_line};
+ghost use Rattle.mix_session.specs.Session.{IsMemoryOrWrite};
+ghost use Rattle.mix_run.specs.Output.{Ended, IsStatus, Meets, max_script_bytes, output};
 ghost use Rattle.mix_run.specs.Talk.{TalksWith};
 ghost use Rattle.mix_stream.specs.Stream.{ConsumesAtMost, CountsFailure};
 
@@ -21,7 +23,7 @@ use mix_machine::Units;
 use mix_refused::{Memory, Refused};
 use mix_session::{Session, ToolFault};
 use mix_stream::{In, Out, read_up_to};
-use mixal_asm::{MAX_SOURCE_BYTES, Program, assemble};
+use mixal_asm::{AsmFault, MAX_SOURCE_BYTES, Program, assemble};
 use std::alloc::Global;
 
 // A talk on the machine that a program loads, with its units.
@@ -55,6 +57,25 @@ fn talk_with<R: In, W: Out, E: Out>(
     }
 }
 
+// The first fault of a source is written, and told beside with its line and a mark.
+fn refuse_and_tell<W: Out, E: Out>(
+    alloc: Global,
+    name: &str,
+    source: &[u8],
+    fault: AsmFault,
+    out: &mut W,
+    errors: &mut E,
+) -> Result<u8, ToolFault>
+    requires { W.failed out.old < 2 ^ 64 - 1 }
+    ensures output { Meets (Ended (asm_fault_line fault ++ 10 ∷ []) 1) result (W.told out.old) (W.told out.new) }
+    ensures write { CountsFailure (result ≡ Err ToolFault.Write) (W.failed out.old) (W.failed out.new) }
+    ensures only { IfErr result IsMemoryOrWrite }
+    ensures ends { IfOk result IsStatus }
+{
+    tell_refusal(alloc, name, source, &fault, errors);
+    refuse_source(alloc, fault, out)
+}
+
 // A talk with the program of a source that is still to be read.
 fn talk_of_source<S: In, D: In, R: In, W: Out, E: Out>(
     alloc: Global,
@@ -83,10 +104,7 @@ fn talk_of_source<S: In, D: In, R: In, W: Out, E: Out>(
     let text = read_up_to(alloc, source, MAX_SOURCE_BYTES + 1)?;
     match assemble(alloc, &text) {
         Err(Refused::Memory) => Err(ToolFault::Memory),
-        Err(Refused::Fault(fault)) => {
-            tell_refusal(alloc, name, &text, fault, errors);
-            refuse_source(alloc, fault, out)
-        }
+        Err(Refused::Fault(fault)) => refuse_and_tell(alloc, name, &text, fault, out, errors),
         Ok(program) => {
             let units = match read_units(alloc, deck) {
                 Ok(units) => units,

@@ -61,7 +61,7 @@ fn is_told(alloc: Global, source: &str, told: &str) -> bool {
     let mut errors = Sink::of(4096, 0);
     match assemble(alloc, source.as_bytes()) {
         Err(Refused::Fault(fault)) => {
-            tell_refusal(alloc, "f", source.as_bytes(), fault, &mut errors);
+            tell_refusal(alloc, "f", source.as_bytes(), &fault, &mut errors);
             errors.bytes() == told.as_bytes()
         }
         _ => false,

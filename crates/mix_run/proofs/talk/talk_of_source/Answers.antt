@@ -6,7 +6,7 @@ use Rattle.mix_refused.specs.declared.refused.Refused.TheVariants as reads
 use Rattle.mixal_asm.specs.Assembly.{assembly}
 use Rattle.mix_machine.specs.units.deck.Deck.{deck_of}
 use Rattle.mix_run.proofs.RunLemmas.{ConsumesAtMost-none}
-use Rattle.mix_run.proofs.TalkMeets.{TalksWith-no_units, TalksWith-source, TalksWith-units, TalksWith-unread, counts-after, not-long}
+use Rattle.mix_run.proofs.TalkMeets.{TalksWith-no_units, TalksWith-refused, TalksWith-source, TalksWith-units, TalksWith-unread, counts-after, not-long}
 use Rattle.mix_run.proofs.talk.talk_of_source.Goals as goal
 
 pub returns-in_err-text-clause-talks : goal.returns-in_err-text-clause-talks
@@ -22,8 +22,8 @@ returns-in-Err-Memory-clause-deck g c = ConsumesAtMost-none _ _
 
 pub returns-in-Err-Fault-clause-talks : goal.returns-in-Err-Fault-clause-talks
 returns-in-Err-Fault-clause-talks g c s d t hs hd ht =
-    TalksWith-source s _ (Err c.in-Err-Fault.fault) (deck_of d) c.args.talker t _ _ _ _ (c.deref.ensures.value ∙ (c.in_ok-text.ensures.whole s hs).0)
-    (rw c.in-Err-Fault.field-0-is at c.in-Err-Fault.ensures.fault) c.refuse_source.ensures.output
+    TalksWith-refused s _ c.in-Err-Fault.fault (deck_of d) c.args.talker t _ _ _ _ (c.deref.ensures.value ∙ (c.in_ok-text.ensures.whole s hs).0)
+    (rw c.in-Err-Fault.field-0-is at c.in-Err-Fault.ensures.fault) (rw c.in-Err-Fault.field-0-is at c.refuse_and_tell.ensures.output)
 
 pub returns-in-Err-Fault-clause-deck : goal.returns-in-Err-Fault-clause-deck
 returns-in-Err-Fault-clause-deck g c = ConsumesAtMost-none _ _
