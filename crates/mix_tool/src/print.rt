@@ -170,8 +170,13 @@ pub(crate) fn run_opened<F: Read + Drop, W: Out, E: Out>(
     ensures range { result ≤ 3 }
     ensures written { result ≢ 2 → W.failed out.new ≡ W.failed out.old }
 {
-    let mut source = files.source;
-    match files.deck {
+    let RunFiles {
+        source,
+        deck,
+        cards,
+    } = files;
+    let mut source = source;
+    match deck {
         Some(deck) => {
             let mut deck = deck;
             run_with_cards(
@@ -179,7 +184,7 @@ pub(crate) fn run_opened<F: Read + Drop, W: Out, E: Out>(
                 name,
                 &mut source,
                 &mut deck,
-                files.cards,
+                cards,
                 steps,
                 units,
                 out,
@@ -193,7 +198,7 @@ pub(crate) fn run_opened<F: Read + Drop, W: Out, E: Out>(
                 name,
                 &mut source,
                 &mut deck,
-                files.cards,
+                cards,
                 steps,
                 units,
                 out,
