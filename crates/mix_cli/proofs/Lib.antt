@@ -1,3 +1,4 @@
 mod Filled
 mod Lines
+mod Numbers
 mod Required

@@ -1,39 +1,73 @@
 -- What the words of a command line ask for.
-use Rattle.std.specs.Prelude.{List, [], length, nat_le, if◌then◌else◌, Option, Some, None, option_and_then, option_map, codes, string_bytes}
+use Rattle.std.specs.Prelude.{ℕ, ◌^◌, ◌==◌, ◌&&◌, Bool, true, false, List, [], length, nat_le, nat_lt, if◌then◌else◌, Option, Some, None, option_and_then, option_map, unwrap_or, codes, string_bytes}
+use Rattle.std.specs.List.{list_all, list_any}
+use Rattle.std.specs.Option.{option_map_or}
+use Rattle.std.specs.Char.{digit_value}
 use Rattle.std.specs.Str.{bytes_eq}
-use Rattle.clap.specs.Words.{Kinds, Row, Text, fault_of, first_of, subcommand_of}
+use Rattle.std.specs.Str.Parse.{digits_value, without_leading_plus}
+use Rattle.clap.specs.Words.{Kinds, Row, Text, all_of, fault_of, first_of, subcommand_of}
 use Rattle.mix_cli.specs.Program.{mixrev}
 use Rattle.mix_cli.specs.declared.words.Plan.{Plan}
 use Rattle.mix_cli.specs.declared.words.Plan.TheVariants as plan
+use Rattle.mix_cli.specs.declared.words.Printing.{Printing}
 
--- a bundle, a listing of a source, or a session of a source, a script and, where it is named, a deck
+-- a bundle; a listing of a source; a session of a source, of a script where it is named, and of a deck where it is named; a run of a source, of
+-- cards and a deck where they are named, of so many steps at most and of what is printed
 pub data Planned : Type 0 where
   bundle : Planned
   lists : Text → Planned
-  debugs : Text → Text → Option Text → Planned
+  debugs : Text → Option Text → Option Text → Planned
+  runs : Text → Option Text → Option Text → ℕ → Printing → Planned
 
 abbrev pub planned_of : Plan → Planned
 planned_of plan.Bundle = bundle
 planned_of (plan.List source) = lists (string_bytes source)
-planned_of (plan.Debug source script devices) = debugs (string_bytes source) (string_bytes script) (option_map string_bytes devices)
+planned_of (plan.Debug source script devices) = debugs (string_bytes source) (option_map string_bytes script) (option_map string_bytes devices)
+planned_of (plan.Run source cards devices steps printing) =
+    runs (string_bytes source) (option_map string_bytes cards) (option_map string_bytes devices) steps printing
+
+-- the number that a text writes in decimal digits, where it is below 2^64
+abbrev pub number_of : Text → Option ℕ
+number_of text =
+    let digits = without_leading_plus text in
+    if nat_lt 0 (length digits) && list_all (λ d. nat_lt (digit_value d) 10) digits && nat_lt (digits_value 10 digits) (2 ^ 64)
+    then Some (digits_value 10 digits) else None
+
+-- so many steps are done at most, 10^9 where no number is given
+abbrev pub steps_of : List Row → ℕ
+steps_of rows = unwrap_or (option_and_then number_of (first_of (codes "steps") rows)) 1000000000
+
+-- whether a text is the number of a unit
+abbrev pub names_unit : ℕ → Text → Bool
+names_unit unit text = option_map_or (λ n. n == unit) (number_of text) false
+
+-- whether a unit is to be printed: each is where none is named
+abbrev pub prints : List Row → ℕ → Bool
+prints rows unit = option_map_or (λ texts. list_any (names_unit unit) texts) (all_of (codes "unit") rows) true
+
+abbrev pub printing_of : List Row → Printing
+printing_of rows = record { punch = prints rows 17; printer = prints rows 18; typewriter = prints rows 19; tape = prints rows 20 }
 
 -- of the words after `list`
 abbrev pub list_planned : List Row → Option Planned
 list_planned rows = option_map lists (first_of (codes "SOURCE") rows)
 
-abbrev pub session_of : Option Text → Option Text → Option Text → Option Planned
-session_of (Some source) (Some script) devices = Some (debugs source script devices)
-session_of _ _ devices = None
-
 -- of the words after `debug`
 abbrev pub debug_planned : List Row → Option Planned
-debug_planned rows = session_of (first_of (codes "SOURCE") rows) (first_of (codes "SCRIPT") rows) (first_of (codes "devices") rows)
+debug_planned rows = option_map (λ source. debugs source (first_of (codes "SCRIPT") rows) (first_of (codes "devices") rows)) (first_of (codes "SOURCE") rows)
+
+-- of the words after `run`
+abbrev pub run_planned : List Row → Option Planned
+run_planned rows =
+    option_map (λ source. runs source (first_of (codes "cards") rows) (first_of (codes "devices") rows) (steps_of rows) (printing_of rows))
+    (first_of (codes "SOURCE") rows)
 
 -- of the words after the name of a subcommand, as clap finds them
 abbrev pub subcommand_planned : Text × List Row → Option Planned
 subcommand_planned found =
-    if bytes_eq found.0 (codes "list") then list_planned found.1
-    else (if bytes_eq found.0 (codes "debug") then debug_planned found.1 else None)
+    if bytes_eq found.0 (codes "run") then run_planned found.1 else
+    if bytes_eq found.0 (codes "debug") then debug_planned found.1 else
+    if bytes_eq found.0 (codes "list") then list_planned found.1 else None
 
 -- a bundle where no word stands after the program's name, and else what clap's own definitions make of the words
 abbrev pub planned : List Text → Option Planned

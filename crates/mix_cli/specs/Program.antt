@@ -1,27 +1,62 @@
--- The words that the program takes, as clap reads them: `list SOURCE`, and `debug SOURCE SCRIPT` with the option `--devices FILE`.
-use Rattle.std.specs.Prelude.{true, Some, codes}
+-- The words that the program takes, as clap reads them: `list SOURCE`; `debug SOURCE SCRIPT`, of which SCRIPT may be left out, with the option
+-- `--devices FILE`; and `run SOURCE` with options of its own.
+use Rattle.std.specs.Prelude.{ℕ, true, Some, codes}
 use Rattle.clap.specs.Words.{App, Rule, Text, new_app, new_rule, with_rule, with_subcommand}
 use Rattle.clap.specs.Simple.{on_top}
+use Rattle.clap.specs.declared.builder.action.ArgAction.TheVariants.{Append}
+use Rattle.clap.specs.declared.builder.value_parser.ValueParser.TheVariants.{Unsigned}
+
+-- how many steps a run may be allowed: a step takes 1u at least, and the clock goes to 10^18
+abbrev pub most_steps : ℕ
+most_steps = 1000000000000000000
 
 -- a word that has to be there, in its place
 abbrev pub required_word : Text → Rule
 required_word id = record (new_rule id) { required = true }
 
--- `--devices FILE`, which may be left out
+-- an option with one value, which may be left out, as `--devices FILE`
+abbrev pub option_named : Text → Rule
+option_named name = record (new_rule name) { long = Some name; value_names = 1 }
+
 abbrev pub devices_option : Rule
-devices_option = record (new_rule (codes "devices")) { long = Some (codes "devices"); value_names = 1 }
+devices_option = option_named (codes "devices")
+
+abbrev pub cards_option : Rule
+cards_option = option_named (codes "cards")
+
+-- `--steps N`, a number from 1 on
+abbrev pub steps_option : Rule
+steps_option = record (option_named (codes "steps")) { parser = Some (Unsigned 1 most_steps) }
+
+-- `--unit N`, 17 to 20, as often as one likes
+abbrev pub unit_option : Rule
+unit_option = record (option_named (codes "unit")) { action = Some Append; parser = Some (Unsigned 17 20) }
+
+-- a subcommand whose first word is the source
+abbrev pub of_source : Text → App
+of_source name = with_rule (new_app name) (required_word (codes "SOURCE"))
 
 abbrev pub list_app : App
-list_app = with_rule (new_app (codes "list")) (required_word (codes "SOURCE"))
+list_app = of_source (codes "list")
 
+-- without a script it is a talk
 abbrev pub debug_app : App
-debug_app =
-    with_rule (with_rule (with_rule (new_app (codes "debug")) (required_word (codes "SOURCE")))
-    (required_word (codes "SCRIPT"))) devices_option
+debug_app = with_rule (with_rule (of_source (codes "debug")) (new_rule (codes "SCRIPT"))) devices_option
+
+-- what goes in, and what is asked of the run
+abbrev pub run_inputs : App
+run_inputs = with_rule (with_rule (of_source (codes "run")) cards_option) devices_option
+
+abbrev pub run_app : App
+run_app = with_rule (with_rule run_inputs steps_option) unit_option
 
 -- a subcommand has to be there, and `help` is none
 abbrev pub bare_app : App
 bare_app = on_top (λ s. record s { subcommand_required = true; disable_help_subcommand = true }) (new_app (codes "mixrev"))
 
+-- the subcommands `run` and `debug`, and then all three
+abbrev pub with_sources : App
+with_sources = with_subcommand (with_subcommand bare_app run_app.top) debug_app.top
+
 abbrev pub mixrev : App
-mixrev = with_subcommand (with_subcommand bare_app list_app.top) debug_app.top
+mixrev = with_subcommand with_sources list_app.top

@@ -6,7 +6,7 @@ mod program;
 mod words;
 
 pub use fault::{FAILED, LineFault, line_status};
-pub use words::{Plan, read_words};
+pub use words::{Plan, Printing, read_words};
 
 #[cfg(test)]
 mod tests;

@@ -1,11 +1,15 @@
 //! The words that the program takes, and the help on them.
 
-ghost use Rattle.std.specs.Prelude.{◌≡◌, IfOk, codes, false};
-ghost use Rattle.clap.specs.Words.{app_of, new_app, rule_of, with_rule, with_subcommand};
-ghost use Rattle.mix_cli.specs.Program.{bare_app, debug_app, devices_option, list_app, mixrev, required_word};
+ghost use Rattle.std.specs.Prelude.{◌≡◌, IfOk, codes, false, true};
+ghost use Rattle.clap.specs.Words.{app_of, new_rule, rule_of, with_rule, with_subcommand};
+ghost use Rattle.mix_cli.specs.Program.{bare_app, cards_option, debug_app, devices_option, list_app, mixrev, of_source, option_named, required_word, run_app, run_inputs, steps_option, unit_option, with_sources};
 
-use clap::{Arg, Command};
+use clap::builder::ValueParser;
+use clap::{Arg, ArgAction, Command};
 use std::alloc::{AllocError, Global};
+
+/// How many steps a run may be allowed.
+const MOST_STEPS: u64 = 1_000_000_000_000_000_000;
 
 const ABOUT: &str = "Knuth's MIX computer, its assembler MIXAL, and a debugger that runs backwards";
 
@@ -17,13 +21,22 @@ Without any word, mixrev reads a bundle from standard input: the source; after a
 %SCRIPT a script. The deck and the script may be left out.
 
 Examples:
-  mixrev list primes.mix
-  mixrev debug primes.mix session.txt
+  mixrev run primes.mix
+  mixrev debug primes.mix
   mixrev debug primes.mix session.txt --devices tapes.deck
+  mixrev list primes.mix
 
-The status is 0 where all is accepted, 1 where the source is refused, and 3 where a command is refused or a step meets a fault.
-It is 2 where nothing could be run to its end: a mistake in the words, a file that cannot be opened or read, a deck that is
-refused, a text that is too long, an output that takes no more, or no memory.";
+The status is 0 where all is accepted, 1 where the source is refused, and 3 where a command is refused, a step meets a fault or
+the steps of a run are used up. It is 2 where nothing could be run to its end: a mistake in the words, a file that cannot be
+opened or read, a deck that is refused, a text that is too long, an output that takes no more, or no memory.";
+
+const MORE_ON_RUN: &str = "\
+The program runs to its halt, and what it prints is written as it is printed: the rows of the card punch, the printer, the
+typewriter and the paper tape in the order of their writing, without the blanks at their ends, and a page mark as a form feed.
+Where a step meets a fault, or the steps are used up, one line on standard error says where. Nothing is kept to go back.
+
+Example:
+  mixrev run primes.mix --unit 18";
 
 const MORE_ON_LIST: &str = "\
 A source is a text file with a program in the language MIXAL, which ends in a line END. The listing has each line with its
@@ -33,12 +46,14 @@ Example:
   mixrev list primes.mix";
 
 const MORE_ON_DEBUG: &str = "\
-A source is a text file with a program in the language MIXAL, which ends in a line END. A script is a text file of
-commands, one a line: step N and run N go on, trace N tells each step, back N takes changes back, forth N does them again,
-goto N goes to the state after the first N, set, break and clear change the machine, and show tells its state, the last
-changes, what differs and how often each instruction was executed. With until A, until cell 100 and the like run N, back
-and forth stop where that is altered. A deck is a text file with what stands on tapes, disks and cards before the program
-runs: a line %UNIT 0, say, and its blocks after it.
+Without a script it is a talk: each line of standard input is a command, which is done and answered before the next is read. At
+a terminal, help tells of the commands, and quit ends the talk, as the end of the input does.
+
+A script is a text file of commands, one a line: step N and run N go on, trace N tells each step, back N takes changes back,
+forth N does them again, goto N goes to the state after the first N, set, break and clear change the machine, and show tells
+its state, the last changes, what differs and how often each instruction was executed. With until A, until cell 100 and the
+like run N, back and forth stop where that is altered. A deck is a text file with what stands on tapes, disks and cards before
+the program runs: a line %UNIT 0, say, and its blocks after it.
 
 Example: with the two lines `run 1000` and `show regs` in the file session.txt,
   mixrev debug primes.mix session.txt
@@ -48,10 +63,72 @@ const SOURCE: &str = "The file with the program, in the language MIXAL";
 
 // A subcommand with its first word, the source.
 fn of_source<'a>(alloc: Global, name: &'a str) -> Result<Command<'a>, AllocError>
-    ensures app { IfOk result (λ c. app_of c ≡ with_rule (new_app name.entry.now) (required_word (codes "SOURCE"))) }
+    ensures app { IfOk result (λ c. app_of c ≡ of_source name.entry.now) }
 {
     let source = Arg::new(alloc, "SOURCE").required(true).help(SOURCE);
     Command::new(alloc, name).arg(source)
+}
+
+// An option with one value.
+fn option_named<'a>(alloc: Global, name: &'a str, value: &'a str, help: &'a str) -> Arg<'a>
+    ensures rule { rule_of result ≡ option_named name.entry.now }
+    ensures local { result.global ≡ false }
+{
+    Arg::new(alloc, name)
+        .long(name)
+        .value_name(value)
+        .help(help)
+}
+
+fn devices_option<'a>(alloc: Global) -> Arg<'a>
+    ensures rule { rule_of result ≡ devices_option }
+    ensures local { result.global ≡ false }
+{
+    option_named(
+        alloc,
+        "devices",
+        "FILE",
+        "The deck: what stands on tapes, disks and cards; without it all are empty",
+    )
+}
+
+fn cards_option<'a>(alloc: Global) -> Arg<'a>
+    ensures rule { rule_of result ≡ cards_option }
+    ensures local { result.global ≡ false }
+{
+    option_named(
+        alloc,
+        "cards",
+        "FILE",
+        "The cards of the reader, a line each, in place of those of the deck",
+    )
+}
+
+fn steps_option<'a>(alloc: Global) -> Arg<'a>
+    ensures rule { rule_of result ≡ steps_option }
+    ensures local { result.global ≡ false }
+{
+    option_named(
+        alloc,
+        "steps",
+        "N",
+        "The most steps that are done, 1000000000 where it is left out",
+    )
+    .value_parser(ValueParser::Unsigned(1, MOST_STEPS))
+}
+
+fn unit_option<'a>(alloc: Global) -> Arg<'a>
+    ensures rule { rule_of result ≡ unit_option }
+    ensures local { result.global ≡ false }
+{
+    option_named(
+        alloc,
+        "unit",
+        "N",
+        "Writes the rows of this unit, 17 to 20, and of no other that is not named too",
+    )
+    .action(ArgAction::Append)
+    .value_parser(ValueParser::Unsigned(17, 20))
 }
 
 fn list_command<'a>(alloc: Global) -> Result<Command<'a>, AllocError>
@@ -63,40 +140,42 @@ fn list_command<'a>(alloc: Global) -> Result<Command<'a>, AllocError>
     Ok(command)
 }
 
-// The word after the source.
-fn script<'a>(alloc: Global) -> Arg<'a>
-    ensures rule { rule_of result ≡ required_word (codes "SCRIPT") }
-    ensures local { result.global ≡ false }
-{
-    Arg::new(alloc, "SCRIPT")
-        .required(true)
-        .help("The file with the commands, one a line")
-}
-
-fn devices_option<'a>(alloc: Global) -> Arg<'a>
-    ensures rule { rule_of result ≡ devices_option }
-    ensures local { result.global ≡ false }
-{
-    Arg::new(alloc, "devices")
-        .long("devices")
-        .value_name("FILE")
-        .help("The deck: what stands on tapes, disks and cards; without it all are empty")
-}
-
-// The subcommand `debug` with its two required words, SOURCE and SCRIPT.
+// The subcommand `debug` with its two words, SOURCE and SCRIPT.
 fn of_script<'a>(alloc: Global) -> Result<Command<'a>, AllocError>
-    ensures app { IfOk result (λ c. app_of c ≡ with_rule (with_rule (new_app (codes "debug")) (required_word (codes "SOURCE"))) (required_word (codes "SCRIPT"))) }
+    ensures app { IfOk result (λ c. app_of c ≡ with_rule (of_source (codes "debug")) (new_rule (codes "SCRIPT"))) }
 {
-    of_source(alloc, "debug")?.arg(script(alloc))
+    let script = Arg::new(alloc, "SCRIPT").help(
+        "The file with the commands, one a line; without it each line of standard input is one",
+    );
+    of_source(alloc, "debug")?.arg(script)
 }
 
 fn debug_command<'a>(alloc: Global) -> Result<Command<'a>, AllocError>
     ensures app { IfOk result (λ c. app_of c ≡ debug_app) }
 {
     of_script(alloc)?
-        .about("Executes a script of commands on the program of a source")
+        .about("Executes commands on the program of a source, forwards and backwards")
         .after_help(MORE_ON_DEBUG)
         .arg(devices_option(alloc))
+}
+
+// The subcommand `run` with what goes into the run: the source, the cards and the deck.
+fn of_inputs<'a>(alloc: Global) -> Result<Command<'a>, AllocError>
+    ensures app { IfOk result (λ c. app_of c ≡ run_inputs) }
+{
+    of_source(alloc, "run")?
+        .arg(cards_option(alloc))?
+        .arg(devices_option(alloc))
+}
+
+fn run_command<'a>(alloc: Global) -> Result<Command<'a>, AllocError>
+    ensures app { IfOk result (λ c. app_of c ≡ run_app) }
+{
+    of_inputs(alloc)?
+        .about("Runs a program to its halt and writes what it prints")
+        .after_help(MORE_ON_RUN)
+        .arg(steps_option(alloc))?
+        .arg(unit_option(alloc))
 }
 
 fn bare<'a>(alloc: Global) -> Command<'a>
@@ -109,17 +188,28 @@ fn bare<'a>(alloc: Global) -> Command<'a>
         .disable_help_subcommand(true)
 }
 
-fn with_list<'a>(alloc: Global) -> Result<Command<'a>, AllocError>
-    ensures app { IfOk result (λ c. app_of c ≡ with_subcommand bare_app list_app.top) }
+// A command with one subcommand more, none of whose arguments is global.
+fn with_one<'a>(command: Command<'a>, more: Command<'a>) -> Result<Command<'a>, AllocError>
+    requires { (app_of more).top.is_plain ≡ true }
+    ensures app { IfOk result (λ c. app_of c ≡ with_subcommand (app_of command.entry) (app_of more.entry).top) }
 {
-    let list = list_command(alloc)?;
-    bare(alloc).subcommand(list)
+    command.subcommand(more)
+}
+
+// With the subcommands that go to work on a source.
+fn with_sources<'a>(alloc: Global) -> Result<Command<'a>, AllocError>
+    ensures app { IfOk result (λ c. app_of c ≡ with_sources) }
+{
+    let run = run_command(alloc)?;
+    let debug = debug_command(alloc)?;
+    let command = with_one(bare(alloc), run)?;
+    with_one(command, debug)
 }
 
 /// What clap reads the words by.
 pub(crate) fn program<'a>(alloc: Global) -> Result<Command<'a>, AllocError>
     ensures app { IfOk result (λ c. app_of c ≡ mixrev) }
 {
-    let debug = debug_command(alloc)?;
-    with_list(alloc)?.subcommand(debug)
+    let list = list_command(alloc)?;
+    with_one(with_sources(alloc)?, list)
 }

@@ -1,12 +1,12 @@
 //! Command lines and their plans.
 
-use crate::{LineFault, Plan, line_status, read_words};
+use crate::{LineFault, Plan, Printing, line_status, read_words};
 use clap::error::ErrorKind;
 use std::alloc::Global;
 use std::test::Fail;
 
 // Words, and the plan that they give.
-const PLANS: [Row; 14] = [
+const PLANS: [Row; 20] = [
     (&[], "bundle"),
     (&["mixrev"], "bundle"),
     (&["list"], "bundle"),
@@ -15,13 +15,11 @@ const PLANS: [Row; 14] = [
     (&["mixrev", "list", "--", "--help"], "list --help"),
     (&["mixrev", "list", ""], "list "),
     (&["mixrev", "list", "-"], "list -"),
+    (&["mixrev", "debug", "a"], "talk a"),
+    (&["mixrev", "debug", "--devices=c", "a"], "talk a with c"),
     (&["mixrev", "debug", "a.mix", "b.txt"], "debug a.mix b.txt"),
     (
         &["mixrev", "debug", "a", "b", "--devices", "c"],
-        "debug a b with c",
-    ),
-    (
-        &["mixrev", "debug", "--devices", "c", "a", "b"],
         "debug a b with c",
     ),
     (
@@ -30,7 +28,56 @@ const PLANS: [Row; 14] = [
     ),
     (&["mixrev", "debug", "list", "debug"], "debug list debug"),
     (&["mixrev", "debug", "söurce", "b"], "debug söurce b"),
+    (&["mixrev", "run", "a"], "run a 1000000000 17 18 19 20"),
+    (
+        &["mixrev", "run", "a", "--cards", "b", "--devices=c"],
+        "run a cards b with c 1000000000 17 18 19 20",
+    ),
+    (
+        &["mixrev", "run", "--steps", "+07", "--unit", "18", "a"],
+        "run a 7 18",
+    ),
+    (
+        &[
+            "mixrev",
+            "run",
+            "a",
+            "--unit=20",
+            "--unit=17",
+            "--steps=1000000000000000000",
+        ],
+        "run a 1000000000000000000 17 20",
+    ),
+    (
+        &["mixrev", "run", "run", "--unit", "019"],
+        "run run 1000000000 19",
+    ),
 ];
+
+// ` WORD NAME`, if there is a name.
+fn named(alloc: Global, word: &str, name: Option<&str>) -> Result<String, std::alloc::AllocError> {
+    match name {
+        Some(name) => format!(in alloc; " {word} {name}"),
+        None => Ok(String::new(alloc)),
+    }
+}
+
+// ` N`, if a unit is printed.
+fn numbered(alloc: Global, is: bool, number: u8) -> Result<String, std::alloc::AllocError> {
+    if is {
+        format!(in alloc; " {number}")
+    } else {
+        Ok(String::new(alloc))
+    }
+}
+
+fn told_units(alloc: Global, units: Printing) -> Result<String, std::alloc::AllocError> {
+    let punch = numbered(alloc, units.punch, 17)?;
+    let printer = numbered(alloc, units.printer, 18)?;
+    let typewriter = numbered(alloc, units.typewriter, 19)?;
+    let tape = numbered(alloc, units.tape, 20)?;
+    format!(in alloc; "{punch}{printer}{typewriter}{tape}")
+}
 
 fn told(alloc: Global, plan: &Plan) -> Result<String, std::alloc::AllocError> {
     match plan {
@@ -39,13 +86,26 @@ fn told(alloc: Global, plan: &Plan) -> Result<String, std::alloc::AllocError> {
         Plan::Debug {
             source,
             script,
-            devices: None,
-        } => format!(in alloc; "debug {source} {script}"),
-        Plan::Debug {
+            devices,
+        } => {
+            let deck = named(alloc, "with", devices.as_deref())?;
+            match script {
+                Some(script) => format!(in alloc; "debug {source} {script}{deck}"),
+                None => format!(in alloc; "talk {source}{deck}"),
+            }
+        }
+        Plan::Run {
             source,
-            script,
-            devices: Some(deck),
-        } => format!(in alloc; "debug {source} {script} with {deck}"),
+            cards,
+            devices,
+            steps,
+            printing,
+        } => {
+            let cards = named(alloc, "cards", cards.as_deref())?;
+            let deck = named(alloc, "with", devices.as_deref())?;
+            let units = told_units(alloc, *printing)?;
+            format!(in alloc; "run {source}{cards}{deck} {steps}{units}")
+        }
     }
 }
 
@@ -62,7 +122,7 @@ fn each_line_has_its_plan(rt: HostRuntime) {
 type Row = (&'static [&'static str], &'static str);
 
 // The mistakes of each kind, and where help is asked for.
-const ANSWERS: [(ErrorKind, &[Row]); 7] = [
+const ANSWERS: [(ErrorKind, &[Row]); 8] = [
     (
         ErrorKind::InvalidSubcommand,
         &[
@@ -86,6 +146,8 @@ const ANSWERS: [(ErrorKind, &[Row]); 7] = [
             (&["mixrev", "list", "a", "--devices", "c"], "'--devices'"),
             (&["mixrev", "debug", "a", "b", "c"], "'c'"),
             (&["mixrev", "debug", "a", "b", "--tapes", "c"], "'--tapes'"),
+            (&["mixrev", "debug", "a", "--cards", "c"], "'--cards'"),
+            (&["mixrev", "run", "a", "b"], "'b'"),
             (&["mixrev", "--jump", "--help"], "'--jump'"),
         ],
     ),
@@ -94,8 +156,23 @@ const ANSWERS: [(ErrorKind, &[Row]); 7] = [
         &[
             (&["mixrev", "list"], "<SOURCE>"),
             (&["mixrev", "debug"], "<SOURCE>"),
-            (&["mixrev", "debug", "a"], "<SCRIPT>"),
-            (&["mixrev", "debug", "--devices", "c", "a"], "<SCRIPT>"),
+            (&["mixrev", "run", "--steps", "5"], "<SOURCE>"),
+        ],
+    ),
+    (
+        ErrorKind::ValueValidation,
+        &[
+            (&["mixrev", "run", "a", "--steps", "0"], "'--steps <N>'"),
+            (&["mixrev", "run", "a", "--steps", "many"], "'many'"),
+            (
+                &["mixrev", "run", "a", "--steps", "1000000000000000001"],
+                "1..=1000000000000000000",
+            ),
+            (&["mixrev", "run", "a", "--unit", "16"], "17..=20"),
+            (
+                &["mixrev", "run", "a", "--unit", "18", "--unit", "21"],
+                "'21'",
+            ),
         ],
     ),
     (
@@ -126,10 +203,15 @@ const ANSWERS: [(ErrorKind, &[Row]); 7] = [
         &[
             (&["mixrev", "--help"], "Usage: mixrev <COMMAND>"),
             (&["mixrev", "-h"], "mixrev debug primes.mix session.txt"),
+            (
+                &["mixrev", "run", "--help"],
+                "Usage: mixrev run [OPTIONS] <SOURCE>",
+            ),
+            (&["mixrev", "run", "-h"], "--unit <N>"),
             (&["mixrev", "list", "--help"], "Usage: mixrev list <SOURCE>"),
             (
                 &["mixrev", "debug", "--help"],
-                "Usage: mixrev debug [OPTIONS] <SOURCE> <SCRIPT>",
+                "Usage: mixrev debug [OPTIONS] <SOURCE> [SCRIPT]",
             ),
             (&["mixrev", "debug", "-h"], "--devices <FILE>"),
             (&["mixrev", "debug", "a", "--help"], "run 1000"),

@@ -1,10 +1,11 @@
 //! What a command line asks for.
 
 ghost use Rattle.std.specs.Prelude.{◌≡◌, ◌≤◌, IfOk, IfErr, IsSome, Some, [], length, map, true, codes, string_bytes, option_map, option_and_then};
-ghost use Rattle.clap.specs.Words.{FailsBy, fault_of, first_of, found_of, kind_of, rows_of, subcommand_of, subcommand_rows_of, takes};
+ghost use Rattle.std.specs.List.{list_any};
+ghost use Rattle.clap.specs.Words.{FailsBy, all_of, fault_of, first_of, found_of, kind_of, rows_of, subcommand_of, subcommand_rows_of, takes};
 ghost use Rattle.clap.specs.declared.error.kind.ErrorKind.TheVariants.{OutOfMemory};
 ghost use Rattle.mix_cli.specs.Fault.{IsRefusedBy};
-ghost use Rattle.mix_cli.specs.Plan.{debug_planned, line_kinds, list_planned, planned, planned_of, subcommand_planned};
+ghost use Rattle.mix_cli.specs.Plan.{debug_planned, line_kinds, list_planned, names_unit, number_of, planned, planned_of, printing_of, prints, run_planned, steps_of, subcommand_planned};
 ghost use Rattle.mix_cli.specs.Program.{mixrev};
 ghost use Rattle.mix_cli.specs.declared.fault.LineFault.{LineFault};
 
@@ -13,24 +14,51 @@ use crate::program::program;
 use clap::{ArgMatches, Error};
 use std::alloc::{AllocError, Global};
 
-/// What the program is to do: a bundle from standard input, the listing of a source, or a session of a source, a script and, where it is
-/// named, a deck. The texts are names of files.
+/// What the program is to do: a bundle from standard input; the listing of a source; a session of a source, with a deck where one is named, by a
+/// script or, where none is named, a talk; or a run of a source, with cards and a deck where they are named, of so many steps at most, 1 to 10^18.
+/// The texts are names of files.
 #[derive(Debug, Drop)]
 pub enum Plan {
     Bundle,
     List(String),
     Debug {
         source: String,
-        script: String,
+        script: Option<String>,
         devices: Option<String>,
     },
+    Run {
+        source: String,
+        cards: Option<String>,
+        devices: Option<String>,
+        steps: u64,
+        printing: Printing,
+    },
 }
+
+/// Of which units a run writes the rows (1.3.1): the card punch 17, the printer 18, the typewriter 19, the paper tape 20.
+#[derive(Clone, Copy, Debug, PartialEq, Eq)]
+pub struct Printing {
+    pub punch: bool,
+    pub printer: bool,
+    pub typewriter: bool,
+    pub tape: bool,
+}
+
+/// How many steps a run does at most where no number is given.
+const STEPS: u64 = 1_000_000_000;
 
 // The first value of an argument.
 fn first<'a>(words: &ArgMatches<'a>, id: &str) -> Option<&'a str>
     ensures { option_map (λ s. s.now) result ≡ first_of id.now (rows_of (found_of words.now)) }
 {
     words.get_str(id)
+}
+
+// All values of an argument.
+fn all<'w, 'a>(words: &'w ArgMatches<'a>, id: &str) -> Option<&'w [&'a str]>
+    ensures { option_map (λ texts. map (λ s. s.now) texts.now) result ≡ all_of id.now (rows_of (found_of words.now)) }
+{
+    words.get_strs(id)
 }
 
 // The name of a file that the words have to give.
@@ -41,21 +69,78 @@ fn required(alloc: Global, words: &ArgMatches<'_>, id: &str) -> Result<String, A
     String::from_str(alloc, first(words, id).unwrap())
 }
 
+// The name of a file that the words may give.
+fn optional(alloc: Global, words: &ArgMatches<'_>, id: &str) -> Result<Option<String>, AllocError>
+    ensures { IfOk result (λ o. first_of id.now (rows_of (found_of words.now)) ≡ option_map string_bytes o) }
+{
+    match first(words, id) {
+        Some(name) => Ok(Some(String::from_str(alloc, name)?)),
+        None => Ok(None),
+    }
+}
+
+// The number that a text writes.
+fn number(text: &str) -> Option<u64>
+    ensures { result ≡ number_of text.now }
+{
+    match text.parse::<u64>() {
+        Ok(number) => Some(number),
+        Err(_) => None,
+    }
+}
+
+fn steps(words: &ArgMatches<'_>) -> u64
+    ensures { result ≡ steps_of (rows_of (found_of words.now)) }
+{
+    match first(words, "steps") {
+        Some(text) => number(text).unwrap_or(STEPS),
+        None => STEPS,
+    }
+}
+
+fn names_unit(unit: u64, text: &str) -> bool
+    ensures { result ≡ names_unit unit text.now }
+{
+    match number(text) {
+        Some(number) => number == unit,
+        None => false,
+    }
+}
+
+// Whether one of some texts is the number of a unit.
+fn one_names(texts: &[&str], unit: u64) -> bool
+    ensures { result ≡ list_any (λ s. names_unit unit s.now) texts.now }
+{
+    texts.iter().any(|text| names_unit(unit, text))
+}
+
+// Whether a unit is to be printed.
+#[tactic(auto, using(crate::proofs::Numbers::any_of))]
+fn prints(words: &ArgMatches<'_>, unit: u64) -> bool
+    ensures { result ≡ prints (rows_of (found_of words.now)) unit }
+{
+    match all(words, "unit") {
+        Some(texts) => one_names(texts, unit),
+        None => true,
+    }
+}
+
+fn what_is_printed(words: &ArgMatches<'_>) -> Printing
+    ensures { result ≡ printing_of (rows_of (found_of words.now)) }
+{
+    Printing {
+        punch: prints(words, 17),
+        printer: prints(words, 18),
+        typewriter: prints(words, 19),
+        tape: prints(words, 20),
+    }
+}
+
 fn list_plan(alloc: Global, words: &ArgMatches<'_>) -> Result<Plan, AllocError>
     requires { IsSome (list_planned (rows_of (found_of words.now))) }
     ensures { IfOk result (λ p. list_planned (rows_of (found_of words.now)) ≡ Some (planned_of p)) }
 {
     Ok(Plan::List(required(alloc, words, "SOURCE")?))
-}
-
-// The deck, if one is named.
-fn deck_name(alloc: Global, words: &ArgMatches<'_>) -> Result<Option<String>, AllocError>
-    ensures { IfOk result (λ o. first_of (codes "devices") (rows_of (found_of words.now)) ≡ option_map string_bytes o) }
-{
-    match first(words, "devices") {
-        Some(name) => Ok(Some(String::from_str(alloc, name)?)),
-        None => Ok(None),
-    }
 }
 
 fn debug_plan(alloc: Global, words: &ArgMatches<'_>) -> Result<Plan, AllocError>
@@ -64,8 +149,21 @@ fn debug_plan(alloc: Global, words: &ArgMatches<'_>) -> Result<Plan, AllocError>
 {
     Ok(Plan::Debug {
         source: required(alloc, words, "SOURCE")?,
-        script: required(alloc, words, "SCRIPT")?,
-        devices: deck_name(alloc, words)?,
+        script: optional(alloc, words, "SCRIPT")?,
+        devices: optional(alloc, words, "devices")?,
+    })
+}
+
+fn run_plan(alloc: Global, words: &ArgMatches<'_>) -> Result<Plan, AllocError>
+    requires { IsSome (run_planned (rows_of (found_of words.now))) }
+    ensures { IfOk result (λ p. run_planned (rows_of (found_of words.now)) ≡ Some (planned_of p)) }
+{
+    Ok(Plan::Run {
+        source: required(alloc, words, "SOURCE")?,
+        cards: optional(alloc, words, "cards")?,
+        devices: optional(alloc, words, "devices")?,
+        steps: steps(words),
+        printing: what_is_printed(words),
     })
 }
 
@@ -74,10 +172,12 @@ fn subcommand(alloc: Global, name: &str, words: &ArgMatches<'_>) -> Result<Plan,
     requires { IsSome (subcommand_planned (name.now, rows_of (found_of words.now))) }
     ensures { IfOk result (λ p. subcommand_planned (name.now, rows_of (found_of words.now)) ≡ Some (planned_of p)) }
 {
-    if name == "list" {
-        list_plan(alloc, words)
-    } else {
+    if name == "run" {
+        run_plan(alloc, words)
+    } else if name == "debug" {
         debug_plan(alloc, words)
+    } else {
+        list_plan(alloc, words)
     }
 }
 
@@ -100,7 +200,7 @@ fn found_in<'a>(alloc: Global, words: &'a [&'a str]) -> Result<ArgMatches<'a>, E
 }
 
 /// The plan of a command line. The words are as `env::args` gives them, the first the program's name: none after it is a bundle,
-/// `list SOURCE` a listing, and `debug SOURCE SCRIPT` a session, with a deck by `--devices FILE`.
+/// `list SOURCE` a listing, `debug SOURCE SCRIPT` a session, with a deck by `--devices FILE`, `debug SOURCE` a talk, and `run SOURCE` a run.
 ///
 /// It fails with `Line` where the words are none of these or ask for help, and with `Memory` where memory is refused.
 pub fn read_words<'a>(alloc: Global, words: &'a [&'a str]) -> Result<Plan, LineFault>

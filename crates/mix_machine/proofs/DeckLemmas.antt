@@ -1,13 +1,12 @@
 -- The words of a line of a deck, one after the other.
-use Rattle.std.proofs.Common.{ℕ, suc, ◌+◌, ◌-◌, ◌*◌, ◌≡◌, ◌==◌, ◌<◌, ◌≤◌, nat_lt, true, false, length, List, [], ◌∷◌, ◌++◌, Option, None, Some, Ok, Err, refl, ap, arith, append_assoc}
+use Rattle.std.proofs.Common.{ℕ, Bool, suc, ◌+◌, ◌-◌, ◌*◌, ◌≡◌, ◌==◌, ◌<◌, ◌≤◌, nat_lt, true, false, length, List, [], ◌∷◌, ◌++◌, Option, None, Some, Ok, Err, refl, ap, arith, append_assoc}
 use Rattle.std.specs.Option.{option_map}
 use Rattle.std.proofs.lemmas.Bool.{eqb-true}
 use Rattle.std.proofs.lemmas.Bool.Decides.{nat_tests}
 use Rattle.mix_lines.specs.Lines.{lines, lines-nil}
 use Rattle.mix_word.specs.Word.{WordValue}
 use Rattle.mix_machine.specs.units.deck.Block.{deck_word, deck_words, word_at, words_from}
-use Rattle.mix_machine.specs.units.deck.Deck.{with_words, max_deck_bytes, Reading, nothing_read, end_unit, deck_from, deck_of}
-use Rattle.mix_machine.specs.declared.units.deck_fault.DeckKind.{DeckKind}
+use Rattle.mix_machine.specs.units.deck.Deck.{with_words}
 
 pushed : (ws : List WordValue) (w : WordValue) (o : Option (List WordValue)) →
     with_words (ws ++ w ∷ []) o ≡ with_words ws (option_map (λ vs. w ∷ vs) o)
@@ -29,14 +28,3 @@ columns-more count i text h =
 pub no_lines : (text : List ℕ) → (length text == 0) ≡ true → lines text ≡ []
 no_lines [] e = lines-nil
 no_lines (byte ∷ rest) e = absurd (omega (arith, eqb-true _ _ e))
-
-pub short-deck : (bytes : List ℕ) → length bytes ≤ max_deck_bytes → deck_of bytes ≡ deck_from 1 nothing_read (lines bytes)
-unfolding deck_of
-short-deck bytes h =
-    let short : nat_lt max_deck_bytes (length bytes) ≡ false = grind (arith, nat_tests) in
-    rw short refl
-
--- after the last line the last unit ends
-pub last-refused : (line : ℕ) (r : Reading) (rest : List ℕ) (k : DeckKind) → (length rest == 0) ≡ true →
-    end_unit r.units r.unit r.words ≡ Err k → deck_from line r (lines rest) ≡ Err (record { line = line; kind = k })
-last-refused line r rest k e h = rw (no_lines rest e, h) refl

@@ -8,7 +8,7 @@ mod stands;
 mod steps;
 mod texts;
 
-use self::decks::{has_fault, is_filled, is_refused};
+use self::decks::{has_fault, is_dealt, is_filled, is_refused};
 use self::steps::{is_right, is_right_change};
 use std::test::Fail;
 
@@ -65,5 +65,12 @@ fn decks_fill_units(rt: HostRuntime) {
         for row in table.lines() {
             assert_eq!(rt; is_filled(rt.alloc(), row), Some(true), "{row}");
         }
+    }
+}
+
+#[test]
+fn cards_stand_in_place_of_others(rt: HostRuntime) {
+    for row in rows::cards::ROWS.lines() {
+        assert_eq!(rt; is_dealt(rt.alloc(), row), Some(true), "{row}");
     }
 }

@@ -1,5 +1,5 @@
 -- A script goes on by one line: what was written so far and the replies to the lines that are left stay the replies to all.
-use Rattle.std.proofs.Common.{◌≡◌, ℕ, List, [], ◌∷◌, ◌++◌, true, Option, None, Some, Result, Ok, Err, ◌-◌, ◌<◌, ◌≤◌, refl, sym, ap, ◌∙◌, append_assoc, length, eqb, take, arith}
+use Rattle.std.proofs.Common.{◌≡◌, ℕ, List, [], ◌∷◌, ◌++◌, true, Option, None, Some, Result, Ok, Err, IfOk, IfErr, ◌-◌, ◌<◌, ◌≤◌, refl, sym, ap, ◌∙◌, append_assoc, length, eqb, take, arith}
 use Rattle.std.proofs.lemmas.Bool.{eqb-true, lt-ltb, le-ltb}
 use Rattle.std.proofs.lemmas.List.{append-nil}
 use Rattle.std.specs.Io.KnownBytes.{Appends, Keeps}
@@ -10,12 +10,13 @@ use Rattle.mix_lines.specs.Lines.{lines, lines-nil}
 use Rattle.mix_run.specs.Output.{IsDeckRefusal, Outcome, Meets, outcome_of, replies, outcome_of_script, bundle_output, output, list_output, list_outcome, status_of, TooLong, Ended}
 use Rattle.mix_stream.specs.Stream.{AppendsFront, ConsumesAtMost}
 use Rattle.mix_run.specs.Bundle.{cut_of}
+use Rattle.mix_run.specs.UnitsRead.{GivesUnits}
 use Rattle.mixal_asm.specs.Assembly.{assembly}
 use Rattle.mixal_asm.specs.Fault.{asm_fault_line}
 use Rattle.mixal_asm.specs.Program.{ProgramValue}
 use Rattle.mixal_asm.specs.declared.fault.AsmFault.{AsmFault}
 use Rattle.mix_machine.specs.units.Units.{UnitsState}
-use Rattle.mix_machine.specs.units.deck.Deck.{deck_of}
+use Rattle.mix_machine.specs.units.deck.Deck.{deck_of, cards_of}
 use Rattle.mix_session.specs.Wrapped.{fault_of_read}
 use Rattle.mix_machine.specs.declared.units.deck_fault.DeckFault.{DeckFault}
 use Rattle.mix_session.specs.declared.fault.ToolFault.{ToolFault}
@@ -23,48 +24,48 @@ use Rattle.mix_session.specs.declared.fault.ToolFault.TheVariants as faults
 use Rattle.mix_refused.specs.declared.refused.Refused.{Refused as Refusal}
 use Rattle.mix_stream.specs.declared.counted.Failed.{Failed}
 use Rattle.mix_refused.specs.declared.refused.Refused.TheVariants as reads
-use Rattle.mix_run.proofs.Truncation.{limited-take, deck_of-take, assembly-take}
+use Rattle.mix_run.proofs.Truncation.{limited-take, deck_of-take, cards_of-take, assembly-take}
 use Rattle.mix_session.specs.Reply.{told_of_both}
 use Rattle.mix_session.specs.declared.reply.Told.{Told}
 use Rattle.mix_session.specs.declared.reply.Told.TheVariants.{Accepted, Refused}
 use Rattle.mix_run.proofs.Written.{Appends-then, Appends-same, Appends-nothing, AppendsFront-after}
 
 -- one line more is written
-pub written-next : (s next : SessionState) (line rest more : List ℕ) (a b c : Option (List ℕ)) (whole : List ℕ) →
-    lines rest ≡ line ∷ lines more → next ≡ record s { timeline = after (effect_in s line) } →
-    (done : List ℕ) × Appends a b done × (whole ≡ done ++ (replies s (lines rest)).bytes) → Appends b c (reply_of s.program (effect_in s line)) →
-    (done : List ℕ) × Appends a c done × (whole ≡ done ++ (replies next (lines more)).bytes)
+pub written-next : (s next : SessionState) (line : List ℕ) (rest more : List (List ℕ)) (a b c : Option (List ℕ)) (whole : List ℕ) →
+    rest ≡ line ∷ more → next ≡ record s { timeline = after (effect_in s line) } →
+    (done : List ℕ) × Appends a b done × (whole ≡ done ++ (replies s rest).bytes) → Appends b c (reply_of s.program (effect_in s line)) →
+    (done : List ℕ) × Appends a c done × (whole ≡ done ++ (replies next more).bytes)
 written-next s next line rest more a b c whole split changed so_far reply =
     let said = reply_of s.program (effect_in s line) in
-    let rest_said : (replies s (lines rest)).bytes ≡ said ++ (replies next (lines more)).bytes = rw (split, changed) refl in (
+    let rest_said : (replies s rest).bytes ≡ said ++ (replies next more).bytes = rw (split, changed) refl in (
       so_far.0 ++ said,
       Appends-then a b c so_far.0 said so_far.1 reply,
-      so_far.2 ∙ ap (λ bytes. so_far.0 ++ bytes) rest_said ∙ sym (append_assoc so_far.0 said (replies next (lines more)).bytes),
+      so_far.2 ∙ ap (λ bytes. so_far.0 ++ bytes) rest_said ∙ sym (append_assoc so_far.0 said (replies next more).bytes),
     )
 
 -- a beginning of one line more is written
-pub begun-at : (s : SessionState) (line rest more : List ℕ) (a b c : Option (List ℕ)) (whole : List ℕ) → lines rest ≡ line ∷ lines more →
-    (done : List ℕ) × Appends a b done × (whole ≡ done ++ (replies s (lines rest)).bytes) → AppendsFront b c (reply_of s.program (effect_in s line)) →
+pub begun-at : (s : SessionState) (line : List ℕ) (rest more : List (List ℕ)) (a b c : Option (List ℕ)) (whole : List ℕ) → rest ≡ line ∷ more →
+    (done : List ℕ) × Appends a b done × (whole ≡ done ++ (replies s rest).bytes) → AppendsFront b c (reply_of s.program (effect_in s line)) →
     AppendsFront a c whole
 begun-at s line rest more a b c whole split so_far reply =
-    AppendsFront-after a b c so_far.0 (reply_of s.program (effect_in s line)) (replies (record s { timeline = after (effect_in s line) }) (lines more)).bytes whole so_far.1 reply
+    AppendsFront-after a b c so_far.0 (reply_of s.program (effect_in s line)) (replies (record s { timeline = after (effect_in s line) }) more).bytes whole so_far.1 reply
     (so_far.2 ∙ ap (λ bytes. so_far.0 ++ bytes) (rw split refl))
 
-both-assoc : (a b c : Told) → told_of_both (told_of_both a b) c ≡ told_of_both a (told_of_both b c)
+pub both-assoc : (a b c : Told) → told_of_both (told_of_both a b) c ≡ told_of_both a (told_of_both b c)
 both-assoc Accepted b c = refl
 both-assoc Refused b c = refl
 
-both-accepted : (a : Told) → told_of_both a Accepted ≡ a
+pub both-accepted : (a : Told) → told_of_both a Accepted ≡ a
 both-accepted Accepted = refl
 both-accepted Refused = refl
 
 -- what was reported so far, and of the lines that are left, is reported of all; so it is after one line more
-pub told-next : (s next : SessionState) (line rest more : List ℕ) (so_far one whole : Told) → lines rest ≡ line ∷ lines more →
-    next ≡ record s { timeline = after (effect_in s line) } → told_of_both so_far (replies s (lines rest)).told ≡ whole → one ≡ told_of (effect_in s line).answer →
-    told_of_both (told_of_both so_far one) (replies next (lines more)).told ≡ whole
+pub told-next : (s next : SessionState) (line : List ℕ) (rest more : List (List ℕ)) (so_far one whole : Told) → rest ≡ line ∷ more →
+    next ≡ record s { timeline = after (effect_in s line) } → told_of_both so_far (replies s rest).told ≡ whole → one ≡ told_of (effect_in s line).answer →
+    told_of_both (told_of_both so_far one) (replies next more).told ≡ whole
 told-next s next line rest more so_far one whole split changed before here =
-    let rest_told : (replies s (lines rest)).told ≡ told_of_both one (replies next (lines more)).told = rw (split, changed, here) refl in
-    both-assoc so_far one (replies next (lines more)).told ∙ ap (told_of_both so_far) (sym rest_told) ∙ before
+    let rest_told : (replies s rest).told ≡ told_of_both one (replies next more).told = rw (split, changed, here) refl in
+    both-assoc so_far one (replies next more).told ∙ ap (told_of_both so_far) (sym rest_told) ∙ before
 
 -- no line is left
 pub all-said : (s : SessionState) (a b : Option (List ℕ)) (whole rest : List ℕ) → rest ≡ [] →
@@ -120,22 +121,43 @@ Meets-unread outcome (reads.Fault _) told = Keeps-same told
 pub deck_of-read : (deck read : List ℕ) → read ≡ take 33554433 deck → deck_of read ≡ deck_of deck
 deck_of-read deck read e = ap deck_of e ∙ deck_of-take deck
 
+pub if-ok : {A B : Type 0} (read : Result A B) (P : Type 0) → P → IfOk read (λ _. P)
+if-ok (Ok x) P p = p
+if-ok (Err f) P p = tt
+
+-- units, or why there are none
+pub gives-units : (expected : Result UnitsState DeckFault) (read : Result UnitsState ToolFault) → IfOk read (λ units. expected ≡ Ok units) →
+    IfErr read (IsDeckRefusal expected) → GivesUnits expected read
+gives-units expected (Ok units) made refused = made
+gives-units expected (Err faults.Memory) made refused = tt
+gives-units expected (Err faults.Read) made refused = tt
+gives-units expected (Err (faults.Deck fault)) made refused = refused
+gives-units expected (Err faults.Write) made refused = absurd refused
+gives-units expected (Err faults.Long) made refused = absurd refused
+
+-- none were read
+pub gives-unread : (expected : Result UnitsState DeckFault) (fault : Refusal Failed) → GivesUnits expected (Err (fault_of_read fault))
+gives-unread expected reads.Memory = tt
+gives-unread expected (reads.Fault _) = tt
+
+-- cards that were read up to one byte more than they may have
+pub cards_of-read : (units : UnitsState) (cards read : List ℕ) → read ≡ take 33554433 cards → cards_of units read ≡ cards_of units cards
+cards_of-read units cards read e = ap (cards_of units) e ∙ cards_of-take units cards
+
 pub Meets-no_units : (program : ProgramValue) (units : Result UnitsState DeckFault) (script : List ℕ) (fault : ToolFault) (told : Option (List ℕ)) →
-    IsDeckRefusal units fault → Meets (outcome_of (Ok program) units script) (Err fault) told told
+    GivesUnits units (Err fault) → Meets (outcome_of (Ok program) units script) (Err fault) told told
 unfolding outcome_of
 Meets-no_units program units script faults.Memory told refused = (0, omega arith, Appends-nothing told)
 Meets-no_units program units script (faults.Deck fault) told refused = rw refused (refl, Keeps-same told)
-Meets-no_units program units script faults.Read told refused = absurd refused
+Meets-no_units program units script faults.Read told refused = Keeps-same told
 Meets-no_units program units script faults.Write told refused = absurd refused
 Meets-no_units program units script faults.Long told refused = absurd refused
 
-pub Meets-read : (program : ProgramValue) (units : UnitsState) (deck read script : List ℕ) (done : Result ℕ ToolFault) (old new : Option (List ℕ)) →
-    read ≡ take 33554433 deck → deck_of read ≡ Ok units →
+pub Meets-units : (program : ProgramValue) (units : UnitsState) (deck script : List ℕ) (done : Result ℕ ToolFault) (old new : Option (List ℕ)) →
+    deck_of deck ≡ Ok units →
     Meets (outcome_of_script (opened program units) script) done old new → Meets (outcome_of (Ok program) (deck_of deck) script) done old new
 unfolding outcome_of
-Meets-read program units deck read script done old new e f met =
-    let taken : deck_of deck ≡ Ok units = sym (deck_of-read deck read e) ∙ f in
-    rw taken met
+Meets-units program units deck script done old new made met = rw made met
 
 -- a source that was read up to one byte more than it may have
 pub Meets-source : (source read deck script : List ℕ) (made : Result ProgramValue AsmFault) (done : Result ℕ ToolFault) (old new : Option (List ℕ)) →

@@ -1,16 +1,25 @@
-//! The runs over streams: it cuts a bundle into source, deck and script, assembles the source, and executes the script or lists the source.
+//! The runs over streams: it cuts a bundle into source, deck and script, assembles the source, and executes the script, lists the source, or runs
+//! the program and writes what it prints.
 #![tactic(auto)]
 
 mod bundle;
 mod list;
+mod print;
+mod refusal;
 mod run;
+mod talk;
+mod units;
 
 pub use list::run_list;
+pub use mix_machine::MixFault;
 pub use mix_session::{
     AsmFault, AsmKind, Counted, DeckFault, DeckKind, Failed, In, Out, Refusal, Session, Told,
     ToolFault, back_and_forth_law,
 };
+pub use print::options::{PrintOptions, UnitSet};
+pub use print::{PrintAnswer, RanTo, RunEnd, run_printed};
 pub use run::{run_bundle, run_debug};
+pub use talk::{Talker, run_talk};
 
 #[cfg(test)]
 mod tests;

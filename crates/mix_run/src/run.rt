@@ -9,12 +9,13 @@ ghost use Rattle.mix_lines.specs.Lines.{lines};
 ghost use Rattle.mixal_asm.specs.Assembly.{assembly, max_source_bytes};
 ghost use Rattle.mix_machine.specs.units.deck.Deck.{deck_of, max_deck_bytes};
 ghost use Rattle.mix_session.specs.Session.{opened, IsMemoryOrWrite};
-ghost use Rattle.mix_run.specs.Output.{Meets, Ended, IsDeckRefusal, IsStatus, output, outcome_of, bundle_output, outcome_of_script, replies, status_of, max_script_bytes, max_bundle_bytes};
+ghost use Rattle.mix_run.specs.Output.{Meets, Ended, IsStatus, output, outcome_of, bundle_output, outcome_of_script, replies, status_of, max_script_bytes, max_bundle_bytes};
 ghost use Rattle.mix_stream.specs.Stream.{AppendsFront, ConsumesAtMost, CountsFailure};
 
 use crate::bundle::cut;
+use crate::units::{read_units, units_of};
 use mix_lines::split_line;
-use mix_machine::{MAX_DECK_BYTES, Units};
+use mix_machine::Units;
 use mix_refused::{Memory, Refused};
 use mix_session::{Session, Told, ToolFault};
 use mix_stream::{In, Out, read_up_to, write_all};
@@ -80,7 +81,7 @@ fn execute_lines<W: Out>(
     Ok(told)
 }
 
-fn status(told: Told) -> u8
+pub(crate) fn status(told: Told) -> u8
     ensures { result ≡ status_of told }
 {
     match told {
@@ -125,18 +126,6 @@ fn open_and_execute<W: Out>(
 {
     let mut session = Session::open(alloc, program, units)?;
     execute(&mut session, script, out)
-}
-
-// The units of a deck, or why there are none.
-fn units_of(alloc: Global, deck: &[u8]) -> Result<Units, ToolFault>
-    ensures units { IfOk result (λ units. deck_of deck.now ≡ Ok units) }
-    ensures refused { IfErr result (IsDeckRefusal (deck_of deck.now)) }
-{
-    match Units::read(alloc, deck) {
-        Err(Refused::Memory) => Err(ToolFault::Memory),
-        Err(Refused::Fault(fault)) => Err(ToolFault::Deck(fault)),
-        Ok(units) => Ok(units),
-    }
 }
 
 // A source, a deck and a script that are read already.
@@ -215,8 +204,7 @@ fn run_program<D: In, C: In, W: Out>(
         → (script.new ≡ script.old) ⊎ (D.rest deck.new ≡ Some (drop (max_deck_bytes + 1) d)) }
     ensures ends { IfOk result IsStatus }
 {
-    let devices = read_up_to(alloc, deck, MAX_DECK_BYTES + 1)?;
-    let units = units_of(alloc, &devices)?;
+    let units = read_units(alloc, deck)?;
     run_script(alloc, program, units, script, out)
 }
 

@@ -1,9 +1,22 @@
 -- How the program ends: its status, and what stands on its error output.
-use Rattle.std.specs.Prelude.{◌≡◌, ◌⊎◌, ◌+◌, ℕ, Option, List, [], ◌∷◌, ◌++◌, Result, Ok, Err, codes}
+use Rattle.std.specs.Prelude.{◌≡◌, ◌⊎◌, ◌+◌, ℕ, Bool, true, false, Option, None, Some, List, [], ◌∷◌, ◌++◌, Result, Ok, Err, codes}
 use Rattle.std.specs.Io.KnownBytes.{Appends, Keeps}
 use Rattle.mix_stream.specs.Stream.{AppendsFront}
 use Rattle.mix_session.specs.Fault.{tool_fault_text}
 use Rattle.mix_run.specs.Output.{Meets, Outcome}
+use Rattle.mix_run.specs.PrintOutput.{PrintOutcome, Prints}
+use Rattle.mix_run.specs.Talk.{TalksWith}
+use Rattle.mix_run.specs.declared.print.PrintAnswer.{PrintAnswer}
+use Rattle.mix_run.specs.declared.print.PrintAnswer.TheVariants as answers
+use Rattle.mix_run.specs.declared.print.steps.RunEnd.{RunEnd}
+use Rattle.mix_run.specs.declared.print.steps.RunEnd.TheVariants as ends
+use Rattle.mix_run.specs.declared.talk.aside.Talker.{Talker}
+use Rattle.mixal_asm.specs.Program.{ProgramValue}
+use Rattle.mixal_asm.specs.declared.fault.AsmFault.{AsmFault}
+use Rattle.mix_machine.specs.units.Units.{UnitsState}
+use Rattle.mix_machine.specs.declared.units.deck_fault.DeckFault.{DeckFault}
+use Rattle.mix_cli.specs.declared.words.Plan.{Plan}
+use Rattle.mix_cli.specs.declared.words.Plan.TheVariants as plan
 use Rattle.mix_session.specs.declared.fault.ToolFault.{ToolFault}
 
 -- `mixrev: T2 read failed`
@@ -42,3 +55,42 @@ abbrev pub Runs : Outcome → ℕ → Option (List ℕ) → Option (List ℕ) �
 Runs outcome status old new told_old told_new failed_old failed_new =
     (run : Result ℕ ToolFault) × Meets outcome run old new × (status ≡ status_of_run run)
     × TellsRun run told_old told_new failed_old failed_new
+
+-- a talk was made, and its status is answered
+abbrev pub TalkRuns : Result ProgramValue AsmFault → Result UnitsState DeckFault → Talker → List ℕ → ℕ → Option (List ℕ) → Option (List ℕ) → Option (List ℕ) → Type 0
+TalkRuns program units talker text status left old new =
+    (run : Result ℕ ToolFault) × TalksWith program units talker text run left old new × (status ≡ status_of_run run)
+
+-- the status of a run: 0 at a halt, 3 where a step meets a fault or the steps are used up, 1 where the source is refused
+abbrev pub status_of_end : RunEnd → ℕ
+status_of_end ends.Halted = 0
+status_of_end (ends.Faulted fault) = 3
+status_of_end ends.UsedUp = 3
+
+abbrev pub status_of_answer : PrintAnswer → ℕ
+status_of_answer (answers.Ran ran) = status_of_end ran.end
+status_of_answer (answers.Refused fault) = 1
+
+abbrev pub status_of_print : Result PrintAnswer ToolFault → ℕ
+status_of_print (Ok answer) = status_of_answer answer
+status_of_print (Err fault) = 2
+
+-- a run was made: what it printed and answered is the outcome, and its status is answered
+abbrev pub PrintRuns : PrintOutcome → ℕ → Option (List ℕ) → Option (List ℕ) → Type 0
+PrintRuns outcome status old new = (run : Result PrintAnswer ToolFault) × Prints outcome run old new × (status ≡ status_of_print run)
+
+-- whether a plan reads the input: a bundle and a talk do
+abbrev pub reads_input : Plan → Bool
+reads_input plan.Bundle = true
+reads_input (plan.List source) = false
+reads_input (plan.Debug source (Some script) devices) = false
+reads_input (plan.Debug source None devices) = true
+reads_input (plan.Run source cards devices steps printing) = false
+
+-- whether nothing is told on the error output but a fault of the tool: of a talk and of a run other things are
+abbrev pub is_quiet : Plan → Bool
+is_quiet plan.Bundle = true
+is_quiet (plan.List source) = true
+is_quiet (plan.Debug source (Some script) devices) = true
+is_quiet (plan.Debug source None devices) = false
+is_quiet (plan.Run source cards devices steps printing) = false

@@ -1,186 +1,20 @@
-//! A plan is done: its files are opened, the run is made on them, and a fault is told on the error output.
+//! A plan is done: its files are opened, and the run is made on them.
 
-ghost use Rattle.std.specs.Prelude.{◌≡◌, ◌≢◌, ◌<◌, ◌≤◌, ◌-◌, ◌^◌, ℕ, List, Some, Ok, IfOk, IfErr, IfSome, MatchOption, [], option_map, ◌⊎◌, OnErr, OnOk, Result, MatchResult, string_bytes};
-ghost use Rattle.mix_tool.specs.Ending.{Runs, Tells, TellsRun, Wrote, memory_line, not_opened, report, status_of_run};
-ghost use Rattle.mix_run.specs.Output.{IsStatus, Meets, bundle_output, output};
+ghost use Rattle.std.specs.Prelude.{◌≡◌, ◌≢◌, ◌<◌, ◌≤◌, ◌-◌, ◌^◌, ℕ, List, Some, IfOk, IfErr, IfSome, false, true};
+ghost use Rattle.mix_tool.specs.Ending.{Runs, is_quiet, reads_input};
+ghost use Rattle.mix_run.specs.Output.{bundle_output};
 ghost use Rattle.mix_cli.specs.declared.words.Plan.{Plan};
 
-use mix_cli::{FAILED, Plan};
-use mix_run::{run_bundle, run_debug, run_list};
-use mix_session::ToolFault;
-use mix_stream::{Counted, In, Out, write_all};
-use std::alloc::{AllocError, Global};
-use std::io::Read;
+use crate::ending::{status, tell_not_opened};
+use crate::opening::{NotOpened, open, open_optional};
+use crate::print::{RunFiles, run_opened, units_of};
+use crate::session::{open_session, run_session_opened};
+use crate::talk::talk_opened;
+use mix_cli::{Plan, Printing};
+use mix_run::{Talker, run_bundle, run_list};
+use mix_stream::{Counted, In, Out};
+use std::alloc::Global;
 use std::rt::Files;
-use std::{fs, io};
-
-/// What is told where memory is refused for a longer line.
-const OUT_OF_MEMORY: &str = "mixrev: T1 out of memory\n";
-
-fn fault_line(alloc: Global, fault: ToolFault) -> Result<String, AllocError>
-    ensures { IfOk result (λ s. string_bytes s ≡ report fault) }
-{
-    let text = format!(in alloc; "mixrev: {fault}\n")?;
-    Ok(text)
-}
-
-fn not_opened_line(alloc: Global, name: &str) -> Result<String, AllocError>
-    ensures { IfOk result (λ s. string_bytes s ≡ not_opened name.now) }
-{
-    let text = format!(in alloc; "mixrev: T4 not opened: {name}\n")?;
-    Ok(text)
-}
-
-// Where this write fails too, the status alone says so.
-fn write_line<E: Out>(line: &str, errors: &mut E)
-    requires { E.failed errors.old < 2 ^ 64 - 1 }
-    ensures { Wrote line.now (E.told errors.old) (E.told errors.new) (E.failed errors.old) (E.failed errors.new) }
-{
-    match write_all(errors, line.as_bytes()) {
-        Ok(()) | Err(_) => {}
-    }
-}
-
-// A line, or where memory is refused for it the line that says so.
-fn tell<E: Out>(line: Result<String, AllocError>, errors: &mut E)
-    requires { E.failed errors.old < 2 ^ 64 - 1 }
-    ensures { MatchResult line
-        (λ s. Wrote (string_bytes s) (E.told errors.old) (E.told errors.new) (E.failed errors.old) (E.failed errors.new))
-        (λ _. Wrote memory_line (E.told errors.old) (E.told errors.new) (E.failed errors.old) (E.failed errors.new)) }
-{
-    match line {
-        Ok(text) => write_line(text.as_str(), errors),
-        Err(_) => write_line(OUT_OF_MEMORY, errors),
-    }
-}
-
-fn tell_not_opened<E: Out>(alloc: Global, name: &str, errors: &mut E) -> u8
-    requires { E.failed errors.old < 2 ^ 64 - 1 }
-    ensures status { result ≡ 2 }
-    ensures told { Tells (not_opened name.now) (E.told errors.old) (E.told errors.new) (E.failed errors.old) (E.failed errors.new) }
-{
-    tell(not_opened_line(alloc, name), errors);
-    FAILED
-}
-
-// The status of a run; its fault is told.
-fn status<E: Out>(alloc: Global, outcome: Result<u8, ToolFault>, errors: &mut E) -> u8
-    requires { E.failed errors.old < 2 ^ 64 - 1 }
-    ensures status { result ≡ status_of_run outcome }
-    ensures told { TellsRun outcome (E.told errors.old) (E.told errors.new) (E.failed errors.old) (E.failed errors.new) }
-    ensures quiet { OnOk outcome (errors.new ≡ errors.old) }
-{
-    match outcome {
-        Ok(status) => status,
-        Err(fault) => {
-            tell(fault_line(alloc, fault), errors);
-            FAILED
-        }
-    }
-}
-
-// A session of a source, a deck and a script.
-fn run_session<S: In, D: In, C: In, W: Out, E: Out>(
-    alloc: Global,
-    source: &mut S,
-    deck: &mut D,
-    script: &mut C,
-    out: &mut W,
-    errors: &mut E,
-) -> u8
-    requires source_count { S.failed source.old < 2 ^ 64 - 1 }
-    requires deck_count { D.failed deck.old < 2 ^ 64 - 1 }
-    requires script_count { C.failed script.old < 2 ^ 64 - 1 }
-    requires out_count { W.failed out.old < 2 ^ 64 - 1 }
-    requires errors_count { E.failed errors.old < 2 ^ 64 - 1 }
-    ensures output { (s d t : List ℕ) → S.rest source.old ≡ Some s → D.rest deck.old ≡ Some d → C.rest script.old ≡ Some t
-        → Runs (output s d t) result (W.told out.old) (W.told out.new) (E.told errors.old) (E.told errors.new) (E.failed errors.old) (E.failed errors.new) }
-    ensures range { result ≤ 3 }
-    ensures quiet { result ≢ 2 → (errors.new ≡ errors.old) × (W.failed out.new ≡ W.failed out.old) }
-{
-    status(alloc, run_debug(alloc, source, deck, script, out), errors)
-}
-
-/// A file that could not be opened.
-#[derive(Clone, Copy)]
-struct NotOpened<'n> {
-    name: &'n str,
-}
-
-/// The files of a session.
-#[derive(Drop)]
-struct Opened<F> {
-    source: Counted<F>,
-    deck: Option<Counted<F>>,
-    script: Counted<F>,
-}
-
-fn open<'n, F: Files>(rt: &F, name: &'n str) -> Result<Counted<F::File>, NotOpened<'n>>
-    ensures count { IfOk result (λ f. f.count ≡ 0) }
-    ensures name { IfErr result (λ e. e.name.now ≡ name.now) }
-{
-    match fs::open(rt, name) {
-        Ok(file) => Ok(Counted::of(file)),
-        Err(_) => Err(NotOpened { name }),
-    }
-}
-
-// The files of a session, in the order in which they are opened.
-fn open_session<'n, F: Files>(
-    rt: &F,
-    source: &'n str,
-    devices: Option<&'n str>,
-    script: &'n str,
-) -> Result<Opened<F::File>, NotOpened<'n>>
-    ensures source { IfOk result (λ o. o.source.count ≡ 0) }
-    ensures deck { IfOk result (λ o. IfSome o.deck (λ d. d.count ≡ 0)) }
-    ensures script { IfOk result (λ o. o.script.count ≡ 0) }
-    ensures name { IfErr result (λ e. (e.name.now ≡ source.now) ⊎ (Some e.name.now ≡ option_map (λ d. d.now) devices.entry) ⊎ (e.name.now ≡ script.now)) }
-{
-    let source = open(rt, source)?;
-    let deck = match devices {
-        Some(name) => Some(open(rt, name)?),
-        None => None,
-    };
-    let script = open(rt, script)?;
-    Ok(Opened {
-        source,
-        deck,
-        script,
-    })
-}
-
-// A session on its opened files; without a deck all units are empty.
-fn run_opened<F: Read + Drop, W: Out, E: Out>(
-    alloc: Global,
-    opened: Opened<F>,
-    out: &mut W,
-    errors: &mut E,
-) -> u8
-    requires source { opened.source.count ≡ 0 }
-    requires deck { IfSome opened.deck (λ d. d.count ≡ 0) }
-    requires script { opened.script.count ≡ 0 }
-    requires out_count { W.failed out.old < 2 ^ 64 - 1 }
-    requires errors_count { E.failed errors.old < 2 ^ 64 - 1 }
-    ensures output { (s d t : List ℕ) → F.remaining opened.source.inner ≡ Some s
-        → MatchOption opened.deck (d ≡ []) (λ c. F.remaining c.inner ≡ Some d) → F.remaining opened.script.inner ≡ Some t
-        → Runs (output s d t) result (W.told out.old) (W.told out.new) (E.told errors.old) (E.told errors.new) (E.failed errors.old) (E.failed errors.new) }
-    ensures range { result ≤ 3 }
-    ensures quiet { result ≢ 2 → (errors.new ≡ errors.old) × (W.failed out.new ≡ W.failed out.old) }
-{
-    let mut source = opened.source;
-    let mut script = opened.script;
-    match opened.deck {
-        Some(deck) => {
-            let mut deck = deck;
-            run_session(alloc, &mut source, &mut deck, &mut script, out, errors)
-        }
-        None => {
-            let mut deck = Counted::of(io::empty());
-            run_session(alloc, &mut source, &mut deck, &mut script, out, errors)
-        }
-    }
-}
 
 // A listing of a file.
 fn list_file<F: Files, W: Out, E: Out>(
@@ -204,16 +38,120 @@ fn list_file<F: Files, W: Out, E: Out>(
     }
 }
 
-/// Does what a plan asks for: a bundle from the input, or a listing or a session of files. All go to the output. The files of a session
-/// are opened before any is read, in the order source, deck, script; without a deck all units are empty.
+// The files of a talk, in the order in which they are opened.
+fn open_talk<'n, F: Files>(
+    rt: &F,
+    source: &'n str,
+    devices: Option<&'n str>,
+) -> Result<(Counted<F::File>, Option<Counted<F::File>>), NotOpened<'n>>
+    ensures source { IfOk result (λ o. o.0.count ≡ 0) }
+    ensures deck { IfOk result (λ o. IfSome o.1 (λ d. d.count ≡ 0)) }
+{
+    let source = open(rt, source)?;
+    let deck = open_optional(rt, devices)?;
+    Ok((source, deck))
+}
+
+// The files of a run, in the order in which they are opened.
+fn open_run<'n, F: Files>(
+    rt: &F,
+    source: &'n str,
+    devices: Option<&'n str>,
+    cards: Option<&'n str>,
+) -> Result<RunFiles<F::File>, NotOpened<'n>>
+    ensures source { IfOk result (λ o. o.source.count ≡ 0) }
+    ensures deck { IfOk result (λ o. IfSome o.deck (λ d. d.count ≡ 0)) }
+    ensures cards { IfOk result (λ o. IfSome o.cards (λ c. c.count ≡ 0)) }
+{
+    let source = open(rt, source)?;
+    let deck = open_optional(rt, devices)?;
+    let cards = open_optional(rt, cards)?;
+    Ok(RunFiles {
+        source,
+        deck,
+        cards,
+    })
+}
+
+// A talk about a file.
+fn talk_file<F: Files, R: In, W: Out, E: Out>(
+    rt: &F,
+    alloc: Global,
+    source: &str,
+    devices: Option<&str>,
+    talker: Talker,
+    input: &mut R,
+    out: &mut W,
+    errors: &mut E,
+) -> u8
+    requires input_count { R.failed input.old < 2 ^ 64 - 1 }
+    requires out_count { W.failed out.old < 2 ^ 64 - 1 }
+    requires errors_count { E.failed errors.old < 2 ^ 64 - 1 }
+    ensures range { result ≤ 3 }
+    ensures written { result ≢ 2 → W.failed out.new ≡ W.failed out.old }
+{
+    match open_talk(rt, source, devices) {
+        Ok((file, deck)) => talk_opened(alloc, source, file, deck, talker, input, out, errors),
+        Err(fault) => tell_not_opened(alloc, fault.name, errors),
+    }
+}
+
+// A run of a file.
+fn run_file<F: Files, W: Out, E: Out>(
+    rt: &F,
+    alloc: Global,
+    source: &str,
+    devices: Option<&str>,
+    cards: Option<&str>,
+    steps: u64,
+    printing: Printing,
+    out: &mut W,
+    errors: &mut E,
+) -> u8
+    requires out_count { W.failed out.old < 2 ^ 64 - 1 }
+    requires errors_count { E.failed errors.old < 2 ^ 64 - 1 }
+    ensures range { result ≤ 3 }
+    ensures written { result ≢ 2 → W.failed out.new ≡ W.failed out.old }
+{
+    match open_run(rt, source, devices, cards) {
+        Ok(files) => run_opened(alloc, source, files, steps, units_of(printing), out, errors),
+        Err(fault) => tell_not_opened(alloc, fault.name, errors),
+    }
+}
+
+// A session of files by a script.
+fn session_file<F: Files, W: Out, E: Out>(
+    rt: &F,
+    alloc: Global,
+    source: &str,
+    devices: Option<&str>,
+    script: &str,
+    out: &mut W,
+    errors: &mut E,
+) -> u8
+    requires out_count { W.failed out.old < 2 ^ 64 - 1 }
+    requires errors_count { E.failed errors.old < 2 ^ 64 - 1 }
+    ensures range { result ≤ 3 }
+    ensures quiet { result ≢ 2 → (errors.new ≡ errors.old) × (W.failed out.new ≡ W.failed out.old) }
+{
+    match open_session(rt, source, devices, script) {
+        Ok(opened) => run_session_opened(alloc, opened, out, errors),
+        Err(fault) => tell_not_opened(alloc, fault.name, errors),
+    }
+}
+
+/// Does what a plan asks for: a bundle or a talk from the input, or a listing, a run or a session of files. All go to the output. The files of a plan
+/// are opened before any is read, in the order source, deck, cards or script; without a deck all units are empty.
 ///
 /// The status is that of the run. It is 2 where the tool itself fails; then that fault stands on the error output, as
 /// `mixrev: T2 read failed`, or for the first file that cannot be opened `mixrev: T4 not opened: NAME`. A write there that fails
-/// changes no status.
+/// changes no status. Of a talk the prompts and the help stand there too, of a run where it came to if not to a halt, and of both a refused source
+/// with its line and a mark.
 pub fn run_plan<F: Files, R: In, W: Out, E: Out>(
     rt: &F,
     alloc: Global,
     plan: &Plan,
+    talker: Talker,
     input: &mut R,
     out: &mut W,
     errors: &mut E,
@@ -226,12 +164,13 @@ pub fn run_plan<F: Files, R: In, W: Out, E: Out>(
     ensures bundle { plan.now ≡ Plan.Bundle → (b : List ℕ) → R.rest input.old ≡ Some b
         → Runs (bundle_output b) result (W.told out.old) (W.told out.new) (E.told errors.old) (E.told errors.new) (E.failed errors.old) (E.failed errors.new) }
 
-    // Of any other plan the input is not read.
-    ensures files { plan.now ≢ Plan.Bundle → input.new ≡ input.old }
+    // Of a plan whose texts are all files the input is not read.
+    ensures files { reads_input plan.now ≡ false → input.new ≡ input.old }
 
-    // A run that ends well wrote all that it had to, and nothing on the error output.
+    // A run that ends well wrote all that it had to, and where nothing is told beside, nothing on the error output.
     ensures range { result ≤ 3 }
-    ensures quiet { result ≢ 2 → (errors.new ≡ errors.old) × (W.failed out.new ≡ W.failed out.old) }
+    ensures written { result ≢ 2 → W.failed out.new ≡ W.failed out.old }
+    ensures quiet { is_quiet plan.now ≡ true → result ≢ 2 → errors.new ≡ errors.old }
 {
     match plan {
         Plan::Bundle => status(alloc, run_bundle(alloc, input, out), errors),
@@ -240,10 +179,38 @@ pub fn run_plan<F: Files, R: In, W: Out, E: Out>(
             source,
             script,
             devices,
-        } => match open_session(rt, source, devices.as_deref(), script) {
-            Ok(opened) => run_opened(alloc, opened, out, errors),
-            Err(fault) => tell_not_opened(alloc, fault.name, errors),
+        } => match script {
+            Some(script) => {
+                session_file(rt, alloc, source, devices.as_deref(), script, out, errors)
+            }
+            None => talk_file(
+                rt,
+                alloc,
+                source,
+                devices.as_deref(),
+                talker,
+                input,
+                out,
+                errors,
+            ),
         },
+        Plan::Run {
+            source,
+            cards,
+            devices,
+            steps,
+            printing,
+        } => run_file(
+            rt,
+            alloc,
+            source,
+            devices.as_deref(),
+            cards.as_deref(),
+            *steps,
+            *printing,
+            out,
+            errors,
+        ),
     }
 }
 

@@ -1,7 +1,8 @@
 //! The program: what its words ask for, from files or standard input to standard output.
 #![tactic(auto)]
 
-use mix_tool::{Counted, FAILED, LineFault, ToolFault, line_status, read_words, run_plan};
+use mix_tool::{Counted, FAILED, LineFault, Talker, ToolFault, line_status, read_words, run_plan};
+use std::io::IsTerminal;
 use std::process::ExitCode;
 use std::{env, fmt, io};
 
@@ -33,10 +34,27 @@ fn run(rt: &HostRuntime, words: &[String]) -> ExitCode {
             let mut input = Counted::of(rt.reader());
             let mut output = Counted::of(io::writer(rt));
             let mut errors = Counted::of(rt.stderr());
-            let status = run_plan(rt, rt.alloc(), &plan, &mut input, &mut output, &mut errors);
+            let status = run_plan(
+                rt,
+                rt.alloc(),
+                &plan,
+                talker(rt),
+                &mut input,
+                &mut output,
+                &mut errors,
+            );
             ExitCode::from(status)
         }
         Err(fault) => tell(rt, &fault),
+    }
+}
+
+// A person talks where standard input is a terminal.
+fn talker(rt: &HostRuntime) -> Talker {
+    if rt.stdin().is_terminal() {
+        Talker::Person
+    } else {
+        Talker::Program
     }
 }
 

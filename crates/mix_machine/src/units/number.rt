@@ -25,6 +25,9 @@ impl Model for UnitNo {
 }
 
 impl UnitNo {
+    /// Unit 16, the card reader (1.3.1).
+    pub(crate) const CARD_READER: UnitNo = UnitNo { number: 16 };
+
     /// The unit of this number (1.3.1), or none where it is over 20.
     pub fn of(n: u8) -> Option<UnitNo>
         ensures valid { IsSome result ↔ (n ≤ 20) }

@@ -27,8 +27,29 @@ pub fn has_fault(alloc: Global, deck: &[u8], expected: &str) -> Option<bool> {
 pub fn is_filled(alloc: Global, row: &str) -> Option<bool> {
     let (deck, values) = row.split_once('|')?;
     let units = Units::read(alloc, &bytes_of(alloc, deck)?).ok()?;
+    stand_all(&units, values)
+}
+
+/// Whether the cards of a row stand in the units that its deck fills, or have the fault that it says: the deck, the cards, and the values or the fault.
+pub fn is_dealt(alloc: Global, row: &str) -> Option<bool> {
+    let (deck, rest) = row.split_once('|')?;
+    let (cards, expected) = rest.split_once('|')?;
+    let cards = bytes_of(alloc, cards)?;
+    let units = Units::read(alloc, &bytes_of(alloc, deck)?).ok()?;
+    match units.with_cards(alloc, &cards) {
+        Ok(units) => stand_all(&units, expected),
+        Err(Refused::Fault(fault)) => {
+            let text = format!(in alloc; "{fault}").ok()?;
+            Some(text.as_str() == expected)
+        }
+        Err(Refused::Memory) => None,
+    }
+}
+
+// Whether all values stand in the units.
+fn stand_all(units: &Units, values: &str) -> Option<bool> {
     for value in values.split_whitespace() {
-        if !stands_in_units(&units, value)? {
+        if !stands_in_units(units, value)? {
             return Some(false);
         }
     }

@@ -11,6 +11,7 @@
 
 pub mod address;
 pub mod arithmetic;
+pub mod cards;
 pub mod change;
 pub mod compare;
 pub mod deck;

@@ -2,6 +2,7 @@
 
 use crate::files::run_plan;
 use mix_cli::read_words;
+use mix_run::Talker;
 use mix_stream::fake::{Chunks, Sink};
 use std::fs;
 use std::test::Fail;
@@ -137,7 +138,16 @@ fn is_met(rt: &HostRuntime, row: &Row, failing: u64) -> bool {
     let mut errors = Sink::of(ALL, failing);
     match read_words(rt.alloc(), row.words) {
         Ok(plan) => {
-            let status = run_plan(rt, rt.alloc(), &plan, &mut input, &mut out, &mut errors);
+            let talker = Talker::Program;
+            let status = run_plan(
+                rt,
+                rt.alloc(),
+                &plan,
+                talker,
+                &mut input,
+                &mut out,
+                &mut errors,
+            );
             let told = if failing == 0 { row.told } else { "" };
             status == row.status
                 && out.bytes() == row.written.as_bytes()

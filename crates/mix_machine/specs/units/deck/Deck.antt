@@ -117,9 +117,9 @@ abbrev pub line_below : Option ℕ → Reading → List ℕ → Result Reading D
 line_below None r text = blank_or BadHeader r (words text)
 line_below (Some n) r text = line_of_unit (kind_at r n) r text
 
--- one line read, or its fault
-unfoldable pub line_read : Reading → List ℕ → Result Reading DeckKind
-line_read r text = if is_header text then header_line r text else line_below r.unit r text
+-- one line read, or its fault; a line is a header only in a text that has them
+unfoldable pub line_read : Bool → Reading → List ℕ → Result Reading DeckKind
+line_read headers r text = if headers && is_header text then header_line r text else line_below r.unit r text
 
 abbrev pub refused_at : ℕ → DeckKind → Result UnitsState DeckFault
 refused_at line k = Err (record { line = line; kind = k })
@@ -132,15 +132,25 @@ abbrev pub go_on : ℕ → Result Reading DeckKind → (Reading → Result Units
 go_on line (Ok r) next = next r
 go_on line (Err k) next = refused_at line k
 
--- the lines of a deck, the first of which has this number; the last unit ends after the last line
-abbrev pub deck_from : ℕ → Reading → List (List ℕ) → Result UnitsState DeckFault
-deck_from line r [] = at_line line (end_unit r.units r.unit r.words)
-deck_from line r (text ∷ rest) = go_on line (line_read r text) (λ s. deck_from (line + 1) s rest)
+-- lines, with headers or without, the first of which has this number; the last unit ends after the last line
+abbrev pub lines_from : Bool → ℕ → Reading → List (List ℕ) → Result UnitsState DeckFault
+lines_from headers line r [] = at_line line (end_unit r.units r.unit r.words)
+lines_from headers line r (text ∷ rest) = go_on line (line_read headers r text) (λ s. lines_from headers (line + 1) s rest)
 
 -- the units that a deck fills, or its first fault
 unfoldable pub deck_of : List ℕ → Result UnitsState DeckFault
 deck_of bytes =
-    if nat_lt max_deck_bytes (length bytes) then refused_at 1 DeckTooLong else deck_from 1 nothing_read (lines bytes)
+    if nat_lt max_deck_bytes (length bytes) then refused_at 1 DeckTooLong else lines_from true 1 nothing_read (lines bytes)
+
+-- no card read, of units that stand
+abbrev pub no_card_read : UnitsState → Reading
+no_card_read us = record { units = us; unit = Some 16; words = []; given = replicate 21 false }
+
+-- The units with other cards: each line of a text is a card, also one that begins with %. They stand in place of those that
+-- unit 16 had, of which the first is read next; all else of the units stays.
+unfoldable pub cards_of : UnitsState → List ℕ → Result UnitsState DeckFault
+cards_of us text =
+    if nat_lt max_deck_bytes (length text) then refused_at 1 DeckTooLong else lines_from false 1 (no_card_read us) (lines text)
 
 -- what was read keeps to the room of its unit
 abbrev pub room_of : UnitsState → Option ℕ → ℕ

@@ -4,7 +4,7 @@ ghost use Rattle.mix_lines.specs.Lines.{words};
 ghost use Rattle.mix_machine.specs.units.UnitKind.{block_length};
 ghost use Rattle.mix_machine.specs.units.Unit.{most_entries};
 ghost use Rattle.mix_machine.specs.units.deck.Block.{deck_words, words_from};
-ghost use Rattle.mix_machine.specs.units.deck.Deck.{Gives, nothing_read, reads_nothing, end_unit, begin_unit, header_line, blank_or, with_words, line_of_words, line_of_text, line_of_unit, line_below, line_read, kind_at, room_of};
+ghost use Rattle.mix_machine.specs.units.deck.Deck.{Gives, nothing_read, no_card_read, reads_nothing, end_unit, begin_unit, header_line, blank_or, with_words, line_of_words, line_of_text, line_of_unit, line_below, line_read, kind_at, room_of};
 
 use crate::units::Units;
 use crate::units::deck::block::{deck_word, has_codes, has_more_words, is_too_long, word_at};
@@ -59,12 +59,25 @@ impl Reader {
         })
     }
 
-    /// Reads a line.
-    #[tactic(auto, unfolding(crate::specs::units::deck::Deck::line_read))]
-    pub(crate) fn line(&mut self, text: &[u8]) -> Result<(), Refused<DeckKind>>
-        ensures { Gives (line_read self.old text.now) self.new result }
+    /// No card read, of units that stand.
+    pub(crate) fn of_cards(alloc: Global, units: Units) -> Reader
+        ensures { result ≡ no_card_read units }
     {
-        if is_header(text) {
+        Reader {
+            alloc,
+            units,
+            unit: Some(UnitNo::CARD_READER),
+            words: Vec::new(alloc),
+            given: [false; 21],
+        }
+    }
+
+    /// Reads a line, which is a header only in a text that has them.
+    #[tactic(auto, unfolding(crate::specs::units::deck::Deck::line_read))]
+    pub(crate) fn line(&mut self, text: &[u8], headers: bool) -> Result<(), Refused<DeckKind>>
+        ensures { Gives (line_read headers self.old text.now) self.new result }
+    {
+        if headers && is_header(text) {
             return match self.header_line(text) {
                 Ok(()) => Ok(()),
                 Err(kind) => Err(Refused::Fault(kind)),

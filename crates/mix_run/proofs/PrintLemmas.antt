@@ -1,0 +1,136 @@
+-- A run goes on by one step, and rows by one row.
+use Rattle.std.proofs.Common.{◌≡◌, ◌<◌, ◌≤◌, ◌+◌, ℕ, zero, suc, Bool, true, false, List, [], ◌∷◌, ◌++◌, Option, None, Some, Result, Ok, Err, refl, sym, ap, ◌∙◌, arith, append_assoc, drop, length, flat_map, slice_index_or}
+use Rattle.std.proofs.lemmas.List.{append-nil}
+use Rattle.std.specs.Io.KnownBytes.{Appends}
+use Rattle.mix_machine.specs.Do.{does, is_halt_next}
+use Rattle.mix_machine.specs.World.{WorldState, unit_at}
+use Rattle.mix_machine.specs.units.Row.{RowState}
+use Rattle.mix_machine.specs.units.Unit.{UnitState}
+use Rattle.mix_machine.specs.declared.fault.MixFault.{MixFault}
+use Rattle.mix_machine.specs.declared.old.Change.TheVariants.{Step}
+use Rattle.mix_stream.specs.Stream.{AppendsFront}
+use Rattle.mix_run.specs.Print.{Run, printed, printed_row, printed_from, printed_between, printed_first, step_and_rest}
+use Rattle.mix_run.specs.PrintSteps.{HasCounts, StepPrints, bytes_to, step_bytes, printed_after}
+use Rattle.mix_run.specs.declared.print.options.UnitSet.{UnitSet}
+use Rattle.mix_run.specs.declared.print.steps.RowCounts.{RowCounts}
+use Rattle.mix_run.specs.declared.print.steps.RunEnd.{RunEnd}
+use Rattle.mix_run.specs.declared.print.steps.RunEnd.TheVariants.{Halted, Faulted, UsedUp}
+use Rattle.mix_run.proofs.Written.{Appends-then, Appends-same, Appends-nothing, AppendsFront-after}
+
+-- no step is left
+pub run-none : (units : UnitSet) (steps : ℕ) (w : WorldState) → steps ≤ 0 → (printed units steps w).bytes ≡ []
+run-none units zero w h = refl
+run-none units (suc steps) w h = absurd (omega arith)
+
+-- a step that is no halt, and the rest of the run
+pub run-on : (units : UnitSet) (steps rest : ℕ) (w next : WorldState) → steps ≡ suc rest → does w Step ≡ Ok next → is_halt_next w ≡ false →
+    printed units steps w ≡ printed_first (printed_between units w next) (printed units rest next)
+run-on units steps rest w next e done goes = rw (e, done, goes) refl
+
+-- a step that is a halt
+pub run-halted : (units : UnitSet) (steps rest : ℕ) (w next : WorldState) → steps ≡ suc rest → does w Step ≡ Ok next → is_halt_next w ≡ true →
+    printed units steps w ≡ record { bytes = printed_between units w next ++ []; end = Halted; world = next }
+run-halted units steps rest w next e done halts = rw (e, done, halts) refl
+
+-- a step that is a fault
+pub run-faulted : (units : UnitSet) (steps rest : ℕ) (w : WorldState) (fault : MixFault) → steps ≡ suc rest → does w Step ≡ Err fault →
+    printed units steps w ≡ record { bytes = []; end = Faulted fault; world = w }
+run-faulted units steps rest w fault e failed = rw (e, failed) refl
+
+-- what ends a run, or the step after which it goes on
+pub run-ended : (units : UnitSet) (steps rest : ℕ) (w next : WorldState) (end : RunEnd) (a b c : Option (List ℕ)) (whole : Run) → steps ≡ suc rest →
+    (done : List ℕ) × Appends a b done × (whole.bytes ≡ done ++ (printed units steps w).bytes) → (printed units steps w).end ≡ whole.end →
+    (printed units steps w).world ≡ whole.world → StepPrints units w next (Some end) b c →
+    (end ≡ whole.end) × (next ≡ whole.world) × Appends a c whole.bytes
+run-ended units steps rest w next Halted a b c whole e so_far ends stands step =
+    let run = run-halted units steps rest w next e step.0 step.1 in
+    let bytes = ap (λ r. r.bytes) run ∙ append-nil (printed_between units w next) in (
+      sym (ap (λ r. r.end) run) ∙ ends,
+      sym (ap (λ r. r.world) run) ∙ stands,
+      Appends-same a c _ whole.bytes (sym (so_far.2 ∙ ap (λ t. so_far.0 ++ t) bytes)) (Appends-then a b c so_far.0 _ so_far.1 step.2),
+    )
+run-ended units steps rest w next (Faulted fault) a b c whole e so_far ends stands step =
+    let run = run-faulted units steps rest w fault e step.0 in
+    let bytes = ap (λ r. r.bytes) run in (
+      sym (ap (λ r. r.end) run) ∙ ends,
+      step.1 ∙ sym (ap (λ r. r.world) run) ∙ stands,
+      Appends-same a c _ whole.bytes (sym (so_far.2 ∙ ap (λ t. so_far.0 ++ t) bytes)) (Appends-then a b c so_far.0 _ so_far.1 step.2),
+    )
+run-ended units steps rest w next UsedUp a b c whole e so_far ends stands step = absurd step
+
+begins : (units : UnitSet) (w : WorldState) (done : Result WorldState MixFault) (halts : Bool) (rest : WorldState → Run) → is_halt_next w ≡ halts →
+    (more : List ℕ) × ((step_and_rest units w done rest).bytes ≡ bytes_to units w done ++ more)
+begins units w (Ok next) true rest e = ([], rw e refl)
+begins units w (Ok next) false rest e = ((rest next).bytes, rw e refl)
+begins units w (Err fault) halts rest e = ([], refl)
+
+-- what a step prints is the beginning of what the run prints
+pub step-begins : (units : UnitSet) (steps : ℕ) (w : WorldState) → 0 < steps →
+    (more : List ℕ) × ((printed units steps w).bytes ≡ step_bytes units w ++ more)
+step-begins units zero w more = absurd (omega arith)
+step-begins units (suc steps) w more = begins units w (does w Step) (is_halt_next w) (λ next. printed units steps next) refl
+
+-- a beginning of what one step prints
+pub begun-in_step : (units : UnitSet) (steps : ℕ) (w : WorldState) (a b c : Option (List ℕ)) (whole : List ℕ) → 0 < steps →
+    (done : List ℕ) × Appends a b done × (whole ≡ done ++ (printed units steps w).bytes) → AppendsFront b c (step_bytes units w) → AppendsFront a c whole
+begun-in_step units steps w a b c whole more so_far begun =
+    let step = step-begins units steps w more in
+    AppendsFront-after a b c so_far.0 (step_bytes units w) step.0 whole so_far.1 begun
+    (so_far.2 ∙ ap (λ bytes. so_far.0 ++ bytes) step.1)
+
+-- what is written more, where it is a beginning of what is left
+pub written-more : (a b c : Option (List ℕ)) (whole left said more : List ℕ) →
+    (done : List ℕ) × Appends a b done × (whole ≡ done ++ left) → left ≡ said ++ more → Appends b c said →
+    (done : List ℕ) × Appends a c done × (whole ≡ done ++ more)
+written-more a b c whole left said more so_far parts wrote = (
+  so_far.0 ++ said,
+  Appends-then a b c so_far.0 said so_far.1 wrote,
+  so_far.2 ∙ ap (λ bytes. so_far.0 ++ bytes) parts ∙ sym (append_assoc so_far.0 said more),
+)
+
+-- nothing is left
+pub written-all : (a b : Option (List ℕ)) (whole left : List ℕ) → (done : List ℕ) × Appends a b done × (whole ≡ done ++ left) → left ≡ [] → Appends a b whole
+written-all a b whole left so_far none =
+    Appends-same a b so_far.0 whole (sym (so_far.2 ∙ ap (λ bytes. so_far.0 ++ bytes) none ∙ append-nil so_far.0)) so_far.1
+
+-- what is written next, and then more
+pub begun-front : (a b : Option (List ℕ)) (xs rest : List ℕ) → AppendsFront a b xs → AppendsFront a b (xs ++ rest)
+begun-front a b xs rest h = AppendsFront-after a a b [] xs rest (xs ++ rest) (Appends-nothing a) h refl
+
+-- what is written after other bytes
+pub begun-later : (a b c : Option (List ℕ)) (xs ys : List ℕ) → Appends a b xs → AppendsFront b c ys → AppendsFront a c (xs ++ ys)
+begun-later a b c xs ys h k = AppendsFront-after a b c xs ys [] (xs ++ ys) h k (ap (λ t. xs ++ t) (sym (append-nil ys)))
+
+-- one row, and then those after it
+pub rows-next : (rows : List RowState) (at : ℕ) (row : RowState) → at < length rows → row ≡ slice_index_or rows at None →
+    flat_map printed_row (drop at rows) ≡ printed_row row ++ flat_map printed_row (drop (at + 1) rows)
+rows-next [] at row h e = absurd (omega arith)
+rows-next (r ∷ rs) zero row h e = ap (λ x. printed_row x ++ flat_map printed_row rs) (sym e)
+rows-next (r ∷ rs) (suc at) row h e =
+    let next : suc at + 1 ≡ suc (at + 1) = omega arith in
+    rw next (rows-next rs at row (omega arith) e)
+
+-- no row is left
+pub rows-none : (rows : List RowState) (at : ℕ) → length rows ≤ at → flat_map printed_row (drop at rows) ≡ []
+rows-none [] zero h = refl
+rows-none [] (suc at) h = refl
+rows-none (r ∷ rs) zero h = absurd (omega arith)
+rows-none (r ∷ rs) (suc at) h = rows-none rs at (omega arith)
+
+none-from : (asked : Bool) (count : ℕ) (u : UnitState) → count ≡ length u.rows → printed_from asked count u ≡ []
+none-from true count u e = rows-none u.rows count (omega arith)
+none-from false count u e = refl
+
+-- nothing was written since all rows
+pub none-after : (units : UnitSet) (counts : RowCounts) (w : WorldState) → HasCounts w counts → printed_after units counts w ≡ []
+none-after units counts w h =
+    rw (
+      none-from units.card_punch counts.card_punch (unit_at w 17) h.card_punch,
+      none-from units.printer counts.printer (unit_at w 18) h.printer,
+      none-from units.typewriter counts.typewriter (unit_at w 19) h.typewriter,
+      none-from units.paper_tape counts.paper_tape (unit_at w 20) h.paper_tape,
+    ) refl
+
+-- what was written since the rows of a state
+pub after-between : (units : UnitSet) (counts : RowCounts) (w next : WorldState) → HasCounts w counts → printed_after units counts next ≡ printed_between units w next
+after-between units counts w next h = rw (h.card_punch, h.printer, h.typewriter, h.paper_tape) refl

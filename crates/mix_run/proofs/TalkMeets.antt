@@ -1,0 +1,121 @@
+-- A talk that is not begun, and a talk as a script.
+use Rattle.std.proofs.Common.{◌≡◌, ◌∙◌, ◌+◌, ◌<◌, ◌≤◌, ℕ, List, [], ◌∷◌, ◌++◌, length, take, Option, None, Some, Result, Ok, Err, refl, sym, ap, subst, arith}
+use Rattle.std.proofs.lemmas.Bool.{le-ltb}
+use Rattle.std.specs.Io.KnownBytes.{Appends, Keeps}
+use Rattle.mix_lines.specs.Lines.{lines}
+use Rattle.mixal_asm.specs.Assembly.{assembly}
+use Rattle.mixal_asm.specs.Fault.{asm_fault_line}
+use Rattle.mixal_asm.specs.Program.{ProgramValue}
+use Rattle.mixal_asm.specs.declared.fault.AsmFault.{AsmFault}
+use Rattle.mix_machine.specs.units.Units.{UnitsState}
+use Rattle.mix_machine.specs.declared.units.deck_fault.DeckFault.{DeckFault}
+use Rattle.mix_refused.specs.declared.refused.Refused.{Refused as Refusal}
+use Rattle.mix_refused.specs.declared.refused.Refused.TheVariants as reads
+use Rattle.mix_stream.specs.declared.counted.Failed.{Failed}
+use Rattle.mix_stream.specs.Stream.{AppendsFront, CountsFailure}
+use Rattle.mix_session.specs.Session.{SessionState, opened}
+use Rattle.mix_session.specs.Wrapped.{fault_of_read}
+use Rattle.mix_session.specs.declared.reply.Told.{Told}
+use Rattle.mix_session.specs.declared.fault.ToolFault.{ToolFault}
+use Rattle.mix_session.specs.declared.fault.ToolFault.TheVariants as faults
+use Rattle.mix_run.specs.Output.{DeckRefused, Ended, Meets, TooLong, max_script_bytes, outcome_of, outcome_of_script, replies, status_of}
+use Rattle.mix_run.specs.Talk.{AnswersRead, Talks, TalksWith, answers, asked, max_line_bytes, status_from}
+use Rattle.mix_run.specs.UnitsRead.{GivesUnits}
+use Rattle.mix_run.specs.declared.talk.aside.Talker.{Talker}
+use Rattle.mix_run.specs.declared.talk.aside.Talker.TheVariants.{Program}
+use Rattle.mix_run.proofs.RunLemmas.{Keeps-same, Meets-unread}
+use Rattle.mix_run.proofs.Truncation.{assembly-take}
+use Rattle.mix_run.proofs.Written.{Appends-nothing}
+
+-- no line was read yet
+AnswersRead-nothing : (s : SessionState) (talker : Talker) (t : List ℕ) (left told : Option (List ℕ)) → left ≡ Some t → AnswersRead s talker t left told told
+unfolding lines
+AnswersRead-nothing s talker t left told e = ([], [], t, e, refl, refl, refl, Appends-nothing told)
+
+-- nothing was written, and memory was refused or a read failed
+pub TalksWith-unread : (program : Result ProgramValue AsmFault) (units : Result UnitsState DeckFault) (talker : Talker) (t : List ℕ) (fault : Refusal Failed)
+    (left told : Option (List ℕ)) → left ≡ Some t → TalksWith program units talker t (Err (fault_of_read fault)) left told told
+TalksWith-unread (Err f) units talker t fault left told e = Meets-unread (Ended (asm_fault_line f ++ 10 ∷ []) 1) fault told
+TalksWith-unread (Ok p) (Err f) talker t fault left told e = Meets-unread (DeckRefused f) fault told
+TalksWith-unread (Ok p) (Ok units) talker t reads.Memory left told e = (Err faults.Memory, refl, (0, omega arith, Appends-nothing told))
+TalksWith-unread (Ok p) (Ok units) talker t (reads.Fault failed) left told e =
+    (Err faults.Read, refl, AnswersRead-nothing (opened p units) talker t left told e)
+
+-- the units could not be read, or their deck is refused
+pub TalksWith-no_units : (p : ProgramValue) (units : Result UnitsState DeckFault) (talker : Talker) (t : List ℕ) (fault : ToolFault) (left told : Option (List ℕ))
+    → left ≡ Some t → GivesUnits units (Err fault) → TalksWith (Ok p) units talker t (Err fault) left told told
+TalksWith-no_units p units talker t faults.Memory left told e given = TalksWith-unread (Ok p) units talker t reads.Memory left told e
+TalksWith-no_units p units talker t faults.Read left told e given = TalksWith-unread (Ok p) units talker t (reads.Fault record {}) left told e
+TalksWith-no_units p units talker t faults.Write left told e given = absurd given
+TalksWith-no_units p units talker t faults.Long left told e given = absurd given
+TalksWith-no_units p units talker t (faults.Deck fault) left told e given =
+    subst (λ u. TalksWith (Ok p) u talker t (Err (faults.Deck fault)) left told told) (sym given) (refl, Keeps-same told)
+
+pub not-long : (units : Result UnitsState DeckFault) (fault : ToolFault) → GivesUnits units (Err fault) → fault ≡ faults.Long → ⊥
+not-long units fault given e = let there : GivesUnits units (Err faults.Long) = subst (λ f. GivesUnits units (Err f)) e given in there
+
+-- two readers have failed no more, and a third one as it is answered
+pub counts-after : (P : Type 0) (a b c d old new : ℕ) → b ≡ a → d ≡ c → CountsFailure P old new → CountsFailure P (a + c + old) (b + d + new)
+counts-after P a b c d old new e f counts = (
+  (λ p. let one = counts.0.0 p in omega (arith, e, f, one), λ one. counts.0.1 (omega (arith, e, f, one))),
+  λ no. let same = counts.1 no in omega (arith, e, f, same),
+)
+
+-- the source is what was read of it
+source-is : (s read : List ℕ) (program : Result ProgramValue AsmFault) → read ≡ take 1048577 s → assembly read ≡ program → assembly s ≡ program
+source-is s read program e is = sym (assembly-take s) ∙ sym (ap assembly e) ∙ is
+
+pub TalksWith-source : (s read : List ℕ) (program : Result ProgramValue AsmFault) (units : Result UnitsState DeckFault) (talker : Talker) (t : List ℕ)
+    (result : Result ℕ ToolFault) (left old new : Option (List ℕ)) → read ≡ take 1048577 s → assembly read ≡ program
+    → TalksWith program units talker t result left old new → TalksWith (assembly s) units talker t result left old new
+TalksWith-source s read program units talker t result left old new e is talks =
+    subst (λ p. TalksWith p units talker t result left old new) (sym (source-is s read program e is)) talks
+
+pub TalksWith-refused : (s read : List ℕ) (fault : AsmFault) (units : Result UnitsState DeckFault) (talker : Talker) (t : List ℕ)
+    (result : Result ℕ ToolFault) (left old new : Option (List ℕ)) → read ≡ take 1048577 s → assembly read ≡ Err fault
+    → Meets (Ended (asm_fault_line fault ++ 10 ∷ []) 1) result old new → TalksWith (assembly s) units talker t result left old new
+TalksWith-refused s read fault units talker t result left old new e is met =
+    TalksWith-source s read (Err fault) units talker t result left old new e is met
+
+pub TalksWith-units : (p : ProgramValue) (units : Result UnitsState DeckFault) (some : UnitsState) (talker : Talker) (t : List ℕ)
+    (result : Result ℕ ToolFault) (left old new : Option (List ℕ)) → units ≡ Ok some → TalksWith (Ok p) (Ok some) talker t result left old new
+    → TalksWith (Ok p) units talker t result left old new
+TalksWith-units p units some talker t result left old new e talks = subst (λ u. TalksWith (Ok p) u talker t result left old new) (sym e) talks
+
+-- ---- as a script
+
+asked-all : (all : List (List ℕ)) → asked Program all ≡ all
+asked-all [] = refl
+asked-all (line ∷ rest) = ap (λ l. line ∷ l) (asked-all rest)
+
+script-said : (s : SessionState) (t : List ℕ) → length t ≤ max_script_bytes
+    → outcome_of_script s t ≡ Ended (answers s Program (lines t)).bytes (status_of (answers s Program (lines t)).told)
+unfolding outcome_of_script
+script-said s t le = rw (le-ltb max_script_bytes (length t) le, asked-all (lines t)) refl
+
+module _ (s : SessionState) (t : List ℕ) (le : length t ≤ max_script_bytes) (left old new : Option (List ℕ)) where
+  -- the bytes and the status of the talk are those of the script
+  meets-talk : (talk : Result Told ToolFault) → (status_from talk ≡ Err faults.Read → ⊥) → (status_from talk ≡ Err faults.Long → max_script_bytes < length t)
+      → Talks s Program t talk left old new
+      → Meets (Ended (answers s Program (lines t)).bytes (status_of (answers s Program (lines t)).told)) (status_from talk) old new
+  meets-talk (Ok told) read long talks = (ap (λ v. Ended (answers s Program (lines t)).bytes (status_of v)) (sym talks.0), talks.1)
+  meets-talk (Err faults.Memory) read long talks = talks
+  meets-talk (Err faults.Write) read long talks = talks
+  meets-talk (Err faults.Read) read long talks = absurd (read refl)
+  meets-talk (Err faults.Long) read long talks = let over = long refl in absurd (omega (arith, le, over))
+  meets-talk (Err (faults.Deck fault)) read long talks = absurd talks
+
+pub TalksWith-script : (program : Result ProgramValue AsmFault) (units : Result UnitsState DeckFault) (talker : Talker) (t : List ℕ) (result : Result ℕ ToolFault)
+    (left old new : Option (List ℕ)) → talker ≡ Program → length t ≤ max_script_bytes → (result ≡ Err faults.Read → ⊥)
+    → (result ≡ Err faults.Long → max_script_bytes < length t) → TalksWith program units talker t result left old new
+    → Meets (outcome_of program units t) result old new
+unfolding outcome_of
+TalksWith-script (Err fault) units talker t result left old new is le read long talks = talks
+TalksWith-script (Ok p) (Err fault) talker t result left old new is le read long talks = talks
+TalksWith-script (Ok p) (Ok units) talker t result left old new is le read long talks =
+    let s = opened p units in
+    let same : result ≡ status_from talks.0 = talks.1 in
+    let heard : Talks s Program t talks.0 left old new = subst (λ k. Talks s k t talks.0 left old new) is talks.2 in
+    let met = meets-talk s t le left old new talks.0 (λ e. read (same ∙ e)) (λ e. long (same ∙ e)) heard in
+    let there = subst (λ r. Meets (Ended (answers s Program (lines t)).bytes (status_of (answers s Program (lines t)).told)) r old new) (sym same) met in
+    subst (λ o. Meets o result old new) (sym (script-said s t le)) there

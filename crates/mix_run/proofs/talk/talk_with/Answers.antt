@@ -1,0 +1,8 @@
+-- Out of memory before the machine stands, nothing is written.
+use Rattle.std.proofs.Common.{Err, refl, arith}
+use Rattle.mix_session.specs.declared.fault.ToolFault.TheVariants.{Memory}
+use Rattle.mix_run.proofs.Written.{Appends-nothing}
+use Rattle.mix_run.proofs.talk.talk_with.Goals as goal
+
+pub returns-in-Err-clause-talks : goal.returns-in-Err-clause-talks
+returns-in-Err-clause-talks g c t e = (Err Memory, refl, (0, omega arith, Appends-nothing _))

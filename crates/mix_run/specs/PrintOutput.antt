@@ -1,0 +1,63 @@
+-- What `run` writes and answers: a function of the source, the deck, the cards, and what is asked for.
+use Rattle.std.specs.Prelude.{◌≡◌, ℕ, Bool, Option, List, [], Result, Ok, Err, if◌then◌else◌}
+use Rattle.std.specs.Io.KnownBytes.{Appends, Keeps}
+use Rattle.mixal_asm.specs.Assembly.{assembly}
+use Rattle.mixal_asm.specs.Program.{ProgramValue}
+use Rattle.mixal_asm.specs.declared.fault.AsmFault.{AsmFault}
+use Rattle.mix_machine.specs.Loaded.{loaded}
+use Rattle.mix_machine.specs.units.Units.{UnitsState}
+use Rattle.mix_machine.specs.units.deck.Deck.{deck_of, cards_of}
+use Rattle.mix_machine.specs.declared.units.deck_fault.DeckFault.{DeckFault}
+use Rattle.mix_session.specs.declared.fault.ToolFault.{ToolFault}
+use Rattle.mix_session.specs.declared.fault.ToolFault.TheVariants as faults
+use Rattle.mix_stream.specs.Stream.{AppendsFront}
+use Rattle.mix_run.specs.Print.{Run, printed, line_at}
+use Rattle.mix_run.specs.declared.print.PrintAnswer.{PrintAnswer}
+use Rattle.mix_run.specs.declared.print.PrintAnswer.TheVariants.{Ran, Refused}
+use Rattle.mix_run.specs.declared.print.RanTo.{RanTo}
+use Rattle.mix_run.specs.declared.print.options.PrintOptions.{PrintOptions}
+
+-- how `run` ends: with these bytes and this answer, or, with no byte written, for its deck or its cards
+pub data PrintOutcome : Type 0 where
+  Answered : List ℕ → PrintAnswer → PrintOutcome
+  UnitsRefused : DeckFault → PrintOutcome
+
+-- the cards of a text, if there is one, in the units of a deck
+abbrev pub with_cards : Result UnitsState DeckFault → Bool → List ℕ → Result UnitsState DeckFault
+with_cards (Err fault) given cards = Err fault
+with_cards (Ok units) given cards = if given then cards_of units cards else Ok units
+
+-- where a run of a program came to
+abbrev pub ran_to : ProgramValue → Run → RanTo
+ran_to program run = record { end = run.end; loc = run.world.loc; clock = run.world.clock; line = line_at program run.world.loc }
+
+-- a program run on the machine that it is loaded into, with its units
+unfoldable pub outcome_of_run : PrintOptions → ProgramValue → UnitsState → PrintOutcome
+outcome_of_run options program units =
+    let run = printed options.units options.steps (loaded program.words program.start units) in
+    Answered run.bytes (Ran (ran_to program run))
+
+-- an assembled source, with its units
+unfoldable pub print_outcome : PrintOptions → Result ProgramValue AsmFault → Result UnitsState DeckFault → PrintOutcome
+print_outcome options (Err fault) units = Answered [] (Refused fault)
+print_outcome options (Ok program) (Err fault) = UnitsRefused fault
+print_outcome options (Ok program) (Ok units) = outcome_of_run options program units
+
+-- source, deck and cards
+unfoldable pub print_output : PrintOptions → List ℕ → List ℕ → List ℕ → PrintOutcome
+print_output options source deck cards = print_outcome options (assembly source) (with_cards (deck_of deck) options.cards cards)
+
+-- the bytes that an outcome writes
+abbrev pub bytes_of : PrintOutcome → List ℕ
+bytes_of (Answered bytes answer) = bytes
+bytes_of (UnitsRefused fault) = []
+
+-- What a call answers and writes is the outcome. Where memory is refused, or a write fails, a beginning of its bytes has been written;
+-- where a read fails, none.
+abbrev pub Prints : PrintOutcome → Result PrintAnswer ToolFault → Option (List ℕ) → Option (List ℕ) → Type 0
+Prints outcome (Ok answer) old new = (outcome ≡ Answered (bytes_of outcome) answer) × Appends old new (bytes_of outcome)
+Prints outcome (Err (faults.Deck fault)) old new = (outcome ≡ UnitsRefused fault) × Keeps old new
+Prints outcome (Err faults.Long) old new = ⊥
+Prints outcome (Err faults.Memory) old new = AppendsFront old new (bytes_of outcome)
+Prints outcome (Err faults.Write) old new = AppendsFront old new (bytes_of outcome)
+Prints outcome (Err faults.Read) old new = Keeps old new

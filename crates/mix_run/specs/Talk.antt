@@ -1,0 +1,98 @@
+-- A talk: each line is answered before more is read.
+use Rattle.std.specs.Prelude.{◌≡◌, ◌≢◌, ◌||◌, ◌&&◌, Bool, true, false, ℕ, List, [], ◌∷◌, ◌++◌, codes, Option, None, Some, Result, Ok, Err, MatchResult, if◌then◌else◌}
+use Rattle.std.specs.List.{list_any}
+use Rattle.std.specs.Str.{str_eq_ignore_ascii_case}
+use Rattle.std.specs.Io.KnownBytes.{Appends}
+use Rattle.mix_lines.specs.Lines.{is_line_feed, lines, words}
+use Rattle.mixal_asm.specs.Fault.{asm_fault_line}
+use Rattle.mixal_asm.specs.Program.{ProgramValue}
+use Rattle.mixal_asm.specs.declared.fault.AsmFault.{AsmFault}
+use Rattle.mix_machine.specs.units.Units.{UnitsState}
+use Rattle.mix_machine.specs.declared.units.deck_fault.DeckFault.{DeckFault}
+use Rattle.mix_session.specs.Session.{SessionState, opened, effect_in}
+use Rattle.mix_session.specs.Command.{after}
+use Rattle.mix_session.specs.declared.fault.ToolFault.{ToolFault}
+use Rattle.mix_session.specs.declared.fault.ToolFault.TheVariants as faults
+use Rattle.mix_session.specs.declared.reply.Told.{Told}
+use Rattle.mix_run.specs.Output.{Ended, DeckRefused, Meets, Replies, replies, status_of}
+use Rattle.mix_stream.specs.Stream.{AppendsFront}
+use Rattle.mix_run.specs.declared.talk.aside.Talker.{Talker}
+use Rattle.mix_run.specs.declared.talk.aside.Talker.TheVariants.{Program, Person}
+
+-- how many bytes a line of a talk may have
+abbrev pub max_line_bytes : ℕ
+max_line_bytes = 1048576
+
+-- whether these words are `quit`, in capitals or small letters, and whether the first of them is `help`
+abbrev pub are_quit : List (List ℕ) → Bool
+are_quit [] = false
+are_quit (word ∷ []) = str_eq_ignore_ascii_case word (codes "quit")
+are_quit (word ∷ other ∷ rest) = false
+
+abbrev pub are_help : List (List ℕ) → Bool
+are_help [] = false
+are_help (word ∷ rest) = str_eq_ignore_ascii_case word (codes "help")
+
+-- whether a person's line ends the talk, or asks for help; a program's does neither
+abbrev pub is_quit : Talker → List ℕ → Bool
+is_quit Program line = false
+is_quit Person line = are_quit (words line)
+
+abbrev pub is_help : Talker → List ℕ → Bool
+is_help Program line = false
+is_help Person line = are_help (words line)
+
+-- the lines that are commands: those before the one that ends the talk which ask for no help
+abbrev pub asked : Talker → List (List ℕ) → List (List ℕ)
+asked talker [] = []
+asked talker (line ∷ rest) =
+    if is_quit talker line then [] else if is_help talker line then asked talker rest else line ∷ asked talker rest
+
+-- whether one of the lines ends the talk
+abbrev pub is_over : Talker → List (List ℕ) → Bool
+is_over talker = list_any (is_quit talker)
+
+-- the replies to the lines that are commands
+abbrev pub answers : SessionState → Talker → List (List ℕ) → Replies
+answers s talker all = replies s (asked talker all)
+
+-- the session after some lines, executed one after the other
+abbrev pub after_lines : SessionState → List (List ℕ) → SessionState
+after_lines s [] = s
+after_lines s (line ∷ rest) = after_lines (record s { timeline = after (effect_in s line) }) rest
+
+-- whether a text has whole lines alone: it is empty, or its last byte is a line feed
+abbrev pub is_whole : List ℕ → Bool
+is_whole [] = true
+is_whole (byte ∷ []) = is_line_feed byte
+is_whole (byte ∷ next ∷ rest) = is_whole (next ∷ rest)
+
+-- What was written when no more could be read: exactly the replies to the whole lines of what had been read. They were answered before the
+-- next read.
+abbrev pub AnswersRead : SessionState → Talker → List ℕ → Option (List ℕ) → Option (List ℕ) → Option (List ℕ) → Type 0
+AnswersRead s talker text left old new =
+    (front : List ℕ) × (part : List ℕ) × (rest : List ℕ) × (left ≡ Some rest) × (text ≡ front ++ (part ++ rest)) × (is_whole front ≡ true)
+    × (list_any is_line_feed part ≡ false) × Appends old new (answers s talker (lines front)).bytes
+
+-- What a talk over this text answers and writes: at its end the replies to all its commands, and whether each was accepted; where memory is
+-- refused, or a write fails, a beginning of them; where a read fails, or a line is too long, the replies to the lines before that.
+abbrev pub Talks : SessionState → Talker → List ℕ → Result Told ToolFault → Option (List ℕ) → Option (List ℕ) → Option (List ℕ) → Type 0
+Talks s talker text (Ok told) left old new = (told ≡ (answers s talker (lines text)).told) × Appends old new (answers s talker (lines text)).bytes
+Talks s talker text (Err faults.Read) left old new = AnswersRead s talker text left old new
+Talks s talker text (Err faults.Long) left old new = AnswersRead s talker text left old new
+Talks s talker text (Err faults.Memory) left old new = AppendsFront old new (answers s talker (lines text)).bytes
+Talks s talker text (Err faults.Write) left old new = AppendsFront old new (answers s talker (lines text)).bytes
+Talks s talker text (Err (faults.Deck fault)) left old new = ⊥
+
+-- the status of a talk, and its fault
+abbrev pub status_from : Result Told ToolFault → Result ℕ ToolFault
+status_from (Ok told) = Ok (status_of told)
+status_from (Err fault) = Err fault
+
+-- A talk with the program of a source and the units of a deck: where one of them is refused, that is answered, and no line is read.
+abbrev pub TalksWith : Result ProgramValue AsmFault → Result UnitsState DeckFault → Talker → List ℕ → Result ℕ ToolFault
+    → Option (List ℕ) → Option (List ℕ) → Option (List ℕ) → Type 0
+TalksWith (Err fault) units talker text result left old new = Meets (Ended (asm_fault_line fault ++ 10 ∷ []) 1) result old new
+TalksWith (Ok program) (Err fault) talker text result left old new = Meets (DeckRefused fault) result old new
+TalksWith (Ok program) (Ok units) talker text result left old new =
+    (talk : Result Told ToolFault) × (result ≡ status_from talk) × Talks (opened program units) talker text talk left old new

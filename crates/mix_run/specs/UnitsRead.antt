@@ -1,0 +1,15 @@
+-- What the reading of units answers: the units of a deck or of cards, or why there are none.
+use Rattle.std.specs.Prelude.{◌≡◌, ⊤, Result, Ok, Err}
+use Rattle.mix_machine.specs.units.Units.{UnitsState}
+use Rattle.mix_machine.specs.declared.units.deck_fault.DeckFault.{DeckFault}
+use Rattle.mix_session.specs.declared.fault.ToolFault.{ToolFault}
+use Rattle.mix_session.specs.declared.fault.ToolFault.TheVariants as faults
+
+-- what the reading of units may answer: the units, their fault, or that memory is refused or a read failed
+abbrev pub GivesUnits : Result UnitsState DeckFault → Result UnitsState ToolFault → Type 0
+GivesUnits expected (Ok units) = expected ≡ Ok units
+GivesUnits expected (Err (faults.Deck fault)) = expected ≡ Err fault
+GivesUnits expected (Err faults.Memory) = ⊤
+GivesUnits expected (Err faults.Read) = ⊤
+GivesUnits expected (Err faults.Write) = ⊥
+GivesUnits expected (Err faults.Long) = ⊥

@@ -1,0 +1,219 @@
+//! A program run to its end, and what it prints.
+ghost use Rattle.std.specs.Prelude.{◌≡◌, ◌≢◌, ◌⊎◌, ◌<◌, ◌≤◌, ◌+◌, ◌-◌, ◌^◌, ℕ, List, Some, Ok, Err, IfErr, IfOk, drop, false};
+ghost use Rattle.std.specs.Io.KnownBytes.{Keeps};
+ghost use Rattle.mixal_asm.specs.Assembly.{assembly, max_source_bytes};
+ghost use Rattle.mixal_asm.specs.declared.fault.AsmFault.{AsmFault};
+ghost use Rattle.mix_machine.specs.units.deck.Deck.{deck_of, max_deck_bytes};
+ghost use Rattle.mix_machine.specs.declared.units.deck_fault.DeckFault.{DeckFault};
+ghost use Rattle.mix_session.specs.Session.{IsMemoryOrWrite};
+ghost use Rattle.mix_stream.specs.Stream.{ConsumesAtMost, CountsFailure};
+ghost use Rattle.mix_run.specs.Print.{line_at};
+ghost use Rattle.mix_run.specs.UnitsRead.{GivesUnits};
+ghost use Rattle.mix_run.specs.PrintOutput.{Prints, outcome_of_run, print_outcome, print_output, with_cards};
+
+pub(crate) mod options;
+mod row;
+mod steps;
+
+use crate::print::options::PrintOptions;
+use crate::print::steps::print_steps;
+use crate::refusal::tell_refusal;
+use crate::units::{read_cards, read_units};
+use mix_machine::{Place, Units, World};
+use mix_refused::Refused;
+use mix_session::ToolFault;
+use mix_stream::{In, Out, read_up_to};
+use mixal_asm::{AsmFault, MAX_SOURCE_BYTES, Program, Source, assemble};
+use std::alloc::Global;
+pub use steps::RunEnd;
+
+/// Where a run came to: why it ended, the location and the clock in u then, and the line of the source that put the last word into the cell at
+/// that location, if one did. After a fault that is the line of the instruction at fault.
+#[derive(Clone, Copy, Debug, PartialEq, Eq)]
+pub struct RanTo {
+    pub end: RunEnd,
+    pub loc: u16,
+    pub clock: u64,
+    pub line: Option<u32>,
+}
+
+/// What is answered of a run: where it came to, or the first fault of its source.
+#[derive(Clone, Copy, Debug, PartialEq, Eq)]
+pub enum PrintAnswer {
+    Ran(RanTo),
+    Refused(AsmFault),
+}
+
+// The line of the source that put the last word into the cell at a location.
+fn line_at(program: &Program<'_>, loc: u16) -> Option<u32>
+    ensures { result ≡ line_at program.now loc }
+{
+    let place = Place::of(loc)?;
+    match program.source_at(place)? {
+        Source::Line(number, _) => Some(*number),
+        Source::Literal(_) | Source::Name(_) => None,
+    }
+}
+
+// A program, run on the machine that it is loaded into.
+#[tactic(auto, unfolding(crate::specs::PrintOutput::outcome_of_run))]
+fn print_loaded<W: Out>(
+    alloc: Global,
+    program: &Program<'_>,
+    units: Units,
+    options: PrintOptions,
+    out: &mut W,
+) -> Result<PrintAnswer, ToolFault>
+    requires { W.failed out.old < 2 ^ 64 - 1 }
+    ensures output { Prints (outcome_of_run options program.now units) result (W.told out.old) (W.told out.new) }
+    ensures write { CountsFailure (result ≡ Err ToolFault.Write) (W.failed out.old) (W.failed out.new) }
+    ensures only { IfErr result IsMemoryOrWrite }
+    ensures ran { (f : AsmFault) → result ≢ Ok (PrintAnswer.Refused f) }
+{
+    let mut world = World::load(alloc, program.words(), program.start(), units)?;
+    let end = print_steps(alloc, &mut world, options.steps, options.units, out)?;
+    let (loc, clock) = (world.loc(), world.clock());
+    let line = line_at(program, loc);
+    Ok(PrintAnswer::Ran(RanTo {
+        end,
+        loc,
+        clock,
+        line,
+    }))
+}
+
+// The units of a deck, and the cards of a text if they are asked for.
+fn units_with_cards<D: In, C: In>(
+    alloc: Global,
+    deck: &mut D,
+    cards: &mut C,
+    given: bool,
+) -> Result<Units, ToolFault>
+    requires deck_count { D.failed deck.old < 2 ^ 64 - 1 }
+    requires cards_count { C.failed cards.old < 2 ^ 64 - 1 }
+    ensures units { (d c : List ℕ) → D.rest deck.old ≡ Some d → C.rest cards.old ≡ Some c
+        → GivesUnits (with_cards (deck_of d) given c) result }
+    ensures read { CountsFailure (result ≡ Err ToolFault.Read) (D.failed deck.old + C.failed cards.old) (D.failed deck.new + C.failed cards.new) }
+    ensures reads { (D.failed deck.old ≤ D.failed deck.new) × (C.failed cards.old ≤ C.failed cards.new) }
+    ensures deck { ConsumesAtMost (D.rest deck.old) (D.rest deck.new) (max_deck_bytes + 1) }
+    ensures cards { ConsumesAtMost (C.rest cards.old) (C.rest cards.new) (max_deck_bytes + 1) }
+    ensures no_cards { given ≡ false → cards.new ≡ cards.old }
+    ensures bad_deck { (d : List ℕ) (f : DeckFault) → D.rest deck.old ≡ Some d → deck_of d ≡ Err f → cards.new ≡ cards.old }
+    ensures deck_failed { D.failed deck.old < D.failed deck.new → cards.new ≡ cards.old }
+    ensures cards_in_turn { (d : List ℕ) → D.rest deck.old ≡ Some d
+        → (cards.new ≡ cards.old) ⊎ (D.rest deck.new ≡ Some (drop (max_deck_bytes + 1) d)) }
+    ensures only { result ≢ Err ToolFault.Write }
+{
+    let units = read_units(alloc, deck)?;
+    if given {
+        read_cards(alloc, units, cards)
+    } else {
+        Ok(units)
+    }
+}
+
+// The deck and the cards of an assembled source, and then its run.
+fn print_program<D: In, C: In, W: Out>(
+    alloc: Global,
+    program: &Program<'_>,
+    deck: &mut D,
+    cards: &mut C,
+    options: PrintOptions,
+    out: &mut W,
+) -> Result<PrintAnswer, ToolFault>
+    requires deck_count { D.failed deck.old < 2 ^ 64 - 1 }
+    requires cards_count { C.failed cards.old < 2 ^ 64 - 1 }
+    requires out_count { W.failed out.old < 2 ^ 64 - 1 }
+    ensures output { (d c : List ℕ) → D.rest deck.old ≡ Some d → C.rest cards.old ≡ Some c
+        → Prints (print_outcome options (Ok program.now) (with_cards (deck_of d) options.cards c)) result (W.told out.old) (W.told out.new) }
+    ensures read { CountsFailure (result ≡ Err ToolFault.Read) (D.failed deck.old + C.failed cards.old) (D.failed deck.new + C.failed cards.new) }
+    ensures reads { (D.failed deck.old ≤ D.failed deck.new) × (C.failed cards.old ≤ C.failed cards.new) }
+    ensures write { CountsFailure (result ≡ Err ToolFault.Write) (W.failed out.old) (W.failed out.new) }
+    ensures unread { result ≡ Err ToolFault.Read → Keeps (W.told out.old) (W.told out.new) }
+    ensures deck { ConsumesAtMost (D.rest deck.old) (D.rest deck.new) (max_deck_bytes + 1) }
+    ensures cards { ConsumesAtMost (C.rest cards.old) (C.rest cards.new) (max_deck_bytes + 1) }
+    ensures no_cards { options.cards ≡ false → cards.new ≡ cards.old }
+    ensures bad_deck { (d : List ℕ) (f : DeckFault) → D.rest deck.old ≡ Some d → deck_of d ≡ Err f → cards.new ≡ cards.old }
+    ensures deck_failed { D.failed deck.old < D.failed deck.new → cards.new ≡ cards.old }
+    ensures cards_in_turn { (d : List ℕ) → D.rest deck.old ≡ Some d
+        → (cards.new ≡ cards.old) ⊎ (D.rest deck.new ≡ Some (drop (max_deck_bytes + 1) d)) }
+    ensures ran { (f : AsmFault) → result ≢ Ok (PrintAnswer.Refused f) }
+{
+    let units = units_with_cards(alloc, deck, cards, options.cards)?;
+    print_loaded(alloc, program, units, options, out)
+}
+
+/// Assembles a source, reads a deck, and where `options.cards` is true a text of cards, which stand in place of those that the deck gives to unit 16;
+/// then it runs the loaded machine (1.3.1, 1.3.2) up to a halt, a fault, or `options.steps` steps, and writes what it prints: each row of the units in
+/// `options.units` as soon as its step is done, without the blanks at its end and with a line feed, a page mark as a form feed alone. It keeps nothing of
+/// the steps, so it takes no more memory for many steps than for few. Where the source is refused, its fault is the answer, nothing is written, and on the
+/// error output it is told with the name of the source, its line and a mark. At
+/// most 1,048,577 bytes of the source are read, and 33,554,433 of the deck and of the cards each, all of them before the first byte is written; the
+/// deck is read after the source, and the cards after the deck. After a refusal or a read that failed nothing else is read.
+///
+/// It fails with T1 where memory is refused, with T2 or T3 where a read or the write fails, and with T5 where the deck or the cards are refused. After T1
+/// and T3 a beginning of what the run prints has been written, after the others nothing.
+pub fn run_printed<S: In, D: In, C: In, W: Out, E: Out>(
+    alloc: Global,
+    name: &str,
+    source: &mut S,
+    deck: &mut D,
+    cards: &mut C,
+    options: PrintOptions,
+    out: &mut W,
+    errors: &mut E,
+) -> Result<PrintAnswer, ToolFault>
+    requires source_count { S.failed source.old < 2 ^ 64 - 1 }
+    requires deck_count { D.failed deck.old < 2 ^ 64 - 1 }
+    requires cards_count { C.failed cards.old < 2 ^ 64 - 1 }
+    requires out_count { W.failed out.old < 2 ^ 64 - 1 }
+
+    // What is printed is what the loaded machine prints, run to its end, and the answer says where it came to.
+    ensures output { (s d c : List ℕ) → S.rest source.old ≡ Some s → D.rest deck.old ≡ Some d → C.rest cards.old ≡ Some c
+        → Prints (print_output options s d c) result (W.told out.old) (W.told out.new) }
+
+    // A read or a write has failed exactly where that is answered.
+    ensures read { CountsFailure (result ≡ Err ToolFault.Read) (S.failed source.old + D.failed deck.old + C.failed cards.old)
+        (S.failed source.new + D.failed deck.new + C.failed cards.new) }
+    ensures reads { (S.failed source.old ≤ S.failed source.new) × (D.failed deck.old ≤ D.failed deck.new) × (C.failed cards.old ≤ C.failed cards.new) }
+    ensures write { CountsFailure (result ≡ Err ToolFault.Write) (W.failed out.old) (W.failed out.new) }
+    ensures unread { result ≡ Err ToolFault.Read → Keeps (W.told out.old) (W.told out.new) }
+
+    // Never more is read.
+    ensures source { ConsumesAtMost (S.rest source.old) (S.rest source.new) (max_source_bytes + 1) }
+    ensures deck { ConsumesAtMost (D.rest deck.old) (D.rest deck.new) (max_deck_bytes + 1) }
+    ensures cards { ConsumesAtMost (C.rest cards.old) (C.rest cards.new) (max_deck_bytes + 1) }
+
+    // Cards that are not asked for are not read.
+    ensures no_cards { options.cards ≡ false → cards.new ≡ cards.old }
+
+    // After a refusal nothing else is read.
+    ensures source_refused { (f : AsmFault) → result ≡ Ok (PrintAnswer.Refused f) → (deck.new ≡ deck.old) × (cards.new ≡ cards.old) }
+
+    // Nor is it after a source or a deck that is to be refused, whatever the call answers.
+    ensures bad_source { (s : List ℕ) (f : AsmFault) → S.rest source.old ≡ Some s → assembly s ≡ Err f → (deck.new ≡ deck.old) × (cards.new ≡ cards.old) }
+    ensures bad_deck { (d : List ℕ) (f : DeckFault) → D.rest deck.old ≡ Some d → deck_of d ≡ Err f → cards.new ≡ cards.old }
+
+    // Nor after a read that failed.
+    ensures source_failed { S.failed source.old < S.failed source.new → (deck.new ≡ deck.old) × (cards.new ≡ cards.old) }
+    ensures deck_failed { D.failed deck.old < D.failed deck.new → cards.new ≡ cards.old }
+
+    // Each is read when the one before it has been read up to its end or its limit.
+    ensures in_turn { (s : List ℕ) → S.rest source.old ≡ Some s
+        → ((deck.new ≡ deck.old) × (cards.new ≡ cards.old)) ⊎ (S.rest source.new ≡ Some (drop (max_source_bytes + 1) s)) }
+    ensures cards_in_turn { (d : List ℕ) → D.rest deck.old ≡ Some d
+        → (cards.new ≡ cards.old) ⊎ (D.rest deck.new ≡ Some (drop (max_deck_bytes + 1) d)) }
+{
+    let text = read_up_to(alloc, source, MAX_SOURCE_BYTES + 1)?;
+    match assemble(alloc, &text) {
+        Err(Refused::Memory) => Err(ToolFault::Memory),
+        Err(Refused::Fault(fault)) => {
+            tell_refusal(alloc, name, &text, &fault, errors);
+            Ok(PrintAnswer::Refused(fault))
+        }
+        Ok(program) => print_program(alloc, &program, deck, cards, options, out),
+    }
+}
+
+#[cfg(test)]
+mod tests;

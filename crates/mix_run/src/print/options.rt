@@ -1,0 +1,41 @@
+//! What is asked of a run: how many steps, the rows of which units, and whether cards are given.
+ghost use Rattle.std.specs.Prelude.{◌≡◌, true, false};
+
+/// The units whose rows are printed (1.3.1): of the card punch, unit 17, the printer, 18, the typewriter, 19, and the paper tape, 20, those that
+/// are true.
+#[derive(Clone, Copy, Debug, PartialEq, Eq)]
+pub struct UnitSet {
+    pub card_punch: bool,
+    pub printer: bool,
+    pub typewriter: bool,
+    pub paper_tape: bool,
+}
+
+impl UnitSet {
+    /// All four.
+    pub const ALL: UnitSet = UnitSet {
+        card_punch: true,
+        printer: true,
+        typewriter: true,
+        paper_tape: true,
+    };
+
+    /// None.
+    pub const NONE: UnitSet = UnitSet {
+        card_punch: false,
+        printer: false,
+        typewriter: false,
+        paper_tape: false,
+    };
+}
+
+/// What is asked of a run.
+#[derive(Clone, Copy, Debug, PartialEq, Eq)]
+pub struct PrintOptions {
+    /// The most steps that are done.
+    pub steps: u64,
+    /// The units whose rows are printed.
+    pub units: UnitSet,
+    /// Whether the cards of unit 16 are read from a text of their own, in place of those of the deck.
+    pub cards: bool,
+}

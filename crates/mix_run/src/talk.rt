@@ -1,0 +1,165 @@
+//! A talk with the program of a source: each line is a command, which is done and answered before the next is read.
+
+ghost use Rattle.std.specs.Prelude.{◌≡◌, ◌≢◌, ◌<◌, ◌≤◌, ◌+◌, ◌-◌, ◌^◌, ◌++◌, ◌∷◌, [], ℕ, List, Some, Ok, Err, IfErr, IfOk, length};
+ghost use Rattle.mixal_asm.specs.Assembly.{assembly, max_source_bytes};
+ghost use Rattle.mix_machine.specs.units.deck.Deck.{deck_of, max_deck_bytes};
+ghost use Rattle.mixal_asm.specs.Fault.{asm_fault_line};
+ghost use Rattle.mix_session.specs.Session.{IsMemoryOrWrite};
+ghost use Rattle.mix_run.specs.Output.{Ended, IsStatus, Meets, max_script_bytes, output};
+ghost use Rattle.mix_run.specs.Talk.{TalksWith};
+ghost use Rattle.mix_stream.specs.Stream.{ConsumesAtMost, CountsFailure};
+
+mod aside;
+mod heard;
+mod help;
+
+use crate::refusal::tell_refusal;
+use crate::run::{refuse_source, status};
+use crate::talk::aside::greet;
+use crate::talk::heard::talk;
+use crate::units::read_units;
+pub use aside::Talker;
+use mix_machine::Units;
+use mix_refused::{Memory, Refused};
+use mix_session::{Session, ToolFault};
+use mix_stream::{In, Out, read_up_to};
+use mixal_asm::{AsmFault, MAX_SOURCE_BYTES, Program, assemble};
+use std::alloc::Global;
+
+// A talk on the machine that a program loads, with its units.
+fn talk_with<R: In, W: Out, E: Out>(
+    alloc: Global,
+    program: Program,
+    units: Units,
+    talker: Talker,
+    input: &mut R,
+    out: &mut W,
+    errors: &mut E,
+) -> Result<u8, ToolFault>
+    requires input_count { R.failed input.old < 2 ^ 64 - 1 }
+    requires out_count { W.failed out.old < 2 ^ 64 - 1 }
+    ensures talks { (t : List ℕ) → R.rest input.old ≡ Some t
+        → TalksWith (Ok program.entry) (Ok units) talker t result (R.rest input.new) (W.told out.old) (W.told out.new) }
+    ensures long { result ≡ Err ToolFault.Long → (t : List ℕ) → R.rest input.old ≡ Some t → max_script_bytes < length t }
+    ensures read { CountsFailure (result ≡ Err ToolFault.Read) (R.failed input.old) (R.failed input.new) }
+    ensures write { CountsFailure (result ≡ Err ToolFault.Write) (W.failed out.old) (W.failed out.new) }
+    ensures quiet { talker ≡ Talker.Program → errors.new ≡ errors.old }
+    ensures ends { IfOk result IsStatus }
+{
+    let mut session = match Session::open(alloc, program, units) {
+        Ok(session) => session,
+        Err(Memory) => return Err(ToolFault::Memory),
+    };
+    greet(talker, errors);
+    match talk(alloc, &mut session, talker, input, out, errors) {
+        Ok(told) => Ok(status(told)),
+        Err(fault) => Err(fault),
+    }
+}
+
+// The first fault of a source is written, and told beside with its line and a mark.
+fn refuse_and_tell<W: Out, E: Out>(
+    alloc: Global,
+    name: &str,
+    source: &[u8],
+    fault: AsmFault,
+    out: &mut W,
+    errors: &mut E,
+) -> Result<u8, ToolFault>
+    requires { W.failed out.old < 2 ^ 64 - 1 }
+    ensures output { Meets (Ended (asm_fault_line fault ++ 10 ∷ []) 1) result (W.told out.old) (W.told out.new) }
+    ensures write { CountsFailure (result ≡ Err ToolFault.Write) (W.failed out.old) (W.failed out.new) }
+    ensures only { IfErr result IsMemoryOrWrite }
+    ensures ends { IfOk result IsStatus }
+{
+    tell_refusal(alloc, name, source, &fault, errors);
+    refuse_source(alloc, fault, out)
+}
+
+// A talk with the program of a source that is still to be read.
+fn talk_of_source<S: In, D: In, R: In, W: Out, E: Out>(
+    alloc: Global,
+    name: &str,
+    source: &mut S,
+    deck: &mut D,
+    talker: Talker,
+    input: &mut R,
+    out: &mut W,
+    errors: &mut E,
+) -> Result<u8, ToolFault>
+    requires source_count { S.failed source.old < 2 ^ 64 - 1 }
+    requires deck_count { D.failed deck.old < 2 ^ 64 - 1 }
+    requires input_count { R.failed input.old < 2 ^ 64 - 1 }
+    requires out_count { W.failed out.old < 2 ^ 64 - 1 }
+    ensures talks { (s d t : List ℕ) → S.rest source.old ≡ Some s → D.rest deck.old ≡ Some d → R.rest input.old ≡ Some t
+        → TalksWith (assembly s) (deck_of d) talker t result (R.rest input.new) (W.told out.old) (W.told out.new) }
+    ensures long { result ≡ Err ToolFault.Long → (d t : List ℕ) → D.rest deck.old ≡ Some d → R.rest input.old ≡ Some t → max_script_bytes < length t }
+    ensures read { CountsFailure (result ≡ Err ToolFault.Read) (S.failed source.old + D.failed deck.old + R.failed input.old)
+        (S.failed source.new + D.failed deck.new + R.failed input.new) }
+    ensures write { CountsFailure (result ≡ Err ToolFault.Write) (W.failed out.old) (W.failed out.new) }
+    ensures source { ConsumesAtMost (S.rest source.old) (S.rest source.new) (max_source_bytes + 1) }
+    ensures deck { ConsumesAtMost (D.rest deck.old) (D.rest deck.new) (max_deck_bytes + 1) }
+    ensures ends { IfOk result IsStatus }
+{
+    let text = read_up_to(alloc, source, MAX_SOURCE_BYTES + 1)?;
+    match assemble(alloc, &text) {
+        Err(Refused::Memory) => Err(ToolFault::Memory),
+        Err(Refused::Fault(fault)) => refuse_and_tell(alloc, name, &text, fault, out, errors),
+        Ok(program) => {
+            let units = match read_units(alloc, deck) {
+                Ok(units) => units,
+                Err(fault) => return Err(fault),
+            };
+            talk_with(alloc, program, units, talker, input, out, errors)
+        }
+    }
+}
+
+/// Assembles a source, reads a deck, and talks with the loaded machine: each line of the input is a command, as a line of a script is, which is done
+/// and answered before the next is read. A person is greeted and prompted on the error output, and has `help` and `quit` beside the commands. The
+/// status is 0 where each command was accepted, 3 where one was refused, and 1 where the source is refused: then its first fault is written, and
+/// told on the error output with the name of the source, its line and a mark. At most 1,048,577 bytes of the source are read and 33,554,433 of the
+/// deck, before the first line is read.
+///
+/// It fails with T1 where memory is refused, with T2 or T3 where a read or a write fails, with T5 where the deck is refused, and with T6 where a line
+/// is over 1,048,576 bytes. After T2 and T6 the replies to the lines before it have been written, after T1 and T3 a beginning of them.
+#[tactic(auto, unfolding(crate::specs::Output::output))]
+pub fn run_talk<S: In, D: In, R: In, W: Out, E: Out>(
+    alloc: Global,
+    name: &str,
+    source: &mut S,
+    deck: &mut D,
+    talker: Talker,
+    input: &mut R,
+    out: &mut W,
+    errors: &mut E,
+) -> Result<u8, ToolFault>
+    requires source_count { S.failed source.old < 2 ^ 64 - 1 }
+    requires deck_count { D.failed deck.old < 2 ^ 64 - 1 }
+    requires input_count { R.failed input.old < 2 ^ 64 - 1 }
+    requires out_count { W.failed out.old < 2 ^ 64 - 1 }
+
+    // What is written are the replies to the lines, each before the next is read.
+    ensures talks { (s d t : List ℕ) → S.rest source.old ≡ Some s → D.rest deck.old ≡ Some d → R.rest input.old ≡ Some t
+        → TalksWith (assembly s) (deck_of d) talker t result (R.rest input.new) (W.told out.old) (W.told out.new) }
+
+    // Where no read fails, it is what a script of these lines writes.
+    ensures as_script { (s d t : List ℕ) → S.rest source.old ≡ Some s → D.rest deck.old ≡ Some d → R.rest input.old ≡ Some t
+        → talker ≡ Talker.Program → length t ≤ max_script_bytes → result ≢ Err ToolFault.Read
+        → Meets (output s d t) result (W.told out.old) (W.told out.new) }
+
+    // Only a line that is too long is refused for its length.
+    ensures long { result ≡ Err ToolFault.Long → (d t : List ℕ) → D.rest deck.old ≡ Some d → R.rest input.old ≡ Some t → max_script_bytes < length t }
+
+    // A read or a write has failed exactly where that is answered.
+    ensures read { CountsFailure (result ≡ Err ToolFault.Read) (S.failed source.old + D.failed deck.old + R.failed input.old)
+        (S.failed source.new + D.failed deck.new + R.failed input.new) }
+    ensures write { CountsFailure (result ≡ Err ToolFault.Write) (W.failed out.old) (W.failed out.new) }
+
+    // Never more is read of the source and the deck.
+    ensures source { ConsumesAtMost (S.rest source.old) (S.rest source.new) (max_source_bytes + 1) }
+    ensures deck { ConsumesAtMost (D.rest deck.old) (D.rest deck.new) (max_deck_bytes + 1) }
+    ensures ends { IfOk result IsStatus }
+{
+    talk_of_source(alloc, name, source, deck, talker, input, out, errors)
+}

@@ -1,0 +1,216 @@
+//! The lines of a talk, as they come: each is executed as soon as its end is read, and answered before more is read.
+
+ghost use Rattle.std.specs.Prelude.{◌≡◌, ◌≤◌, ◌<◌, ◌-◌, ◌^◌, ◌++◌, ◌∷◌, ◌↔◌, [], ℕ, List, None, Some, Ok, Err, IfErr, IfOk, IfSome, OnOk, false, true, length, take, drop, vec_len};
+ghost use Rattle.std.specs.List.{list_any};
+ghost use Rattle.std.specs.Io.KnownBytes.{Appends};
+ghost use Rattle.mix_lines.specs.Lines.{is_line_feed, lines};
+ghost use Rattle.mix_session.specs.Session.{IsMemoryOrWrite};
+ghost use Rattle.mix_run.specs.Talk.{Talks, after_lines, answers, asked, is_over, is_quit, is_whole, max_line_bytes};
+ghost use Rattle.mix_run.specs.Hearing.{Begins, Hears};
+ghost use Rattle.mix_stream.specs.Stream.{AppendsFront, CountsFailure};
+
+use crate::talk::aside::{Line, Talker, end_prompt, help, kind_of, prompt};
+use mix_lines::split_line;
+use mix_refused::Memory;
+use mix_session::{Session, Told, ToolFault};
+use mix_stream::{In, Out};
+use std::alloc::Global;
+
+/// The most bytes that a line of a talk may have.
+const MAX_LINE_BYTES: usize = 1_048_576;
+
+const CHUNK: usize = 4096;
+
+/// What became of some lines: whether each command was accepted, and whether one of them ended the talk.
+#[derive(Clone, Copy)]
+pub(crate) struct Heard {
+    told: Told,
+    is_over: bool,
+}
+
+const NOTHING: Heard = Heard {
+    told: Told::Accepted,
+    is_over: false,
+};
+
+// One line: a command is executed, and help is given. Whether the command was accepted; none where the line ends the talk.
+fn answer_line<W: Out, E: Out>(
+    session: &mut Session,
+    talker: Talker,
+    line: &[u8],
+    out: &mut W,
+    errors: &mut E,
+) -> Result<Option<Told>, ToolFault>
+    requires { W.failed out.old < 2 ^ 64 - 1 }
+    ensures quit { IfOk result (λ answer. (answer ≡ None) ↔ (is_quit talker line.now ≡ true)) }
+    ensures told { IfOk result (λ answer. IfSome answer (λ told. told ≡ (answers session.old talker (line.now ∷ [])).told)) }
+    ensures written { OnOk result (Appends (W.told out.old) (W.told out.new) (answers session.old talker (line.now ∷ [])).bytes) }
+    ensures session { OnOk result (session.new ≡ after_lines session.old (asked talker (line.now ∷ []))) }
+    ensures begun { AppendsFront (W.told out.old) (W.told out.new) (answers session.old talker (line.now ∷ [])).bytes }
+    ensures write { CountsFailure (result ≡ Err ToolFault.Write) (W.failed out.old) (W.failed out.new) }
+    ensures only { IfErr result IsMemoryOrWrite }
+    ensures quiet { talker ≡ Talker.Program → errors.new ≡ errors.old }
+{
+    match kind_of(talker, line) {
+        Line::Quit => Ok(None),
+        Line::Help => {
+            help(line, errors);
+            Ok(Some(Told::Accepted))
+        }
+        Line::Command => {
+            let told = session.command(line, out)?;
+            Ok(Some(told))
+        }
+    }
+}
+
+// The lines of a text, one after the other, up to the one that ends the talk.
+fn answer_lines<W: Out, E: Out>(
+    session: &mut Session,
+    talker: Talker,
+    text: &[u8],
+    out: &mut W,
+    errors: &mut E,
+) -> Result<Heard, ToolFault>
+    requires { W.failed out.old < 2 ^ 64 - 1 }
+    ensures replies { let all = answers session.old talker (lines text.now) in
+        IfOk result (λ heard. (heard.told ≡ all.told) × Appends (W.told out.old) (W.told out.new) all.bytes) }
+    ensures over { IfOk result (λ heard. heard.is_over ≡ is_over talker (lines text.now)) }
+    ensures session { IfOk result (λ _. session.new ≡ after_lines session.old (asked talker (lines text.now))) }
+    ensures begun { AppendsFront (W.told out.old) (W.told out.new) (answers session.old talker (lines text.now)).bytes }
+    ensures write { CountsFailure (result ≡ Err ToolFault.Write) (W.failed out.old) (W.failed out.new) }
+    ensures only { IfErr result IsMemoryOrWrite }
+    ensures quiet { talker ≡ Talker.Program → errors.new ≡ errors.old }
+{
+    let mut told = Told::Accepted;
+    let mut rest = text;
+    while !rest.is_empty() {
+        let (line, after) = split_line(rest);
+        match answer_line(session, talker, line, out, errors)? {
+            None => {
+                return Ok(Heard {
+                    told,
+                    is_over: true,
+                });
+            }
+            Some(next) => told = told.and(next),
+        }
+        prompt(talker, errors);
+        rest = after;
+    }
+    Ok(Heard {
+        told,
+        is_over: false,
+    })
+}
+
+// How many bytes the whole lines of a text take: up to its last line feed.
+fn whole_len(text: &[u8]) -> usize
+    ensures bound { result ≤ length text.now }
+    ensures whole { is_whole (take result text.now) ≡ true }
+    ensures rest { list_any is_line_feed (drop result text.now) ≡ false }
+{
+    let mut len = text.len();
+    while len > 0 && text[len - 1] != b'\n' {
+        len -= 1;
+    }
+    len
+}
+
+// The whole lines of a text, and what stands after them.
+fn split_whole(text: &[u8]) -> (&[u8], &[u8])
+    ensures parts { text.now ≡ result.0.now ++ result.1.now }
+    ensures whole { is_whole result.0.now ≡ true }
+    ensures rest { list_any is_line_feed result.1.now ≡ false }
+{
+    text.split_at(whole_len(text))
+}
+
+// Appends some bytes.
+fn keep(pending: &mut Vec<u8>, bytes: &[u8]) -> Result<(), Memory>
+    ensures { OnOk result (pending.new.items ≡ pending.old.items ++ bytes.now) }
+{
+    pending.extend_from_slice(bytes)?;
+    Ok(())
+}
+
+// Some bytes more: the lines that are whole now are answered, and what stands after them is left.
+fn hear<W: Out, E: Out>(
+    session: &mut Session,
+    talker: Talker,
+    pending: &mut Vec<u8>,
+    part: &[u8],
+    out: &mut W,
+    errors: &mut E,
+) -> Result<Heard, ToolFault>
+    requires line { list_any is_line_feed pending.old.items ≡ false }
+    requires count { W.failed out.old < 2 ^ 64 - 1 }
+    ensures heard { IfOk result (λ heard. Hears session.old talker (pending.old.items ++ part.now) pending.new.items session.new heard.told heard.is_over
+        (W.told out.old) (W.told out.new)) }
+    ensures begun { IfErr result (λ _. Begins session.old talker (pending.old.items ++ part.now) (W.told out.old) (W.told out.new)) }
+    ensures write { CountsFailure (result ≡ Err ToolFault.Write) (W.failed out.old) (W.failed out.new) }
+    ensures only { IfErr result IsMemoryOrWrite }
+    ensures quiet { talker ≡ Talker.Program → errors.new ≡ errors.old }
+{
+    let (whole, rest) = split_whole(part);
+    if whole.is_empty() {
+        keep(pending, rest)?;
+        return Ok(NOTHING);
+    }
+    keep(pending, whole)?;
+    let heard = answer_lines(session, talker, pending, out, errors)?;
+    pending.clear();
+    keep(pending, rest)?;
+    Ok(heard)
+}
+
+/// Executes the lines of an input as they come, up to its end or to the line that ends the talk. It fails with T1 where memory is refused,
+/// with T2 or T3 where a read or a write fails, and with T6 where a line has over 1,048,576 bytes.
+pub(crate) fn talk<R: In, W: Out, E: Out>(
+    alloc: Global,
+    session: &mut Session,
+    talker: Talker,
+    input: &mut R,
+    out: &mut W,
+    errors: &mut E,
+) -> Result<Told, ToolFault>
+    requires input_count { R.failed input.old < 2 ^ 64 - 1 }
+    requires out_count { W.failed out.old < 2 ^ 64 - 1 }
+    ensures talks { (t : List ℕ) → R.rest input.old ≡ Some t
+        → Talks session.old talker t result (R.rest input.new) (W.told out.old) (W.told out.new) }
+    ensures long { result ≡ Err ToolFault.Long → (t : List ℕ) → R.rest input.old ≡ Some t → max_line_bytes < length t }
+    ensures read { CountsFailure (result ≡ Err ToolFault.Read) (R.failed input.old) (R.failed input.new) }
+    ensures write { CountsFailure (result ≡ Err ToolFault.Write) (W.failed out.old) (W.failed out.new) }
+    ensures quiet { talker ≡ Talker.Program → errors.new ≡ errors.old }
+{
+    let mut pending = Vec::new(alloc);
+    let mut buffer = [0; CHUNK];
+    let mut told = Told::Accepted;
+    prompt(talker, errors);
+    for reads in 0..u64::MAX {
+        let count = match input.read(&mut buffer) {
+            Ok(count) => count,
+            Err(_) => return Err(ToolFault::Read),
+        };
+        if count == 0 {
+            end_prompt(talker, errors);
+            match answer_lines(session, talker, &pending, out, errors) {
+                Ok(heard) => return Ok(told.and(heard.told)),
+                Err(fault) => return Err(fault),
+            }
+        }
+        let part = &buffer[..count];
+        let heard = match hear(session, talker, &mut pending, part, out, errors) {
+            Ok(heard) => heard,
+            Err(fault) => return Err(fault),
+        };
+        told = told.and(heard.told);
+        if heard.is_over {
+            return Ok(told);
+        }
+        if pending.len() > MAX_LINE_BYTES {
+            return Err(ToolFault::Long);
+        }
+    }
+    Err(ToolFault::Long)
+}

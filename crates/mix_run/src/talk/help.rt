@@ -1,0 +1,113 @@
+//! What the word `help` tells a person of the commands.
+
+const ALL: &str = "\
+step, run, trace     go on, step by step; run stops at breakpoints, trace tells each step
+back, forth, goto    take changes back, do them again, go to a numbered state
+set, break, clear    change the machine, set a breakpoint, take one away
+show                 shows the machine, its code, its past, counts
+quit                 ends the talk
+help COMMAND tells more, as help back. A blank line and a line that begins with * do nothing.
+";
+
+const STEP: &str = "\
+step             does one step
+step N           does N steps, 1 to 1000000, fewer where a halt or a fault comes
+";
+
+const RUN: &str = "\
+run N            does N steps, 1 to 1000000, fewer where a halt, a fault or a breakpoint comes
+run N until COND stops too where a step reaches COND, and tells that step
+";
+
+const TRACE: &str = "\
+trace            does one step and tells what it altered
+trace N          does N steps as step N, and tells each
+";
+
+const BACK: &str = "\
+back N           takes the last N changes back
+back all         takes every change back
+back break       takes changes back up to a breakpoint
+back until COND  takes changes back until COND is reached, and tells the last: who wrote this?
+";
+
+const FORTH: &str = "\
+forth N          does the next N changes again that were taken back
+forth all        does all of them again
+forth until COND does them again until COND is reached, and tells the last
+";
+
+const GOTO: &str = "\
+goto N           goes to the state after the first N changes, back or forth
+";
+
+const SET: &str = "\
+set REG W        puts the word W into a register: A, X, I1 to I6, J
+set cell E W     puts the word W into cell E
+set loc E        sets the location
+set over on      sets the overflow toggle; or off
+set cmp L        sets the comparison indicator: L, E or G
+Each is a change, and can be taken back.
+";
+
+const BREAK: &str = "\
+break E          gives cell E a breakpoint, where run stops; clear E takes it away
+break line N     the same for the first line of the source, from line N on, that gives a word
+";
+
+const SHOW: &str = "\
+show regs        the registers, toggle, indicator, location and clock
+show all         all that is not as it was at first: registers, cells, breakpoints, units
+show cells E E   the cells from the first to the second
+show unit N      a unit, 0 to 20, and what it holds
+show code [E E]  the cell at the location, or cells: word, instruction, line of the source
+show value W     a word as bytes, as a number and in characters
+show values [E E]  the registers, or cells, in the same manner
+show last N      what the last N changes altered
+show diff N      what differs between the state after N changes and now
+show counts      how often each instruction was executed, and the time that it took
+show clock, show breaks, show changes, show symbols
+";
+
+const QUIT: &str = "\
+quit             ends the talk, as the end of the input does
+";
+
+const UNTIL: &str = "\
+COND is a register, over, cmp, cell E, unit N or loc E: it is reached where a change alters what it names,
+or, of loc E, leads there. As: run 1000 until A, back until cell 100.
+";
+
+const NONE: &str = "There is no help on that; help alone names the commands.\n";
+
+/// The help on a word, or on all where there is none.
+pub(crate) fn help_on(word: Option<&[u8]>) -> &'static str {
+    match word {
+        None => ALL,
+        Some(word) => {
+            for (name, text) in &TOPICS {
+                if word.eq_ignore_ascii_case(name.as_bytes()) {
+                    return text;
+                }
+            }
+            NONE
+        }
+    }
+}
+
+static TOPICS: [(&str, &str); 14] = [
+    ("step", STEP),
+    ("run", RUN),
+    ("trace", TRACE),
+    ("back", BACK),
+    ("forth", FORTH),
+    ("goto", GOTO),
+    ("set", SET),
+    ("break", BREAK),
+    ("clear", BREAK),
+    ("show", SHOW),
+    ("quit", QUIT),
+    ("until", UNTIL),
+    ("cond", UNTIL),
+    ("help", ALL),
+];

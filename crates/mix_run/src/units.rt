@@ -1,0 +1,65 @@
+//! The units that a run begins with: those of a deck, and the cards of a text.
+ghost use Rattle.std.specs.Prelude.{◌≡◌, ◌≢◌, ◌<◌, ◌+◌, ◌-◌, ◌^◌, ℕ, List, Some, Ok, Err, IfErr, IfOk, drop};
+ghost use Rattle.mix_machine.specs.units.deck.Deck.{deck_of, cards_of, max_deck_bytes};
+ghost use Rattle.mix_stream.specs.Stream.{ConsumesAtMost, CountsFailure};
+ghost use Rattle.mix_run.specs.Output.{IsDeckRefusal};
+ghost use Rattle.mix_run.specs.UnitsRead.{GivesUnits};
+
+use mix_machine::{MAX_DECK_BYTES, Units};
+use mix_refused::Refused;
+use mix_session::ToolFault;
+use mix_stream::{In, read_up_to};
+use std::alloc::Global;
+
+/// The units of a deck, or why there are none.
+pub(crate) fn units_of(alloc: Global, deck: &[u8]) -> Result<Units, ToolFault>
+    ensures units { IfOk result (λ units. deck_of deck.now ≡ Ok units) }
+    ensures refused { IfErr result (IsDeckRefusal (deck_of deck.now)) }
+{
+    match Units::read(alloc, deck) {
+        Err(Refused::Memory) => Err(ToolFault::Memory),
+        Err(Refused::Fault(fault)) => Err(ToolFault::Deck(fault)),
+        Ok(units) => Ok(units),
+    }
+}
+
+/// The units of a deck that is read up to one byte more than it may have.
+pub(crate) fn read_units<D: In>(alloc: Global, deck: &mut D) -> Result<Units, ToolFault>
+    requires { D.failed deck.old < 2 ^ 64 - 1 }
+    ensures units { (d : List ℕ) → D.rest deck.old ≡ Some d → GivesUnits (deck_of d) result }
+    ensures whole { (d : List ℕ) → D.rest deck.old ≡ Some d → IfOk result (λ _. D.rest deck.new ≡ Some (drop (max_deck_bytes + 1) d)) }
+    ensures read { CountsFailure (result ≡ Err ToolFault.Read) (D.failed deck.old) (D.failed deck.new) }
+    ensures deck { ConsumesAtMost (D.rest deck.old) (D.rest deck.new) (max_deck_bytes + 1) }
+    ensures only { result ≢ Err ToolFault.Write }
+{
+    let text = read_up_to(alloc, deck, MAX_DECK_BYTES + 1)?;
+    units_of(alloc, &text)
+}
+
+/// Units with the cards of a text in place of those of unit 16; the text is read up to one byte more than it may have.
+pub(crate) fn read_cards<C: In>(
+    alloc: Global,
+    units: Units,
+    cards: &mut C,
+) -> Result<Units, ToolFault>
+    requires { C.failed cards.old < 2 ^ 64 - 1 }
+    ensures units { (c : List ℕ) → C.rest cards.old ≡ Some c → GivesUnits (cards_of units c) result }
+    ensures read { CountsFailure (result ≡ Err ToolFault.Read) (C.failed cards.old) (C.failed cards.new) }
+    ensures cards { ConsumesAtMost (C.rest cards.old) (C.rest cards.new) (max_deck_bytes + 1) }
+    ensures only { result ≢ Err ToolFault.Write }
+{
+    let text = read_up_to(alloc, cards, MAX_DECK_BYTES + 1)?;
+    with_cards(alloc, units, &text)
+}
+
+// Units with the cards of a text, or why there are none.
+fn with_cards(alloc: Global, units: Units, text: &[u8]) -> Result<Units, ToolFault>
+    ensures units { IfOk result (λ us. cards_of units text.now ≡ Ok us) }
+    ensures refused { IfErr result (IsDeckRefusal (cards_of units text.now)) }
+{
+    match units.with_cards(alloc, text) {
+        Err(Refused::Memory) => Err(ToolFault::Memory),
+        Err(Refused::Fault(fault)) => Err(ToolFault::Deck(fault)),
+        Ok(units) => Ok(units),
+    }
+}
