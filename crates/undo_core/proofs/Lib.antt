@@ -1,6 +1,8 @@
+pub mod CountLemmas
 pub mod LeadsLemmas
 pub mod Redoing
 mod ReplayLemmas
+pub mod RunLemmas
 pub mod Sound
 pub mod Reverting
 pub mod Unwinding

@@ -1,7 +1,9 @@
 //! States whose changes can be taken back by the values that they overwrote, and a journal over any of them.
 #![tactic(auto)]
 
+mod counts;
 mod journal;
+mod runs;
 mod undo;
 
 pub use journal::Journal;
