@@ -4,5 +4,6 @@ pub mod Redoing
 mod ReplayLemmas
 pub mod RunLemmas
 pub mod Sound
+pub mod Stored
 pub mod Reverting
 pub mod Unwinding

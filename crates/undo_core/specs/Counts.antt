@@ -15,3 +15,8 @@ count_large (byte ∷ bytes) = (if nat_eq byte 255 then 1 else 0) + count_large 
 abbrev pub parts_of : {T : Type 0} → List ℕ → List T → List (List T)
 parts_of [] items = []
 parts_of (count ∷ counts) items = take count items ∷ parts_of counts (drop count items)
+
+-- all counts together
+abbrev pub total : List ℕ → ℕ
+total [] = 0
+total (count ∷ counts) = count + total counts

@@ -12,6 +12,7 @@ pub(crate) fn append_count(bytes: &mut Vec<u8>, large: &mut Vec<usize>, count: u
     requires room { vec_len bytes.old < vec_capacity bytes.old }
     requires large_room { vec_len large.old < vec_capacity large.old }
     ensures sound { count_large bytes.new.items ≡ length large.new.items }
+    ensures more { length bytes.new.items ≡ length bytes.old.items + 1 }
     ensures counts { counts_of bytes.new.items large.new.items ≡ counts_of bytes.old.items large.old.items ++ count ∷ [] }
 {
     if count < usize::from(LARGE) {
@@ -38,5 +39,25 @@ pub(crate) fn take_count(bytes: &mut Vec<u8>, large: &mut Vec<usize>) -> Option<
         }
     } else {
         Some(usize::from(byte))
+    }
+}
+
+/// The bytes and the list without the last count, and that count, if there is one.
+pub(crate) fn last_count<'a>(
+    bytes: &'a [u8],
+    large: &'a [usize],
+) -> Option<(&'a [u8], &'a [usize], usize)>
+    requires { count_large bytes.now ≡ length large.now }
+    ensures sound { MatchOption result (bytes.now ≡ []) (λ r. count_large r.0.now ≡ length r.1.now) }
+    ensures last { MatchOption result (bytes.now ≡ []) (λ r. counts_of bytes.now large.now ≡ counts_of r.0.now r.1.now ++ r.2 ∷ []) }
+    ensures fewer { MatchOption result (bytes.now ≡ []) (λ r. length r.0.now + 1 ≡ length bytes.now) }
+{
+    let (byte, front) = bytes.split_last()?;
+    if *byte != LARGE {
+        return Some((front, large, usize::from(*byte)));
+    }
+    match large.split_last() {
+        Some((count, rest)) => Some((front, rest, *count)),
+        None => unreachable!(),
     }
 }

@@ -17,11 +17,7 @@ pub(crate) fn count_in<T: Copy>(runs: &[Run<T>]) -> usize
     ensures count { result ≡ length (items_of 0 runs.now) }
 {
     let count = runs.len();
-    if count == 0 {
-        0
-    } else {
-        runs[count - 1].end
-    }
+    if count == 0 { 0 } else { runs[count - 1].end }
 }
 
 /// The item of this number, counted from 0. It takes as many steps as the number of runs has binary digits.
@@ -78,7 +74,7 @@ pub(crate) fn lengthen<T: Copy>(runs: &mut Vec<Run<T>>, item: T)
     requires rising { IsRising 0 runs.old.items }
     requires some { 0 < vec_len runs.old }
     requires same { (get_or runs.old.items (vec_len runs.old - 1) (record { item = item; end = 0 })).item ≡ item }
-    requires few { length (items_of 0 runs.old.items) < 2 ^ 63 }
+    requires few { length (items_of 0 runs.old.items) < 2 ^ 64 - 1 }
     ensures rising { IsRising 0 runs.new.items }
     ensures items { items_of 0 runs.new.items ≡ items_of 0 runs.old.items ++ item ∷ [] }
 {
@@ -91,7 +87,7 @@ pub(crate) fn lengthen<T: Copy>(runs: &mut Vec<Run<T>>, item: T)
 pub(crate) fn append<T: Copy>(runs: &mut Vec<Run<T>>, item: T)
     requires rising { IsRising 0 runs.old.items }
     requires room { vec_len runs.old < vec_capacity runs.old }
-    requires few { length (items_of 0 runs.old.items) < 2 ^ 63 }
+    requires few { length (items_of 0 runs.old.items) < 2 ^ 64 - 1 }
     ensures rising { IsRising 0 runs.new.items }
     ensures items { items_of 0 runs.new.items ≡ items_of 0 runs.old.items ++ item ∷ [] }
 {
