@@ -25,6 +25,12 @@ impl Undo for World {
 
     ghost put = { put_value };
 
+    /// Whether two changes are the same.
+    #[inline(always)]
+    fn is_same(one: &Change, other: &Change) -> bool {
+        *one == *other
+    }
+
     /// Does a change (1.3.1), or reports its fault. A fault, or out of memory for what it keeps, alters nothing.
     #[tactic(auto, unfolding(crate::specs::Do::does, crate::specs::Do::kept_values))]
     // (inlined, as `Journal::go` is)

@@ -203,6 +203,13 @@ impl<S: Undo> Journal<S> {
         Ok(())
     }
 
+    /// How many changes are done. It takes no memory.
+    pub fn done(&self) -> usize
+        ensures { result ≡ length self.now.changes }
+    {
+        self.counts.len()
+    }
+
     /// How many changes stand ahead. It takes no memory.
     pub fn ahead(&self) -> usize
         ensures { result ≡ length self.now.ahead }
