@@ -40,7 +40,15 @@ pub(crate) fn last_lines(
     while number > first {
         number -= 1;
         let values = earlier(journal, &mut past, number);
-        add_line_before(alloc, &mut text, journal, number, values, &mut before, &mut after)?;
+        add_line_before(
+            alloc,
+            &mut text,
+            journal,
+            number,
+            values,
+            &mut before,
+            &mut after,
+        )?;
     }
     text.reverse();
     Ok(text)
