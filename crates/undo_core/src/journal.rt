@@ -203,11 +203,12 @@ impl<S: Undo> Journal<S> {
         Ok(())
     }
 
-    /// How many changes are done. It takes no memory.
+    /// How many changes are done: fewer than 2^63. It takes no memory.
     pub fn done(&self) -> usize
-        ensures { result ≡ length self.now.changes }
+        ensures count { result ≡ length self.now.changes }
+        ensures few { result < 2 ^ 63 }
     {
-        self.counts.len()
+        self.counts.as_slice().len()
     }
 
     /// How many changes stand ahead. It takes no memory.

@@ -16,7 +16,7 @@ loop-count-init c =
 
 pub returns-then-is_met : goal.returns-then-is_met
 returns-then-is_met c =
-    let all : c.done-all.result ≡ length c.args.journal.now.changes = c.done-all.ensures in
+    let all : c.done-all.result ≡ length c.args.journal.now.changes = c.done-all.ensures.count in
     let below : c.loop-count.count < length c.args.journal.now.changes = omega (arith, all, c.loop-count-test.true) in
     let seen = c.loop-count.invariant.seen in
     let next = seen-next c.mark_law.ensures.altered c.mark_law.ensures.before c.mark_law.ensures.world c.args.journal.now c.args.condition.now c.loop-count.count c.loop-count.mark c.step_back-before.result.0 c.step_back-before.result.1 c.earlier-kept.result.now seen.0 below
@@ -25,7 +25,7 @@ returns-then-is_met c =
 
 pub loop-count-preserved : goal.loop-count-preserved
 loop-count-preserved c =
-    let all : c.done-all.result ≡ length c.args.journal.now.changes = c.done-all.ensures in
+    let all : c.done-all.result ≡ length c.args.journal.now.changes = c.done-all.ensures.count in
     let below : c.loop-count.count < length c.args.journal.now.changes = omega (arith, all, c.loop-count-test.true) in
     let seen = c.loop-count.invariant.seen in
     let next = seen-next c.mark_law.ensures.altered c.mark_law.ensures.before c.mark_law.ensures.world c.args.journal.now c.args.condition.now c.loop-count.count c.loop-count.mark c.step_back-before.result.0 c.step_back-before.result.1 c.earlier-kept.result.now seen.0 below
@@ -40,7 +40,7 @@ loop-count-preserved c =
 
 pub returns : goal.returns
 returns c =
-    let all : c.done-all.result ≡ length c.args.journal.now.changes = c.done-all.ensures in
+    let all : c.done-all.result ≡ length c.args.journal.now.changes = c.done-all.ensures.count in
     let same : c.loop-count.count ≡ c.done-all.result = omega (arith, c.loop-count-test.false, c.loop-count.auto.count-end) in
     count_back-is c.args.condition.now c.args.journal.now c.done-all.result (omega (arith, all)) (λ short. absurd (omega (arith, all, short)))
     (λ j below. c.loop-count.invariant.none j (omega (arith, below, same)))

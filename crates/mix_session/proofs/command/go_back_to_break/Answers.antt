@@ -10,19 +10,19 @@ loop-taken-init c = record { back = back_by-none c.args.journal.now; none = is_b
 
 pub returns-then-is_at_break-clause-back : goal.returns-then-is_at_break-clause-back
 returns-then-is_at_break-clause-back c =
-    let below : c.loop-taken.taken < length c.args.journal.now.changes = omega (arith, c.done-all.ensures) in
+    let below : c.loop-taken.taken < length c.args.journal.now.changes = omega (arith, c.done-all.ensures.count) in
     back_by-next c.args.journal.now _ _ c.loop-taken.taken below c.loop-taken.invariant.back c.back.ensures.first c.back.ensures.changes c.back.ensures.all
 
 pub returns-then-is_at_break-clause-count : goal.returns-then-is_at_break-clause-count
 returns-then-is_at_break-clause-count c =
-    let below : c.loop-taken.taken < length c.args.journal.now.changes = omega (arith, c.done-all.ensures) in
+    let below : c.loop-taken.taken < length c.args.journal.now.changes = omega (arith, c.done-all.ensures.count) in
     let back = back_by-next c.args.journal.now _ _ c.loop-taken.taken below c.loop-taken.invariant.back c.back.ensures.first c.back.ensures.changes c.back.ensures.all in
     let here = is_break_after-next c.args.journal.now _ c.loop-taken.taken _ back c.state.ensures in
     count_to_break-is c.args.journal.now (c.loop-taken.taken + 1) (omega (arith, below)) (λ _. here ∙ sym c.is_at_break.ensures ∙ c.if-is_at_break.true) c.loop-taken.invariant.none
 
 pub loop-taken-preserved : goal.loop-taken-preserved
 loop-taken-preserved c =
-    let below : c.loop-taken.taken < length c.args.journal.now.changes = omega (arith, c.done-all.ensures) in
+    let below : c.loop-taken.taken < length c.args.journal.now.changes = omega (arith, c.done-all.ensures.count) in
     let back = back_by-next c.args.journal.now _ _ c.loop-taken.taken below c.loop-taken.invariant.back c.back.ensures.first c.back.ensures.changes c.back.ensures.all in
     let here = is_break_after-next c.args.journal.now _ c.loop-taken.taken _ back c.state.ensures in
     record {
@@ -32,7 +32,7 @@ loop-taken-preserved c =
 
 pub returns-clause-count : goal.returns-clause-count
 returns-clause-count c =
-    let all : c.done-all.result ≡ length c.args.journal.now.changes = c.done-all.ensures in
+    let all : c.done-all.result ≡ length c.args.journal.now.changes = c.done-all.ensures.count in
     let same : c.loop-taken.taken ≡ c.done-all.result = omega arith in
     count_to_break-is c.args.journal.now c.done-all.result (omega (arith, all)) (λ short. absurd (omega (arith, all, short)))
     (λ j below. c.loop-taken.invariant.none j (omega (arith, below, same)))

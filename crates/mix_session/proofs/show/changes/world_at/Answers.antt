@@ -6,7 +6,7 @@ use Rattle.mix_session.proofs.show.changes.world_at.Goals.{then-number-done, els
 pub returns : goal.returns
 returns c = elim c.if-number-done.branch [
   | then-number-done w ↦
-      rw w.world-is (sym (world_at-done c.args.journal.now c.args.number _ (rw c.done.ensures at w.if-number-done.true) w.lead_back.ensures))
+      rw w.world-is (sym (world_at-done c.args.journal.now c.args.number _ (rw c.done.ensures.count at w.if-number-done.true) w.lead_back.ensures))
   | else-number-done+in_ok-lead_forth w ↦
       rw w.world-is (sym (world_at-all c.args.journal.now c.args.number _ _ _ w.all.ensures (w.min.ensures ∙ ap (min c.args.number) w.len.ensures) w.in_ok-lead_forth.ensures))
 ]

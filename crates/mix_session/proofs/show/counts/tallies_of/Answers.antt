@@ -13,10 +13,10 @@ loop-number-init c =
     let t = c.args.journal.now in
     let here = Stands-now t c.state.result.now c.state.ensures c.mark-location.ensures.world in
     let now = Stands-now t c.state-2.result.now c.state-2.ensures c.mark-clock.ensures.world in
-    rw c.done-number.ensures record {
+    rw c.done-number.ensures.count record {
       of = c.past-past.ensures.of;
       left = c.past-past.ensures.left;
-      few = rw c.done-number.ensures at c.done-number.type_inv;
+      few = rw c.done-number.ensures.count at c.done-number.type_inv;
       within = omega arith;
       stands = here.0;
       location = c.mark-location.ensures.is ∙ ap (λ w. mark_of w Loc) (sym here.1);
