@@ -1,5 +1,5 @@
 -- The changes up to the one that meets the condition are taken back, or none.
-use Rattle.std.proofs.Common.{ap, length, refl}
+use Rattle.std.proofs.Common.{ap, refl}
 use Rattle.mix_session.proofs.ConditionLemmas.{back_until-found, back_until-none}
 use Rattle.mix_session.proofs.command.back_until.Goals as goal
 

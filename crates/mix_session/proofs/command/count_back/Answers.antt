@@ -1,5 +1,5 @@
 -- Each change looked at is one more from now backwards, and the mark before it is the one that its values say.
-use Rattle.std.proofs.Common.{◌≡◌, ◌<◌, ◌∙◌, ap, arith, below_more, false, length, sym}
+use Rattle.std.proofs.Common.{◌≡◌, ◌<◌, ◌∙◌, arith, below_more, false, length, sym}
 use Rattle.mix_session.specs.Command.{is_reached_back}
 use Rattle.mix_session.proofs.ConditionLemmas.{seen-none, seen-next, count_back-is}
 use Rattle.mix_session.proofs.command.count_back.Goals as goal

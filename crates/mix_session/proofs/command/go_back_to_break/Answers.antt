@@ -1,5 +1,5 @@
 -- Each change taken back is one more from where the loop began, and the world is the one that the journal then stands in.
-use Rattle.std.proofs.Common.{◌≡◌, ◌+◌, ◌<◌, ◌∙◌, false, arith, ap, length, sym, below_more}
+use Rattle.std.proofs.Common.{◌≡◌, ◌+◌, ◌<◌, ◌∙◌, false, arith, length, sym, below_more}
 use Rattle.mix_session.specs.Command.{is_break_after}
 use Rattle.mix_session.proofs.TimelineLemmas.{back_by-none, back_by-next}
 use Rattle.mix_session.proofs.CommandLemmas.{is_break_after-next, is_break_after-none, count_to_break-is}

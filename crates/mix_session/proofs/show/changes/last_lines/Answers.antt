@@ -1,5 +1,4 @@
-use Rattle.std.proofs.Common.{arith, ap, sym, ◌∙◌, ◌+◌, List, length}
-use Rattle.mix_machine.specs.declared.old.Change.{Change}
+use Rattle.std.proofs.Common.{arith, ap, sym, ◌∙◌, ◌+◌}
 use Rattle.mix_session.specs.Change.{change_line_at}
 use Rattle.mix_session.proofs.ChangeLemmas.{replay-all, reversed-next, reversed-none, texts-none}
 use Rattle.mix_session.proofs.show.changes.last_lines.Goals as goal
