@@ -82,6 +82,14 @@ impl<'s> Session<'s> {
         self.journal.changes()
     }
 
+    /// The changes that stand ahead, the next one first. It takes no memory.
+    pub fn ahead(&self) -> &[Change]
+        ensures { result.now ≡ self.now.timeline.ahead }
+    {
+        let done = self.journal.changes().len();
+        &self.journal.all()[done..]
+    }
+
     /// What a line of a script asks for, or what is wrong with its words. Names are those of the program, and the asterisk stands for the
     /// location. It takes no memory.
     pub fn read(&self, line: &[u8]) -> Result<Request, Refusal>

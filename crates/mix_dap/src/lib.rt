@@ -1,0 +1,29 @@
+//! A debug adapter over a session: requests of the Debug Adapter Protocol in, responses and events out, and the stream outside it.
+#![tactic(auto)]
+
+mod adapter;
+mod capabilities;
+mod evaluate;
+mod fault;
+mod hear;
+mod launch;
+mod layout;
+mod look;
+mod memory;
+mod motion;
+mod points;
+mod printed;
+mod serve;
+mod set;
+mod talk;
+mod value;
+mod waiting;
+
+pub use adapter::{Adapter, Flow};
+pub use dap_frame::{Next, frame, next_frame};
+pub use dap_message::{Outbox, Request};
+pub use fault::Fault;
+pub use launch::{FileLibrary, Library, NoLibrary, Texts};
+pub use serve::serve;
+pub use talk::{Came, Patient, StandardInput, Talk};
+pub use waiting::{Asked, Waiting};
