@@ -1,2 +1,1 @@
 pub mod Came
-pub mod Motion

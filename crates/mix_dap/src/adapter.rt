@@ -9,12 +9,12 @@ use crate::memory::{disassemble, read_memory};
 use crate::motion::{Stop, back_piece, run_piece, step, step_back};
 use crate::points::{Points, breakpoints, data_breakpoint_info};
 use crate::printed::Printed;
-use crate::set::{change_by_line, go_to, goto_targets, line_of_set, value_after, write_memory};
+use crate::set::{go_to, goto_targets, line_of_set, unless, value_now, write_memory};
 use crate::waiting::Waiting;
 use dap_message::{Command, Fields, Outbox, Request};
 use mix_machine::{MixFault, Reg, Units};
 use mix_refused::{Memory, Refused};
-use mix_session::{Refusal, Request as Asked, Session};
+use mix_session::Session;
 use mixal_asm::assemble;
 use serde_json::Value;
 use std::alloc::Global;
@@ -179,6 +179,7 @@ impl<'s> Adapter<'s> {
                 out.reply(request, Value::Null)?;
                 Ok(out.event("terminated", Value::Null)?)
             }
+            Command::Restart => self.restart(request, out),
             Command::Cancel => Ok(out.reply(request, Value::Null)?),
             Command::Launch => Err(Refused::Fault(Fault::Launched)),
             Command::Disconnect => Ok(()),
@@ -213,7 +214,7 @@ impl<'s> Adapter<'s> {
         match command {
             Command::SetBreakpoints => {
                 let program = self.session.program();
-                self.points.set_lines(alloc, program, request, self.client.first)
+                self.points.set_lines(alloc, program, self.name, request, self.client.first)
             }
             Command::SetInstructionBreakpoints => self.points.set_instructions(alloc, request),
             Command::SetDataBreakpoints => self.points.set_data(alloc, &self.session, request),
@@ -242,13 +243,6 @@ impl<'s> Adapter<'s> {
                 out.reply(request, Value::Null)?;
                 Ok(self.begin(out)?)
             }
-            Command::Restart => {
-                self.session.execute(Asked::BackAll)?;
-                self.fault = None;
-                out.reply(request, Value::Null)?;
-                self.printed.tell(self.alloc, self.session.world(), out)?;
-                Ok(self.begin(out)?)
-            }
             Command::Goto => {
                 go_to(&mut self.session, request)?;
                 out.reply(request, Value::Null)?;
@@ -274,11 +268,18 @@ impl<'s> Adapter<'s> {
     }
 
     fn step_back(&mut self, request: &Request, out: &mut Outbox) -> Result<(), Refused<Fault>> {
-        if !step_back(&mut self.session)? {
-            return Err(Refused::Fault(Fault::Session(Refusal::TooFewChanges)));
-        }
+        unless(step_back(&mut self.session)?)?;
         out.reply(request, Value::Null)?;
         Ok(self.stop(Stop::Arrived, out)?)
+    }
+
+    fn restart(&mut self, request: &Request, out: &mut Outbox) -> Result<(), Refused<Fault>> {
+        self.way = None;
+        self.fault = None;
+        self.session.back_all()?;
+        out.reply(request, Value::Null)?;
+        self.printed.tell(self.alloc, self.session.world(), out)?;
+        Ok(self.begin(out)?)
     }
 
     // A run is begun; the pieces of it are done by `advance`.
@@ -305,7 +306,7 @@ impl<'s> Adapter<'s> {
         }
     }
 
-    /// Does the next piece of a run, of at most 1,000,000 changes, and tells what was written, and why the run stops if it does.
+    /// Does the next piece of a run, of at most 100,000 changes, and tells what was written, and why the run stops if it does.
     pub fn advance(&mut self, out: &mut Outbox) -> Result<(), Memory> {
         let Some(way) = self.way else {
             return Ok(());
@@ -389,8 +390,8 @@ impl<'s> Adapter<'s> {
     fn set_variable(&mut self, request: &Request, out: &mut Outbox) -> Result<(), Refused<Fault>> {
         let alloc = self.alloc;
         let line = line_of_set(alloc, request)?;
-        let change = change_by_line(&mut self.session, line.as_str())?;
-        let value = value_after(alloc, self.session.world(), change)?;
+        unless(self.session.set(line.as_bytes())?)?;
+        let value = value_now(alloc, self.session.world(), request)?;
         let mut body = Fields::new(alloc);
         body.text("value", value.as_str())?;
         out.reply(request, body.done())?;

@@ -2,24 +2,24 @@
 
 use crate::fault::Fault;
 use crate::value::{register_value, word_value};
-use mix_machine::Reg;
+use mix_machine::{Reg, Sign, Word};
 use mix_refused::Refused;
-use mix_session::{Answer, Request as Asked, Session, Topic};
+use mix_session::{Refusal, Session};
+use mixal_text::w_value;
 use std::alloc::Global;
 
-/// The word of a W-value, or else what the register of this name holds.
+/// The word of a W-value, in which the asterisk stands for the location, or else what the register of this name holds.
 pub(crate) fn worth(
     alloc: Global,
     session: &Session,
     expression: &str,
 ) -> Result<String, Refused<Fault>> {
-    let line = format!(in alloc; "show value {expression}")?;
-    match session.read(line.as_bytes()) {
-        Ok(Asked::Show(Topic::Value(word))) => Ok(word_value(alloc, word)?),
-        Ok(_) => Err(Refused::Fault(Fault::BadArgument)),
-        Err(refusal) => match Reg::named(expression.as_bytes()) {
+    let here = Word::of(Sign::Plus, u32::from(session.world().loc()));
+    match w_value(expression.as_bytes(), session.program(), here) {
+        Ok(word) => Ok(word_value(alloc, word)?),
+        Err(_) => match Reg::named(expression.as_bytes()) {
             Some(register) => Ok(register_value(alloc, session.world(), register)?),
-            None => Err(Refused::Fault(Fault::Session(refusal))),
+            None => Err(Refused::Fault(Fault::Session(Refusal::BadArgument))),
         },
     }
 }
@@ -30,16 +30,8 @@ pub(crate) fn command(
     session: &mut Session,
     line: &str,
 ) -> Result<String, Refused<Fault>> {
-    let request = match session.read(line.as_bytes()) {
-        Ok(request) => request,
-        Err(refusal) => return Err(Refused::Fault(Fault::Session(refusal))),
-    };
-    let answer = session.execute(request)?;
-    match answer {
-        Answer::Refused(refusal) => Err(Refused::Fault(Fault::Session(refusal))),
-        _ => {
-            let text = session.text(&answer)?;
-            Ok(String::from_utf8_lossy(alloc, text.as_slice())?)
-        }
+    match session.answer(line.as_bytes())? {
+        Ok(text) => Ok(String::from_utf8_lossy(alloc, text.as_slice())?),
+        Err(refusal) => Err(Refused::Fault(Fault::Session(refusal))),
     }
 }

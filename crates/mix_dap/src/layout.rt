@@ -37,7 +37,7 @@ pub(crate) fn byte_of_reference(reference: &str, offset: i64) -> Option<u64> {
 /// The cell in which the byte of a reference with an offset lies.
 pub(crate) fn cell_of_reference(reference: &str, offset: i64) -> Option<Place> {
     let byte = byte_of_reference(reference, offset)?;
-    Place::of((byte / CELL_BYTES) as u16)
+    u16::try_from(byte / CELL_BYTES).ok().and_then(Place::of)
 }
 
 /// The six bytes of a word.

@@ -192,8 +192,10 @@ fn part_of(list: Vec<Value>, request: &Request) -> Vec<Value> {
         _ => left,
     };
     list.truncate(start + count);
-    while list.len() > count {
-        list.remove(0);
+    for _ in 0..start {
+        if !list.is_empty() {
+            list.remove(0);
+        }
     }
     list
 }

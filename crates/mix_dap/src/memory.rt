@@ -31,9 +31,9 @@ pub(crate) fn read_memory(
     let Some(count) = request.number("count") else {
         return Err(Refused::Fault(Fault::BadArgument));
     };
-    let there = count.min(MEMORY_BYTES - start);
+    let there = count.min(MEMORY_BYTES.saturating_sub(start));
     let mut bytes = Vec::new(alloc);
-    for at in start..start + there {
+    for at in start..start.saturating_add(there) {
         bytes.push(byte_at(world, at))?;
     }
     let data = STANDARD.encode(alloc, bytes.as_slice())?;
@@ -113,7 +113,9 @@ fn instruction(
 fn no_instruction(alloc: Global, at: i64) -> Result<Value, Memory> {
     let mut fields = Fields::new(alloc);
     let byte = at.saturating_mul(6);
-    let address = format!(in alloc; "{byte}")?;
+    let sign = if byte < 0 { "-" } else { "" };
+    let byte = byte.unsigned_abs();
+    let address = format!(in alloc; "{sign}0x{byte:04x}")?;
     fields.text("address", address.as_str())?;
     fields.text("instruction", "no cell")?;
     fields.text("presentationHint", "invalid")?;

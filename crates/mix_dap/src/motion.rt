@@ -1,17 +1,18 @@
-//! How the machine is moved: a step forwards, a change back, and pieces of a long run of either.
+//! A step, a change taken back, pieces of a long run of either, and why it stops.
 
-ghost use Rattle.std.specs.Prelude.{◌≡◌, IfOk, IfErr};
-ghost use Rattle.mix_session.specs.Command.{after, effect_of, Begun};
-ghost use Rattle.mix_dap.specs.Motion.{step_request};
+ghost use Rattle.std.specs.Prelude.{◌≡◌, ◌+◌, ◌<◌, IfNone, IfOk, IfSome, length};
+ghost use Rattle.mix_session.specs.Command.{after, effect_of};
+ghost use Rattle.mix_session.specs.declared.request.Request.TheVariants.{Back};
+ghost use Rattle.mix_session.specs.Face.{step_request};
 
 use crate::points::Points;
-use mix_machine::{Change, Mark, MixFault, World};
+use mix_machine::{Mark, MixFault, World};
 use mix_refused::Memory;
-use mix_session::{Answer, End, Request, Session};
+use mix_session::{Refusal, Session};
 use std::alloc::Global;
 
 /// The most changes of one piece of a run, after which the client is heard.
-pub(crate) const PIECE: u32 = 1_000_000;
+pub(crate) const PIECE: u32 = 100_000;
 
 /// Why a run stops.
 #[derive(Clone, Copy, Debug, PartialEq, Eq)]
@@ -34,40 +35,24 @@ pub(crate) enum Stop {
     Memory,
 }
 
-/// What the next step asks for: the change that stands ahead, if that is a step, or else a new step.
-pub(crate) fn step_request(session: &Session) -> Request
-    ensures { result ≡ step_request session.now.timeline }
-{
-    match session.ahead().first() {
-        Some(Change::Step) => Request::Forth(1),
-        _ => Request::Step(1),
-    }
-}
-
-/// One step forwards; the fault where it is one.
+/// One step, and its fault where it is one.
 pub(crate) fn step(session: &mut Session) -> Result<Option<MixFault>, Memory>
     ensures program { session.new.program ≡ session.old.program }
-    ensures effect { IfOk result (λ _. session.new.timeline ≡ after (effect_of session.old.timeline (step_request session.old.timeline))) }
     ensures first { session.new.timeline.first ≡ session.old.timeline.first }
-    ensures memory { IfErr result (λ _. Begun (effect_of session.old.timeline (step_request session.old.timeline)) session.new.timeline) }
+    ensures effect { IfOk result (λ _. session.new.timeline ≡ after (effect_of session.old.timeline (step_request session.old.timeline))) }
 {
-    let request = step_request(session);
-    match session.execute(request)? {
-        Answer::Ran(_, End::Fault(fault)) => Ok(Some(fault)),
-        _ => Ok(None),
-    }
+    session.step()
 }
 
-/// The last change is taken back; false where there is none.
-pub(crate) fn step_back(session: &mut Session) -> Result<bool, Memory>
+/// The last change is taken back; the refusal where there is none.
+pub(crate) fn step_back(session: &mut Session) -> Result<Option<Refusal>, Memory>
     ensures program { session.new.program ≡ session.old.program }
-    ensures effect { IfOk result (λ _. session.new.timeline ≡ after (effect_of session.old.timeline (Request.Back 1))) }
     ensures first { session.new.timeline.first ≡ session.old.timeline.first }
+    ensures effect { IfOk result (λ _. session.new.timeline ≡ after (effect_of session.old.timeline (Back 1))) }
+    ensures taken { IfOk result (λ refusal. IfNone refusal (length session.new.timeline.changes + 1 ≡ length session.old.timeline.changes)) }
+    ensures none { IfOk result (λ refusal. IfSome refusal (λ _. (session.new.timeline ≡ session.old.timeline) × (length session.old.timeline.changes ≡ 0))) }
 {
-    match session.execute(Request::Back(1))? {
-        Answer::Back(_) => Ok(true),
-        _ => Ok(false),
-    }
+    session.back()
 }
 
 /// A piece of a run forwards: why it stops, or nothing where the piece is over before that.
@@ -76,9 +61,12 @@ pub(crate) fn run_piece(
     session: &mut Session,
     points: &Points,
     until: Option<u16>,
-) -> Result<Option<Stop>, Memory> {
+) -> Result<Option<Stop>, Memory>
+    ensures program { session.new.program ≡ session.old.program }
+    ensures first { session.new.timeline.first ≡ session.old.timeline.first }
+{
     let mut marks = points.marks(alloc, session.world())?;
-    for _ in 0..PIECE {
+    'steps: for _ in 0..PIECE {
         let halts = session.world().next_is_halt();
         match step(session)? {
             Some(fault) => return Ok(Some(Stop::Fault(fault))),
@@ -115,13 +103,18 @@ pub(crate) fn back_piece(
     alloc: Global,
     session: &mut Session,
     points: &Points,
-) -> Result<Option<Stop>, Memory> {
-    let mut marks = points.marks(alloc, session.world())?;
-    for _ in 0..PIECE {
-        if !step_back(session)? {
-            return Ok(Some(Stop::Start));
+) -> Result<Option<Stop>, Memory>
+    ensures program { session.new.program ≡ session.old.program }
+    ensures first { session.new.timeline.first ≡ session.old.timeline.first }
+    ensures moved { IfOk result (λ _. 0 < length session.old.timeline.changes → length session.new.timeline.changes < length session.old.timeline.changes) }
+{
+    let mut seen = points.marks(alloc, session.world())?;
+    'changes: for taken in 0..PIECE {
+        match step_back(session)? {
+            Some(_) => return Ok(Some(Stop::Start)),
+            None => {}
         }
-        match points.stop_at(marks.as_mut_slice(), session.world()) {
+        match points.stop_at(seen.as_mut_slice(), session.world()) {
             Some(stop) => return Ok(Some(stop)),
             None => {}
         }

@@ -11,7 +11,7 @@ use crate::motion::Stop;
 use dap_message::{Fields, Request};
 use mix_machine::{Mark, Part, Place, World};
 use mix_refused::{Memory, Refused};
-use mix_session::{Condition, Request as Asked, Session};
+use mix_session::Session;
 use mixal_asm::{Program, Source};
 use serde_json::Value;
 use std::alloc::Global;
@@ -53,14 +53,11 @@ impl Points {
     // The first part that is watched and differs from its mark.
     fn altered(&self, marks: &mut [Mark], world: &World) -> Option<usize> {
         let mut found = None;
-        for (index, mark) in marks.iter_mut().enumerate() {
-            if index < self.data.len() {
-                let now = world.mark(self.data[index]);
-                if found.is_none() && !mark.is_same(now) {
-                    found = Some(index);
-                }
-                *mark = now;
-            }
+        let count = marks.len().min(self.data.len());
+        for index in 0..count {
+            let is_same = marks[index].is_same(world.mark(self.data[index]));
+            marks[index] = world.mark(self.data[index]);
+            found = first_altered(found, is_same, index);
         }
         found
     }
@@ -80,9 +77,13 @@ impl Points {
         &mut self,
         alloc: Global,
         program: &Program,
+        name: &str,
         request: &Request,
         first: u64,
     ) -> Result<Value, Refused<Fault>> {
+        if !is_source(request, name) {
+            return of_another_source(alloc, request);
+        }
         let mut cells = Vec::new(alloc);
         let mut told = Vec::new(alloc);
         for asked in request.list("breakpoints").unwrap_or(&[]) {
@@ -147,6 +148,37 @@ impl Points {
     }
 }
 
+// The first of those that differ, of which `found` is the first before this one.
+fn first_altered(found: Option<usize>, is_same: bool, index: usize) -> Option<usize> {
+    match found {
+        None if !is_same => Some(index),
+        found => found,
+    }
+}
+
+// Whether a request is about the source of this name, which may be the end of its path; where it says no path, it is.
+fn is_source(request: &Request, name: &str) -> bool {
+    let Some(source) = request.argument("source") else {
+        return true;
+    };
+    match source.get("path").and_then(Value::as_str) {
+        Some(path) => match path.strip_suffix(name) {
+            Some(folder) => folder.is_empty() || folder.ends_with("/"),
+            None => false,
+        },
+        None => true,
+    }
+}
+
+// Breakpoints of another source are none, and those that stand stay.
+fn of_another_source(alloc: Global, request: &Request) -> Result<Value, Refused<Fault>> {
+    let mut told = Vec::new(alloc);
+    for _ in request.list("breakpoints").unwrap_or(&[]) {
+        told.push(unverified(alloc, "another source")?)?;
+    }
+    breakpoints(alloc, told)
+}
+
 fn has_cell(places: &[Place], loc: u16) -> bool {
     places.iter().any(|place| place.number() == loc)
 }
@@ -183,10 +215,7 @@ pub(crate) fn part_named(
     name: &str,
 ) -> Result<Option<Part>, Memory> {
     let line = format!(in alloc; "run 1 until {name}")?;
-    match session.read(line.as_bytes()) {
-        Ok(Asked::RunUntil(_, Condition::Alters(part))) => Ok(Some(part)),
-        _ => Ok(None),
-    }
+    Ok(session.part_in(line.as_bytes()))
 }
 
 fn verified(alloc: Global, place: Place, line: Option<u64>) -> Result<Value, Memory> {

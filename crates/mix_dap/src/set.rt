@@ -9,38 +9,37 @@ use crate::value::{cell_name, indicator, register_value, toggle, word_value};
 use base64::DecodeAllocError;
 use base64::engine::general_purpose::STANDARD;
 use dap_message::{Fields, Request};
-use mix_machine::{Change, Place, Word, World};
+use mix_machine::{Change, Place, Reg, Word, World};
 use mix_refused::{Memory, Refused};
-use mix_session::{Answer, Request as Asked, Session};
+use mix_session::{Refusal, Session};
 use serde_json::Value;
 use std::alloc::Global;
 
-/// The change of the machine that a line of a script asks for, which is done; the refusal of the session where it is refused.
-pub(crate) fn change_by_line(session: &mut Session, line: &str) -> Result<Change, Refused<Fault>> {
-    match session.read(line.as_bytes()) {
-        Ok(Asked::Change(change)) => change_by(session, change),
-        Ok(_) => Err(Refused::Fault(Fault::BadArgument)),
-        Err(refusal) => Err(Refused::Fault(Fault::Session(refusal))),
+/// A refusal of the session, if there is one, as the answer of a request.
+pub(crate) fn unless(refusal: Option<Refusal>) -> Result<(), Refused<Fault>> {
+    match refusal {
+        Some(refusal) => Err(Refused::Fault(Fault::Session(refusal))),
+        None => Ok(()),
     }
 }
 
-// A change of the machine that is done.
-fn change_by(session: &mut Session, change: Change) -> Result<Change, Refused<Fault>> {
-    match session.execute(Asked::Change(change))? {
-        Answer::Refused(refusal) => Err(Refused::Fault(Fault::Session(refusal))),
-        _ => Ok(change),
-    }
-}
-
-/// The value of what a change has set.
-pub(crate) fn value_after(alloc: Global, world: &World, change: Change) -> Result<String, Memory> {
-    match change {
-        Change::SetReg(register, _) => register_value(alloc, world, register),
-        Change::SetCell(place, _) => word_value(alloc, world.cell(place)),
-        Change::SetLoc(_) => cell_name(alloc, world.loc()),
-        Change::SetOver(_) => Ok(String::from_str(alloc, toggle(world.over()))?),
-        Change::SetCmp(_) => Ok(String::from_str(alloc, indicator(world.cmp()))?),
-        Change::Step | Change::Break(_) | Change::Clear(_) => Ok(String::new(alloc)),
+/// The value of a variable of a scope.
+pub(crate) fn value_now(alloc: Global, world: &World, request: &Request) -> Result<String, Memory> {
+    let name = request.text("name").unwrap_or("");
+    match request.number("variablesReference").and_then(scope_of) {
+        Some(Scope::Registers) => match Reg::named(name.as_bytes()) {
+            Some(register) => register_value(alloc, world, register),
+            None => Ok(String::new(alloc)),
+        },
+        Some(Scope::Flags) => match name {
+            "over" => Ok(String::from_str(alloc, toggle(world.over()))?),
+            "cmp" => Ok(String::from_str(alloc, indicator(world.cmp()))?),
+            _ => cell_name(alloc, world.loc()),
+        },
+        _ => match name.parse::<u16>().ok().and_then(Place::of) {
+            Some(place) => word_value(alloc, world.cell(place)),
+            None => Ok(String::new(alloc)),
+        },
     }
 }
 
@@ -88,10 +87,7 @@ pub(crate) fn goto_targets(
 pub(crate) fn go_to(session: &mut Session, request: &Request) -> Result<(), Refused<Fault>> {
     let target = request.number("targetId").and_then(|id| u16::try_from(id).ok());
     match target.and_then(Place::of) {
-        Some(place) => {
-            change_by(session, Change::SetLoc(place))?;
-            Ok(())
-        }
+        Some(place) => unless(session.change(Change::SetLoc(place))?),
         None => Err(Refused::Fault(Fault::NoSuchThing)),
     }
 }
@@ -105,12 +101,12 @@ pub(crate) fn write_memory(
 ) -> Result<usize, Refused<Fault>> {
     let start = start_of(request)?;
     let bytes = bytes_asked(alloc, request)?;
-    if bytes.len() as u64 > MEMORY_BYTES - start {
+    if bytes.len() as u64 > MEMORY_BYTES.saturating_sub(start) {
         return Err(Refused::Fault(Fault::NoSuchThing));
     }
     let changes = changes_of(alloc, session.world(), start, bytes.as_slice())?;
     for change in changes.iter() {
-        change_by(session, Change::SetCell(change.0, change.1))?;
+        unless(session.change(Change::SetCell(change.0, change.1))?)?;
     }
     Ok(bytes.len())
 }

@@ -3,7 +3,6 @@
 ghost use Rattle.std.specs.Prelude.{◌<◌, length};
 ghost use Rattle.mix_dap.specs.Came.{CameWithin};
 
-use std::io;
 use std::io::{ErrorKind, Read};
 use std::os::fd::AsFd;
 use std::os::unix::net::UnixStream;
@@ -73,17 +72,19 @@ impl StandardInput {
 impl Talk for StandardInput {
     fn read(&mut self, buf: &mut [u8], waits: bool) -> Came {
         if waits {
-            return came_of(self.reader.read(buf));
+            return read_now(&mut self.reader, buf);
         }
         self.set_waits(false);
-        let came = came_of(self.reader.read(buf));
+        let came = read_now(&mut self.reader, buf);
         self.set_waits(true);
         came
     }
 }
 
-fn came_of(read: io::Result<usize>) -> Came {
-    match read {
+fn read_now(reader: &mut Stdin, buf: &mut [u8]) -> Came
+    ensures { CameWithin result (length buf.new) }
+{
+    match reader.read(buf) {
         Ok(count) => Came::Bytes(count),
         Err(error) if error.kind() == ErrorKind::WouldBlock => Came::Nothing,
         Err(_) => Came::Failed,

@@ -53,10 +53,11 @@ pub(crate) fn characters(alloc: Global, words: &[Word]) -> Result<String, Memory
             text.push(char_of(word.byte(i)))?;
         }
     }
-    while text.last() == Some(&b' ') {
-        text.pop();
-    }
-    Ok(String::from_utf8_lossy(alloc, text.as_slice())?)
+    let end = match text.iter().rposition(|byte| *byte != b' ') {
+        Some(last) => last + 1,
+        None => 0,
+    };
+    Ok(String::from_utf8_lossy(alloc, &text[..end])?)
 }
 
 /// The cell at the location, if there is one.

@@ -6,6 +6,7 @@ pub mod Condition
 pub mod Counts
 pub mod Differences
 pub mod Each
+pub mod Face
 pub mod Fault
 pub mod Keyword
 pub mod Marks

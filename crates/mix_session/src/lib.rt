@@ -4,6 +4,7 @@
 mod answer;
 mod command;
 mod condition;
+mod face;
 mod fault;
 mod keyword;
 mod laws;

@@ -117,7 +117,7 @@ impl<'s> Session<'s> {
     }
 
     // What a line asks for is done.
-    fn execute_line(&mut self, line: &[u8]) -> Result<Answer, Memory>
+    pub(crate) fn execute_line(&mut self, line: &[u8]) -> Result<Answer, Memory>
         ensures program { self.new.program ≡ self.old.program }
         ensures effect { HasEffect (effect_in self.old line.now) self.old.timeline self.new.timeline result }
     {

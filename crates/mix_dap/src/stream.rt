@@ -1,6 +1,8 @@
 //! The adapter over a stream: requests are heard and answered until the client is done.
 
-ghost use Rattle.std.specs.Prelude.{◌<◌, ◌≤◌, ◌-◌, ◌^◌};
+ghost use Rattle.std.specs.Prelude.{◌≡◌, ◌<◌, ◌≤◌, ◌-◌, ◌^◌, OnOk};
+ghost use Rattle.std.specs.Io.KnownBytes.{Appends};
+ghost use Rattle.dap_frame.specs.Frame.{frame_of};
 
 use crate::adapter::{Adapter, Flow};
 use crate::hear::{Ear, Heard};
@@ -107,7 +109,7 @@ fn talk<F: Files, T: Talk, W: Out>(
     let mut ear = Ear::new(alloc);
     let mut outbox = Outbox::new(alloc);
     let mut waiting = Waiting::new(alloc);
-    for _ in 0..u64::MAX {
+    'requests: for _ in 0..u64::MAX {
         let Some(request) = next_request(&mut ear, input, &mut outbox)? else {
             return send(alloc, &mut outbox, out);
         };
@@ -159,11 +161,12 @@ fn debug<T: Talk, W: Out>(
     out: &mut W,
 ) -> Result<Flow, Broken>
     requires { W.failed out.old < 2 ^ 64 - 1 }
+    ensures { OnOk result (W.failed out.new ≡ W.failed out.old) }
 {
     let Some(mut adapter) = Adapter::open(alloc, waiting, texts, request, outbox)? else {
         return Ok(Flow::On);
     };
-    for _ in 0..u64::MAX {
+    'turns: for _ in 0..u64::MAX {
         send(alloc, outbox, out)?;
         if adapter.is_running() {
             adapter.advance(outbox)?;
@@ -199,11 +202,29 @@ fn tell_unclear(outbox: &mut Outbox, fault: Option<MessageFault>) -> Result<(), 
 // Sends all messages that wait, each in a frame.
 fn send<W: Out>(alloc: Global, outbox: &mut Outbox, out: &mut W) -> Result<(), Broken>
     requires { W.failed out.old < 2 ^ 64 - 1 }
+    ensures { OnOk result (W.failed out.new ≡ W.failed out.old) }
 {
-    for message in outbox.messages() {
-        let text = frame(alloc, message.as_str())?;
-        write_all(out, text.as_bytes())?;
-    }
+    send_all(alloc, outbox.messages(), out)?;
     outbox.clear();
+    Ok(())
+}
+
+fn send_all<W: Out>(alloc: Global, messages: &[String], out: &mut W) -> Result<(), Broken>
+    requires { W.failed out.old < 2 ^ 64 - 1 }
+    ensures { OnOk result (W.failed out.new ≡ W.failed out.old) }
+{
+    for message in messages {
+        send_one(alloc, message.as_str(), out)?;
+    }
+    Ok(())
+}
+
+fn send_one<W: Out>(alloc: Global, message: &str, out: &mut W) -> Result<(), Broken>
+    requires { W.failed out.old < 2 ^ 64 - 1 }
+    ensures failed { OnOk result (W.failed out.new ≡ W.failed out.old) }
+    ensures sent { OnOk result (Appends (W.told out.old) (W.told out.new) (frame_of message.now)) }
+{
+    let text = frame(alloc, message)?;
+    write_all(out, text.as_bytes())?;
     Ok(())
 }
