@@ -43,7 +43,10 @@ const NAMES: [(&str, Command); 32] = [
     ("configurationDone", Command::ConfigurationDone),
     ("setBreakpoints", Command::SetBreakpoints),
     ("setFunctionBreakpoints", Command::SetFunctionBreakpoints),
-    ("setInstructionBreakpoints", Command::SetInstructionBreakpoints),
+    (
+        "setInstructionBreakpoints",
+        Command::SetInstructionBreakpoints,
+    ),
     ("setDataBreakpoints", Command::SetDataBreakpoints),
     ("setExceptionBreakpoints", Command::SetExceptionBreakpoints),
     ("dataBreakpointInfo", Command::DataBreakpointInfo),

@@ -81,7 +81,9 @@ impl Request {
 
     /// Whether an argument is `true`.
     pub fn flag(&self, name: &str) -> bool {
-        self.argument(name).and_then(Value::as_bool).unwrap_or(false)
+        self.argument(name)
+            .and_then(Value::as_bool)
+            .unwrap_or(false)
     }
 
     /// An argument that is a list.

@@ -214,7 +214,8 @@ impl<'s> Adapter<'s> {
         match command {
             Command::SetBreakpoints => {
                 let program = self.session.program();
-                self.points.set_lines(alloc, program, self.name, request, self.client.first)
+                self.points
+                    .set_lines(alloc, program, self.name, request, self.client.first)
             }
             Command::SetInstructionBreakpoints => self.points.set_instructions(alloc, request),
             Command::SetDataBreakpoints => self.points.set_data(alloc, &self.session, request),

@@ -46,7 +46,14 @@ pub(crate) fn bytes_of(word: Word) -> [u8; 6] {
         Sign::Plus => 0,
         Sign::Minus => 1,
     };
-    [sign, word.byte(1), word.byte(2), word.byte(3), word.byte(4), word.byte(5)]
+    [
+        sign,
+        word.byte(1),
+        word.byte(2),
+        word.byte(3),
+        word.byte(4),
+        word.byte(5),
+    ]
 }
 
 /// The word of six bytes, unless the first is over 1 or another over 63.

@@ -2,9 +2,7 @@
 
 use crate::fault::Fault;
 use crate::layout::reference_of;
-use crate::value::{
-    cell_at, cell_name, characters, indicator, register_value, toggle, word_value,
-};
+use crate::value::{cell_at, cell_name, characters, indicator, register_value, toggle, word_value};
 use dap_message::{Fields, Request};
 use mix_machine::{Place, Reg, Row, UnitNo, World};
 use mix_refused::{Memory, Refused};
@@ -19,10 +17,15 @@ pub(crate) const THREAD: u64 = 1;
 
 // The references of the scopes; of a page of memory, `PAGES` and its number; of a unit, `UNITS` and its number.
 const REGISTERS: u64 = 1;
+
 const FLAGS: u64 = 2;
+
 const ALL_UNITS: u64 = 3;
+
 const MEMORY: u64 = 4;
+
 const UNITS: u64 = 100;
+
 const PAGES: u64 = 1000;
 
 // How many cells a page of memory has.
@@ -91,7 +94,10 @@ fn frame(alloc: Global, session: &Session, name: &str, first: u64) -> Result<Val
     let mut frame = Fields::new(alloc);
     frame.number("id", 1)?;
     frame.text("name", frame_name(alloc, session.world())?.as_str())?;
-    frame.text("instructionPointerReference", reference_of(alloc, loc)?.as_str())?;
+    frame.text(
+        "instructionPointerReference",
+        reference_of(alloc, loc)?.as_str(),
+    )?;
     let line = match line_at(session) {
         Some(line) => {
             frame.put("source", source(alloc, name)?)?;
@@ -247,7 +253,9 @@ fn unit_value(alloc: Global, world: &World, number: UnitNo) -> Result<String, Me
     let unit = world.unit(number);
     let (place, blocks, rows) = (unit.place(), unit.blocks(), unit.rows());
     let (delay, until) = (unit.delay(), unit.until());
-    let text = format!(in alloc; "place {place} blocks {blocks} output {rows} delay {delay} until {until}")?;
+    let text = format!(in alloc;
+        "place {place} blocks {blocks} output {rows} delay {delay} until {until}"
+    )?;
     Ok(text)
 }
 
@@ -297,11 +305,18 @@ fn pages(alloc: Global) -> Result<Vec<Value>, Memory> {
 fn cells(alloc: Global, world: &World, page: u16) -> Result<Vec<Value>, Memory> {
     let mut list = Vec::new(alloc);
     for i in 0..PAGE {
-        if let Some(place) = page.checked_mul(PAGE).and_then(|n| n.checked_add(i)).and_then(Place::of) {
+        if let Some(place) = page
+            .checked_mul(PAGE)
+            .and_then(|n| n.checked_add(i))
+            .and_then(Place::of)
+        {
             let name = cell_name(alloc, place.number())?;
             let value = word_value(alloc, world.cell(place))?;
             let mut cell = variable(alloc, name.as_str(), value.as_str(), 0)?;
-            cell.text("memoryReference", reference_of(alloc, place.number())?.as_str())?;
+            cell.text(
+                "memoryReference",
+                reference_of(alloc, place.number())?.as_str(),
+            )?;
             list.push(cell.done())?;
         }
     }

@@ -1,7 +1,7 @@
 //! The memory as bytes and as instructions.
 
 use crate::fault::Fault;
-use crate::layout::{MEMORY_BYTES, CELL_BYTES, byte_of_reference, bytes_of, reference_of};
+use crate::layout::{CELL_BYTES, MEMORY_BYTES, byte_of_reference, bytes_of, reference_of};
 use base64::engine::general_purpose::STANDARD;
 use dap_message::{Fields, Request};
 use mix_machine::{Place, World};

@@ -92,7 +92,11 @@ impl Points {
             match cell_of_line(program, number) {
                 Some((place, line)) => {
                     cells.push(place)?;
-                    told.push(verified(alloc, place, Some(line.saturating_sub(1 - first.min(1))))?)?;
+                    told.push(verified(
+                        alloc,
+                        place,
+                        Some(line.saturating_sub(1 - first.min(1))),
+                    )?)?;
                 }
                 None => told.push(unverified(alloc, "no word from this line on")?)?,
             }
@@ -221,7 +225,10 @@ pub(crate) fn part_named(
 fn verified(alloc: Global, place: Place, line: Option<u64>) -> Result<Value, Memory> {
     let mut fields = Fields::new(alloc);
     fields.flag("verified", true)?;
-    fields.text("instructionReference", reference_of(alloc, place.number())?.as_str())?;
+    fields.text(
+        "instructionReference",
+        reference_of(alloc, place.number())?.as_str(),
+    )?;
     if let Some(line) = line {
         fields.number("line", line)?;
     }

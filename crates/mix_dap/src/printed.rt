@@ -61,12 +61,7 @@ fn tell_rows(
     Ok(())
 }
 
-fn tell_taken(
-    alloc: Global,
-    number: UnitNo,
-    count: u16,
-    out: &mut Outbox,
-) -> Result<(), Memory> {
+fn tell_taken(alloc: Global, number: UnitNo, count: u16, out: &mut Outbox) -> Result<(), Memory> {
     let unit = number.number();
     let line = format!(in alloc; "(unit {unit}: the last rows are taken back, {count} of them)\n")?;
     out.output("console", line.as_str())

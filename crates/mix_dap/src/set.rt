@@ -46,8 +46,11 @@ pub(crate) fn value_now(alloc: Global, world: &World, request: &Request) -> Resu
 /// The line of a script that sets a variable of a scope.
 pub(crate) fn line_of_set(alloc: Global, request: &Request) -> Result<String, Refused<Fault>> {
     let scope = request.number("variablesReference").and_then(scope_of);
-    let (Some(scope), Some(name), Some(value)) = (scope, request.text("name"), request.text("value"))
-    else {
+    let (Some(scope), Some(name), Some(value)) = (
+        scope,
+        request.text("name"),
+        request.text("value"),
+    ) else {
         return Err(Refused::Fault(Fault::BadArgument));
     };
     match scope {
@@ -85,7 +88,9 @@ pub(crate) fn goto_targets(
 
 /// Sets the location to the cell of a target.
 pub(crate) fn go_to(session: &mut Session, request: &Request) -> Result<(), Refused<Fault>> {
-    let target = request.number("targetId").and_then(|id| u16::try_from(id).ok());
+    let target = request
+        .number("targetId")
+        .and_then(|id| u16::try_from(id).ok());
     match target.and_then(Place::of) {
         Some(place) => unless(session.change(Change::SetLoc(place))?),
         None => Err(Refused::Fault(Fault::NoSuchThing)),

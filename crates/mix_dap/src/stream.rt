@@ -118,7 +118,16 @@ fn talk<F: Files, T: Talk, W: Out>(
             Asked::Answered => Flow::On,
             Asked::Over => Flow::Over,
             Asked::Launch(texts) => {
-                debug(alloc, &waiting, &texts, &request, &mut ear, input, &mut outbox, out)?
+                debug(
+                    alloc,
+                    &waiting,
+                    &texts,
+                    &request,
+                    &mut ear,
+                    input,
+                    &mut outbox,
+                    out,
+                )?
             }
         };
         send(alloc, &mut outbox, out)?;

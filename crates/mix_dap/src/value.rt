@@ -13,7 +13,11 @@ pub(crate) fn word_value(alloc: Global, word: Word) -> Result<String, Memory> {
 }
 
 /// What a register holds: sign and bytes, of which an index register and rJ have two, and the number.
-pub(crate) fn register_value(alloc: Global, world: &World, register: Reg) -> Result<String, Memory> {
+pub(crate) fn register_value(
+    alloc: Global,
+    world: &World,
+    register: Reg,
+) -> Result<String, Memory> {
     let word = world.register(register);
     match register {
         Reg::A | Reg::X => word_value(alloc, word),

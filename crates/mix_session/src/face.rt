@@ -93,7 +93,7 @@ impl Session<'_> {
         ensures first { self.new.timeline.first ≡ self.old.timeline.first }
         ensures effect { let effect = effect_in self.old line.now in
             IfOk result (λ told. (self.new.timeline ≡ after effect) × MatchResult told
-                (λ text. text.items ≡ text_of effect.answer self.old.program self.new.timeline) (λ refusal. Some refusal ≡ refusal_of effect.answer)) }
+            (λ text. text.items ≡ text_of effect.answer self.old.program self.new.timeline) (λ refusal. Some refusal ≡ refusal_of effect.answer)) }
     {
         match self.execute_line(line) {
             Err(Memory) => Err(Memory),
