@@ -7,7 +7,7 @@ from _pydevd_bundle._debug_adapter import pydevd_schema  # the classes put thems
 
 TYPES = {"string": str, "boolean": bool, "integer": int, "number": (int, float), "array": list, "object": dict, "null": type(None)}
 # Members of the protocol that are newer than these classes.
-NEWER = {("Breakpoint", "reason")}
+NEWER = {("DisassembledInstruction", "presentationHint")}
 
 
 def faults(message):
