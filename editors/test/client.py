@@ -8,7 +8,11 @@ from debugpy.common import messaging
 
 import schema
 
-SECONDS = 60  # in which a whole talk has to be over
+SECONDS = 20  # in which whatever is waited for has to come
+
+
+class Ended(Exception):
+    """A talk that can't go on."""
 
 
 class Count:
@@ -36,16 +40,17 @@ class Recorded(messaging.JsonIOStream):
 
 
 class Client:
-    def __init__(self, command, count, name, **initialize):
+    def __init__(self, command, count, name):
         self.count, self.name = count, name
         self.messages, self.heard, self.seen = [], threading.Condition(), 0
         self.process = subprocess.Popen(command, stdin=subprocess.PIPE, stdout=subprocess.PIPE, stderr=subprocess.PIPE)
-        self.timer = threading.Timer(SECONDS, self.process.kill)
-        self.timer.start()
         stream = Recorded.from_process(self.process, name)
         stream.keep = self.keep
         self.channel = messaging.JsonMessageChannel(stream, messaging.MessageHandlers(event=lambda event: None))
         self.channel.start()
+
+    def begin(self, **initialize):
+        """The capabilities that the adapter tells."""
         client = {"clientID": "check", "adapterID": "mixrev", "linesStartAt1": True, "columnsStartAt1": True, "pathFormat": "path",
                   "supportsVariableType": True, "supportsMemoryReferences": True, "supportsInvalidatedEvent": True}
         self.capabilities = self.body("initialize", **{**client, **initialize})
@@ -57,16 +62,9 @@ class Client:
 
     def ask(self, command, **arguments):
         """The response to a request, as it came."""
+        since = len(self.messages)
         request = self.channel.send_request(command, arguments or None)
-        try:
-            request.wait_for_response(raise_if_failed=False)
-        except EOFError:
-            pass
-        for message in self.messages:
-            if message["type"] == "response" and message["request_seq"] == request.seq:
-                return message
-        self.count.row(f"{self.name}: {command}", False, f"no response; the status is {self.process.poll()}")
-        return {"success": False, "message": "no response", "body": {}}
+        return self.first(lambda message: message.get("request_seq") == request.seq, since, f"response to {command} {arguments}")[0]
 
     def body(self, command, **arguments):
         """The body of a response that accepts."""
@@ -79,24 +77,28 @@ class Client:
         response = self.ask(command, **arguments)
         return "" if response["success"] else response.get("message", "") or response["body"]["error"]["format"]
 
-    def wait(self, event, since, seconds=20):
-        """The first event of a name from a message on, and its place; waited for."""
-        end = time.monotonic() + seconds
+    def first(self, test, since, what):
+        """The first message from one on that meets a test, and its place; waited for."""
+        end = time.monotonic() + SECONDS
         with self.heard:
             while True:
                 for at in range(since, len(self.messages)):
-                    if self.messages[at].get("event") == event:
-                        return self.messages[at].get("body", {}), at
+                    if test(self.messages[at]):
+                        return self.messages[at], at
                 left = end - time.monotonic()
                 if left <= 0 or not self.heard.wait(left):
-                    return None, len(self.messages)
+                    raise Ended(f"no {what} in {SECONDS} s; the status is {self.process.poll()}")
+
+    def wait(self, event, since):
+        """The body of the first event of a name from a message on, and its place; waited for."""
+        message, at = self.first(lambda message: message.get("event") == event, since, f"event {event}")
+        return message.get("body", {}), at
 
     def stop(self):
-        """The reason of the next stop."""
+        """The next stop."""
         body, at = self.wait("stopped", self.seen)
         self.seen = at + 1
-        self.count.row(f"{self.name}: a stop", body is not None, "none came")
-        return body or {"reason": "none"}
+        return body
 
     def move(self, command, **arguments):
         """A request that runs or steps, and the reason of its stop."""
@@ -106,8 +108,7 @@ class Client:
     def launch(self, program, stops=True, **more):
         """A program launched and configured, and the first stop where it is to be."""
         self.body("launch", program=program, stopOnEntry=stops, **more)
-        event, _ = self.wait("initialized", 0)
-        self.count.row(f"{self.name}: initialized", event is not None, "it did not come")
+        self.wait("initialized", 0)
         self.body("configurationDone")
         return self.stop()["reason"] if stops else None
 
@@ -150,18 +151,23 @@ class Client:
                        if message.get("event") == "output" and message["body"].get("category") == category)
 
     def close(self):
-        """Disconnects; then the program ends with status 0, every message is right, their numbers rise, and nothing stands on standard error."""
+        """Disconnects; then the program ends with status 0, each message that came is right, and their numbers rise."""
         self.body("disconnect")
         self.end(0)
         return self
 
+    def kill(self):
+        """Ends the program, whatever it does."""
+        self.process.kill()
+        self.process.wait()
+
     def end(self, status):
+        """The program ends with this status; each message that came is right."""
         try:
             ended = self.process.wait(20)
         except subprocess.TimeoutExpired:
             self.process.kill()
             ended = "none, killed after 20 s"
-        self.timer.cancel()
         self.channel.close()
         self.count.same(f"{self.name}: status", ended, status)
         for message in self.messages:

@@ -243,9 +243,9 @@ def prints(talk, count):
     """What a unit writes is told, also while the program runs; a step back tells what was taken back; pause stops a long run."""
     talk.launch(program("prints.mix"), devices=program("cards.deck"))
     talk.body("continue", threadId=1)
-    body, at = talk.wait("output", talk.seen)
+    body, _ = talk.wait("output", talk.seen)
+    count.same("the row while it runs", body["output"].rstrip(), "HELLO")
     time.sleep(0.3)
-    count.row("the row while it runs", body and body["output"].rstrip() == "HELLO", body)
     count.row("no stop came", not any(message.get("event") == "stopped" for message in talk.messages[talk.seen:]), talk.messages[talk.seen:])
     count.row("a step while it runs is refused", talk.refused("next", threadId=1), "it is not")
     count.same("pause", talk.move("pause"), "pause")
@@ -346,11 +346,14 @@ def named(command, count):
         path = os.path.join(folder, "Z\u00e4hler \u4e16\u754c.mix")
         with open(CALLS) as source, open(path, "w") as file:
             file.write(source.read())
-        talk = Client(command, count, "named")
-        count.same("entry", talk.launch(path), "entry")
-        count.same("its path", talk.frame()["source"]["path"], path)
-        count.same("a step", (talk.move("next"), talk.state()), ("step", AFTER[1]))
-        talk.close()
+
+        def at_path(talk, count):
+            count.same("entry", talk.launch(path), "entry")
+            count.same("its path", talk.frame()["source"]["path"], path)
+            count.same("a step", (talk.move("next"), talk.state()), ("step", AFTER[1]))
+            talk.close()
+
+        talked(command, count, at_path)
 
 
 def over_sockets(command, count):
@@ -377,15 +380,23 @@ def over_sockets(command, count):
 TALKS = (steps, halts, subroutine, data, sets, memory, evaluates, gotos, faults, prints, long_runs, refusals, apart, running, restarted_while_running)
 
 
+def talked(command, count, talk, **initialize):
+    """Has a talk; one that can't go on is a failure."""
+    client = Client(command, count, talk.__name__)
+    try:
+        client.begin(**initialize)
+        talk(client, count)
+    except Exception as problem:
+        count.row(f"{talk.__name__} goes on", False, f"{type(problem).__name__} {problem}")
+        client.kill()
+
+
 def main():
     command = [os.path.abspath(sys.argv[1]), *sys.argv[2:]]
     count = Count()
     for talk in TALKS:
-        try:
-            talk(Client(command, count, talk.__name__), count)
-        except Exception as problem:
-            count.row(talk.__name__, False, f"{type(problem).__name__} {problem}")
-    from_zero(Client(command, count, "from_zero", linesStartAt1=False, columnsStartAt1=False), count)
+        talked(command, count, talk)
+    talked(command, count, from_zero, linesStartAt1=False, columnsStartAt1=False)
     named(command, count)
     over_sockets(command, count)
     print(f"{count.passed} passed, {count.failed} failed")
