@@ -38,7 +38,5 @@
   (interactive (list (dap--cur-active-session-or-die)))
   (dap--step "restart" session))
 
-(add-to-list 'auto-mode-alist '("\\.mix\\(al\\)?\\'" . prog-mode))
-
 (provide 'mixrev)
 ;;; mixrev.el ends here
