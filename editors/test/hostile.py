@@ -104,7 +104,7 @@ def said(command, text):
         every = messages(ran.stdout)
     except ValueError as problem:
         return str(problem), False
-    wrong = [(fault, message) for message in every for fault in schema.faults(message) if "'Unable" not in fault and "not in [" not in fault]
+    wrong = [(fault, message) for message in every for fault in schema.faults(message)]
     if wrong:
         return f"schema: {wrong[0]}", False
     responses = [message for message in every if message["type"] == "response"]
