@@ -1,5 +1,6 @@
 """A client of the adapter: debugpy's message channel over the adapter's standard streams. Each message that comes is kept and checked by the schema."""
 import json
+import os
 import subprocess
 import threading
 import time
@@ -8,7 +9,7 @@ from debugpy.common import messaging
 
 import schema
 
-SECONDS = 20  # in which whatever is waited for has to come
+SECONDS = float(os.environ.get("SECONDS", "20"))  # in which whatever is waited for has to come
 
 
 class Ended(Exception):
@@ -164,10 +165,10 @@ class Client:
     def end(self, status):
         """The program ends with this status; each message that came is right."""
         try:
-            ended = self.process.wait(20)
+            ended = self.process.wait(SECONDS)
         except subprocess.TimeoutExpired:
             self.process.kill()
-            ended = "none, killed after 20 s"
+            ended = "none, and it was killed"
         self.channel.close()
         self.count.same(f"{self.name}: status", ended, status)
         for message in self.messages:
