@@ -9,7 +9,7 @@ from debugpy.common import messaging
 
 import schema
 
-SECONDS = float(os.environ.get("SECONDS", "20"))  # in which whatever is waited for has to come
+SECONDS = float(os.environ.get("WAIT", "20"))  # in which whatever is waited for has to come
 
 
 class Ended(Exception):
