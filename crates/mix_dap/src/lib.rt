@@ -13,8 +13,8 @@ mod memory;
 mod motion;
 mod points;
 mod printed;
-mod stream;
 mod set;
+mod stream;
 mod talk;
 mod value;
 mod waiting;
@@ -27,3 +27,6 @@ pub use launch::{FileLibrary, Library, NoLibrary, Texts};
 pub use stream::serve;
 pub use talk::{Came, Patient, StandardInput, Talk};
 pub use waiting::{Asked, Waiting};
+
+#[cfg(test)]
+mod tests;
