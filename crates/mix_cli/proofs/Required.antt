@@ -64,6 +64,9 @@ debug_shape = shape_from (drop 1 tool.subs)
 abbrev list_shape : Shape
 list_shape = shape_from (drop 2 tool.subs)
 
+abbrev dap_shape : Shape
+dap_shape = shape_from (drop 3 tool.subs)
+
 source_solid : (i : ℕ) → Solid (with_index i (filled (required_word (codes "SOURCE"))))
 source_solid i = word_solid i (codes "SOURCE")
 
@@ -100,18 +103,19 @@ run_given words e = some_planned _ (first_of (codes "SOURCE") (rows_after run_sh
 
 -- ---- the command
 
-abbrev picked : Bool → Bool → Bool → Option Shape
-picked is_run is_debug is_list =
-    cond is_run (Some run_shape) (cond is_debug (Some debug_shape) (cond is_list (Some list_shape) None))
+abbrev picked : Bool → Bool → Bool → Bool → Option Shape
+picked is_run is_debug is_list is_dap =
+    cond is_run (Some run_shape) (cond is_debug (Some debug_shape) (cond is_list (Some list_shape) (cond is_dap (Some dap_shape) None)))
 
-entered_given : (is_run is_debug is_list : Bool) (words : List Text)
-    → option_map_or (λ s. level_fault s [] nothing_held words false []) (picked is_run is_debug is_list) [] ≡ []
-    → is_some (option_map (λ s. rows_at s words) (picked is_run is_debug is_list)) ≡ true
-    → IsSome (option_and_then subcommand_planned (option_map (λ s. rows_at s words) (picked is_run is_debug is_list)))
-entered_given true is_debug is_list words e there = run_given words e
-entered_given false true is_list words e there = debug_given words e
-entered_given false false true words e there = list_given words e
-entered_given false false false words e there = absurd (true≢false (sym there))
+entered_given : (is_run is_debug is_list is_dap : Bool) (words : List Text)
+    → option_map_or (λ s. level_fault s [] nothing_held words false []) (picked is_run is_debug is_list is_dap) [] ≡ []
+    → is_some (option_map (λ s. rows_at s words) (picked is_run is_debug is_list is_dap)) ≡ true
+    → IsSome (option_and_then subcommand_planned (option_map (λ s. rows_at s words) (picked is_run is_debug is_list is_dap)))
+entered_given true is_debug is_list is_dap words e there = run_given words e
+entered_given false true is_list is_dap words e there = debug_given words e
+entered_given false false true is_dap words e there = list_given words e
+entered_given false false false true words e there = refl
+entered_given false false false false words e there = absurd (true≢false (sym there))
 
 not_missing : (b : Bool) → (not b && true) ≡ false → b ≡ true
 not_missing true e = refl
@@ -121,7 +125,7 @@ stop_given : (stop : Option (Text × List Text)) → entered_fault tool stop ≡
     → IsSome (option_and_then subcommand_planned (entered tool stop))
 stop_given None e there = absurd (true≢false (sym there))
 stop_given (Some p) e there =
-    entered_given (answers_to p.0 (codes "run", [])) (answers_to p.0 (codes "debug", [])) (answers_to p.0 (codes "list", []))
+    entered_given (answers_to p.0 (codes "run", [])) (answers_to p.0 (codes "debug", [])) (answers_to p.0 (codes "list", [])) (answers_to p.0 (codes "dap", []))
     p.1 e there
 
 -- what is required has a value in words that have no fault

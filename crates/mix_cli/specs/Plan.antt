@@ -12,12 +12,13 @@ use Rattle.mix_cli.specs.declared.words.Plan.TheVariants as plan
 use Rattle.mix_cli.specs.declared.words.Printing.{Printing}
 
 -- a bundle; a listing of a source; a session of a source, of a script where it is named, and of a deck where it is named; a run of a source, of
--- cards and a deck where they are named, of so many steps at most and of what is printed
+-- cards and a deck where they are named, of so many steps at most and of what is printed; the debug adapter
 pub data Planned : Type 0 where
   bundle : Planned
   lists : Text → Planned
   debugs : Text → Option Text → Option Text → Planned
   runs : Text → Option Text → Option Text → ℕ → Printing → Planned
+  adapts : Planned
 
 abbrev pub planned_of : Plan → Planned
 planned_of plan.Bundle = bundle
@@ -25,6 +26,7 @@ planned_of (plan.List source) = lists (string_bytes source)
 planned_of (plan.Debug source script devices) = debugs (string_bytes source) (option_map string_bytes script) (option_map string_bytes devices)
 planned_of (plan.Run source cards devices steps printing) =
     runs (string_bytes source) (option_map string_bytes cards) (option_map string_bytes devices) steps printing
+planned_of plan.Dap = adapts
 
 -- the number that a text writes in decimal digits, where it is below 2^64
 abbrev pub number_of : Text → Option ℕ
@@ -67,7 +69,8 @@ abbrev pub subcommand_planned : Text × List Row → Option Planned
 subcommand_planned found =
     if bytes_eq found.0 (codes "run") then run_planned found.1 else
     if bytes_eq found.0 (codes "debug") then debug_planned found.1 else
-    if bytes_eq found.0 (codes "list") then list_planned found.1 else None
+    if bytes_eq found.0 (codes "list") then list_planned found.1 else
+    if bytes_eq found.0 (codes "dap") then Some adapts else None
 
 -- a bundle where no word stands after the program's name, and else what clap's own definitions make of the words
 abbrev pub planned : List Text → Option Planned

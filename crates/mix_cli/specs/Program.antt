@@ -50,13 +50,16 @@ run_inputs = with_rule (with_rule (of_source (codes "run")) cards_option) device
 abbrev pub run_app : App
 run_app = with_rule (with_rule run_inputs steps_option) unit_option
 
+abbrev pub dap_app : App
+dap_app = new_app (codes "dap")
+
 -- a subcommand has to be there, and `help` is none
 abbrev pub bare_app : App
 bare_app = on_top (λ s. record s { subcommand_required = true; disable_help_subcommand = true }) (new_app (codes "mixrev"))
 
--- the subcommands `run` and `debug`, and then all three
+-- the subcommands `run` and `debug`, and then all four
 abbrev pub with_sources : App
 with_sources = with_subcommand (with_subcommand bare_app run_app.top) debug_app.top
 
 abbrev pub mixrev : App
-mixrev = with_subcommand with_sources list_app.top
+mixrev = with_subcommand (with_subcommand with_sources list_app.top) dap_app.top

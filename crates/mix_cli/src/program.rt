@@ -2,7 +2,7 @@
 
 ghost use Rattle.std.specs.Prelude.{◌≡◌, IfOk, codes, false, true};
 ghost use Rattle.clap.specs.Words.{app_of, new_rule, rule_of, with_rule, with_subcommand};
-ghost use Rattle.mix_cli.specs.Program.{bare_app, cards_option, debug_app, devices_option, list_app, mixrev, of_source, option_named, required_word, run_app, run_inputs, steps_option, unit_option, with_sources};
+ghost use Rattle.mix_cli.specs.Program.{bare_app, cards_option, dap_app, debug_app, devices_option, list_app, mixrev, of_source, option_named, required_word, run_app, run_inputs, steps_option, unit_option, with_sources};
 
 use clap::builder::ValueParser;
 use clap::{Arg, ArgAction, Command};
@@ -58,6 +58,10 @@ the program runs: a line %UNIT 0, say, and its blocks after it.
 Example: with the two lines `run 1000` and `show regs` in the file session.txt,
   mixrev debug primes.mix session.txt
 runs the program up to its halt and shows the registers.";
+
+const MORE_ON_DAP: &str = "\
+It speaks the Debug Adapter Protocol on standard input and output, for an editor that starts it: breakpoints in the source,
+steps forth and back, registers, cells and units.";
 
 const SOURCE: &str = "The file with the program, in the language MIXAL";
 
@@ -178,6 +182,14 @@ fn run_command<'a>(alloc: Global) -> Result<Command<'a>, AllocError>
         .arg(unit_option(alloc))
 }
 
+fn dap_command<'a>(alloc: Global) -> Command<'a>
+    ensures app { app_of result ≡ dap_app }
+{
+    Command::new(alloc, "dap")
+        .about("Is the debug adapter of an editor")
+        .after_help(MORE_ON_DAP)
+}
+
 fn bare<'a>(alloc: Global) -> Command<'a>
     ensures app { app_of result ≡ bare_app }
 {
@@ -211,5 +223,6 @@ pub(crate) fn program<'a>(alloc: Global) -> Result<Command<'a>, AllocError>
     ensures app { IfOk result (λ c. app_of c ≡ mixrev) }
 {
     let list = list_command(alloc)?;
-    with_one(with_sources(alloc)?, list)
+    let command = with_one(with_sources(alloc)?, list)?;
+    with_one(command, dap_command(alloc))
 }

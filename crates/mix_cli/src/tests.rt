@@ -6,7 +6,7 @@ use std::alloc::Global;
 use std::test::Fail;
 
 // Words, and the plan that they give.
-const PLANS: [Row; 20] = [
+const PLANS: [Row; 21] = [
     (&[], "bundle"),
     (&["mixrev"], "bundle"),
     (&["list"], "bundle"),
@@ -52,6 +52,7 @@ const PLANS: [Row; 20] = [
         &["mixrev", "run", "run", "--unit", "019"],
         "run run 1000000000 19",
     ),
+    (&["mixrev", "dap"], "dap"),
 ];
 
 // ` WORD NAME`, if there is a name.
@@ -82,6 +83,7 @@ fn told_units(alloc: Global, units: Printing) -> Result<String, std::alloc::Allo
 fn told(alloc: Global, plan: &Plan) -> Result<String, std::alloc::AllocError> {
     match plan {
         Plan::Bundle => String::from_str(alloc, "bundle"),
+        Plan::Dap => String::from_str(alloc, "dap"),
         Plan::List(source) => format!(in alloc; "list {source}"),
         Plan::Debug {
             source,
@@ -148,6 +150,7 @@ const ANSWERS: [(ErrorKind, &[Row]); 8] = [
             (&["mixrev", "debug", "a", "b", "--tapes", "c"], "'--tapes'"),
             (&["mixrev", "debug", "a", "--cards", "c"], "'--cards'"),
             (&["mixrev", "run", "a", "b"], "'b'"),
+            (&["mixrev", "dap", "a"], "'a'"),
             (&["mixrev", "--jump", "--help"], "'--jump'"),
         ],
     ),
@@ -208,6 +211,7 @@ const ANSWERS: [(ErrorKind, &[Row]); 8] = [
                 "Usage: mixrev run [OPTIONS] <SOURCE>",
             ),
             (&["mixrev", "run", "-h"], "--unit <N>"),
+            (&["mixrev", "dap", "--help"], "Usage: mixrev dap"),
             (&["mixrev", "list", "--help"], "Usage: mixrev list <SOURCE>"),
             (
                 &["mixrev", "debug", "--help"],

@@ -15,8 +15,8 @@ use clap::{ArgMatches, Error};
 use std::alloc::{AllocError, Global};
 
 /// What the program is to do: a bundle from standard input; the listing of a source; a session of a source, with a deck where one is named, by a
-/// script or, where none is named, a talk; or a run of a source, with cards and a deck where they are named, of so many steps at most, 1 to 10^18.
-/// The texts are names of files.
+/// script or, where none is named, a talk; a run of a source, with cards and a deck where they are named, of so many steps at most, 1 to 10^18;
+/// or to be a debug adapter. The texts are names of files.
 #[derive(Debug, Drop)]
 pub enum Plan {
     Bundle,
@@ -33,6 +33,7 @@ pub enum Plan {
         steps: u64,
         printing: Printing,
     },
+    Dap,
 }
 
 /// Of which units a run writes the rows (1.3.1): the card punch 17, the printer 18, the typewriter 19, the paper tape 20.
@@ -176,8 +177,10 @@ fn subcommand(alloc: Global, name: &str, words: &ArgMatches<'_>) -> Result<Plan,
         run_plan(alloc, words)
     } else if name == "debug" {
         debug_plan(alloc, words)
-    } else {
+    } else if name == "list" {
         list_plan(alloc, words)
+    } else {
+        Ok(Plan::Dap)
     }
 }
 
@@ -200,7 +203,8 @@ fn found_in<'a>(alloc: Global, words: &'a [&'a str]) -> Result<ArgMatches<'a>, E
 }
 
 /// The plan of a command line. The words are as `env::args` gives them, the first the program's name: none after it is a bundle,
-/// `list SOURCE` a listing, `debug SOURCE SCRIPT` a session, with a deck by `--devices FILE`, `debug SOURCE` a talk, and `run SOURCE` a run.
+/// `list SOURCE` a listing, `debug SOURCE SCRIPT` a session, with a deck by `--devices FILE`, `debug SOURCE` a talk, `run SOURCE` a run, and `dap`
+/// the debug adapter.
 ///
 /// It fails with `Line` where the words are none of these or ask for help, and with `Memory` where memory is refused.
 pub fn read_words<'a>(alloc: Global, words: &'a [&'a str]) -> Result<Plan, LineFault>

@@ -1,3 +1,4 @@
+mod AlteredLemmas
 mod ChangeLemmas
 mod CommandLemmas
 mod ConditionLemmas

@@ -1,3 +1,4 @@
+pub mod Altered
 pub mod Answer
 pub mod Change
 pub mod Columns
@@ -6,6 +7,7 @@ pub mod Condition
 pub mod Counts
 pub mod Differences
 pub mod Each
+pub mod Face
 pub mod Fault
 pub mod Keyword
 pub mod Marks

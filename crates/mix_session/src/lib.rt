@@ -4,6 +4,7 @@
 mod answer;
 mod command;
 mod condition;
+mod face;
 mod fault;
 mod keyword;
 mod laws;
@@ -15,6 +16,8 @@ mod timeline;
 
 pub use answer::Answer;
 pub use condition::Condition;
+pub use face::altered::{Altered, alterations};
+pub use face::past::change_text;
 pub use fault::{Refusal, ToolFault};
 pub use laws::{back_and_forth_law, counts_law, differences_law};
 pub use mix_machine::{DeckFault, DeckKind};
@@ -22,6 +25,7 @@ pub use mixal_asm::{AsmFault, AsmKind, Counted, Failed, In, Out};
 pub use reply::{End, Told};
 pub use request::{Request, Topic};
 pub use session::Session;
+pub use show::counts::{Tallies, Tally};
 
 #[cfg(test)]
 mod tests;

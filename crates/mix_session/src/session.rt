@@ -82,6 +82,14 @@ impl<'s> Session<'s> {
         self.journal.changes()
     }
 
+    /// The changes that stand ahead, the next one first. It takes no memory.
+    pub fn ahead(&self) -> &[Change]
+        ensures { result.now ≡ self.now.timeline.ahead }
+    {
+        let done = self.journal.changes().len();
+        &self.journal.all()[done..]
+    }
+
     /// What a line of a script asks for, or what is wrong with its words. Names are those of the program, and the asterisk stands for the
     /// location. It takes no memory.
     pub fn read(&self, line: &[u8]) -> Result<Request, Refusal>
@@ -109,7 +117,7 @@ impl<'s> Session<'s> {
     }
 
     // What a line asks for is done.
-    fn execute_line(&mut self, line: &[u8]) -> Result<Answer, Memory>
+    pub(crate) fn execute_line(&mut self, line: &[u8]) -> Result<Answer, Memory>
         ensures program { self.new.program ≡ self.old.program }
         ensures effect { HasEffect (effect_in self.old line.now) self.old.timeline self.new.timeline result }
     {
@@ -143,8 +151,9 @@ impl<'s> Session<'s> {
     }
 
     /// The journal, for what it keeps.
-    #[cfg(test)]
-    pub(crate) fn journal(&self) -> &Journal<World> {
+    pub(crate) fn journal(&self) -> &Journal<World>
+        ensures { result.now ≡ self.now.timeline }
+    {
         &self.journal
     }
 }

@@ -5,13 +5,13 @@ ghost use Rattle.mix_word.specs.Register.{all_registers};
 ghost use Rattle.mix_session.specs.Show.{value_text, register_line, flags_text, registers_text, cells_text, clock_text, breaks_text, changes_text};
 ghost use Rattle.mix_session.specs.Topic.{topic_text};
 
-mod all;
-mod cells;
+pub(crate) mod all;
+pub(crate) mod cells;
 pub(crate) mod changes;
 mod code;
 mod columns;
-mod counts;
-mod differences;
+pub(crate) mod counts;
+pub(crate) mod differences;
 mod each;
 mod lines;
 mod unit;

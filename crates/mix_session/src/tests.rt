@@ -9,6 +9,7 @@ use std::test::Fail;
 mod answers;
 mod changes;
 mod counts;
+mod face;
 mod forward;
 mod hostile;
 

@@ -86,6 +86,15 @@ reads_input (plan.List source) = false
 reads_input (plan.Debug source (Some script) devices) = false
 reads_input (plan.Debug source None devices) = true
 reads_input (plan.Run source cards devices steps printing) = false
+reads_input plan.Dap = false
+
+-- whether a plan hears a client: the debug adapter does
+abbrev pub hears_client : Plan → Bool
+hears_client plan.Bundle = false
+hears_client (plan.List source) = false
+hears_client (plan.Debug source script devices) = false
+hears_client (plan.Run source cards devices steps printing) = false
+hears_client plan.Dap = true
 
 -- whether nothing is told on the error output but a fault of the tool: of a talk and of a run other things are
 abbrev pub is_quiet : Plan → Bool
@@ -94,3 +103,4 @@ is_quiet (plan.List source) = true
 is_quiet (plan.Debug source (Some script) devices) = true
 is_quiet (plan.Debug source None devices) = false
 is_quiet (plan.Run source cards devices steps printing) = false
+is_quiet plan.Dap = true

@@ -1,7 +1,7 @@
 //! A plan is done: its files are opened, and the run is made on them.
 
 ghost use Rattle.std.specs.Prelude.{◌≡◌, ◌≢◌, ◌<◌, ◌≤◌, ◌-◌, ◌^◌, ℕ, List, Some, IfOk, IfErr, IfSome, false, true};
-ghost use Rattle.mix_tool.specs.Ending.{Runs, is_quiet, reads_input};
+ghost use Rattle.mix_tool.specs.Ending.{Runs, hears_client, is_quiet, reads_input};
 ghost use Rattle.mix_run.specs.Output.{bundle_output};
 ghost use Rattle.mix_cli.specs.declared.words.Plan.{Plan};
 
@@ -11,6 +11,7 @@ use crate::print::{RunFiles, run_opened, units_of};
 use crate::session::{open_session, run_session_opened};
 use crate::talk::talk_opened;
 use mix_cli::{Plan, Printing};
+use mix_dap::{Talk, serve};
 use mix_run::{Talker, run_bundle, run_list};
 use mix_stream::{Counted, In, Out};
 use std::alloc::Global;
@@ -140,19 +141,21 @@ fn session_file<F: Files, W: Out, E: Out>(
     }
 }
 
-/// Does what a plan asks for: a bundle or a talk from the input, or a listing, a run or a session of files. All go to the output. The files of a plan
+/// Does what a plan asks for: a bundle or a talk from the input, a listing, a run or a session of files, or what a client of the debug adapter asks
+/// for. All go to the output. The files of a plan
 /// are opened before any is read, in the order source, deck, cards or script; without a deck all units are empty.
 ///
 /// The status is that of the run. It is 2 where the tool itself fails; then that fault stands on the error output, as
 /// `mixrev: T2 read failed`, or for the first file that cannot be opened `mixrev: T4 not opened: NAME`. A write there that fails
 /// changes no status. Of a talk the prompts and the help stand there too, of a run where it came to if not to a halt, and of both a refused source
 /// with its line and a mark.
-pub fn run_plan<F: Files, R: In, W: Out, E: Out>(
+pub fn run_plan<F: Files, R: In, T: Talk, W: Out, E: Out>(
     rt: &F,
     alloc: Global,
     plan: &Plan,
     talker: Talker,
     input: &mut R,
+    client: &mut T,
     out: &mut W,
     errors: &mut E,
 ) -> u8
@@ -167,6 +170,9 @@ pub fn run_plan<F: Files, R: In, W: Out, E: Out>(
     // Of a plan whose texts are all files the input is not read.
     ensures files { reads_input plan.now ≡ false → input.new ≡ input.old }
 
+    // A client is heard by the debug adapter alone.
+    ensures client { hears_client plan.now ≡ false → client.new ≡ client.old }
+
     // A run that ends well wrote all that it had to, and where nothing is told beside, nothing on the error output.
     ensures range { result ≤ 3 }
     ensures written { result ≢ 2 → W.failed out.new ≡ W.failed out.old }
@@ -175,6 +181,7 @@ pub fn run_plan<F: Files, R: In, W: Out, E: Out>(
     match plan {
         Plan::Bundle => status(alloc, run_bundle(alloc, input, out), errors),
         Plan::List(source) => list_file(rt, alloc, source, out, errors),
+        Plan::Dap => serve(rt, alloc, client, out, errors),
         Plan::Debug {
             source,
             script,

@@ -12,7 +12,7 @@ use std::alloc::{AllocError, Global};
 use std::fmt;
 
 /// How many units there are.
-pub(super) const UNITS: u16 = 21;
+pub(crate) const UNITS: u16 = 21;
 
 /// The lines of `show all`.
 #[tactic(auto, unfolding(crate::specs::Show::all_text, crate::specs::Show::registers_text))]
@@ -55,7 +55,7 @@ impl Numbered for UsedUnits {
     }
 }
 
-pub(super) fn unit_at(number: u8) -> UnitNo
+pub(crate) fn unit_at(number: u8) -> UnitNo
     requires { number < 21 }
     ensures { result ≡ number }
 {

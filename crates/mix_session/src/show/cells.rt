@@ -12,7 +12,7 @@ use std::fmt;
 use std::marker::PhantomData;
 
 /// How many cells there are.
-pub(super) const CELLS: u16 = 4000;
+pub(crate) const CELLS: u16 = 4000;
 
 /// A kind of text that each cell of a machine has.
 pub(super) trait CellText {
@@ -39,7 +39,7 @@ impl<C: CellText> Numbered for Cells<C> {
     }
 }
 
-pub(super) fn place_at(number: u16) -> Place
+pub(crate) fn place_at(number: u16) -> Place
     requires { number < 4000 }
     ensures { result ≡ number }
 {

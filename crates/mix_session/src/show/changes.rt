@@ -148,8 +148,12 @@ fn add_columns(
     Ok(())
 }
 
-// What was done.
-fn change_text(alloc: Global, change: &Change, world: &World) -> Result<String, AllocError>
+/// What was done.
+pub(crate) fn change_text(
+    alloc: Global,
+    change: &Change,
+    world: &World,
+) -> Result<String, AllocError>
     ensures { IfOk result (λ s. string_bytes s ≡ change_text world.now change.now) }
 {
     match *change {
@@ -233,8 +237,12 @@ pub(super) fn diff_lines(
     Ok(text)
 }
 
-// The machine after the first changes of all, those done and those ahead: a copy that is led there.
-fn world_at(alloc: Global, journal: &Journal<World>, number: usize) -> Result<World, Memory>
+/// The machine after the first changes of all, those done and those ahead: a copy that is led there.
+pub(crate) fn world_at(
+    alloc: Global,
+    journal: &Journal<World>,
+    number: usize,
+) -> Result<World, Memory>
     ensures { IfOk result (λ w. w ≡ world_at journal.now number) }
 {
     let mut world = journal.state().copied(alloc)?;

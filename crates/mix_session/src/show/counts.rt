@@ -20,9 +20,9 @@ use undo_core::{Journal, Memory};
 
 /// How often something was executed, and how long that took in u.
 #[derive(Clone, Copy)]
-struct Tally {
-    count: u64,
-    time: u128,
+pub struct Tally {
+    pub count: u64,
+    pub time: u128,
 }
 
 impl Tally {
@@ -40,11 +40,11 @@ impl Tally {
     }
 }
 
-/// The tallies of the cells, and of all of them together.
+/// The tallies of the cells by their numbers, and of all of them together.
 #[derive(Drop)]
-struct Tallies {
-    cells: Vec<Tally>,
-    all: Tally,
+pub struct Tallies {
+    pub cells: Vec<Tally>,
+    pub all: Tally,
 }
 
 /// The lines of the cells that were executed or hold an instruction of the source, and the sums.
@@ -194,8 +194,8 @@ fn add_tally(alloc: Global, text: &mut Vec<u8>, tally: Tally) -> Result<(), Allo
     text.extend_from_slice(b"  ")
 }
 
-// The tallies of the changes done. They are gone over from the last one backwards, by what the journal keeps: nothing is run anew.
-fn tallies_of(alloc: Global, journal: &Journal<World>) -> Result<Tallies, Memory>
+/// The tallies of the changes done. They are gone over from the last one backwards, by what the journal keeps: nothing is run anew.
+pub(crate) fn tallies_of(alloc: Global, journal: &Journal<World>) -> Result<Tallies, Memory>
     ensures cells { IfOk result (λ tallies. (p : ℕ) → p < 4000 → tally_in tallies.cells.items p ≡ tally_at journal.now p) }
     ensures all { IfOk result (λ tallies. tallies.all ≡ tally_of_all journal.now) }
 {

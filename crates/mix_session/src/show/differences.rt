@@ -137,7 +137,7 @@ fn add_indicator(
     add_item(text, layout, body.as_bytes())
 }
 
-fn is_same_indicator(one: Cmp, other: Cmp) -> bool
+pub(crate) fn is_same_indicator(one: Cmp, other: Cmp) -> bool
     ensures { result ≡ is_same_indicator one other }
 {
     matches!(

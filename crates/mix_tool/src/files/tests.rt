@@ -2,6 +2,7 @@
 
 use crate::files::run_plan;
 use mix_cli::read_words;
+use mix_dap::Patient;
 use mix_run::Talker;
 use mix_stream::fake::{Chunks, Sink};
 use std::fs;
@@ -21,6 +22,9 @@ const MISSING: &str = "mix_tool_files/none";
 
 const BUNDLE: &str = " HLT\n END 0\n%SCRIPT\nstep\n";
 
+/// A client of the debug adapter that is cut off within a header.
+const CLIENT: &str = "Content-Length: 2\r\n";
+
 /// All bytes in one call.
 const ALL: usize = 4096;
 
@@ -31,12 +35,18 @@ struct Row {
     told: &'static str,
 }
 
-const ROWS: [Row; 16] = [
+const ROWS: [Row; 17] = [
     Row {
         words: &["mixrev"],
         status: 0,
         written: "ran 1 to 0001 clock 10: halt\n",
         told: "",
+    },
+    Row {
+        words: &["mixrev", "dap"],
+        status: 2,
+        written: "",
+        told: "mixrev: T7 input cut\n",
     },
     Row {
         words: &["mixrev", "list", SOURCE],
@@ -131,7 +141,7 @@ const ROWS: [Row; 16] = [
     },
 ];
 
-// The row, with an error output whose call of this number fails; only a bundle reads the input.
+// The row, with an error output whose call of this number fails; only a bundle reads the input, and only the debug adapter hears the client.
 fn is_met(rt: &HostRuntime, row: &Row, failing: u64) -> bool {
     let mut input = Chunks::of(BUNDLE.as_bytes(), ALL, 0);
     let mut out = Sink::of(ALL, 0);
@@ -139,12 +149,14 @@ fn is_met(rt: &HostRuntime, row: &Row, failing: u64) -> bool {
     match read_words(rt.alloc(), row.words) {
         Ok(plan) => {
             let talker = Talker::Program;
+            let mut client = Patient(CLIENT.as_bytes());
             let status = run_plan(
                 rt,
                 rt.alloc(),
                 &plan,
                 talker,
                 &mut input,
+                &mut client,
                 &mut out,
                 &mut errors,
             );

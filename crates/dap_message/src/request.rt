@@ -1,0 +1,104 @@
+//! Requests, read from the bodies of frames.
+
+use crate::command::Command;
+use mix_refused::Refused;
+use serde_json::Value;
+use std::alloc::Global;
+use std::fmt;
+
+/// Why a body is no request.
+#[derive(Clone, Copy, Debug, PartialEq, Eq)]
+pub enum MessageFault {
+    /// It is no JSON, no UTF-8, or nested deeper than 127.
+    NotJson,
+    /// It is no object of the type `request` with a `seq` and a `command`.
+    NotRequest,
+}
+
+impl fmt::Display for MessageFault {
+    fn fmt<W: fmt::Write>(&self, f: &mut fmt::Formatter<W>) -> fmt::Result {
+        match self {
+            MessageFault::NotJson => write!(f, "not JSON"),
+            MessageFault::NotRequest => write!(f, "not a request"),
+        }
+    }
+}
+
+/// A request: a message of the type `request`.
+#[derive(Drop)]
+pub struct Request {
+    message: Value,
+    seq: u64,
+}
+
+impl Request {
+    /// The request that a body is. `Memory` where there is no room for it.
+    pub fn read(alloc: Global, body: &[u8]) -> Result<Request, Refused<MessageFault>> {
+        match Value::from_slice(alloc, body) {
+            Ok(message) => request_in(message).ok_or(Refused::Fault(MessageFault::NotRequest)),
+            Err(error) if error.is_memory() => Err(Refused::Memory),
+            Err(_) => Err(Refused::Fault(MessageFault::NotJson)),
+        }
+    }
+
+    /// Its number.
+    pub fn seq(&self) -> u64 {
+        self.seq
+    }
+
+    /// The name of what it asks for.
+    pub fn name(&self) -> &str {
+        match self.message.get("command").and_then(Value::as_str) {
+            Some(name) => name,
+            None => "",
+        }
+    }
+
+    /// What it asks for, if that is among the commands.
+    pub fn command(&self) -> Option<Command> {
+        Command::named(self.name())
+    }
+
+    /// An argument, if it is there.
+    pub fn argument(&self, name: &str) -> Option<&Value> {
+        self.message.get("arguments")?.get(name)
+    }
+
+    /// An argument that is a text.
+    pub fn text(&self, name: &str) -> Option<&str> {
+        self.argument(name)?.as_str()
+    }
+
+    /// An argument that is a number, zero or more.
+    pub fn number(&self, name: &str) -> Option<u64> {
+        self.argument(name)?.as_u64()
+    }
+
+    /// An argument that is a whole number.
+    pub fn integer(&self, name: &str) -> Option<i64> {
+        self.argument(name)?.as_i64()
+    }
+
+    /// Whether an argument is `true`.
+    pub fn flag(&self, name: &str) -> bool {
+        self.argument(name)
+            .and_then(Value::as_bool)
+            .unwrap_or(false)
+    }
+
+    /// An argument that is a list.
+    pub fn list(&self, name: &str) -> Option<&[Value]> {
+        Some(self.argument(name)?.as_array()?.as_slice())
+    }
+}
+
+fn request_in(message: Value) -> Option<Request> {
+    let seq = message.get("seq")?.as_u64()?;
+    let kind = message.get("type")?.as_str()?;
+    let is_named = message.get("command")?.as_str().is_some();
+    if kind == "request" && is_named {
+        Some(Request { message, seq })
+    } else {
+        None
+    }
+}

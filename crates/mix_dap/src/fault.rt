@@ -1,0 +1,106 @@
+//! Why a request is refused: a number and a text each.
+
+use dap_message::{Fields, Outbox, Request};
+use mix_machine::DeckFault;
+use mix_refused::Memory;
+use mix_session::{AsmFault, Refusal};
+use serde_json::Value;
+use std::alloc::Global;
+use std::fmt;
+
+/// Why a request is refused: a refusal of the session, a fault of the source or the deck, a file that can't be read, or Q1 to Q6 of the
+/// adapter.
+#[derive(Clone, Copy, Debug, PartialEq, Eq)]
+pub enum Fault {
+    /// C1 to C6.
+    Session(Refusal),
+    /// A1 to A16, at a line of the source.
+    Source(AsmFault),
+    /// K1 to K9, at a line of the deck.
+    Deck(DeckFault),
+    /// K3, K4, K8 or K9, at a line of the cards.
+    Cards(DeckFault),
+    /// T2: a file could not be read.
+    Unread,
+    /// T4: a file could not be opened.
+    NotOpened,
+    /// T6: a text is longer than it may be.
+    TooLong,
+    /// Q1: the adapter has no such request.
+    NoSuchRequest,
+    /// Q2: an argument is missing, or is not what it has to be.
+    BadArgument,
+    /// Q3: no program is launched yet.
+    NotLaunched,
+    /// Q4: a program is launched already.
+    Launched,
+    /// Q5: the program is running.
+    Running,
+    /// Q6: there is nothing of this reference, or at this line.
+    NoSuchThing,
+}
+
+impl Fault {
+    /// The number by which the protocol tells errors apart: 100 and the number of A, 200 of C, 300 of D, 400 of K, 500 of T.
+    pub fn number(self) -> u64 {
+        match self {
+            Fault::Source(fault) => 100 + u64::from(fault.kind.number()),
+            Fault::Session(refusal) => 200 + u64::from(refusal.number()),
+            Fault::NoSuchRequest => 301,
+            Fault::BadArgument => 302,
+            Fault::NotLaunched => 303,
+            Fault::Launched => 304,
+            Fault::Running => 305,
+            Fault::NoSuchThing => 306,
+            Fault::Deck(fault) | Fault::Cards(fault) => 400 + u64::from(fault.kind.number()),
+            Fault::Unread => 502,
+            Fault::NotOpened => 504,
+            Fault::TooLong => 506,
+        }
+    }
+}
+
+impl fmt::Display for Fault {
+    fn fmt<W: fmt::Write>(&self, f: &mut fmt::Formatter<W>) -> fmt::Result {
+        match self {
+            Fault::Source(fault) => write!(f, "{fault}"),
+            Fault::Session(refusal) => write!(f, "{refusal}"),
+            Fault::Deck(fault) | Fault::Cards(fault) => write!(f, "T5 deck refused at {fault}"),
+            Fault::Unread => write!(f, "T2 read failed"),
+            Fault::NotOpened => write!(f, "T4 not opened"),
+            Fault::TooLong => write!(f, "T6 input too long"),
+            Fault::NoSuchRequest => write!(f, "Q1 no such request"),
+            Fault::BadArgument => write!(f, "Q2 bad argument"),
+            Fault::NotLaunched => write!(f, "Q3 not launched"),
+            Fault::Launched => write!(f, "Q4 launched already"),
+            Fault::Running => write!(f, "Q5 running"),
+            Fault::NoSuchThing => write!(f, "Q6 no such thing"),
+        }
+    }
+}
+
+/// Answers a request with the number and the text of a fault, and with the line of the text that has it.
+pub(crate) fn refuse(
+    alloc: Global,
+    request: &Request,
+    fault: Fault,
+    out: &mut Outbox,
+) -> Result<(), Memory> {
+    let text = format!(in alloc; "{fault}")?;
+    let variables = match fault {
+        Fault::Source(at) => place_of(alloc, "source", at.line)?,
+        Fault::Deck(at) => place_of(alloc, "devices", at.line)?,
+        Fault::Cards(at) => place_of(alloc, "cards", at.line)?,
+        _ => Value::Null,
+    };
+    out.refuse(request, fault.number(), text.as_str(), variables)
+}
+
+// Where a fault of a text stands: which text of a launch, and its line.
+fn place_of(alloc: Global, name: &str, line: u32) -> Result<Value, Memory> {
+    let line = format!(in alloc; "{line}")?;
+    let mut place = Fields::new(alloc);
+    place.text("text", name)?;
+    place.text("line", line.as_str())?;
+    Ok(place.done())
+}

@@ -1,0 +1,33 @@
+//! A debug adapter over a session: requests of the Debug Adapter Protocol in, responses and events out, and the stream outside it.
+#![tactic(auto)]
+
+mod adapter;
+mod capabilities;
+mod evaluate;
+mod fault;
+mod hear;
+mod launch;
+mod layout;
+mod look;
+mod memory;
+mod motion;
+mod points;
+mod printed;
+mod set;
+mod stream;
+mod talk;
+mod value;
+mod view;
+mod waiting;
+
+pub use adapter::{Adapter, Flow};
+pub use dap_frame::{Next, frame, next_frame};
+pub use dap_message::{Outbox, Request};
+pub use fault::Fault;
+pub use launch::{FileLibrary, Library, NoLibrary, Texts};
+pub use stream::{serve, serve_from};
+pub use talk::{Came, Patient, StandardInput, Talk};
+pub use waiting::{Asked, Waiting};
+
+#[cfg(test)]
+mod tests;

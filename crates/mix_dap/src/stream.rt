@@ -1,0 +1,261 @@
+//! The adapter over a stream: requests are heard and answered until the client is done.
+
+ghost use Rattle.std.specs.Prelude.{◌≡◌, ◌≢◌, ◌<◌, ◌≤◌, ◌-◌, ◌^◌, OnOk};
+ghost use Rattle.std.specs.Io.KnownBytes.{Appends};
+ghost use Rattle.dap_frame.specs.Frame.{frame_of};
+
+use crate::adapter::{Adapter, Flow};
+use crate::hear::{Ear, Heard};
+use crate::launch::{FileLibrary, Library, Texts};
+use crate::talk::Talk;
+use crate::waiting::{Asked, Waiting};
+use dap_frame::frame;
+use dap_message::{MessageFault, Outbox, Request};
+use mix_refused::Memory;
+use mix_stream::{Failed, Out, write_all};
+use std::alloc::{AllocError, Global};
+use std::fmt;
+use std::rt::Files;
+
+/// What ends a talk before the client is done.
+#[derive(Clone, Copy, Debug, PartialEq, Eq)]
+enum Broken {
+    /// T1.
+    Memory,
+    /// T2.
+    Read,
+    /// T3.
+    Write,
+    /// T6: a frame is longer than it may be.
+    TooLong,
+    /// T7: the input ends within a frame.
+    Cut,
+}
+
+impl fmt::Display for Broken {
+    fn fmt<W: fmt::Write>(&self, f: &mut fmt::Formatter<W>) -> fmt::Result {
+        match self {
+            Broken::Memory => write!(f, "T1 out of memory"),
+            Broken::Read => write!(f, "T2 read failed"),
+            Broken::Write => write!(f, "T3 write failed"),
+            Broken::TooLong => write!(f, "T6 input too long"),
+            Broken::Cut => write!(f, "T7 input cut"),
+        }
+    }
+}
+
+impl From<Memory> for Broken {
+    fn from(_refused: Memory) -> Broken {
+        Broken::Memory
+    }
+}
+
+impl From<AllocError> for Broken {
+    fn from(_refused: AllocError) -> Broken {
+        Broken::Memory
+    }
+}
+
+impl From<Failed> for Broken {
+    fn from(_failed: Failed) -> Broken {
+        Broken::Write
+    }
+}
+
+/// Answers a client until it disconnects or its input ends at the end of a frame, status 0. The status is 2 where the input ends within a frame or
+/// has one that is too long, a read or a write fails, or memory is refused; then a line on the error output says so.
+pub fn serve<F: Files, T: Talk, W: Out, E: Out>(
+    files: &F,
+    alloc: Global,
+    input: &mut T,
+    out: &mut W,
+    errors: &mut E,
+) -> u8
+    requires out_count { W.failed out.old < 2 ^ 64 - 1 }
+    requires errors_count { E.failed errors.old < 2 ^ 64 - 1 }
+    ensures range { result ≤ 2 }
+
+    // A talk that ends well sent all that it had to, and told nothing on the error output.
+    ensures written { result ≢ 2 → W.failed out.new ≡ W.failed out.old }
+    ensures quiet { result ≢ 2 → errors.new ≡ errors.old }
+{
+    let library = FileLibrary::of(files);
+    serve_from(&library, alloc, input, out, errors)
+}
+
+/// The same, where texts are found by their names in any library.
+pub fn serve_from<L: Library, T: Talk, W: Out, E: Out>(
+    library: &L,
+    alloc: Global,
+    input: &mut T,
+    out: &mut W,
+    errors: &mut E,
+) -> u8
+    requires out_count { W.failed out.old < 2 ^ 64 - 1 }
+    requires errors_count { E.failed errors.old < 2 ^ 64 - 1 }
+    ensures range { result ≤ 2 }
+    ensures written { result ≢ 2 → W.failed out.new ≡ W.failed out.old }
+    ensures quiet { result ≢ 2 → errors.new ≡ errors.old }
+{
+    match talk(library, alloc, input, out) {
+        Ok(()) => 0,
+        Err(broken) => {
+            tell(alloc, broken, errors);
+            2
+        }
+    }
+}
+
+fn tell<E: Out>(alloc: Global, broken: Broken, errors: &mut E)
+    requires { E.failed errors.old < 2 ^ 64 - 1 }
+{
+    let line: Result<String, AllocError> = format!(in alloc; "mixrev: {broken}\n");
+    let told = match line {
+        Ok(line) => write_all(errors, line.as_bytes()),
+        Err(_) => write_all(errors, b"mixrev: T1 out of memory\n"),
+    };
+    match told {
+        Ok(()) | Err(_) => {}
+    }
+}
+
+fn talk<L: Library, T: Talk, W: Out>(
+    library: &L,
+    alloc: Global,
+    input: &mut T,
+    out: &mut W,
+) -> Result<(), Broken>
+    requires { W.failed out.old < 2 ^ 64 - 1 }
+    ensures { OnOk result (W.failed out.new ≡ W.failed out.old) }
+{
+    let mut ear = Ear::new(alloc);
+    let mut outbox = Outbox::new(alloc);
+    let mut waiting = Waiting::new(alloc);
+    'requests: for _ in 0..u64::MAX {
+        let Some(request) = next_request(&mut ear, input, &mut outbox)? else {
+            return send(alloc, &mut outbox, out);
+        };
+        let asked = waiting.receive(library, &request, &mut outbox)?;
+        let flow = match asked {
+            Asked::Answered => Flow::On,
+            Asked::Over => Flow::Over,
+            Asked::Launch(texts) => {
+                debug(
+                    alloc,
+                    &waiting,
+                    &texts,
+                    &request,
+                    &mut ear,
+                    input,
+                    &mut outbox,
+                    out,
+                )?
+            }
+        };
+        send(alloc, &mut outbox, out)?;
+        if flow == Flow::Over {
+            return Ok(());
+        }
+    }
+    Ok(())
+}
+
+// The next request, waited for; none where the input ends where a frame ends.
+fn next_request<T: Talk>(
+    ear: &mut Ear,
+    input: &mut T,
+    outbox: &mut Outbox,
+) -> Result<Option<Request>, Broken> {
+    for _ in 0..u64::MAX {
+        match ear.hear(input, true)? {
+            Heard::Request(request) => return Ok(Some(request)),
+            Heard::Unclear(fault) => tell_unclear(outbox, fault)?,
+            Heard::Nothing => {}
+            Heard::End => return Ok(None),
+            Heard::Cut => return Err(Broken::Cut),
+            Heard::TooLong => return Err(Broken::TooLong),
+            Heard::Failed => return Err(Broken::Read),
+        }
+    }
+    Err(Broken::Read)
+}
+
+// A launched program is debugged until the client is done.
+fn debug<T: Talk, W: Out>(
+    alloc: Global,
+    waiting: &Waiting,
+    texts: &Texts,
+    request: &Request,
+    ear: &mut Ear,
+    input: &mut T,
+    outbox: &mut Outbox,
+    out: &mut W,
+) -> Result<Flow, Broken>
+    requires { W.failed out.old < 2 ^ 64 - 1 }
+    ensures { OnOk result (W.failed out.new ≡ W.failed out.old) }
+{
+    let Some(mut adapter) = Adapter::open(alloc, waiting, texts, request, outbox)? else {
+        return Ok(Flow::On);
+    };
+    'turns: for _ in 0..u64::MAX {
+        send(alloc, outbox, out)?;
+        if adapter.is_running() {
+            adapter.advance(outbox)?;
+            send(alloc, outbox, out)?;
+        }
+        match ear.hear(input, !adapter.is_running())? {
+            Heard::Request(request) => {
+                if adapter.receive(&request, outbox)? == Flow::Over {
+                    return Ok(Flow::Over);
+                }
+            }
+            Heard::Unclear(fault) => tell_unclear(outbox, fault)?,
+            Heard::Nothing => {}
+            Heard::End => return Ok(Flow::Over),
+            Heard::Cut => return Err(Broken::Cut),
+            Heard::TooLong => return Err(Broken::TooLong),
+            Heard::Failed => return Err(Broken::Read),
+        }
+    }
+    Ok(Flow::Over)
+}
+
+fn tell_unclear(outbox: &mut Outbox, fault: Option<MessageFault>) -> Result<(), Memory> {
+    match fault {
+        None => outbox.output("important", "a header without Content-Length\n"),
+        Some(MessageFault::NotJson) => outbox.output("important", "a message that is not JSON\n"),
+        Some(MessageFault::NotRequest) => {
+            outbox.output("important", "a message that is not a request\n")
+        }
+    }
+}
+
+// Sends all messages that wait, each in a frame.
+fn send<W: Out>(alloc: Global, outbox: &mut Outbox, out: &mut W) -> Result<(), Broken>
+    requires { W.failed out.old < 2 ^ 64 - 1 }
+    ensures { OnOk result (W.failed out.new ≡ W.failed out.old) }
+{
+    send_all(alloc, outbox.messages(), out)?;
+    outbox.clear();
+    Ok(())
+}
+
+fn send_all<W: Out>(alloc: Global, messages: &[String], out: &mut W) -> Result<(), Broken>
+    requires { W.failed out.old < 2 ^ 64 - 1 }
+    ensures { OnOk result (W.failed out.new ≡ W.failed out.old) }
+{
+    for message in messages {
+        send_one(alloc, message.as_str(), out)?;
+    }
+    Ok(())
+}
+
+fn send_one<W: Out>(alloc: Global, message: &str, out: &mut W) -> Result<(), Broken>
+    requires { W.failed out.old < 2 ^ 64 - 1 }
+    ensures failed { OnOk result (W.failed out.new ≡ W.failed out.old) }
+    ensures sent { OnOk result (Appends (W.told out.old) (W.told out.new) (frame_of message.now)) }
+{
+    let text = frame(alloc, message)?;
+    write_all(out, text.as_bytes())?;
+    Ok(())
+}

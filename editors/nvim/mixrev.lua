@@ -1,0 +1,19 @@
+-- MIX programs under nvim-dap, both ways. `mix` is the type that Neovim itself gives to sources, `mixal` that of ../vim.
+local dap = require("dap")
+
+dap.adapters.mixrev = {
+  type = "executable",
+  command = "mixrev",
+  args = { "dap" },
+}
+
+dap.configurations.mixal = {
+  {
+    type = "mixrev",
+    request = "launch",
+    name = "MIX: this file",
+    program = "${file}",
+    stopOnEntry = true,
+  },
+}
+dap.configurations.mix = dap.configurations.mixal

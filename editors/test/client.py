@@ -1,0 +1,178 @@
+"""A client of the adapter: debugpy's message channel over the adapter's standard streams. Each message that comes is kept and checked by the schema."""
+import json
+import os
+import subprocess
+import threading
+import time
+
+from debugpy.common import messaging
+
+import schema
+
+SECONDS = float(os.environ.get("WAIT", "20"))  # in which whatever is waited for has to come
+
+
+class Ended(Exception):
+    """A talk that can't go on."""
+
+
+class Count:
+    """Rows that passed and rows that failed; each failure is printed."""
+
+    def __init__(self):
+        self.passed = self.failed = 0
+
+    def row(self, name, good, more=""):
+        self.passed, self.failed = self.passed + bool(good), self.failed + (not good)
+        if not good:
+            print(f"FAILED {name}: {more}", flush=True)
+
+    def same(self, name, found, wanted):
+        self.row(name, found == wanted, f"{found!r}, and {wanted!r} was wanted")
+
+
+class Recorded(messaging.JsonIOStream):
+    """A stream of messages that keeps what was read."""
+
+    def read_json(self, decoder=None):
+        message = super().read_json(decoder)
+        self.keep(json.loads(json.dumps(message)))
+        return message
+
+
+class Client:
+    def __init__(self, command, count, name):
+        self.count, self.name = count, name
+        self.messages, self.heard, self.seen = [], threading.Condition(), 0
+        self.process = subprocess.Popen(command, stdin=subprocess.PIPE, stdout=subprocess.PIPE, stderr=subprocess.PIPE)
+        stream = Recorded.from_process(self.process, name)
+        stream.keep = self.keep
+        self.channel = messaging.JsonMessageChannel(stream, messaging.MessageHandlers(event=lambda event: None))
+        self.channel.start()
+
+    def begin(self, **initialize):
+        """The capabilities that the adapter tells."""
+        client = {"clientID": "check", "adapterID": "mixrev", "linesStartAt1": True, "columnsStartAt1": True, "pathFormat": "path",
+                  "supportsVariableType": True, "supportsMemoryReferences": True, "supportsInvalidatedEvent": True}
+        self.capabilities = self.body("initialize", **{**client, **initialize})
+
+    def keep(self, message):
+        with self.heard:
+            self.messages.append(message)
+            self.heard.notify_all()
+
+    def ask(self, command, **arguments):
+        """The response to a request, as it came."""
+        since = len(self.messages)
+        request = self.channel.send_request(command, arguments or None)
+        return self.first(lambda message: message.get("request_seq") == request.seq, since, f"response to {command} {arguments}")[0]
+
+    def body(self, command, **arguments):
+        """The body of a response that accepts."""
+        response = self.ask(command, **arguments)
+        self.count.row(f"{self.name}: {command} {arguments}", response["success"], f"refused: {response.get('message')}")
+        return response.get("body", {})
+
+    def refused(self, command, **arguments):
+        """The text of a refusal, and "" where there is none."""
+        response = self.ask(command, **arguments)
+        return "" if response["success"] else response.get("message", "") or response["body"]["error"]["format"]
+
+    def first(self, test, since, what):
+        """The first message from one on that meets a test, and its place; waited for."""
+        end = time.monotonic() + SECONDS
+        with self.heard:
+            while True:
+                for at in range(since, len(self.messages)):
+                    if test(self.messages[at]):
+                        return self.messages[at], at
+                left = end - time.monotonic()
+                if left <= 0 or not self.heard.wait(left):
+                    raise Ended(f"no {what} in {SECONDS} s; the status is {self.process.poll()}")
+
+    def wait(self, event, since):
+        """The body of the first event of a name from a message on, and its place; waited for."""
+        message, at = self.first(lambda message: message.get("event") == event, since, f"event {event}")
+        return message.get("body", {}), at
+
+    def stop(self):
+        """The next stop."""
+        body, at = self.wait("stopped", self.seen)
+        self.seen = at + 1
+        return body
+
+    def move(self, command, **arguments):
+        """A request that runs or steps, and the reason of its stop."""
+        self.body(command, **{"threadId": 1, **arguments})
+        return self.stop()["reason"]
+
+    def launch(self, program, stops=True, **more):
+        """A program launched and configured, and the first stop where it is to be."""
+        self.body("launch", program=program, stopOnEntry=stops, **more)
+        self.wait("initialized", 0)
+        self.body("configurationDone")
+        return self.stop()["reason"] if stops else None
+
+    def lines(self, path, *lines):
+        """Breakpoints on lines of a source, as they are told."""
+        return self.body("setBreakpoints", source={"path": path}, breakpoints=[{"line": line} for line in lines])["breakpoints"]
+
+    def frame(self):
+        return self.body("stackTrace", threadId=1)["stackFrames"][0]
+
+    def scopes(self):
+        return {scope["name"]: scope["variablesReference"] for scope in self.body("scopes", frameId=self.frame()["id"])["scopes"]}
+
+    def variables(self, reference, **more):
+        return self.body("variables", variablesReference=reference, **more)["variables"]
+
+    def values(self, scope):
+        """The variables of a scope: each by its name, its value."""
+        return {variable["name"]: variable["value"] for variable in self.variables(self.scopes()[scope])}
+
+    def state(self):
+        """The line of the source, the location, and the clock."""
+        flags = self.values("Flags")
+        return self.frame()["line"], int(flags["loc"]), int(flags["clock"])
+
+    def page(self, cell):
+        """The reference of the page in which a cell is, and the variable of the cell."""
+        for page in self.variables(self.scopes()["Memory"]):
+            cells = {variable["name"]: variable for variable in self.variables(page["variablesReference"])} if page["name"][:2] == f"{cell:04}"[:2] else {}
+            if f"{cell:04}" in cells:
+                return page["variablesReference"], cells[f"{cell:04}"]
+        self.count.row(f"{self.name}: cell {cell}", False, "not among the memory's pages")
+        return 0, {"value": "", "memoryReference": "0"}
+
+    def repl(self, line):
+        return self.body("evaluate", expression=line, context="repl")["result"].rstrip("\n")
+
+    def outputs(self, category="stdout"):
+        return "".join(message["body"]["output"] for message in self.messages
+                       if message.get("event") == "output" and message["body"].get("category") == category)
+
+    def close(self):
+        """Disconnects; then the program ends with status 0, each message that came is right, and their numbers rise."""
+        self.body("disconnect")
+        self.end(0)
+        return self
+
+    def kill(self):
+        """Ends the program, whatever it does."""
+        self.process.kill()
+        self.process.wait()
+
+    def end(self, status):
+        """The program ends with this status; each message that came is right."""
+        try:
+            ended = self.process.wait(SECONDS)
+        except subprocess.TimeoutExpired:
+            self.process.kill()
+            ended = "none, and it was killed"
+        self.channel.close()
+        self.count.same(f"{self.name}: status", ended, status)
+        for message in self.messages:
+            wrong = schema.faults(message)
+            self.count.row(f"{self.name}: schema", not wrong, f"{wrong} in {message}")
+        numbers = [message["seq"] for message in self.messages]
+        self.count.row(f"{self.name}: numbers of messages", numbers == sorted(set(numbers)), numbers)

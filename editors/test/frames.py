@@ -1,0 +1,115 @@
+"""Frames and requests as the adapter has to read them, and what a talk comes to: written anew from the rules, for tests alone.
+
+A header is lines, each ended by a line feed, before which a carriage return may stand, up to the first empty one; `Content-Length`, in any letters,
+gives the length of the body in bytes, in 1 to 10 digits. A body is a request where it is JSON in UTF-8, an object of the type "request", with a
+whole number from 0 on as `seq` and a text as `command`."""
+import json
+import re
+
+HEADER, BODY = 4096, 134217728
+CUT, LONG = "cut", "too long"
+
+
+def frame(body):
+    return b"Content-Length: %d\r\n\r\n%s" % (len(body), body)
+
+
+def request(seq, command, **arguments):
+    return json.dumps({"seq": seq, "type": "request", "command": command, "arguments": arguments}).encode()
+
+
+def bodies(text):
+    """Each frame's body, None where a header gives no length; at the end CUT or LONG where the text does not end at a frame's end."""
+    while text:
+        length, at = None, 0
+        while True:
+            end = text.find(b"\n", at, HEADER)
+            if end < 0:
+                yield LONG if len(text) >= HEADER else CUT
+                return
+            line, at = text[at:end].removesuffix(b"\r"), end + 1
+            if not line:
+                break
+            found = re.fullmatch(rb"(?i)content-length:[ \t]*(\d{1,10})(?:[ \t].*)?", line, re.S)
+            length = int(found[1]) if found else length
+        if length is None:
+            yield None
+        elif length > BODY:
+            yield LONG
+            return
+        elif len(text) < at + length:
+            yield CUT
+            return
+        else:
+            yield text[at:at + length]
+        text = text[at + (length or 0):]
+
+
+def no_constant(name):
+    raise ValueError(name)
+
+
+def request_of(body):
+    """The request that a body is, or nothing."""
+    try:
+        message = json.loads(body.decode(), parse_constant=no_constant)
+        json.dumps(message, ensure_ascii=False).encode()
+    except (ValueError, RecursionError):
+        return None
+    if not isinstance(message, dict) or message.get("type") != "request" or not isinstance(message.get("command"), str):
+        return None
+    seq = message.get("seq")
+    return message if type(seq) is int and 0 <= seq < 2 ** 64 else None
+
+
+def heard(text):
+    """The requests of a text up to a disconnect, and the status that it ends with."""
+    requests = []
+    for body in bodies(text):
+        if body in (CUT, LONG):
+            return requests, 2
+        found = request_of(body) if body is not None else None
+        if found:
+            requests.append(found)
+            if found["command"] == "disconnect":
+                return requests, 0
+    return requests, 0
+
+
+class Untold(Exception):
+    """A request that the commands of a script have no words for."""
+
+
+def commands(requests, accepted):
+    """The commands of a script that do what the accepted requests do, where there are no breakpoints. A step over what was taken back does the same
+    as a new step."""
+    stops = True
+    for message, was_accepted in zip(requests, accepted):
+        if not was_accepted:
+            continue
+        command, given = message["command"], message.get("arguments")
+        given = given if isinstance(given, dict) else {}
+        if command == "launch":
+            stops = given.get("stopOnEntry") is True
+        elif command in ("next", "stepIn"):
+            yield "step 1"
+        elif command == "stepBack":
+            yield "back 1"
+        elif command == "reverseContinue":
+            yield "back all"
+        elif command in ("continue", "configurationDone", "restart"):
+            if command == "restart":
+                yield "back all"
+            if command == "continue" or not stops:
+                yield "run 1000000"
+        elif command == "goto":
+            yield f"set loc {given['targetId']}"
+        elif command == "setVariable":
+            where = "" if given["variablesReference"] < 1000 else "cell "
+            yield f"set {where}{given['name']} {given['value']}"
+        elif command == "evaluate" and given.get("context") == "repl":
+            if not given["expression"].split()[:1] or given["expression"].split()[0].lower() in ("forth", "goto"):
+                raise Untold
+            yield given["expression"]
+        elif command in ("writeMemory", "stepOut"):
+            raise Untold

@@ -1,0 +1,80 @@
+// The commands with their replies, the line for one more, and the script that came with a program.
+
+import { $, make } from "./dom.js";
+
+const SHOWN = 200000; // letters of a reply that are shown
+
+export class Talk {
+  // `given` is called with a command that was typed, `script` where so many commands of the lesson's script are to be done.
+  constructor({ given, script }) {
+    this.lines = []; // the commands of the script that are still to be done
+    this.shown = [];
+    this.typed = []; // what was typed, for the arrow keys
+    this.at = 0;
+    $("command-form").addEventListener("submit", (event) => {
+      event.preventDefault();
+      const command = $("command").value;
+      $("command").value = "";
+      if (command.trim() === "") return;
+      this.typed.push(command);
+      this.at = this.typed.length;
+      given(command);
+    });
+    $("command").addEventListener("keydown", (event) => this.recall(event));
+    $("script-next").addEventListener("click", () => script(1));
+    $("script-all").addEventListener("click", () => script(Infinity));
+  }
+
+  recall(event) {
+    const step = { ArrowUp: -1, ArrowDown: 1 }[event.key];
+    if (!step || this.typed.length === 0) return;
+    event.preventDefault();
+    this.at = Math.max(0, Math.min(this.typed.length, this.at + step));
+    $("command").value = this.typed[this.at] || "";
+  }
+
+  // The first lines of the script that is still to be done, with so many commands; comments and blank lines are none.
+  first(count) {
+    let end = 0;
+    for (let left = count; end < this.lines.length && left > 0; end += 1) {
+      if (this.lines[end].trim() !== "" && !this.lines[end].startsWith("*")) left -= 1;
+    }
+    return this.lines.slice(0, end);
+  }
+
+  // So many of its lines were done.
+  drop(lines) {
+    this.setScript(this.lines.slice(lines).join("\n"));
+  }
+
+  get script() {
+    return this.lines.map((line) => `${line}\n`).join("");
+  }
+
+  setScript(script) {
+    this.lines = script === "" ? [] : script.replace(/\n$/, "").split("\n");
+    $("script").hidden = this.lines.length === 0;
+    $("script-lines").replaceChildren(...this.lines.map((line) => make("li", {}, line || " ")));
+  }
+
+  // Shows the commands that were given, with their replies.
+  show(log) {
+    const box = $("log");
+    const isSame = this.shown.length <= log.length && this.shown.every((entry, index) => entry === log[index]);
+    if (!isSame) {
+      box.replaceChildren();
+      this.shown = [];
+    }
+    const more = log.slice(this.shown.length);
+    for (const { command, reply } of more) {
+      box.append(make("p", {}, command), make("pre", {}, shortened(reply.replace(/\n$/, ""))));
+    }
+    this.shown = [...log];
+    if (more.length > 0) box.scrollTop = box.scrollHeight;
+  }
+}
+
+// A reply as it is shown: of a very long one the beginning.
+function shortened(reply) {
+  return reply.length > SHOWN ? `${reply.slice(0, SHOWN)} …\n(${reply.length} letters; the file that is saved gives them all)` : reply;
+}

@@ -1,0 +1,175 @@
+"""The page in headless Chromium, driven as a person drives it: by clicks, by keys, by what is seen."""
+import pathlib
+import tempfile
+import time
+
+from selenium import webdriver
+from selenium.common.exceptions import NoAlertPresentException
+from selenium.webdriver.chrome.options import Options
+from selenium.webdriver.chrome.service import Service
+from selenium.webdriver.common.by import By
+from selenium.webdriver.common.keys import Keys
+from selenium.webdriver.support.ui import Select
+
+SECONDS = 120  # in which whatever is asked for has to be done
+
+IDLE = "return !!document.querySelector('main') && document.querySelector('main').getAttribute('aria-busy') === 'false'"
+LOG = """return [...document.querySelectorAll('#log p')].map(p => [p.textContent, p.nextElementSibling.textContent])"""
+SLIDE = """const s = document.getElementById('slider'); s.value = arguments[0];
+s.dispatchEvent(new Event('input', {bubbles: true})); if (arguments[1]) s.dispatchEvent(new Event('change', {bubbles: true}));"""
+PUT = """const e = document.getElementById(arguments[0]); e.focus(); e.value = arguments[1]; e.dispatchEvent(new Event('input', {bubbles: true}));"""
+
+
+class Page:
+    def __init__(self, address, width=1280, height=900, dark=False):
+        options = Options()
+        options.binary_location = "/usr/bin/chromium"
+        for word in ("--headless=new", "--no-sandbox", "--disable-gpu", "--disable-dev-shm-usage", f"--window-size={width},{height}"):
+            options.add_argument(word)
+        options.set_capability("goog:loggingPrefs", {"browser": "ALL", "performance": "ALL"})
+        options.set_capability("unhandledPromptBehavior", "ignore")
+        self.driver = webdriver.Chrome(service=Service("/usr/bin/chromedriver"), options=options)
+        self.folder = tempfile.TemporaryDirectory()
+        self.command("Browser.setDownloadBehavior", behavior="allow", downloadPath=self.folder.name)
+        self.size(width, height)
+        if dark:
+            self.command("Emulation.setEmulatedMedia", features=[{"name": "prefers-color-scheme", "value": "dark"}])
+        self.address = address
+        self.go(address)
+
+    def __enter__(self):
+        return self
+
+    def __exit__(self, *fault):
+        self.driver.quit()
+        self.folder.cleanup()
+
+    def command(self, name, **given):
+        return self.driver.execute_cdp_cmd(name, given)
+
+    def script(self, text, *given):
+        return self.driver.execute_script(text, *given)
+
+    def size(self, width, height):
+        self.command("Emulation.setDeviceMetricsOverride", width=width, height=height, deviceScaleFactor=1, mobile=False)
+
+    def go(self, address):
+        self.driver.get("about:blank")
+        self.leave()
+        self.driver.get(address)
+        self.idle()
+
+    def leave(self):
+        """Says yes where the page asks whether it may be left."""
+        try:
+            self.driver.switch_to.alert.accept()
+        except NoAlertPresentException:
+            pass
+
+    def idle(self):
+        end = time.monotonic() + SECONDS
+        while not self.script(IDLE):
+            if time.monotonic() > end:
+                raise TimeoutError("the page is still busy")
+            time.sleep(0.01)
+
+    def one(self, name):
+        return self.driver.find_element(By.ID, name)
+
+    def all(self, selector):
+        return self.driver.find_elements(By.CSS_SELECTOR, selector)
+
+    def text(self, name):
+        return self.one(name).get_attribute("textContent")
+
+    def value(self, name):
+        return self.one(name).get_attribute("value")
+
+    def click(self, name):
+        self.one(name).click()
+        self.idle()
+
+    def press_button(self, button):
+        """Presses a button, wherever it stands."""
+        self.script("arguments[0].click()", button)
+        self.idle()
+
+    def press(self, *keys):
+        webdriver.ActionChains(self.driver).send_keys("".join(keys)).perform()
+        self.idle()
+
+    def chord(self, *keys):
+        """Presses the last key while the others are down."""
+        chain = webdriver.ActionChains(self.driver)
+        for key in keys[:-1]:
+            chain.key_down(key)
+        chain.send_keys(keys[-1])
+        for key in keys[:-1]:
+            chain.key_up(key)
+        chain.perform()
+        self.idle()
+
+    def put(self, name, text):
+        """Puts a text into a field, as if it were pasted."""
+        self.script(PUT, name, text)
+        self.idle()
+
+    def lesson(self, number):
+        Select(self.one("lessons")).select_by_value(str(number))
+        self.leave()
+        self.idle()
+
+    def choose(self, name, value):
+        Select(self.one(name)).select_by_value(value)
+        self.idle()
+
+    def lessons(self):
+        return [option.get_attribute("textContent") for option in self.all("#lessons optgroup option")]
+
+    def say(self, command):
+        self.one("command").clear()
+        self.one("command").send_keys(command, Keys.ENTER)
+        self.idle()
+
+    def slide(self, moment, ends=True):
+        self.script(SLIDE, moment, ends)
+        self.idle()
+
+    def log(self):
+        """Each command with its reply."""
+        return [(command, f"{reply}\n" if reply else "") for command, reply in self.script(LOG)]
+
+    def replies(self):
+        return "".join(reply for _, reply in self.log())
+
+    def state(self):
+        """All that is shown of the machine."""
+        return self.script("""return ['register-rows', 'flags', 'unit-list', 'moment'].map(id => document.getElementById(id).innerText ||
+            document.getElementById(id).value).concat([...document.querySelectorAll('.line .times')].map(t => t.textContent))""")
+
+    def save(self):
+        """The file that is saved."""
+        path = pathlib.Path(self.folder.name) / "program.mix"
+        path.unlink(missing_ok=True)
+        self.click("save")
+        end = time.monotonic() + SECONDS
+        while not path.exists() and time.monotonic() < end:
+            time.sleep(0.02)
+        time.sleep(0.1)
+        return path.read_bytes()
+
+    def link(self):
+        self.click("share")
+        link = self.value("link-text")
+        self.script("document.getElementById('link').close()")
+        return link
+
+    def errors(self):
+        """What the browser complains of."""
+        return [entry["message"] for entry in self.driver.get_log("browser") if entry["level"] == "SEVERE"]
+
+    def shot(self, path, whole=False):
+        if whole:
+            width = self.script("return document.documentElement.clientWidth")
+            self.size(width, self.script("return document.documentElement.scrollHeight"))
+        self.driver.save_screenshot(str(path))

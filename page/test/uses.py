@@ -1,0 +1,222 @@
+"""What one does with the page, one thing after another, compared with the native program."""
+import pathlib
+import re
+
+from native import with_script
+from selenium.webdriver.common.by import By
+from selenium.webdriver.common.keys import Keys
+
+TOP = pathlib.Path(__file__).resolve().parents[2]
+EXAMPLES = sorted((TOP / "examples").glob("*.mix"))
+FIRST = EXAMPLES[0].read_text()
+
+
+def natively(name, page, native, count):
+    """What is saved gives natively the replies that the page has shown; what is still to be done of a lesson's script stands behind it."""
+    saved = page.save().decode()
+    left = "".join(f"{line.text}\n" for line in page.all("#script-lines li"))
+    count.row(f"{name}: ends with the script that is left", saved.endswith(left), saved[-200:])
+    count.same(f"{name}, natively", native.bundle(saved.removesuffix(left) if left else saved), page.replies())
+
+
+def examples(page, native, count):
+    """Each example: its script, then to its end, back and forth."""
+    for number, path in enumerate(EXAMPLES):
+        bundle = path.read_text()
+        page.lesson(number)
+        if not page.one("script").is_displayed():
+            count.row(f"{path.name}: has a script", False)
+            continue
+        page.click("script-all")
+        count.same(f"{path.name}: its script", page.replies(), native.bundle(bundle))
+        page.click("anew")
+        count.same(f"{path.name}: begun anew", page.log(), [])
+        first = page.state()
+        page.click("run")
+        last = page.state()
+        ran = native.bundle(with_script(bundle, "run 1000000\nshow all\n"))
+        count.same(f"{path.name}: to its end", page.replies(), ran.split("\n", 1)[0] + "\n")
+        page.click("to-start")
+        count.same(f"{path.name}: back to the start", page.state(), first)
+        page.click("step")
+        page.click("to-end")
+        count.same(f"{path.name}: forth to the end", page.state(), last)
+        page.say("show all")
+        count.same(f"{path.name}: the machine then", page.log()[-1][1], ran.split("\n", 1)[1])
+        saved = page.save()
+        more = "" if ran.startswith("ran 1 ") else "forth all\n"
+        done = f"%SCRIPT\nrun 1000000\nback all\nforth 1\n{more}show all\n"
+        count.same(f"{path.name}: saved, and run natively", native.bundle(saved), page.replies())
+        count.row(f"{path.name}: saved with what was done", saved.decode().endswith(done), saved[-200:])
+
+
+def lessons(page, native, count, which):
+    """Lessons of the course: the script of each."""
+    names = page.lessons()
+    for number in which:
+        page.lesson(number)
+        bundle = page.save()
+        page.click("script-all")
+        count.same(f"{names[number]}: its script", page.replies(), native.bundle(bundle))
+
+
+def breakpoints(page, native, count):
+    page.lesson(3)  # the largest entry of a table
+    source = EXAMPLES[3].read_text()
+    lines = source.split("\n")
+    take = next(line for line, text in enumerate(lines, 1) if text.startswith("TAKE"))
+    rows = page.all("#gutter .line button")
+    rows[take - 1].click()
+    page.idle()
+    count.same("breakpoint: pressed", rows[take - 1].get_attribute("aria-pressed"), "true")
+    wanted = native.bundle(with_script(source, "break TAKE\n" + "run 1000\n" * 4 + "back break\nback break\n"))
+    runs = re.findall(r"^(?:ran|back) (\d+) to (\d+)", wanted, re.M)
+    for times, name in ((4, "run"), (2, "to-break")):
+        for _ in range(times):
+            page.click(name)
+    found = re.findall(r"^(?:ran|back) (\d+) to (\d+)", page.replies(), re.M)
+    # The native list has the `break` among its changes, but no step of it.
+    count.same("breakpoint: runs to it and back", found, runs)
+    page.click("run")
+    count.row("breakpoint: forth to it", page.log()[-1][0].startswith("forth "), page.log()[-1])
+    count.row("breakpoint: said", page.text("status").startswith("Breakpoint: line"), page.text("status"))
+    count.row("breakpoint: not among the changes", all(not command.startswith("break") for command, _ in page.log()), page.log())
+    rows[take - 1].click()
+    page.click("run")
+    count.row("breakpoint: taken away", page.text("status").startswith("Halted"), page.text("status"))
+    natively("breakpoint: the session", page, native, count)
+    rows[0].click()
+    page.idle()
+    found = [line for line, row in enumerate(page.all("#gutter .line button"), 1) if row.get_attribute("aria-pressed") == "true"]
+    first = next(line for line, text in enumerate(lines, 1) if re.match(r"\s+CON  31", text))
+    count.same("breakpoint: at the first word from a comment on", found, [first])
+    page.put("text", "* one more line\n" + page.value("text"))
+    found = [line for line, row in enumerate(page.all("#gutter .line button"), 1) if row.get_attribute("aria-pressed") == "true"]
+    count.same("breakpoint: goes along with its line", found, [first + 1])
+
+
+def slider(page, native, count):
+    page.lesson(4)  # primes
+    page.click("run")
+    total = int(page.one("slider").get_attribute("max"))
+    for moment in (total // 2, 1, total - 1, 0, total // 3):
+        before = len(page.log())
+        page.slide(moment, ends=False)
+        seen = page.state()
+        count.same(f"slider: to {moment} is not recorded while it is drawn", len(page.log()), before)
+        page.slide(moment)
+        count.same(f"slider: to {moment}", page.log()[-1][0], f"goto {moment}")
+        count.same(f"slider: what is seen at {moment} while it is drawn", seen[:3], page.state()[:3])
+        count.same(f"slider: stands at {moment}", page.value("slider"), str(moment))
+    page.say("show all")
+    page.say("show counts")
+    page.one("moment").send_keys(Keys.CONTROL, "a")
+    page.one("moment").send_keys("17", Keys.ENTER)
+    page.idle()
+    count.same("slider: a number typed", page.log()[-1][0], "goto 17")
+    natively("slider: the session", page, native, count)
+
+
+def who(page, native, count):
+    page.lesson(0)
+    page.click("run")
+    page.all("#register-rows tr")[0].click()
+    page.idle()
+    count.row("who: of rA", page.text("who-text").startswith("Change 2: INCA 7 at location 0001, line 5"), page.text("who-text"))
+    page.script("document.getElementById('who').close()")
+    page.choose("cells-which", "filled")
+    page.driver.find_element(By.CSS_SELECTOR, "#cell-rows tr[data-cell='100'] button").click()
+    page.idle()
+    count.row("who: of cell 100", page.text("who-text").startswith("Change 3: STA 100 at location 0002, line 6"), page.text("who-text"))
+    wanted = native.bundle(with_script(FIRST, "run 1000000\nback until cell 100\nforth until cell 100\nset cell 100 -5\n"))
+    page.click("who-back")
+    page.choose("cells-which", "range")
+    page.put("cells-from", "95")
+    page.put("cells-to", "100")
+    count.same("who: a range of cells", [row.get_attribute("data-cell") for row in page.all("#cell-rows tr")], [str(cell) for cell in range(95, 101)])
+    for again in (False, True):
+        page.driver.find_element(By.CSS_SELECTOR, "#cell-rows tr[data-cell='100'] button").click()
+        page.idle()
+        if again:
+            page.one("who-value").send_keys("-5", Keys.ENTER)
+            page.idle()
+        else:
+            count.row("who: nobody yet", page.text("who-text").startswith("No change"), page.text("who-text"))
+            page.click("who-forth")
+    count.same("who: back there, forth and set", page.replies(), wanted)
+    count.row("who: what was altered stands out", "altered" in page.all("#cell-rows tr")[-1].get_attribute("class"))
+
+
+def faults(page, native, count):
+    page.lesson(0)
+    page.click("step")
+    good = page.value("text")
+    page.one("text").send_keys(Keys.CONTROL, Keys.HOME)
+    page.one("text").send_keys(" JUMP 0", Keys.ENTER)
+    page.idle()
+    wanted = native.bundle(" JUMP 0\n" + good).strip()
+    count.same("fault: told", page.text("status"), wanted.capitalize().replace(" a", " A", 1))
+    count.row("fault: at its line", page.text("wrong").endswith(wanted.split(": ")[1]) and "wrong" in page.all("#gutter .line")[0].get_attribute("class"), page.text("wrong"))
+    count.same("fault: no step is offered", page.one("step").is_enabled(), False)
+    page.put("text", good)
+    count.same("fault: gone, and the session is back", page.log(), [("step 1", "ran 1 to 0001 clock 1: limit\n")])
+    count.same("fault: steps are offered again", page.one("step").is_enabled(), True)
+    page.lesson(1)
+    page.click("run")
+    count.row("fault: of a step", page.text("status").startswith("Fault M5 no such cell"), page.text("status"))
+    natively("fault: of a step", page, native, count)
+    page.say("back 7")
+    count.same("fault: a refused command", page.log()[-1][1], "? C4 fewer changes than asked\n")
+
+
+def cards(page, native, count):
+    page.lesson(5)  # cycles, from cards
+    bundle = EXAMPLES[5].read_text()
+    text = bundle.split("%UNIT 16\n")[1].split("%")[0]
+    page.script("document.getElementById('given').open = true")
+    count.same("cards: of the lesson", page.value("cards"), text)
+    page.one("cards").clear()
+    page.one("cards").send_keys("(ACB)(DE)(AF)=")
+    page.idle()
+    count.same("cards: still to be read", [card.text for card in page.all(".card")], ["(ACB)(DE)(AF)="])
+    page.click("run")
+    page.say("show all")
+    other = bundle.replace(text, "(ACB)(DE)(AF)=\n").split("%SCRIPT")[0]
+    count.same("cards: typed in, and run", page.replies(), native.bundle(other + "%SCRIPT\nrun 1000000\nshow all\n"))
+    natively("cards: saved, and run", page, native, count)
+    page.put("cards", "WHAT IS THIS?")
+    count.row("cards: refused", re.match(r"Card 1: K4 ", page.text("deck-fault")), page.text("deck-fault"))
+    page.put("cards", "A\n%UNIT 18\n")
+    count.row("cards: a header is no card", re.match(r"Card 2: K4 ", page.text("deck-fault")), page.text("deck-fault"))
+    page.put("cards", "A\n")
+    count.same("cards: good again", page.one("deck-fault").is_displayed(), False)
+
+
+def share(page, native, count):
+    page.lesson(8)
+    page.all("#gutter .line button")[9].click()
+    page.click("run")
+    page.click("step")
+    page.click("back")
+    page.say("show regs")
+    link, log, state, text = page.link(), page.log(), page.state(), page.value("text")
+    saved = page.save()
+    page.go(link)
+    count.same("share: the program", page.value("text"), text)
+    count.same("share: the commands and their replies", page.log(), log)
+    count.same("share: the moment", page.state(), state)
+    count.same("share: the breakpoint", page.all("#gutter .line button")[9].get_attribute("aria-pressed"), "true")
+    count.same("share: the bundle", page.save(), saved)
+    count.row("share: the script that was not done", page.one("script").is_displayed() and page.text("script-lines").startswith("break PUT"), page.text("script-lines"))
+    page.click("script-all")
+    natively("share: done to the end", page, native, count)
+    path = pathlib.Path(page.folder.name) / "kept.mix"
+    path.write_bytes(saved)
+    page.one("file").send_keys(str(path))
+    page.idle()
+    page.leave()
+    page.idle()
+    count.same("open: a file, done whole", page.replies(), native.bundle(saved))
+    count.same("open: saved again", page.save(), saved)
+    page.go(page.address + "#mix=bm90aGluZw&do=1")
+    count.row("share: a link that is cut", page.text("status").startswith("This link is cut"), page.text("status"))
