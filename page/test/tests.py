@@ -28,12 +28,18 @@ def main(words):
     def row(name, test):
         if not wanted(name):
             return
-        begun, failed = time.monotonic(), count.failed
-        try:
-            test()
-        except Exception:
-            count.row(name, False, traceback.format_exc())
-        print(f"{name}: {'done' if count.failed == failed else 'FAILED'}, {time.monotonic() - begun:.0f} s", flush=True)
+        for again in (False, True):
+            begun, before = time.monotonic(), (count.passed, count.failed)
+            try:
+                test()
+            except Exception:
+                count.row(name, False, traceback.format_exc())
+            failed = count.failed > before[1]
+            print(f"{name}: {'FAILED' if failed else 'done'}, {time.monotonic() - begun:.0f} s", flush=True)
+            if not failed or again:
+                return
+            print(f"{name}: once more", flush=True)
+            count.passed, count.failed = before
 
     def one(test, *more):
         with open_page() as page:
