@@ -347,6 +347,15 @@ impl<'s> Adapter<'s> {
         }
     }
 
+    /// A run that has come to no stop pauses, and a run may be asked for again.
+    pub fn rest(&mut self, out: &mut Outbox) -> Result<(), Memory> {
+        if !self.is_running() {
+            return Ok(());
+        }
+        self.way = None;
+        self.stopped("pause", Some("5000000 changes"), out)
+    }
+
     fn pause(&mut self, request: &Request, out: &mut Outbox) -> Result<(), Memory> {
         self.way = None;
         out.reply(request, Value::Null)?;

@@ -1,10 +1,10 @@
 //! Requests, heard one by one from what a client sends.
 
-use crate::talk::{Came, Talk};
 use dap_frame::{Next, next_frame};
 use dap_message::{MessageFault, Request};
 use mix_refused::{Memory, Refused};
 use std::alloc::Global;
+use std::io::Read;
 
 // How many bytes are read at once.
 const CHUNK: usize = 4096;
@@ -16,8 +16,6 @@ pub(crate) enum Heard {
     Request(Request),
     /// A frame that is no request.
     Unclear(Option<MessageFault>),
-    /// Nothing yet.
-    Nothing,
     /// The end, where a frame ends.
     End,
     /// The end within a frame.
@@ -43,18 +41,17 @@ impl Ear {
         }
     }
 
-    /// The next frame, waited for or not.
-    pub(crate) fn hear<T: Talk>(&mut self, input: &mut T, waits: bool) -> Result<Heard, Memory> {
+    /// The next frame, which is waited for.
+    pub(crate) fn hear<R: Read>(&mut self, input: &mut R) -> Result<Heard, Memory> {
         for _ in 0..u64::MAX {
             if let Some(heard) = self.first()? {
                 return Ok(heard);
             }
             let mut buffer = [0; CHUNK];
-            match input.read(&mut buffer, waits) {
-                Came::Bytes(0) => return Ok(self.end()),
-                Came::Bytes(count) => self.bytes.extend_from_slice(&buffer[..count])?,
-                Came::Nothing => return Ok(Heard::Nothing),
-                Came::Failed => return Ok(Heard::Failed),
+            match input.read(&mut buffer) {
+                Ok(0) => return Ok(self.end()),
+                Ok(count) => self.bytes.extend_from_slice(&buffer[..count])?,
+                Err(_) => return Ok(Heard::Failed),
             }
         }
         Ok(Heard::Failed)

@@ -15,7 +15,6 @@ mod points;
 mod printed;
 mod set;
 mod stream;
-mod talk;
 mod value;
 mod view;
 mod waiting;
@@ -26,7 +25,6 @@ pub use dap_message::{Outbox, Request};
 pub use fault::Fault;
 pub use launch::{FileLibrary, Library, NoLibrary, Texts};
 pub use stream::{serve, serve_from};
-pub use talk::{Came, Patient, StandardInput, Talk};
 pub use waiting::{Asked, Waiting};
 
 #[cfg(test)]

@@ -7,7 +7,6 @@ ghost use Rattle.dap_frame.specs.Frame.{frame_of};
 use crate::adapter::{Adapter, Flow};
 use crate::hear::{Ear, Heard};
 use crate::launch::{FileLibrary, Library, Texts};
-use crate::talk::Talk;
 use crate::waiting::{Asked, Waiting};
 use dap_frame::frame;
 use dap_message::{MessageFault, Outbox, Request};
@@ -15,7 +14,11 @@ use mix_refused::Memory;
 use mix_stream::{Failed, Out, write_all};
 use std::alloc::{AllocError, Global};
 use std::fmt;
+use std::io::Read;
 use std::rt::Files;
+
+// How many pieces a run has at most: 5,000,000 changes.
+const PIECES: u32 = 50;
 
 /// What ends a talk before the client is done.
 #[derive(Clone, Copy, Debug, PartialEq, Eq)]
@@ -64,10 +67,10 @@ impl From<Failed> for Broken {
 
 /// Answers a client until it disconnects or its input ends at the end of a frame, status 0. The status is 2 where the input ends within a frame or
 /// has one that is too long, a read or a write fails, or memory is refused; then a line on the error output says so.
-pub fn serve<F: Files, T: Talk, W: Out, E: Out>(
+pub fn serve<F: Files, R: Read, W: Out, E: Out>(
     files: &F,
     alloc: Global,
-    input: &mut T,
+    input: &mut R,
     out: &mut W,
     errors: &mut E,
 ) -> u8
@@ -84,10 +87,10 @@ pub fn serve<F: Files, T: Talk, W: Out, E: Out>(
 }
 
 /// The same, where texts are found by their names in any library.
-pub fn serve_from<L: Library, T: Talk, W: Out, E: Out>(
+pub fn serve_from<L: Library, R: Read, W: Out, E: Out>(
     library: &L,
     alloc: Global,
-    input: &mut T,
+    input: &mut R,
     out: &mut W,
     errors: &mut E,
 ) -> u8
@@ -119,10 +122,10 @@ fn tell<E: Out>(alloc: Global, broken: Broken, errors: &mut E)
     }
 }
 
-fn talk<L: Library, T: Talk, W: Out>(
+fn talk<L: Library, R: Read, W: Out>(
     library: &L,
     alloc: Global,
-    input: &mut T,
+    input: &mut R,
     out: &mut W,
 ) -> Result<(), Broken>
     requires { W.failed out.old < 2 ^ 64 - 1 }
@@ -161,16 +164,15 @@ fn talk<L: Library, T: Talk, W: Out>(
 }
 
 // The next request, waited for; none where the input ends where a frame ends.
-fn next_request<T: Talk>(
+fn next_request<R: Read>(
     ear: &mut Ear,
-    input: &mut T,
+    input: &mut R,
     outbox: &mut Outbox,
 ) -> Result<Option<Request>, Broken> {
     for _ in 0..u64::MAX {
-        match ear.hear(input, true)? {
+        match ear.hear(input)? {
             Heard::Request(request) => return Ok(Some(request)),
             Heard::Unclear(fault) => tell_unclear(outbox, fault)?,
-            Heard::Nothing => {}
             Heard::End => return Ok(None),
             Heard::Cut => return Err(Broken::Cut),
             Heard::TooLong => return Err(Broken::TooLong),
@@ -181,13 +183,13 @@ fn next_request<T: Talk>(
 }
 
 // A launched program is debugged until the client is done.
-fn debug<T: Talk, W: Out>(
+fn debug<R: Read, W: Out>(
     alloc: Global,
     waiting: &Waiting,
     texts: &Texts,
     request: &Request,
     ear: &mut Ear,
-    input: &mut T,
+    input: &mut R,
     outbox: &mut Outbox,
     out: &mut W,
 ) -> Result<Flow, Broken>
@@ -199,18 +201,14 @@ fn debug<T: Talk, W: Out>(
     };
     'turns: for _ in 0..u64::MAX {
         send(alloc, outbox, out)?;
-        if adapter.is_running() {
-            adapter.advance(outbox)?;
-            send(alloc, outbox, out)?;
-        }
-        match ear.hear(input, !adapter.is_running())? {
+        run_on(alloc, &mut adapter, outbox, out)?;
+        match ear.hear(input)? {
             Heard::Request(request) => {
                 if adapter.receive(&request, outbox)? == Flow::Over {
                     return Ok(Flow::Over);
                 }
             }
             Heard::Unclear(fault) => tell_unclear(outbox, fault)?,
-            Heard::Nothing => {}
             Heard::End => return Ok(Flow::Over),
             Heard::Cut => return Err(Broken::Cut),
             Heard::TooLong => return Err(Broken::TooLong),
@@ -218,6 +216,27 @@ fn debug<T: Talk, W: Out>(
         }
     }
     Ok(Flow::Over)
+}
+
+// A run is done to its stop, and what each piece of it tells is sent at once. After so many pieces it pauses, so that the client is heard.
+fn run_on<W: Out>(
+    alloc: Global,
+    adapter: &mut Adapter,
+    outbox: &mut Outbox,
+    out: &mut W,
+) -> Result<(), Broken>
+    requires { W.failed out.old < 2 ^ 64 - 1 }
+    ensures { OnOk result (W.failed out.new ≡ W.failed out.old) }
+{
+    'pieces: for _ in 0..PIECES {
+        if !adapter.is_running() {
+            return Ok(());
+        }
+        adapter.advance(outbox)?;
+        send(alloc, outbox, out)?;
+    }
+    adapter.rest(outbox)?;
+    send(alloc, outbox, out)
 }
 
 fn tell_unclear(outbox: &mut Outbox, fault: Option<MessageFault>) -> Result<(), Memory> {

@@ -1,5 +1,5 @@
 //! Talks, and an adapter that is driven without a stream.
-use crate::{Adapter, Asked, NoLibrary, Outbox, Patient, Request, Texts, Waiting, serve};
+use crate::{Adapter, Asked, NoLibrary, Outbox, Request, Texts, Waiting, serve};
 use mix_stream::fake::Sink;
 use std::alloc::Global;
 use std::test::Fail;
@@ -81,7 +81,7 @@ const TALKS: [(&[u8], u8); 5] = [
 #[test]
 fn a_talk_ends(rt: HostRuntime) {
     for (sent, status) in TALKS {
-        let mut input = Patient(sent);
+        let mut input = sent;
         let (mut out, mut errors) = (Sink::of(4096, 0), Sink::of(4096, 0));
         let ended = serve(&rt, rt.alloc(), &mut input, &mut out, &mut errors);
         assert_eq!(rt; ended, status, "{sent:?}");

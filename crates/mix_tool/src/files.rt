@@ -11,10 +11,11 @@ use crate::print::{RunFiles, run_opened, units_of};
 use crate::session::{open_session, run_session_opened};
 use crate::talk::talk_opened;
 use mix_cli::{Plan, Printing};
-use mix_dap::{Talk, serve};
+use mix_dap::serve;
 use mix_run::{Talker, run_bundle, run_list};
 use mix_stream::{Counted, In, Out};
 use std::alloc::Global;
+use std::io::Read;
 use std::rt::Files;
 
 // A listing of a file.
@@ -149,13 +150,13 @@ fn session_file<F: Files, W: Out, E: Out>(
 /// `mixrev: T2 read failed`, or for the first file that cannot be opened `mixrev: T4 not opened: NAME`. A write there that fails
 /// changes no status. Of a talk the prompts and the help stand there too, of a run where it came to if not to a halt, and of both a refused source
 /// with its line and a mark.
-pub fn run_plan<F: Files, R: In, T: Talk, W: Out, E: Out>(
+pub fn run_plan<F: Files, R: In, C: Read, W: Out, E: Out>(
     rt: &F,
     alloc: Global,
     plan: &Plan,
     talker: Talker,
     input: &mut R,
-    client: &mut T,
+    client: &mut C,
     out: &mut W,
     errors: &mut E,
 ) -> u8

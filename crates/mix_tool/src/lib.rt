@@ -10,7 +10,7 @@ mod talk;
 
 pub use files::run_plan;
 pub use mix_cli::{FAILED, LineFault, Plan, Printing, line_status, read_words};
-pub use mix_dap::{Came, Patient, StandardInput, Talk, serve};
+pub use mix_dap::serve;
 pub use mix_run::{
     AsmFault, AsmKind, Counted, DeckFault, DeckKind, Failed, In, MixFault, Out, PrintAnswer,
     PrintOptions, RanTo, Refusal, RunEnd, Session, Talker, Told, ToolFault, UnitSet,

@@ -1,9 +1,7 @@
 //! The program: what its words ask for, from files or standard input to standard output.
 #![tactic(auto)]
 
-use mix_tool::{
-    Counted, FAILED, LineFault, StandardInput, Talker, ToolFault, line_status, read_words, run_plan,
-};
+use mix_tool::{Counted, FAILED, LineFault, Talker, ToolFault, line_status, read_words, run_plan};
 use std::io::IsTerminal;
 use std::process::ExitCode;
 use std::{env, fmt, io};
@@ -34,7 +32,7 @@ fn run(rt: &HostRuntime, words: &[String]) -> ExitCode {
     match read_words(rt.alloc(), &texts) {
         Ok(plan) => {
             let mut input = Counted::of(rt.reader());
-            let mut client = StandardInput::of(rt);
+            let mut client = rt.stdin();
             let mut output = Counted::of(io::writer(rt));
             let mut errors = Counted::of(rt.stderr());
             let status = run_plan(

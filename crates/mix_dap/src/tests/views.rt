@@ -39,10 +39,7 @@ fn tells(alloc: Global, adapter: &mut Adapter, view: (&str, &str, &str)) -> Resu
         .ok()
         .ok_or("no request")?;
     let mut out = Outbox::new(alloc);
-    adapter
-        .receive(&request, &mut out)
-        .ok()
-        .ok_or("no memory")?;
+    adapter.receive(&request, &mut out).ok().ok_or("no memory")?;
     Ok(out.messages().iter().any(|message| message.contains(part)))
 }
 

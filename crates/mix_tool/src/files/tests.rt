@@ -2,7 +2,6 @@
 
 use crate::files::run_plan;
 use mix_cli::read_words;
-use mix_dap::Patient;
 use mix_run::Talker;
 use mix_stream::fake::{Chunks, Sink};
 use std::fs;
@@ -149,7 +148,7 @@ fn is_met(rt: &HostRuntime, row: &Row, failing: u64) -> bool {
     match read_words(rt.alloc(), row.words) {
         Ok(plan) => {
             let talker = Talker::Program;
-            let mut client = Patient(CLIENT.as_bytes());
+            let mut client = CLIENT.as_bytes();
             let status = run_plan(
                 rt,
                 rt.alloc(),
