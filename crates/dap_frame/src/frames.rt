@@ -1,7 +1,9 @@
 //! One frame taken off a text, and one put at its end.
 
-ghost use Rattle.std.specs.Prelude.{◌≡◌, ◌≤◌, IfOk, IfSome, length, string_bytes};
-ghost use Rattle.dap_frame.specs.Frame.{frame_of};
+ghost use Rattle.std.specs.Prelude.{◌≡◌, ℕ, ◌≤◌, ◌++◌, List, None, IfOk, IfSome, length, option_map, position, string_bytes};
+ghost use Rattle.mix_lines.specs.Lines.{whole_lines};
+ghost use Rattle.dap_frame.specs.Frame.{body_in, first_frame, frame_of, header_in, is_colon, is_ended, length_in, names_length, max_body, whole};
+ghost use Rattle.dap_frame.specs.Next.{first_of};
 
 use mix_lines::{Words, line_text, number, split_whole_line};
 use std::alloc::{AllocError, Global};
@@ -33,9 +35,15 @@ struct Header {
 }
 
 /// The first frame of a text. The lines of a header end with a line feed, before which a carriage return may stand; the first one that is
-/// empty ends the header; `Content-Length: N` gives the length of the body in bytes, in one to ten digits; other lines say nothing.
-pub fn next_frame(text: &[u8]) -> Next<'_> {
-    let most = text.len().min(MAX_HEADER);
+/// empty ends the header; `Content-Length: N` gives the length of the body in bytes, in one to ten digits, and the last of these decides; other lines
+/// say nothing.
+pub fn next_frame(text: &[u8]) -> Next<'_>
+    ensures first { first_of result ≡ first_frame text.now }
+
+    // What `frame` gives reads back, whatever follows it.
+    ensures reads_back { (body rest : List ℕ) → length body ≤ max_body → text.now ≡ frame_of body ++ rest → first_of result ≡ whole body rest }
+{
+    let most = MAX_HEADER.min(text.len());
     match read_header(&text[..most]) {
         Some(header) => body(header.length, &text[header.end..]),
         None if text.len() < MAX_HEADER => Next::Partial,
@@ -45,13 +53,14 @@ pub fn next_frame(text: &[u8]) -> Next<'_> {
 
 // The header at the beginning of a text, if its blank line is there.
 fn read_header(text: &[u8]) -> Option<Header>
-    ensures { IfSome result (λ header. header.end ≤ length text.now) }
+    ensures header { option_map (λ h. (h.length, h.end)) result ≡ header_in None 0 (whole_lines text.now) }
+    ensures within { IfSome result (λ h. h.end ≤ length text.now) }
 {
     let mut length = None;
     let mut rest = text;
     while !rest.is_empty() {
         let (whole, after) = split_whole_line(rest);
-        if !whole.ends_with(b"\n") {
+        if !is_ended(whole) {
             return None;
         }
         let line = line_text(whole);
@@ -65,18 +74,41 @@ fn read_header(text: &[u8]) -> Option<Header>
     None
 }
 
+// Whether a line ends with a line feed.
+fn is_ended(line: &[u8]) -> bool
+    ensures { result ≡ is_ended line.now }
+{
+    matches!(line, [.., b'\n'])
+}
+
 // The length that a line of a header gives.
-fn length_in(line: &[u8]) -> Option<u64> {
-    let colon = line.iter().position(|byte| *byte == b':')?;
+fn length_in(line: &[u8]) -> Option<u64>
+    ensures { result ≡ length_in line.now }
+{
+    let colon = colon_in(line)?;
     let (name, value) = (&line[..colon], &line[colon + 1..]);
-    if !name.eq_ignore_ascii_case(b"content-length") {
+    if !names_length(name) {
         return None;
     }
     number(Words::of(value).next()?)
 }
 
+fn colon_in(line: &[u8]) -> Option<usize>
+    ensures { result ≡ position is_colon line.now }
+{
+    line.iter().position(|byte| *byte == b':')
+}
+
+fn names_length(name: &[u8]) -> bool
+    ensures { result ≡ names_length name.now }
+{
+    name.eq_ignore_ascii_case(b"content-length")
+}
+
 // The body of a length at the beginning of a text.
-fn body(length: Option<u64>, text: &[u8]) -> Next<'_> {
+fn body(length: Option<u64>, text: &[u8]) -> Next<'_>
+    ensures { first_of result ≡ body_in length text.now }
+{
     let Some(length) = length else {
         return Next::NoLength(text);
     };

@@ -4,12 +4,13 @@ use std::test::Fail;
 
 // A text, the body that is first, and what follows it; or neither.
 #[rattlefmt::skip]
-const WHOLE: [(&[u8], &[u8], &[u8]); 5] = [
+const WHOLE: [(&[u8], &[u8], &[u8]); 6] = [
     (b"Content-Length: 2\r\n\r\n{}", b"{}", b""),
     (b"Content-Length: 2\r\n\r\n{}Content", b"{}", b"Content"),
     (b"content-length:3\n\nabcd", b"abc", b"d"),
     (b"Content-Type: x\r\nContent-Length: 0\r\n\r\nrest", b"", b"rest"),
     (b"CONTENT-LENGTH: 1\r\nother\r\n\r\nab", b"a", b"b"),
+    (b"Content-Length: 9\r\nContent-Length: 1\r\n\r\nab", b"a", b"b"),
 ];
 
 const PARTIAL: [&[u8]; 6] = [
