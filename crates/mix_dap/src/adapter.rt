@@ -446,8 +446,9 @@ impl<'s> Adapter<'s> {
         };
         let is_command = request.text("context") == Some("repl");
         let text = if is_command {
+            let text = command(self.alloc, &mut self.session, expression)?;
             self.fault = None;
-            command(self.alloc, &mut self.session, expression)?
+            text
         } else {
             worth(self.alloc, &self.session, expression)?
         };
