@@ -353,7 +353,7 @@ impl<'s> Adapter<'s> {
             return Ok(());
         }
         self.way = None;
-        self.stopped("pause", Some("5000000 changes"), out)
+        self.stopped("pause", Some("paused after 1000000 changes"), out)
     }
 
     fn pause(&mut self, request: &Request, out: &mut Outbox) -> Result<(), Memory> {

@@ -17,8 +17,8 @@ use std::fmt;
 use std::io::Read;
 use std::rt::Files;
 
-// How many pieces a run has at most: 5,000,000 changes.
-const PIECES: u32 = 50;
+// How many pieces a run has at most: 1,000,000 changes.
+const PIECES: u32 = 10;
 
 /// What ends a talk before the client is done.
 #[derive(Clone, Copy, Debug, PartialEq, Eq)]
