@@ -240,19 +240,16 @@ def faults(talk, count):
 
 
 def prints(talk, count):
-    """What a unit writes is told, also while the program runs; a step back tells what was taken back; pause stops a long run."""
+    """What a unit writes is told while the program still runs; a run that comes to no stop pauses; a step back tells what was taken back."""
     talk.launch(program("prints.mix"), devices=program("cards.deck"))
     talk.body("continue", threadId=1)
-    body, _ = talk.wait("output", talk.seen)
-    count.same("the row while it runs", body["output"].rstrip(), "HELLO")
-    time.sleep(0.3)
-    count.row("no stop came", not any(message.get("event") == "stopped" for message in talk.messages[talk.seen:]), talk.messages[talk.seen:])
-    count.row("a step while it runs is refused", talk.refused("next", threadId=1), "it is not")
-    count.same("pause", talk.move("pause"), "pause")
-    line, place, clock = talk.state()
-    # IN and OUT take 1 u each, and each JMP to itself 1 u
-    count.same("it stands at the jump to itself", (line, place), (4, 2))
-    count.same("each change took 1 u", talk.repl("show changes"), f"changes {clock}")
+    body, row = talk.wait("output", talk.seen)
+    count.same("the row", body["output"].rstrip(), "HELLO")
+    count.same("it pauses", talk.stop()["reason"], "pause")
+    count.row("the row is told before", row < talk.seen - 1, (row, talk.seen))
+    # IN and OUT take 1 u each, and each JMP to itself 1 u: it stands at the jump to itself
+    count.same("after a million changes, of 1 u each", talk.state(), (4, 2, 1000000))
+    count.same("the changes", talk.repl("show changes"), "changes 1000000")
     talk.repl("goto 2")
     count.same("at the second change", talk.state(), (4, 2, 2))
     told = talk.outputs("console") + talk.outputs("important")
@@ -263,23 +260,25 @@ def prints(talk, count):
 
 
 def long_runs(talk, count):
-    """A long run is paused, and so is the run back over it."""
+    """A run that comes to no stop pauses after a million changes, forwards and backwards; what the client sends meanwhile is heard then."""
     talk.launch(program("endless.mix"))
-    talk.body("continue", threadId=1)
-    time.sleep(1)
     began = time.monotonic()
-    count.same("pause of a long run", talk.move("pause"), "pause")
+    count.same("a long run pauses", talk.move("continue"), "pause")
     took = time.monotonic() - began
-    print(f"a pause was heard after {1e6 * took:.0f} microseconds")
-    count.row("it is heard at once", took < 10, took)
-    changes = int(talk.repl("show changes").split()[1])
-    count.row("it ran", changes > 1000, changes)
-    count.same("each jump took 1 u", talk.state(), (1, 0, changes))
-    talk.move("reverseContinue")
-    count.same("back to the start", talk.state(), (1, 0, 0))
+    print(f"a million steps, and their pause: {1e6 * took:.0f} microseconds")
+    count.row("that is soon", took < 10, took)
+    count.same("each jump took 1 u", talk.state(), (1, 0, 1000000))
     talk.body("continue", threadId=1)
-    time.sleep(0.2)
-    # disconnect is heard while it runs
+    talk.body("pause", threadId=1)
+    count.same("a pause that is sent meanwhile comes after that of the run", [talk.stop()["reason"], talk.stop()["reason"]], ["pause", "pause"])
+    count.same("two million", talk.repl("show changes"), "changes 2000000")
+    for left in (1000000, 0):
+        count.same(f"back to {left}", (talk.move("reverseContinue"), talk.state()), ("pause", (1, 0, left)))
+    count.same("at the start", (talk.move("reverseContinue"), talk.state()), ("entry", (1, 0, 0)))
+    talk.move("continue")
+    count.same("restart after a long run", (talk.move("restart"), talk.state()), ("entry", (1, 0, 0)))
+    talk.body("continue", threadId=1)
+    # disconnect is heard once the run pauses
     talk.close()
 
 
@@ -327,18 +326,10 @@ def from_zero(talk, count):
 
 
 def running(talk, count):
-    """Without stopOnEntry the program runs to its HLT at once; restart is heard while a program runs."""
+    """Without stopOnEntry the program runs to its HLT at once."""
     talk.launch(CALLS, stops=False)
     talk.stop()
     count.same("it ran to the HLT", talk.state(), AFTER[16])
-    talk.close()
-
-
-def restarted_while_running(talk, count):
-    talk.launch(program("endless.mix"))
-    talk.body("continue", threadId=1)
-    time.sleep(0.2)
-    count.same("restart while it runs", (talk.move("restart"), talk.state()), ("entry", (1, 0, 0)))
     talk.close()
 
 
@@ -379,7 +370,7 @@ def over_sockets(command, count):
         count.row("sockets: status at the end", False, "it did not end")
 
 
-TALKS = (steps, halts, subroutine, data, sets, memory, evaluates, gotos, faults, prints, long_runs, refusals, apart, running, restarted_while_running)
+TALKS = (steps, halts, subroutine, data, sets, memory, evaluates, gotos, faults, prints, long_runs, refusals, apart, running)
 
 
 def talked(command, count, talk, **initialize):
