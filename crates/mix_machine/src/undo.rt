@@ -25,6 +25,12 @@ impl Undo for World {
 
     ghost put = { put_value };
 
+    /// Whether both are steps: those are what a journal has many of in a row.
+    #[inline(always)]
+    fn is_same(one: &Change, other: &Change) -> bool {
+        matches!(one, Change::Step) && matches!(other, Change::Step)
+    }
+
     /// Does a change (1.3.1), or reports its fault. A fault, or out of memory for what it keeps, alters nothing.
     #[tactic(auto, unfolding(crate::specs::Do::does, crate::specs::Do::kept_values))]
     // (inlined, as `Journal::go` is)

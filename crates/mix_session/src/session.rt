@@ -19,7 +19,7 @@ use mix_stream::{Out, write_all};
 use mixal_asm::Program;
 use std::alloc::Global;
 use std::marker::Model;
-use undo_core::{Journal, Memory};
+use undo_core::{Changes, Journal, Memory};
 
 /// An assembled program, the machine that it was loaded into, and the changes of that machine.
 pub struct Session<'s> {
@@ -76,8 +76,8 @@ impl<'s> Session<'s> {
     }
 
     /// The changes that are done, without those that were taken back. It takes no memory.
-    pub fn changes(&self) -> &[Change]
-        ensures { result.now ≡ self.now.timeline.changes }
+    pub fn changes(&self) -> Changes<'_, Change>
+        ensures { result ≡ self.now.timeline.changes }
     {
         self.journal.changes()
     }

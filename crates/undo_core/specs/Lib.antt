@@ -1,3 +1,5 @@
+pub mod Counts
 pub mod History
 pub mod Leads
 pub mod Replay
+pub mod Runs

@@ -1,5 +1,5 @@
 //! A state whose changes can be taken back by the values that they overwrote.
-ghost use Rattle.std.specs.Prelude.{◌≡◌, ◌≤◌, ◌++◌, List, Option, Result, Some, Ok, Err, IsOk, IsSome, OnOk, OnErr, vec_len, take, drop};
+ghost use Rattle.std.specs.Prelude.{◌≡◌, ◌≤◌, ◌++◌, List, Option, Result, Some, Ok, Err, IsOk, IsSome, IsTrue, OnOk, OnErr, vec_len, take, drop};
 ghost use Rattle.mix_refused.specs.Refused.{IfFault, IfMemory};
 ghost use Rattle.undo_core.specs.Replay.{put_back};
 
@@ -27,6 +27,13 @@ pub trait Undo: Drop {
 
     /// The state with one value put back, or none where the value doesn't fit.
     ghost put: { Self → Self.Old → Option Self };
+
+    /// Whether two changes are the same. A journal keeps equal ones that follow each other once; where this is false for them, each for itself.
+    fn is_same(one: &Self::Change, other: &Self::Change) -> bool
+        ensures { IsTrue result → one.now ≡ other.now }
+    {
+        false
+    }
 
     /// Does the change and appends the values that it overwrites to `kept`. A fault, or out of memory, alters nothing;
     /// out of memory is the answer to no change that has a fault.
