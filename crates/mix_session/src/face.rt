@@ -15,8 +15,9 @@ use crate::fault::Refusal;
 use crate::reply::End;
 use crate::request::Request;
 use crate::session::Session;
-use mix_machine::{Change, MixFault, Part};
-use undo_core::Memory;
+use crate::show::changes::next_change;
+use mix_machine::{Change, MixFault, Part, World};
+use undo_core::{Journal, Memory};
 
 impl Session<'_> {
     /// One step, and its fault where it is one: the change that stands ahead is done again, if that is a step, or else a new step is done. Out of
@@ -27,7 +28,7 @@ impl Session<'_> {
         ensures effect { let effect = effect_of self.old.timeline (step_request self.old.timeline) in
             IfOk result (λ fault. (self.new.timeline ≡ after effect) × (fault ≡ fault_of effect.answer)) }
     {
-        let request = next_step(self.ahead());
+        let request = next_step(self.journal());
         match self.execute(request) {
             Ok(answer) => Ok(fault_of(&answer)),
             Err(Memory) => Err(Memory),
@@ -121,24 +122,21 @@ impl Session<'_> {
     }
 }
 
-fn next_step(ahead: &[Change]) -> Request
-    ensures { result ≡ (if is_step ahead.now then Request.Forth 1 else Request.Step 1) }
+fn next_step(journal: &Journal<World>) -> Request
+    ensures { result ≡ step_request journal.now }
 {
-    if is_step(ahead) {
+    if is_step_ahead(journal) {
         Request::Forth(1)
     } else {
         Request::Step(1)
     }
 }
 
-// Whether the first change is a step.
-fn is_step(ahead: &[Change]) -> bool
-    ensures { result ≡ is_step ahead.now }
+// Whether the next change ahead is a step.
+fn is_step_ahead(journal: &Journal<World>) -> bool
+    ensures { result ≡ is_step journal.now.ahead }
 {
-    match ahead {
-        [Change::Step, ..] => true,
-        _ => false,
-    }
+    journal.ahead() > 0 && matches!(next_change(journal), Change::Step)
 }
 
 fn fault_of(answer: &Answer) -> Option<MixFault>

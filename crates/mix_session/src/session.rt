@@ -1,6 +1,6 @@
 //! A session: a program, its machine, whose changes can be taken back, and the requests and commands over it.
 
-ghost use Rattle.std.specs.Prelude.{◌≡◌, ◌<◌, ◌-◌, ◌^◌, Err, IfErr, IfOk};
+ghost use Rattle.std.specs.Prelude.{◌≡◌, ◌<◌, ◌-◌, ◌^◌, Err, IfErr, IfOk, length};
 ghost use Rattle.std.specs.Io.KnownBytes.{Appends, Keeps};
 ghost use Rattle.mix_session.specs.Timeline.{world_of};
 ghost use Rattle.mix_session.specs.Answer.{told_of, text_of};
@@ -82,12 +82,11 @@ impl<'s> Session<'s> {
         self.journal.changes()
     }
 
-    /// The changes that stand ahead, the next one first. It takes no memory.
-    pub fn ahead(&self) -> &[Change]
-        ensures { result.now ≡ self.now.timeline.ahead }
+    /// How many changes stand ahead. It takes no memory.
+    pub fn ahead(&self) -> usize
+        ensures { result ≡ length self.now.timeline.ahead }
     {
-        let done = self.journal.changes().len();
-        &self.journal.all()[done..]
+        self.journal.ahead()
     }
 
     /// What a line of a script asks for, or what is wrong with its words. Names are those of the program, and the asterisk stands for the

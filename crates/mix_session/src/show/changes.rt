@@ -95,8 +95,8 @@ pub(crate) fn next_line(alloc: Global, journal: &Journal<World>) -> Result<Vec<u
     Ok(line_of(alloc, number, &change, worlds)?)
 }
 
-// The next change ahead; a step where there is none.
-fn next_change(journal: &Journal<World>) -> Change
+/// The next change ahead; a step where there is none.
+pub(crate) fn next_change(journal: &Journal<World>) -> Change
     ensures { result ≡ change_at journal.now (length journal.now.changes + 1) }
 {
     match journal.all().get(journal.done()) {
