@@ -7,6 +7,7 @@ ghost use Rattle.undo_core.specs.Runs.{items_of, IsRising};
 
 use crate::changes::Changes;
 use crate::counts::{append_count, take_count};
+use crate::kept::Kept;
 use crate::past::Past;
 use crate::runs::{Run, append, count_in, cut, item_at, lengthen};
 use crate::undo::Undo;
@@ -19,7 +20,7 @@ use std::marker::Model;
 pub struct Journal<S: Undo> {
     state: S,
     // The old values of the changes done, one change after the other.
-    kept: Vec<S::Old>,
+    kept: Kept<S::Old>,
     // The changes done, as many as there are counts, and after them those ahead.
     changes: Vec<Run<S::Change>>,
     // How many values each change done keeps, and the large ones of these counts.
@@ -80,7 +81,7 @@ impl<S: Undo> Journal<S> {
     {
         Journal {
             state: s,
-            kept: Vec::new(alloc),
+            kept: Kept::new(alloc),
             changes: Vec::new(alloc),
             counts: Vec::new(alloc),
             large: Vec::new(alloc),
@@ -125,8 +126,7 @@ impl<S: Undo> Journal<S> {
         let Some(count) = take_count(&mut self.counts, &mut self.large) else {
             return false;
         };
-        let start = self.kept.len() - count;
-        self.state.revert(&mut self.kept, start);
+        self.state.revert(&mut self.kept, count);
         true
     }
 
@@ -185,11 +185,11 @@ impl<S: Undo> Journal<S> {
         ensures of { result.of ≡ self.now }
         ensures left { result.left ≡ length self.now.changes }
     {
-        Past::of(self, &self.kept, &self.counts, &self.large)
+        Past::of(self, self.kept.backwards(), &self.counts, &self.large)
     }
 
     /// Does the change of this number of all, counted from 0, once more, on a state as it was before it. What it overwrites is appended to `kept`.
-    pub fn redo(&self, number: usize, state: &mut S, kept: &mut Vec<S::Old>) -> Result<(), Memory>
+    pub fn redo(&self, number: usize, state: &mut S, kept: &mut Kept<S::Old>) -> Result<(), Memory>
         requires within { number < length (self.now.changes ++ self.now.ahead) }
         requires before { replay S.gives self.now.first (take number (self.now.changes ++ self.now.ahead)) ≡ Some state.old }
         ensures { OnOk result (replay S.gives self.now.first (take (number + 1) (self.now.changes ++ self.now.ahead)) ≡ Some state.new) }

@@ -4,15 +4,21 @@
 mod changes;
 mod counts;
 mod journal;
+mod kept;
+mod pack;
 mod past;
 mod runs;
 mod undo;
+mod values;
 
 pub use changes::Changes;
 pub use journal::Journal;
+pub use kept::Kept;
 pub use mix_refused::{Memory, Refused};
+pub use pack::{Last, Pack};
 pub use past::Past;
 pub use undo::Undo;
+pub use values::Values;
 
 #[cfg(test)]
 mod tests;

@@ -2,13 +2,13 @@
 ghost use Rattle.std.specs.Prelude.{◌≡◌, ◌+◌, [], ◌∷◌, Some, Ok, Err, nat_le, refl, if◌then◌else◌};
 ghost use Rattle.undo_core.specs.declared.tests.CounterFault.TheVariants.{PastNine};
 
-use crate::{Changes, Journal, Memory, Refused, Undo};
+use crate::{Changes, Journal, Kept, Memory, Refused, Undo};
 use std::alloc::Global;
 use std::test::Fail;
 
 #[derive(Clone, Copy, Debug, PartialEq, Eq)]
 struct Counter {
-    number: u8,
+    number: u32,
 }
 
 #[derive(Clone, Copy, Debug, PartialEq, Eq)]
@@ -19,7 +19,7 @@ enum CounterFault {
 impl Undo for Counter {
     type Change = u8;
 
-    type Old = u8;
+    type Old = u32;
 
     type Fault = CounterFault;
 
@@ -37,17 +37,17 @@ impl Undo for Counter {
         *one == *other
     }
 
-    fn apply(&mut self, change: &u8, kept: &mut Vec<u8>) -> Result<(), Refused<CounterFault>> {
-        let number = u16::from(self.number) + u16::from(*change);
+    fn apply(&mut self, change: &u8, kept: &mut Kept<u32>) -> Result<(), Refused<CounterFault>> {
+        let number = u64::from(self.number) + u64::from(*change);
         if number > 9 {
             return Err(Refused::Fault(CounterFault::PastNine));
         }
         kept.push(self.number)?;
-        self.number = number as u8;
+        self.number = number as u32;
         Ok(())
     }
 
-    fn restore(&mut self, old: u8) {
+    fn restore(&mut self, old: u32) {
         self.number = old;
     }
 }
@@ -183,8 +183,9 @@ fn before_last(journal: &Journal<Counter>) -> Option<u8> {
     let mut past = journal.past();
     let values = past.earlier()?;
     let mut state = *journal.state();
-    state.restore_all(values);
-    if values == [state.number].as_slice() {
+    state.restore_all(&values);
+    let mut left = values.copied();
+    if left.len() == 1 && left.pop() == Some(state.number) && left.is_empty() {
         Some(state.number)
     } else {
         None
@@ -198,7 +199,7 @@ fn after_next(alloc: Global, journal: &Journal<Counter>) -> Option<u8> {
         return None;
     }
     let mut state = *journal.state();
-    let mut kept = Vec::new(alloc);
+    let mut kept = Kept::new(alloc);
     let done = journal.changes().len();
     journal.redo(done, &mut state, &mut kept).ok()?;
     Some(state.number)

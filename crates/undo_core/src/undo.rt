@@ -1,8 +1,11 @@
 //! A state whose changes can be taken back by the values that they overwrote.
-ghost use Rattle.std.specs.Prelude.{◌≡◌, ◌≤◌, ◌++◌, List, Option, Result, Some, Ok, Err, IsOk, IsSome, IsTrue, OnOk, OnErr, vec_len, take, drop};
+ghost use Rattle.std.specs.Prelude.{◌≡◌, ◌≤◌, ◌-◌, ◌++◌, List, Option, Result, Some, Ok, Err, IsOk, IsSome, IsTrue, OnOk, OnErr, length, take, drop};
 ghost use Rattle.mix_refused.specs.Refused.{IfFault, IfMemory};
 ghost use Rattle.undo_core.specs.Replay.{put_back};
 
+use crate::kept::Kept;
+use crate::pack::Pack;
+use crate::values::Values;
 use mix_refused::Refused;
 
 /// A state, its changes, and the old values that take a change back.
@@ -11,7 +14,7 @@ pub trait Undo: Drop {
     type Change: Copy;
 
     /// One place of a state with the value that stood there.
-    type Old: Copy;
+    type Old: Pack;
 
     /// Why a state refuses a change.
     type Fault: Drop;
@@ -40,7 +43,7 @@ pub trait Undo: Drop {
     fn apply(
         &mut self,
         change: &Self::Change,
-        kept: &mut Vec<Self::Old>,
+        kept: &mut Kept<Self::Old>,
     ) -> Result<(), Refused<Self::Fault>>
         ensures real { is_real self.old change.now }
         ensures given { OnOk result (gives self.old change.now ≡ Ok self.new) }
@@ -56,26 +59,33 @@ pub trait Undo: Drop {
         ensures { put self.old old ≡ Some self.new };
 
     /// Puts values back, the last one first. It takes no memory.
-    fn restore_all(&mut self, values: &[Self::Old])
+    fn restore_all(&mut self, values: &Values<'_, Self::Old>)
         requires { IsSome (put_back put values.now self.old) }
         ensures { put_back put values.now self.old ≡ Some self.new }
     {
-        let mut left = values.len();
-        while left > 0 {
-            left -= 1;
-            self.restore(values[left]);
+        let mut left = values.copied();
+        for _ in 0..left.len() {
+            match left.pop() {
+                Some(value) => self.restore(value),
+                None => unreachable!(),
+            }
         }
     }
 
-    /// Puts back the values of `kept` from `from` on, the last one first, and cuts them off. It takes no memory.
-    fn revert(&mut self, kept: &mut Vec<Self::Old>, from: usize)
-        requires within { from ≤ vec_len kept.old }
-        requires fits { IsSome (put_back put (drop from kept.old.items) self.old) }
-        ensures back { put_back put (drop from kept.old.items) self.old ≡ Some self.new }
-        ensures cut { kept.new.items ≡ take from kept.old.items }
+    /// Puts back the last values of `kept`, so many of them, the last one first, and takes them off. It takes no memory.
+    #[inline(always)]
+    fn revert(&mut self, kept: &mut Kept<Self::Old>, count: usize)
+        requires within { count ≤ length kept.old.items }
+        requires fits { IsSome (put_back put (drop (length kept.old.items - count) kept.old.items) self.old) }
+        ensures back { put_back put (drop (length kept.old.items - count) kept.old.items) self.old ≡ Some self.new }
+        ensures cut { kept.new.items ≡ take (length kept.old.items - count) kept.old.items }
     {
-        self.restore_all(&kept[from..]);
-        kept.truncate(from);
+        for _ in 0..count {
+            match kept.pop() {
+                Some(value) => self.restore(value),
+                None => unreachable!(),
+            }
+        }
     }
 
     /// Putting back the values that an accepted change overwrote gives the state before it.
