@@ -1,7 +1,7 @@
 """Work grows with what is asked and no faster, by the instructions that callgrind counts: no clock is read.
 
 Of a text of one, two and four lengths the step from two to four takes twice the step from one to two. One command takes as much after a million changes
-as after ten. Without valgrind there is nothing to count with, and the part says so."""
+as after ten thousand. Without valgrind there is nothing to count with, and the part says so."""
 
 import os
 import re
@@ -12,8 +12,10 @@ from running import Count, bundle, folder
 
 # Twice, and a tenth for what is done once and for the lengths of numbers.
 MOST = 2.2
-# Numbers in replies are longer after many changes: so many instructions more are let through, where one step of each of the changes would be a million.
+# Numbers in replies are longer after many changes: so many instructions more are let through, where one for each of the changes would be a million.
 MORE = 5000
+# (the fewer changes are enough that lists lie in memory as they do after many)
+FEW, MANY = 10000, 1000000
 
 
 def instructions(program, place, text):
@@ -66,11 +68,11 @@ def rows(program, workers, quick=False):
             one, two, four = (instructions(program, place, text(length * times)) for times in (1, 2, 4))
             count.row(name, four - two <= MOST * (two - one), "%d, %d and %d instructions at %d, %d and %d" % (one, two, four, length, 2 * length, 4 * length))
         taken = {}
-        for changes in (10, 1000000):
+        for changes in (FEW, MANY):
             before = b"run %d\n" % changes
             script = b"".join(command + b"\n" for command in COMMANDS)
             remarks = b"".join(b"*" * len(command) + b"\n" for command in COMMANDS)
             taken[changes] = [instructions(program, place, bundle(b" JMP *\n END 0\n", before + lines)) for lines in (script, remarks)]
         few, many = (some - none for some, none in taken.values())
-        count.row("commands after a million changes", many <= few + MORE, "%d instructions, and %d after ten" % (many, few))
+        count.row("commands after a million changes", many <= few + MORE, "%d instructions, and %d after ten thousand" % (many, few))
     return count

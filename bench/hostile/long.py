@@ -1,7 +1,7 @@
 """10,000,000 steps in one script, the last 100,000 taken back one by one, and all that stand counted: the replies, and the memory that they took.
 
-A step of ` JMP *` keeps three values: the location, the clock and rJ. So the journal holds three values a step, a change and where its values
-begin; the memory that the process has touched is compared with these, by the bytes of each, and with that of a tenth of the steps."""
+A step of ` JMP *` keeps three values: the location, the clock and rJ. So the journal holds three values a step and a byte that counts them, and the steps
+as one; the memory that the process has touched is compared with these, by the bytes of each, and with that of a tenth of the steps."""
 
 import os
 import subprocess
@@ -10,8 +10,8 @@ import sys
 from running import Count, folder
 
 SOURCE = b" JMP *\n END 0\n%SCRIPT\n"
-KEPT, VALUE_BYTES, CHANGE_BYTES, START_BYTES = 3, 12, 8, 8
-STEP_BYTES = KEPT * VALUE_BYTES + CHANGE_BYTES + START_BYTES
+KEPT, VALUE_BYTES, COUNT_BYTES = 3, 4, 1
+STEP_BYTES = KEPT * VALUE_BYTES + COUNT_BYTES
 MORE = 4 << 20  # beside the journal: the script, and what the process has anyway
 
 

@@ -9,6 +9,9 @@ function mixvm_step(program, log_state) {
   return figure[program, "long_" log_state] - figure[program, "short_" log_state]
 }
 
+# Of a whole process, end to end: millions of steps a second.
+function a_second(nanoseconds) { return nanoseconds <= 0 ? -1 : 1000 / nanoseconds }
+
 function shown(x) { return x < 0 ? "-" : sprintf("%.1f", x) }
 function ratio(x, y) { return x < 0 || y <= 0 ? "-" : sprintf("%.2f", x / y) }
 
@@ -48,6 +51,17 @@ END {
       printf "%-12s %8s %8s | %14s %14s | %14s %14s\n", p, shown(on), shown(off), ratio(off, least(p, "cache_forward")), ratio(off, least(p, "fresh_forward")), ratio(on, least(p, "cache_forward")), ratio(on, least(p, "fresh_forward"))
     }
   }
+  if (whole != "") {
+    print ""
+    print "The whole program, ten million steps in one script, end to end, start and assembly included; millions of steps a second. Beside it, where it is"
+    print "installed, mixvm on the same program and about as many steps, without its log and with its unlimited one (sbt -1), which keeps locations alone."
+    print ""
+    printf "%-12s %12s %12s %18s\n", "program", "mixrev", "mixvm, off", "mixvm, unlimited"
+    for (i = 1; i <= count; i++) {
+      p = program[i]
+      printf "%-12s %12s %12s %18s\n", p, shown(a_second(least(p, "whole"))), shown(a_second(least(p, "whole_off"))), shown(a_second(least(p, "whole_all")))
+    }
+  }
   print ""
   for (i = 1; i <= count; i++) {
     p = program[i]
@@ -57,6 +71,6 @@ END {
     }
     goal(p ": forward over back in cache", least(p, "cache_forward") / least(p, "cache_back"), 1, 1)
     goal(p ": forward over back in a fresh journal", least(p, "fresh_forward") / least(p, "fresh_back"), 1, 1)
-    if (p == "tight") goal(p ": bytes a step", least(p, "bytes"), 80, 0)
+    goal(p ": bytes a step", least(p, "bytes"), p == "tight" ? 20 : p == "move" ? 300 : 24, 0)
   }
 }

@@ -1,0 +1,4 @@
+pub mod Command
+pub mod Fields
+pub mod Message
+pub mod Request

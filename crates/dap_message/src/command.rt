@@ -1,5 +1,9 @@
 //! The commands of requests, by their names.
 
+ghost use Rattle.std.specs.Prelude.{◌≡◌};
+ghost use Rattle.std.specs.Str.{bytes_eq};
+ghost use Rattle.dap_message.specs.Command.{all_commands, command_name, command_named};
+
 /// What a request asks for: its `command` in the Debug Adapter Protocol, of those that a machine that runs both ways has, and views of a machine of
 /// MIX beside it.
 #[derive(Clone, Copy, Debug, PartialEq, Eq)]
@@ -43,57 +47,83 @@ pub enum Command {
     ViewChange,
 }
 
-const NAMES: [(&str, Command); 37] = [
-    ("initialize", Command::Initialize),
-    ("launch", Command::Launch),
-    ("configurationDone", Command::ConfigurationDone),
-    ("setBreakpoints", Command::SetBreakpoints),
-    ("setFunctionBreakpoints", Command::SetFunctionBreakpoints),
-    (
-        "setInstructionBreakpoints",
-        Command::SetInstructionBreakpoints,
-    ),
-    ("setDataBreakpoints", Command::SetDataBreakpoints),
-    ("setExceptionBreakpoints", Command::SetExceptionBreakpoints),
-    ("dataBreakpointInfo", Command::DataBreakpointInfo),
-    ("threads", Command::Threads),
-    ("stackTrace", Command::StackTrace),
-    ("scopes", Command::Scopes),
-    ("variables", Command::Variables),
-    ("setVariable", Command::SetVariable),
-    ("evaluate", Command::Evaluate),
-    ("exceptionInfo", Command::ExceptionInfo),
-    ("continue", Command::Continue),
-    ("next", Command::Next),
-    ("stepIn", Command::StepIn),
-    ("stepOut", Command::StepOut),
-    ("stepBack", Command::StepBack),
-    ("reverseContinue", Command::ReverseContinue),
-    ("pause", Command::Pause),
-    ("goto", Command::Goto),
-    ("gotoTargets", Command::GotoTargets),
-    ("readMemory", Command::ReadMemory),
-    ("writeMemory", Command::WriteMemory),
-    ("disassemble", Command::Disassemble),
-    ("restart", Command::Restart),
-    ("disconnect", Command::Disconnect),
-    ("terminate", Command::Terminate),
-    ("cancel", Command::Cancel),
-    ("mix/program", Command::ViewProgram),
-    ("mix/counts", Command::ViewCounts),
-    ("mix/state", Command::ViewState),
-    ("mix/units", Command::ViewUnits),
-    ("mix/change", Command::ViewChange),
-];
-
 impl Command {
-    /// The command of this name, letter for letter, if there is one.
-    pub fn named(name: &str) -> Option<Command> {
-        for row in NAMES.iter() {
-            if row.0 == name {
-                return Some(row.1);
-            }
+    /// Its name in the protocol.
+    pub fn name(self) -> &'static str
+        ensures { result.now ≡ command_name self }
+    {
+        match self {
+            Command::Initialize => "initialize",
+            Command::Launch => "launch",
+            Command::ConfigurationDone => "configurationDone",
+            Command::SetBreakpoints => "setBreakpoints",
+            Command::SetFunctionBreakpoints => "setFunctionBreakpoints",
+            Command::SetInstructionBreakpoints => "setInstructionBreakpoints",
+            Command::SetDataBreakpoints => "setDataBreakpoints",
+            Command::SetExceptionBreakpoints => "setExceptionBreakpoints",
+            Command::DataBreakpointInfo => "dataBreakpointInfo",
+            Command::Threads => "threads",
+            Command::StackTrace => "stackTrace",
+            Command::Scopes => "scopes",
+            Command::Variables => "variables",
+            Command::SetVariable => "setVariable",
+            Command::Evaluate => "evaluate",
+            Command::ExceptionInfo => "exceptionInfo",
+            Command::Continue => "continue",
+            Command::Next => "next",
+            Command::StepIn => "stepIn",
+            Command::StepOut => "stepOut",
+            Command::StepBack => "stepBack",
+            Command::ReverseContinue => "reverseContinue",
+            Command::Pause => "pause",
+            Command::Goto => "goto",
+            Command::GotoTargets => "gotoTargets",
+            Command::ReadMemory => "readMemory",
+            Command::WriteMemory => "writeMemory",
+            Command::Disassemble => "disassemble",
+            Command::Restart => "restart",
+            Command::Disconnect => "disconnect",
+            Command::Terminate => "terminate",
+            Command::Cancel => "cancel",
+            Command::ViewProgram => "mix/program",
+            Command::ViewCounts => "mix/counts",
+            Command::ViewState => "mix/state",
+            Command::ViewUnits => "mix/units",
+            Command::ViewChange => "mix/change",
         }
-        None
+    }
+
+    /// All commands.
+    #[rattlefmt::skip]
+    fn all() -> &'static [Command]
+        ensures { result.now ≡ all_commands }
+    {
+        &[
+            Command::Initialize, Command::Launch, Command::ConfigurationDone, Command::SetBreakpoints, Command::SetFunctionBreakpoints,
+            Command::SetInstructionBreakpoints, Command::SetDataBreakpoints, Command::SetExceptionBreakpoints, Command::DataBreakpointInfo, Command::Threads,
+            Command::StackTrace, Command::Scopes, Command::Variables, Command::SetVariable, Command::Evaluate,
+            Command::ExceptionInfo, Command::Continue, Command::Next, Command::StepIn, Command::StepOut,
+            Command::StepBack, Command::ReverseContinue, Command::Pause, Command::Goto, Command::GotoTargets,
+            Command::ReadMemory, Command::WriteMemory, Command::Disassemble, Command::Restart, Command::Disconnect,
+            Command::Terminate, Command::Cancel, Command::ViewProgram, Command::ViewCounts, Command::ViewState,
+            Command::ViewUnits, Command::ViewChange,
+        ]
+    }
+
+    /// The command of this name, letter for letter, if there is one.
+    #[tactic(auto, unfolding(crate::specs::Command::command_named))]
+    pub fn named(name: &str) -> Option<Command>
+        ensures { result ≡ command_named name.now }
+    {
+        Command::all()
+            .iter()
+            .copied()
+            .find(|command| command.is_named(name))
+    }
+
+    fn is_named(self, name: &str) -> bool
+        ensures { result ≡ bytes_eq (command_name self) name.now }
+    {
+        self.name() == name
     }
 }

@@ -1,5 +1,11 @@
 //! Messages that wait to be sent.
 
+ghost use Rattle.std.specs.Prelude.{◌≡◌, ◌≤◌, [], IfOk, OnOk};
+ghost use Rattle.serde_json.specs.Data.{depth};
+ghost use Rattle.serde_json.specs.View.{view};
+ghost use Rattle.dap_message.specs.Fields.{members_in};
+ghost use Rattle.dap_message.specs.Message.{next_seq, response_head, numbered, reply_message, texts_of, Sent};
+
 use crate::fields::Fields;
 use crate::request::Request;
 use mix_refused::Memory;
@@ -16,7 +22,10 @@ pub struct Outbox {
 
 impl Outbox {
     /// No message; the first one will have the number 1.
-    pub fn new(alloc: Global) -> Outbox {
+    pub fn new(alloc: Global) -> Outbox
+        ensures none { texts_of result ≡ [] }
+        ensures seq { result.seq ≡ 0 }
+    {
         Outbox {
             alloc,
             seq: 0,
@@ -30,12 +39,17 @@ impl Outbox {
     }
 
     /// No message waits any more.
-    pub fn clear(&mut self) {
+    pub fn clear(&mut self)
+        ensures none { texts_of self.new ≡ [] }
+        ensures seq { self.new.seq ≡ self.old.seq }
+    {
         self.messages.clear();
     }
 
     /// Answers a request that was done; a body of `Null` is left out.
-    pub fn reply(&mut self, to: &Request, body: Value) -> Result<(), Memory> {
+    pub fn reply(&mut self, to: &Request, body: Value) -> Result<(), Memory>
+        ensures { OnOk result (depth (view body) ≤ 126 → Sent self.old self.new (reply_message (next_seq self.old.seq) to.now (view body))) }
+    {
         let head = self.response(to, true)?;
         self.send(head, body)
     }
@@ -79,7 +93,9 @@ impl Outbox {
     }
 
     // What every response has.
-    fn response(&self, to: &Request, success: bool) -> Result<Fields, Memory> {
+    fn response(&self, to: &Request, success: bool) -> Result<Fields, Memory>
+        ensures { IfOk result (λ head. members_in head ≡ response_head to.now success) }
+    {
         let mut head = Fields::new(self.alloc);
         head.text("type", "response")?;
         head.number("request_seq", to.seq())?;
@@ -89,7 +105,10 @@ impl Outbox {
     }
 
     // A message with the next number.
-    fn send(&mut self, head: Fields, body: Value) -> Result<(), Memory> {
+    fn send(&mut self, head: Fields, body: Value) -> Result<(), Memory>
+        ensures { OnOk result (depth (numbered (next_seq self.old.seq) (members_in head) (view body)) ≤ 127
+            → Sent self.old self.new (numbered (next_seq self.old.seq) (members_in head) (view body))) }
+    {
         let mut message = head;
         let seq = self.seq.wrapping_add(1);
         message.number("seq", seq)?;

@@ -1,5 +1,9 @@
 //! Requests, read from the bodies of frames.
 
+ghost use Rattle.std.specs.Prelude.{◌≡◌, option_map};
+ghost use Rattle.serde_json.specs.View.{view, items_view};
+ghost use Rattle.dap_message.specs.Request.{name_of, command_of, argument_of, text_of, number_of, integer_of, flag_of, list_of};
+
 use crate::command::Command;
 use mix_refused::Refused;
 use serde_json::Value;
@@ -42,12 +46,16 @@ impl Request {
     }
 
     /// Its number.
-    pub fn seq(&self) -> u64 {
+    pub fn seq(&self) -> u64
+        ensures { result ≡ self.now.seq }
+    {
         self.seq
     }
 
     /// The name of what it asks for.
-    pub fn name(&self) -> &str {
+    pub fn name(&self) -> &str
+        ensures { result.now ≡ name_of self.now }
+    {
         match self.message.get("command").and_then(Value::as_str) {
             Some(name) => name,
             None => "",
@@ -55,39 +63,53 @@ impl Request {
     }
 
     /// What it asks for, if that is among the commands.
-    pub fn command(&self) -> Option<Command> {
+    pub fn command(&self) -> Option<Command>
+        ensures { result ≡ command_of self.now }
+    {
         Command::named(self.name())
     }
 
     /// An argument, if it is there.
-    pub fn argument(&self, name: &str) -> Option<&Value> {
+    pub fn argument(&self, name: &str) -> Option<&Value>
+        ensures { option_map (λ v. view v.now) result ≡ argument_of self.now name.now }
+    {
         self.message.get("arguments")?.get(name)
     }
 
     /// An argument that is a text.
-    pub fn text(&self, name: &str) -> Option<&str> {
+    pub fn text(&self, name: &str) -> Option<&str>
+        ensures { option_map (λ t. t.now) result ≡ text_of self.now name.now }
+    {
         self.argument(name)?.as_str()
     }
 
     /// An argument that is a number, zero or more.
-    pub fn number(&self, name: &str) -> Option<u64> {
+    pub fn number(&self, name: &str) -> Option<u64>
+        ensures { result ≡ number_of self.now name.now }
+    {
         self.argument(name)?.as_u64()
     }
 
     /// An argument that is a whole number.
-    pub fn integer(&self, name: &str) -> Option<i64> {
+    pub fn integer(&self, name: &str) -> Option<i64>
+        ensures { result ≡ integer_of self.now name.now }
+    {
         self.argument(name)?.as_i64()
     }
 
     /// Whether an argument is `true`.
-    pub fn flag(&self, name: &str) -> bool {
+    pub fn flag(&self, name: &str) -> bool
+        ensures { result ≡ flag_of self.now name.now }
+    {
         self.argument(name)
             .and_then(Value::as_bool)
             .unwrap_or(false)
     }
 
     /// An argument that is a list.
-    pub fn list(&self, name: &str) -> Option<&[Value]> {
+    pub fn list(&self, name: &str) -> Option<&[Value]>
+        ensures { option_map (λ s. items_view s.now) result ≡ list_of self.now name.now }
+    {
         Some(self.argument(name)?.as_array()?.as_slice())
     }
 }

@@ -1,0 +1,4 @@
+pub mod Effect
+pub mod Fault
+pub mod Kind
+pub mod Runs

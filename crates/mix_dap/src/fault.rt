@@ -1,5 +1,9 @@
 //! Why a request is refused: a number and a text each.
 
+ghost use Rattle.std.specs.Prelude.{◌≡◌, IfOk, Some};
+ghost use Rattle.serde_json.specs.View.{view};
+ghost use Rattle.mix_dap.specs.Fault.{fault_number, fault_text, text_place};
+
 use dap_message::{Fields, Outbox, Request};
 use mix_machine::DeckFault;
 use mix_refused::Memory;
@@ -42,7 +46,9 @@ pub enum Fault {
 
 impl Fault {
     /// The number by which the protocol tells errors apart: 100 and the number of A, 200 of C, 300 of D, 400 of K, 500 of T.
-    pub fn number(self) -> u64 {
+    pub fn number(self) -> u64
+        ensures { result ≡ fault_number self }
+    {
         match self {
             Fault::Source(fault) => 100 + u64::from(fault.kind.number()),
             Fault::Session(refusal) => 200 + u64::from(refusal.number()),
@@ -61,6 +67,8 @@ impl Fault {
 }
 
 impl fmt::Display for Fault {
+    ghost output = { λ fault. Some (fault_text fault) };
+
     fn fmt<W: fmt::Write>(&self, f: &mut fmt::Formatter<W>) -> fmt::Result {
         match self {
             Fault::Source(fault) => write!(f, "{fault}"),
@@ -97,7 +105,9 @@ pub(crate) fn refuse(
 }
 
 // Where a fault of a text stands: which text of a launch, and its line.
-fn place_of(alloc: Global, name: &str, line: u32) -> Result<Value, Memory> {
+fn place_of(alloc: Global, name: &str, line: u32) -> Result<Value, Memory>
+    ensures { IfOk result (λ place. view place ≡ text_place name.now line) }
+{
     let line = format!(in alloc; "{line}")?;
     let mut place = Fields::new(alloc);
     place.text("text", name)?;

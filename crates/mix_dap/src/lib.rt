@@ -6,6 +6,7 @@ mod capabilities;
 mod evaluate;
 mod fault;
 mod hear;
+mod kind;
 mod launch;
 mod layout;
 mod look;

@@ -1,5 +1,8 @@
 //! What is looked at: the one thread, its one frame, scopes and variables.
 
+ghost use Rattle.std.specs.Prelude.{◌≡◌, option_and_then};
+ghost use Rattle.mix_dap.specs.Effect.{set_words, words_of_scope};
+
 use crate::fault::Fault;
 use crate::layout::reference_of;
 use crate::value::{cell_at, cell_name, characters, indicator, register_value, toggle, word_value};
@@ -43,7 +46,9 @@ pub(crate) enum Scope {
 }
 
 /// The scope of a reference.
-pub(crate) fn scope_of(reference: u64) -> Option<Scope> {
+pub(crate) fn scope_of(reference: u64) -> Option<Scope>
+    ensures { option_and_then words_of_scope result ≡ set_words reference }
+{
     match reference {
         REGISTERS => Some(Scope::Registers),
         FLAGS => Some(Scope::Flags),

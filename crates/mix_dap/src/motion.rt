@@ -1,7 +1,8 @@
 //! A step, a change taken back, pieces of a long run of either, and why it stops.
 
-ghost use Rattle.std.specs.Prelude.{◌≡◌, ◌+◌, ◌<◌, IfNone, IfOk, IfSome, length};
-ghost use Rattle.mix_session.specs.Command.{after, effect_of};
+ghost use Rattle.std.specs.Prelude.{◌≡◌, ◌+◌, ◌<◌, IfErr, IfNone, IfOk, IfSome, length};
+ghost use Rattle.mix_session.specs.Command.{after, effect_of, Begun};
+ghost use Rattle.mix_dap.specs.Runs.{RanForth, RanBack};
 ghost use Rattle.mix_session.specs.declared.request.Request.TheVariants.{Back};
 ghost use Rattle.mix_session.specs.Face.{step_request};
 
@@ -40,6 +41,7 @@ pub(crate) fn step(session: &mut Session) -> Result<Option<MixFault>, Memory>
     ensures program { session.new.program ≡ session.old.program }
     ensures first { session.new.timeline.first ≡ session.old.timeline.first }
     ensures effect { IfOk result (λ _. session.new.timeline ≡ after (effect_of session.old.timeline (step_request session.old.timeline))) }
+    ensures begun { IfErr result (λ _. Begun (effect_of session.old.timeline (step_request session.old.timeline)) session.new.timeline) }
 {
     session.step()
 }
@@ -49,6 +51,7 @@ pub(crate) fn step_back(session: &mut Session) -> Result<Option<Refusal>, Memory
     ensures program { session.new.program ≡ session.old.program }
     ensures first { session.new.timeline.first ≡ session.old.timeline.first }
     ensures effect { IfOk result (λ _. session.new.timeline ≡ after (effect_of session.old.timeline (Back 1))) }
+    ensures begun { IfErr result (λ _. Begun (effect_of session.old.timeline (Back 1)) session.new.timeline) }
     ensures taken { IfOk result (λ refusal. IfNone refusal (length session.new.timeline.changes + 1 ≡ length session.old.timeline.changes)) }
     ensures none { IfOk result (λ refusal. IfSome refusal (λ _. (session.new.timeline ≡ session.old.timeline) × (length session.old.timeline.changes ≡ 0))) }
 {
@@ -64,9 +67,10 @@ pub(crate) fn run_piece(
 ) -> Result<Option<Stop>, Memory>
     ensures program { session.new.program ≡ session.old.program }
     ensures first { session.new.timeline.first ≡ session.old.timeline.first }
+    ensures ran { RanForth 100000 session.old.timeline session.new.timeline }
 {
     let mut marks = points.marks(alloc, session.world())?;
-    'steps: for _ in 0..PIECE {
+    'steps: for done in 0..PIECE {
         let halts = session.world().next_is_halt();
         match step(session)? {
             Some(fault) => return Ok(Some(Stop::Fault(fault))),
@@ -106,6 +110,7 @@ pub(crate) fn back_piece(
 ) -> Result<Option<Stop>, Memory>
     ensures program { session.new.program ≡ session.old.program }
     ensures first { session.new.timeline.first ≡ session.old.timeline.first }
+    ensures ran { RanBack 100000 session.old.timeline session.new.timeline }
     ensures moved { IfOk result (λ _. 0 < length session.old.timeline.changes → length session.new.timeline.changes < length session.old.timeline.changes) }
 {
     let mut seen = points.marks(alloc, session.world())?;

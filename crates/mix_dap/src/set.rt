@@ -1,5 +1,11 @@
 //! What is set: variables, the location, and bytes of the memory. Each is a change of the machine, which can be taken back.
 
+ghost use Rattle.std.specs.Prelude.{◌≡◌, ◌≤◌, ◌<◌, ◌++◌, IfOk, MatchOption, Some, codes, option_map, string_bytes};
+ghost use Rattle.mix_refused.specs.Refused.{IfFault, IfMemory};
+ghost use Rattle.mix_session.specs.Command.{after, Begun};
+ghost use Rattle.dap_message.specs.Request.{number_of};
+ghost use Rattle.mix_dap.specs.Effect.{effect_of_goto, set_line, words_of_scope, SetsCells};
+
 use crate::fault::Fault;
 use crate::layout::{CELL_BYTES, MEMORY_BYTES, bytes_of, word_of};
 use crate::look::{Scope, scope_of};
@@ -11,17 +17,9 @@ use base64::engine::general_purpose::STANDARD;
 use dap_message::{Fields, Request};
 use mix_machine::{Change, Place, Reg, Word, World};
 use mix_refused::{Memory, Refused};
-use mix_session::{Refusal, Session};
+use mix_session::Session;
 use serde_json::Value;
 use std::alloc::Global;
-
-/// A refusal of the session, if there is one, as the answer of a request.
-pub(crate) fn unless(refusal: Option<Refusal>) -> Result<(), Refused<Fault>> {
-    match refusal {
-        Some(refusal) => Err(Refused::Fault(Fault::Session(refusal))),
-        None => Ok(()),
-    }
-}
 
 /// The value of a variable of a scope.
 pub(crate) fn value_now(alloc: Global, world: &World, request: &Request) -> Result<String, Memory> {
@@ -44,20 +42,44 @@ pub(crate) fn value_now(alloc: Global, world: &World, request: &Request) -> Resu
 }
 
 /// The line of a script that sets a variable of a scope.
-pub(crate) fn line_of_set(alloc: Global, request: &Request) -> Result<String, Refused<Fault>> {
-    let scope = request.number("variablesReference").and_then(scope_of);
-    let (Some(scope), Some(name), Some(value)) = (
-        scope,
-        request.text("name"),
-        request.text("value"),
-    ) else {
+#[tactic(auto, unfolding(crate::specs::Effect::set_line))]
+pub(crate) fn line_of_set(alloc: Global, request: &Request) -> Result<String, Refused<Fault>>
+    ensures { IfOk result (λ line. set_line request.now ≡ Some (string_bytes line)) }
+{
+    let Some(reference) = request.number("variablesReference") else {
         return Err(Refused::Fault(Fault::BadArgument));
     };
+    let Some(scope) = scope_of(reference) else {
+        return Err(Refused::Fault(Fault::BadArgument));
+    };
+    let Some(name) = request.text("name") else {
+        return Err(Refused::Fault(Fault::BadArgument));
+    };
+    let Some(value) = request.text("value") else {
+        return Err(Refused::Fault(Fault::BadArgument));
+    };
+    let Some(words) = words_of(scope) else {
+        return Err(Refused::Fault(Fault::NoSuchThing));
+    };
+    Ok(line_with(alloc, words, name, value)?)
+}
+
+// The words before the name of a variable; there are none where nothing is set.
+fn words_of(scope: Scope) -> Option<&'static str>
+    ensures { option_map (λ words. words.now) result ≡ words_of_scope scope }
+{
     match scope {
-        Scope::Registers | Scope::Flags => Ok(format!(in alloc; "set {name} {value}")?),
-        Scope::Page(_) => Ok(format!(in alloc; "set cell {name} {value}")?),
-        Scope::Units | Scope::Unit(_) | Scope::Memory => Err(Refused::Fault(Fault::NoSuchThing)),
+        Scope::Registers | Scope::Flags => Some("set "),
+        Scope::Page(_) => Some("set cell "),
+        Scope::Units | Scope::Unit(_) | Scope::Memory => None,
     }
+}
+
+fn line_with(alloc: Global, words: &str, name: &str, value: &str) -> Result<String, Memory>
+    ensures { IfOk result (λ line. string_bytes line ≡ words.now ++ name.now ++ codes " " ++ value.now) }
+{
+    let line = format!(in alloc; "{words}{name} {value}")?;
+    Ok(line)
 }
 
 /// The cells where a line of the source may be gone to: the first one from the line on.
@@ -87,14 +109,30 @@ pub(crate) fn goto_targets(
 }
 
 /// Sets the location to the cell of a target.
-pub(crate) fn go_to(session: &mut Session, request: &Request) -> Result<(), Refused<Fault>> {
-    let target = request
-        .number("targetId")
-        .and_then(|id| u16::try_from(id).ok());
-    match target.and_then(Place::of) {
-        Some(place) => unless(session.change(Change::SetLoc(place))?),
-        None => Err(Refused::Fault(Fault::NoSuchThing)),
+pub(crate) fn go_to(session: &mut Session, request: &Request) -> Result<(), Refused<Fault>>
+    ensures program { session.new.program ≡ session.old.program }
+    ensures first { session.new.timeline.first ≡ session.old.timeline.first }
+    ensures done { IfOk result (λ _. session.new.timeline ≡ after (effect_of_goto session.old.timeline (number_of request.now (codes "targetId")))) }
+    ensures refused { IfFault result (λ _. session.new.timeline ≡ session.old.timeline) }
+    ensures begun { IfMemory result (Begun (effect_of_goto session.old.timeline (number_of request.now (codes "targetId"))) session.new.timeline) }
+{
+    let Some(target) = request.number("targetId") else {
+        return Err(Refused::Fault(Fault::NoSuchThing));
+    };
+    let Some(place) = cell_numbered(target) else {
+        return Err(Refused::Fault(Fault::NoSuchThing));
+    };
+    match session.change(Change::SetLoc(place))? {
+        Some(refusal) => Err(Refused::Fault(Fault::Session(refusal))),
+        None => Ok(()),
     }
+}
+
+// The cell of a number.
+fn cell_numbered(number: u64) -> Option<Place>
+    ensures { MatchOption result (4000 ≤ number) (λ place. (number < 4000) × (place ≡ number)) }
+{
+    u16::try_from(number).ok().and_then(Place::of)
 }
 
 /// Writes bytes in base64 into the memory, a change for each cell that they lie in, and tells how many they are. All bytes are looked at before
@@ -103,17 +141,42 @@ pub(crate) fn write_memory(
     alloc: Global,
     session: &mut Session,
     request: &Request,
-) -> Result<usize, Refused<Fault>> {
+) -> Result<usize, Refused<Fault>>
+    ensures program { session.new.program ≡ session.old.program }
+    ensures first { session.new.timeline.first ≡ session.old.timeline.first }
+    ensures sets { SetsCells session.old.timeline session.new.timeline }
+    ensures refused { IfFault result (λ _. session.new.timeline ≡ session.old.timeline) }
+{
     let start = start_of(request)?;
     let bytes = bytes_asked(alloc, request)?;
     if bytes.len() as u64 > MEMORY_BYTES.saturating_sub(start) {
         return Err(Refused::Fault(Fault::NoSuchThing));
     }
     let changes = changes_of(alloc, session.world(), start, bytes.as_slice())?;
-    for change in changes.iter() {
-        unless(session.change(Change::SetCell(change.0, change.1))?)?;
-    }
+    set_cells(session, changes.as_slice())?;
     Ok(bytes.len())
+}
+
+// Sets cells, one after the other. The machine refuses none.
+fn set_cells(session: &mut Session, cells: &[(Place, Word)]) -> Result<(), Memory>
+    ensures program { session.new.program ≡ session.old.program }
+    ensures first { session.new.timeline.first ≡ session.old.timeline.first }
+    ensures sets { SetsCells session.old.timeline session.new.timeline }
+{
+    for cell in cells {
+        set_cell(session, cell.0, cell.1)?;
+    }
+    Ok(())
+}
+
+fn set_cell(session: &mut Session, place: Place, word: Word) -> Result<(), Memory>
+    ensures program { session.new.program ≡ session.old.program }
+    ensures first { session.new.timeline.first ≡ session.old.timeline.first }
+    ensures sets { SetsCells session.old.timeline session.new.timeline }
+{
+    match session.change(Change::SetCell(place, word))? {
+        Some(_) | None => Ok(()),
+    }
 }
 
 fn bytes_asked(alloc: Global, request: &Request) -> Result<Vec<u8>, Refused<Fault>> {

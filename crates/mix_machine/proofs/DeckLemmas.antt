@@ -1,8 +1,7 @@
 -- The words of a line of a deck, one after the other.
-use Rattle.std.proofs.Common.{ℕ, Bool, suc, ◌+◌, ◌-◌, ◌*◌, ◌≡◌, ◌==◌, ◌<◌, ◌≤◌, nat_lt, true, false, length, List, [], ◌∷◌, ◌++◌, Option, None, Some, Ok, Err, refl, ap, arith, append_assoc}
+use Rattle.std.proofs.Common.{ℕ, suc, ◌+◌, ◌-◌, ◌*◌, ◌≡◌, ◌==◌, ◌<◌, true, length, List, [], ◌∷◌, ◌++◌, Option, None, Some, Ok, refl, ap, arith, append_assoc}
 use Rattle.std.specs.Option.{option_map}
 use Rattle.std.proofs.lemmas.Bool.{eqb-true}
-use Rattle.std.proofs.lemmas.Bool.Decides.{nat_tests}
 use Rattle.mix_lines.specs.Lines.{lines, lines-nil}
 use Rattle.mix_word.specs.Word.{WordValue}
 use Rattle.mix_machine.specs.units.deck.Block.{deck_word, deck_words, word_at, words_from}

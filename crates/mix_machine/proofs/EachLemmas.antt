@@ -1,5 +1,6 @@
 -- One of many values written after the others.
-use Rattle.std.proofs.Common.{ℕ, zero, suc, ◌+◌, ◌<◌, ◌≤◌, ◌≡◌, ◌++◌, List, [], ◌∷◌, length, Vec, sym, ap, subst, refl, arith}
+use Rattle.std.proofs.Common.{ℕ, zero, suc, ◌+◌, ◌<◌, ◌≤◌, ◌≡◌, ◌++◌, [], ◌∷◌, length, ap, subst, refl, arith}
+use Rattle.undo_core.specs.Pack.{KeptList}
 use Rattle.mix_machine.specs.World.{WorldState}
 use Rattle.mix_machine.specs.Write.{Write, set, each}
 use Rattle.mix_machine.specs.law.Wrote.{HasRoom, Wrote}
@@ -16,24 +17,23 @@ pub length-each : (n j : ℕ) (f : ℕ → Old) → length (each n j f) ≡ n
 length-each zero j f = refl
 length-each (suc n) j f = ap suc (length-each n (j + 1) f)
 
-pub each-written : {Z : Type 0} (j : ℕ) (f : ℕ → Old) (o : Old) (w v u : WorldState) (ks ls ms : Vec Old Z) → Wrote (each j 0 f) w v ks ls →
+pub each-written : (j : ℕ) (f : ℕ → Old) (o : Old) (w v u : WorldState) (ks ls ms : KeptList Old) → Wrote (each j 0 f) w v ks ls →
     Wrote (set o ∷ []) v u ls ms → o ≡ f j → Wrote (each (j + 1) 0 f) w u ks ms
 each-written j f o w v u ks ls ms a b e =
     let one = subst (λ p. Wrote (set p ∷ []) v u ls ms) e b in
     rw (each-last j 0 (j + 1) j f refl (omega arith)) (joined (each j 0 f) (set (f j) ∷ []) w v u ks ls ms a one)
 
 -- there is room for it
-pub each-room : {Z : Type 0} (size j : ℕ) (f : ℕ → Old) (x : Write) (w v : WorldState) (ks ls : Vec Old Z) → HasRoom ks (each size 0 f) →
+pub each-room : (size j : ℕ) (f : ℕ → Old) (x : Write) (w v : WorldState) (ks ls : KeptList Old) → HasRoom ks (each size 0 f) →
     Wrote (each j 0 f) w v ks ls → j < size → HasRoom ls (x ∷ [])
 each-room size j f x w v ks ls h a l =
     let all = length-each size 0 f in
     let some = length-each j 0 f in
-    let len = a.len in
-    let capacity = a.capacity in
+    let room = a.room in
     omega arith
 
 -- the last one is written
-pub each-done : {Z : Type 0} (size j : ℕ) (f : ℕ → Old) (w v : WorldState) (ks ls : Vec Old Z) → Wrote (each j 0 f) w v ks ls → j ≡ size →
+pub each-done : (size j : ℕ) (f : ℕ → Old) (w v : WorldState) (ks ls : KeptList Old) → Wrote (each j 0 f) w v ks ls → j ≡ size →
     Wrote (each size 0 f) w v ks ls
 each-done size j f w v ks ls a e = subst (λ n. Wrote (each n 0 f) w v ks ls) e a
 

@@ -8,8 +8,8 @@ pub mod DeckLemmas
 pub mod EachLemmas
 pub mod Halting
 pub mod MarkLemmas
+pub mod PackLemmas
 pub mod RegisterLemmas
-pub mod Reverting
 pub mod SameFields
 pub mod SameUnit
 pub mod StageLemmas

@@ -1,6 +1,6 @@
 -- What the marks of parts say: the values that are put back give the marks before, and a change alters a part exactly
 -- where it alters its mark.
-use Rattle.std.specs.Prelude.{ℕ, zero, suc, Bool, true, false, cond, ◌==◌, List, [], ◌∷◌, ◌≡◌, ◌≢◌, ◌<◌, length, take, IsTrue, Option, None, Some, unwrap_or, refl, slice_set, slice_index_or}
+use Rattle.std.specs.Prelude.{ℕ, zero, suc, Bool, true, false, cond, ◌==◌, List, [], ◌∷◌, ◌++◌, ◌≡◌, ◌≢◌, ◌<◌, length, take, IsTrue, Option, None, Some, unwrap_or, refl, slice_set, slice_index_or}
 use Rattle.std.specs.Option.{option_and_then}
 use Rattle.std.specs.Bool.{then_some}
 use Rattle.std.proofs.Common.{ap, sym, subst, ◌∙◌, arith}
@@ -25,6 +25,7 @@ use Rattle.mix_machine.specs.declared.old.Old.{Old}
 use Rattle.mix_machine.specs.declared.old.Old.TheVariants as old
 use Rattle.mix_machine.specs.declared.part.Part.{Part}
 use Rattle.mix_machine.specs.declared.part.Part.TheVariants.{Register, Over, Cmp as Indicated, Cell, Unit as Device, Loc, Clock}
+use Rattle.mix_machine.specs.declared.part.Mark.{Mark}
 use Rattle.mix_machine.specs.declared.part.Mark.TheVariants as mark
 
 -- what a register holds after one was set
@@ -98,6 +99,16 @@ mark-set_value w _ _ h p = refl
 put-fits : (b : Bool) (w v : WorldState) → then_some b w ≡ Some v → IsTrue b × (w ≡ v)
 put-fits true w v e = (refl, cc)
 put-fits false w v e = absurd (cc)
+
+mark_before-append : (os : List Old) (o : Old) (part : Part) (m : Mark) →
+    mark_before os part (unwrap_or (mark_given o part) m) ≡ mark_before (os ++ o ∷ []) part m
+mark_before-append [] o part m = refl
+mark_before-append (x ∷ os) o part m = ap (unwrap_or (mark_given x part)) (mark_before-append os o part m)
+
+-- where the last of some values gives a mark, those before it are asked with that one
+pub mark_before-last : (olds rest : List Old) (o : Old) (part : Part) (m n : Mark) → olds ≡ rest ++ o ∷ [] → n ≡ unwrap_or (mark_given o part) m →
+    mark_before rest part n ≡ mark_before olds part m
+mark_before-last olds rest o part m n is given = rw (is, given) (mark_before-append rest o part m)
 
 -- What putting back a list gives, where there is such a state: it is one of the machine, and its marks are those that
 -- the values say.

@@ -1,7 +1,8 @@
 -- A block moved between a unit and the cells: the place and the time of the unit, and then the words.
-use Rattle.std.proofs.Common.{ℕ, suc, ◌+◌, ◌-◌, ◌≡◌, ◌<◌, ◌≤◌, ◌++◌, ◌∙◌, Bool, true, false, cond, IsTrue, List, [], ◌∷◌, length, nat_lt, take, drop, Vec, sym, ap, subst, arith, refl}
+use Rattle.std.proofs.Common.{ℕ, ◌+◌, ◌-◌, ◌≡◌, ◌<◌, ◌≤◌, ◌++◌, ◌∙◌, Bool, true, false, cond, IsTrue, List, [], ◌∷◌, length, nat_lt, take, drop, sym, ap, subst, arith, refl}
 use Rattle.std.specs.Prelude.{slice_index_or}
 use Rattle.std.proofs.lemmas.Bool.Decides.{nat_tests}
+use Rattle.undo_core.specs.Pack.{KeptList}
 use Rattle.mix_word.specs.Word.{WordValue, zero_word}
 use Rattle.mix_machine.specs.World.{WorldState, IsWorld, unit_at}
 use Rattle.mix_machine.specs.units.UnitKind.{block_length, has_place, has_medium}
@@ -22,7 +23,7 @@ use Rattle.mix_machine.specs.law.Wrote.{Wrote}
 use Rattle.mix_machine.proofs.WriteLemmas.{joined}
 
 -- the place, the time and the words
-pub transferred : {Z : Type 0} (v w w1 w2 w3 : WorldState) (n end : ℕ) (ps xs ys : List Write) (ks k1 k2 k3 : Vec Old Z) → Wrote ps w w1 ks k1 →
+pub transferred : (v w w1 w2 w3 : WorldState) (n end : ℕ) (ps xs ys : List Write) (ks k1 k2 k3 : KeptList Old) → Wrote ps w w1 ks k1 →
     Wrote (set (Until n end) ∷ []) w1 w2 k1 k2 → Wrote ys w2 w3 k2 k3 → end ≡ transfer_end v n → ys ≡ xs → Wrote (ps ++ busy v n ∷ xs) w w3 ks k3
 transferred v w w1 w2 w3 n end ps xs ys ks k1 k2 k3 a b c e g =
     let time = subst (λ k. Wrote (set (Until n k) ∷ []) w1 w2 k1 k2) e b in
@@ -72,10 +73,6 @@ blocks-of w n u k ek eu = rw (ek, eu) refl
 
 pub length-of : (w : WorldState) (n : ℕ) (u : UnitState) (k : ℕ) → k ≡ length_of u → u ≡ unit_at w n → k ≡ length_at w.units n
 length-of w n u k ek eu = rw (ek, eu) refl
-
--- there is room after what the unit holds more
-pub room-now : (len cap n : ℕ) → len + suc n ≤ cap → len < cap
-room-now len cap n h = omega arith
 
 pub room-grown : (v w : WorldState) (t : Transfer) (blocks : ℕ) → v ≡ w → OutputFits w t → has_medium (unit_at w t.unit).kind ≡ true →
     length (unit_at w t.unit).blocks ≤ t.block → blocks ≡ length (unit_at w t.unit).blocks →

@@ -1,6 +1,7 @@
 -- Lists of writes one after the other.
-use Rattle.std.proofs.Common.{ℕ, zero, suc, ◌+◌, ◌≡◌, ◌∙◌, List, [], ◌∷◌, ◌++◌, length, Vec, vec_items, vec_len, vec_capacity, ap, sym, refl, arith, length-append, append_assoc}
+use Rattle.std.proofs.Common.{ℕ, zero, suc, ◌+◌, ◌≤◌, ◌≡◌, ◌∙◌, List, [], ◌∷◌, ◌++◌, length, ap, sym, refl, arith, length-append, append_assoc}
 use Rattle.std.proofs.lemmas.List.{append-nil}
+use Rattle.undo_core.specs.Pack.{KeptList}
 use Rattle.mix_machine.specs.World.{WorldState, cell_of}
 use Rattle.mix_machine.specs.Write.{Write, set, written, replaced, write_all, kept_by, copies}
 use Rattle.mix_machine.specs.law.Wrote.{HasRoom, Wrote}
@@ -28,45 +29,40 @@ length-kept_by w (x ∷ xs) = ap suc (length-kept_by (written w x) xs)
 pub ruleset one_after_another = (write_all-append, kept_by-append, length-copies, length-append, append_assoc)
 
 -- nothing is written
-pub wrote-none : {Z : Type 0} (w : WorldState) (ks : Vec Old Z) → Wrote [] w w ks ks
-wrote-none w ks = record { state = refl; kept = sym (append-nil (vec_items ks)); len = omega arith; capacity = refl }
+pub wrote-none : (w : WorldState) (ks : KeptList Old) → Wrote [] w w ks ks
+wrote-none w ks = record { state = refl; kept = sym (append-nil ks.items); room = omega arith }
 
 -- and then more
-pub joined : {Z : Type 0} (xs ys : List Write) (w v u : WorldState) (ks ls ms : Vec Old Z) → Wrote xs w v ks ls → Wrote ys v u ls ms →
+pub joined : (xs ys : List Write) (w v u : WorldState) (ks ls ms : KeptList Old) → Wrote xs w v ks ls → Wrote ys v u ls ms →
     Wrote (xs ++ ys) w u ks ms
 joined xs ys w v u ks ls ms a b =
     let all = length-append xs ys in
-    let first = a.len in
-    let second = b.len in
+    let first = a.room in
+    let second = b.room in
     record {
       state = b.state ∙ ap (λ (s : WorldState). write_all s ys) a.state ∙ sym (write_all-append w xs ys);
-      kept = rw (b.kept, a.kept, a.state) (append_assoc (vec_items ks) (kept_by w xs) _ ∙ sym (ap (λ os. vec_items ks ++ os) (kept_by-append w xs ys)));
-      len = omega arith;
-      capacity = b.capacity ∙ a.capacity;
+      kept = rw (b.kept, a.kept, a.state) (append_assoc (ks.items) (kept_by w xs) _ ∙ sym (ap (λ os. ks.items ++ os) (kept_by-append w xs ys)));
+      room = omega arith;
     }
 
 -- there is room for the first of them, for the next one, and for the rest
-pub room-first : {Z : Type 0} (xs ys : List Write) (ks : Vec Old Z) → HasRoom ks (xs ++ ys) → HasRoom ks xs
+pub room-first : (xs ys : List Write) (ks : KeptList Old) → HasRoom ks (xs ++ ys) → HasRoom ks xs
 room-first xs ys ks h = let all = length-append xs ys in omega arith
 
-pub room-next : {Z : Type 0} (xs ys : List Write) (x y : Write) (w v : WorldState) (ks ls : Vec Old Z) → HasRoom ks (xs ++ x ∷ ys) → Wrote xs w v ks ls →
+pub room-next : (xs ys : List Write) (x y : Write) (w v : WorldState) (ks ls : KeptList Old) → HasRoom ks (xs ++ x ∷ ys) → Wrote xs w v ks ls →
     HasRoom ls (y ∷ [])
 room-next xs ys x y w v ks ls h a =
     let all = length-append xs (x ∷ ys) in
-    let len = a.len in
-    let capacity = a.capacity in
+    let room = a.room in
     omega arith
 
-pub room-last : {Z : Type 0} (xs ys zs : List Write) (x y : Write) (w v u : WorldState) (ks ls ms : Vec Old Z) → HasRoom ks (xs ++ x ∷ ys) →
+pub room-last : (xs ys zs : List Write) (x y : Write) (w v u : WorldState) (ks ls ms : KeptList Old) → HasRoom ks (xs ++ x ∷ ys) →
     Wrote xs w v ks ls → Wrote (y ∷ []) v u ls ms → length zs ≡ length ys → HasRoom ms zs
 room-last xs ys zs x y w v u ks ls ms h a b e =
     let all = length-append xs (x ∷ ys) in
-    let len = a.len in
-    let capacity = a.capacity in
-    let len2 = b.len in
-    let capacity2 = b.capacity in
+    let first = a.room in
+    let second = b.room in
     omega arith
 
-pub room-rest : {Z : Type 0} (x : Write) (xs : List Write) (ks ls : Vec Old Z) → HasRoom ks (x ∷ xs) → vec_len ls ≡ vec_len ks + 1 →
-    vec_capacity ls ≡ vec_capacity ks → HasRoom ls xs
-room-rest x xs ks ls h e f = omega arith
+pub room-rest : (x : Write) (xs : List Write) (ks ls : KeptList Old) → HasRoom ks (x ∷ xs) → ks.room ≤ ls.room + 1 → HasRoom ls xs
+room-rest x xs ks ls h e = omega arith

@@ -7,6 +7,7 @@ pub mod Jump
 pub mod KeptCount
 pub mod Loaded
 pub mod Order
+pub mod Pack
 pub mod Part
 pub mod Registers
 pub mod UnitAction

@@ -1,7 +1,9 @@
--- The lemmas of the law of taking back, and what the parts of the code say of one step.
+-- The lemmas of the laws of taking back and of packing, and what the parts of the code say of one step.
 pub mod Accepted
+pub mod Apart
 pub mod Carried
 pub mod Fits
+pub mod Packed
 pub mod Passed
 pub mod Plans
 pub mod Stages

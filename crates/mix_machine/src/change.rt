@@ -10,7 +10,7 @@ use crate::old::{Change, Old};
 use crate::registers::fits_register;
 use crate::world::World;
 use mix_word::{Place, Word};
-use undo_core::Refused;
+use undo_core::{Kept, Refused};
 
 impl World {
     /// Does a change, or reports its first fault; out of memory is the answer to none that has a fault.
@@ -19,7 +19,7 @@ impl World {
     pub(crate) fn change(
         &mut self,
         change: Change,
-        kept: &mut Vec<Old>,
+        kept: &mut Kept<Old>,
     ) -> Result<(), Refused<MixFault>>
         ensures real { IsReal change }
         ensures done { Carried (plan_of self.old change) self.old self.new kept.old.items kept.new.items result }
@@ -44,7 +44,7 @@ impl World {
 
     // Sets one value that fits its place. (It stands apart, so that a step alone is short.)
     #[inline(never)]
-    fn set(&mut self, value: Old, kept: &mut Vec<Old>) -> Result<(), Refused<MixFault>>
+    fn set(&mut self, value: Old, kept: &mut Kept<Old>) -> Result<(), Refused<MixFault>>
         requires { IsTrue (fits self.old value) }
         ensures { Carried (Ok (Value value)) self.old self.new kept.old.items kept.new.items result }
     {

@@ -9,6 +9,7 @@ mod fault;
 mod laws;
 mod load;
 mod old;
+mod pack;
 mod part;
 mod perform;
 mod plan;

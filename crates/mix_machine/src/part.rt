@@ -1,5 +1,5 @@
 //! The parts of the machine, and the marks by which it is seen that a change altered one.
-ghost use Rattle.std.specs.Prelude.{◌≡◌};
+ghost use Rattle.std.specs.Prelude.{◌≡◌, unwrap_or};
 ghost use Rattle.mix_machine.specs.World.{IsWorld};
 ghost use Rattle.mix_machine.specs.Part.{IsPart, is_same_part, is_same_indicator, is_same_mark, mark_of, mark_in, mark_given, mark_before};
 
@@ -7,6 +7,7 @@ use crate::old::Old;
 use crate::units::UnitNo;
 use crate::world::World;
 use mix_word::{Cmp, Place, Reg, Word};
+use undo_core::Values;
 
 /// A part of the machine (1.3.1): a register, the overflow toggle, the comparison indicator, a cell, a unit, the location, or the clock.
 #[derive(Clone, Copy, Debug, PartialEq, Eq)]
@@ -114,31 +115,27 @@ impl Old {
     }
 }
 
-// The mark that a value gives of a part, if it gives one.
-fn mark_given(value: Old, part: &Part) -> Option<Mark>
-    ensures { result ≡ mark_given value part.now }
+// The mark that a value gives of a part, or else this one.
+fn mark_or(value: Old, part: &Part, mark: Mark) -> Mark
+    ensures { result ≡ unwrap_or (mark_given value part.now) mark }
 {
     match value.mark() {
-        None => None,
-        Some((other, mark)) => {
-            if other.is_same(*part) {
-                Some(mark)
-            } else {
-                None
-            }
-        }
+        None => mark,
+        Some((other, given)) => { if other.is_same(*part) { given } else { mark } }
     }
 }
 
 /// The mark of a part before the changes that kept these values, where `mark` is its mark after them.
-pub fn mark_before(kept: &[Old], part: Part, mark: Mark) -> Mark
+pub fn mark_before(kept: &Values<'_, Old>, part: Part, mark: Mark) -> Mark
     ensures { result ≡ mark_before kept.now part mark }
 {
-    for value in kept {
-        match mark_given(*value, &part) {
-            None => {}
-            Some(before) => return before,
+    let mut left = kept.copied();
+    let mut before = mark;
+    for _ in 0..left.len() {
+        match left.pop() {
+            None => unreachable!(),
+            Some(value) => before = mark_or(value, &part, before),
         }
     }
-    mark
+    before
 }

@@ -10,13 +10,13 @@ use crate::plan::{Plan, Writes};
 use crate::world::World;
 use mix_word::{Place, Reg, Word};
 use std::mem;
-use undo_core::Memory;
+use undo_core::{Kept, Memory};
 
 impl World {
     /// Carries out a plan whose values fit their places. Out of memory for what a unit holds more, nothing is altered.
     #[tactic(auto, using(crate::proofs::WriteLemmas::one_after_another))]
     #[inline(always)]
-    pub(crate) fn perform(&mut self, plan: Plan, kept: &mut Vec<Old>) -> Result<(), Memory>
+    pub(crate) fn perform(&mut self, plan: Plan, kept: &mut Kept<Old>) -> Result<(), Memory>
         requires fits { IsTrue (plan_fits self.old plan) }
         requires units { PlanFits self.old plan }
         requires room { HasRoom kept.old (writes_of self.old plan) }
@@ -36,7 +36,7 @@ impl World {
     // What an operation writes. What a unit holds more comes first, so that nothing is altered where there is no memory for it.
     #[tactic(auto, using(crate::proofs::WriteLemmas::one_after_another))]
     #[inline(always)]
-    fn write_in(&mut self, writes: Writes, kept: &mut Vec<Old>) -> Result<(), Memory>
+    fn write_in(&mut self, writes: Writes, kept: &mut Kept<Old>) -> Result<(), Memory>
         requires fits { IsTrue (all_fit writes) }
         requires units { UnitFits self.old writes }
         requires room { HasRoom kept.old (writes_in self.old writes) }
@@ -71,8 +71,8 @@ impl World {
     }
 
     // Words into rA and rX.
-    #[inline(always)]
-    fn write_pair(&mut self, upper: Word, lower: Word, kept: &mut Vec<Old>)
+    #[inline(never)]
+    fn write_pair(&mut self, upper: Word, lower: Word, kept: &mut Kept<Old>)
         requires room { HasRoom kept.old (writes_in self.old (Writes.Pair upper lower)) }
         ensures { Wrote (writes_in self.old (Writes.Pair upper lower)) self.old self.new kept.old kept.new }
     {
@@ -81,7 +81,7 @@ impl World {
     }
 
     // So many words from one cell on to another on, one at a time, the first one first.
-    fn copy(&mut self, count: u8, from: u16, to: u16, kept: &mut Vec<Old>)
+    fn copy(&mut self, count: u8, from: u16, to: u16, kept: &mut Kept<Old>)
         requires there { from + count ≤ 4000 }
         requires into { to + count ≤ 4000 }
         requires room { HasRoom kept.old (copies count from to self.old) }
@@ -89,7 +89,7 @@ impl World {
     {
         // (a list that nothing else can reach, so that the compiler need not read its place and length again for each word)
         let alloc = *kept.allocator();
-        let mut list = mem::replace(kept, Vec::new(alloc));
+        let mut list = mem::replace(kept, Kept::new(alloc));
         for i in 0..count {
             let word = self.cell(place(from + u16::from(i)));
             self.write_cell(place(to + u16::from(i)), word, &mut list);

@@ -9,7 +9,7 @@ use crate::{
     Change, Mark, MixFault, Old, Part, Place, Reg, Sign, UnitNo, Units, Word, World, mark_before,
 };
 use std::alloc::Global;
-use undo_core::{Journal, Refused, Undo};
+use undo_core::{Journal, Kept, Refused, Undo, Values};
 
 const LAST_CLOCK: u64 = 1_000_000_000_000_000_000;
 
@@ -50,7 +50,7 @@ fn begun(alloc: Global, code: Code, number: u32, loc: u16, clock: u64) -> Option
     let words = [(start, instruction(code))];
     let mut world = World::load(alloc, &words, start, units).ok()?;
     let index = Word::of(Plus, number % 4096);
-    let mut kept = Vec::new(alloc);
+    let mut kept = Kept::new(alloc);
     world
         .apply(&Change::SetReg(Reg::I1, index), &mut kept)
         .ok()?;
@@ -142,19 +142,19 @@ fn copies(rt: HostRuntime) {
 }
 
 // The mark of a part before what is kept and the one after, and whether they are the same.
-fn marks_of(world: &World, kept: &[Old], part: &Part) -> (Mark, Mark, bool) {
+fn marks_of(world: &World, kept: &Values<'_, Old>, part: &Part) -> (Mark, Mark, bool) {
     let before = mark_before(kept, *part, world.mark(*part));
     (before, world.mark(*part), is_kept(world, kept, part))
 }
 
-fn is_kept(world: &World, kept: &[Old], part: &Part) -> bool {
+fn is_kept(world: &World, kept: &Values<'_, Old>, part: &Part) -> bool {
     mark_before(kept, *part, world.mark(*part)).is_same(world.mark(*part))
 }
 
 // The marks of rA, the toggle and the location before two changes of rA and one of the toggle, and after them.
 fn marks(alloc: Global) -> Option<[(Mark, Mark, bool); 3]> {
     let mut world = begun(alloc, (Plus, 0, 0, 0, 0), 0, 7, 0)?;
-    let mut kept = Vec::new(alloc);
+    let mut kept = Kept::new(alloc);
     let changes = [
         Change::SetReg(Reg::A, Word::of(Minus, 1)),
         Change::SetReg(Reg::A, Word::of(Minus, 0)),
@@ -164,9 +164,9 @@ fn marks(alloc: Global) -> Option<[(Mark, Mark, bool); 3]> {
         world.apply(change, &mut kept).ok()?;
     }
     Some([
-        marks_of(&world, &kept, &Part::Register(Reg::A)),
-        marks_of(&world, &kept, &Part::Over),
-        marks_of(&world, &kept, &Part::Loc),
+        marks_of(&world, &kept.values(), &Part::Register(Reg::A)),
+        marks_of(&world, &kept.values(), &Part::Over),
+        marks_of(&world, &kept.values(), &Part::Loc),
     ])
 }
 

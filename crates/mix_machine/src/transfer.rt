@@ -15,7 +15,7 @@ use crate::perform::place;
 use crate::plan::Transfer;
 use crate::units::{UnitKind, UnitNo};
 use crate::world::World;
-use undo_core::Memory;
+use undo_core::{Kept, Memory};
 
 impl World {
     /// The clock at which a transfer of a unit begins: at once, or when the last one is over.
@@ -41,7 +41,7 @@ impl World {
 
     /// What IN writes, of a unit of this kind.
     #[inline(never)]
-    pub(crate) fn input(&mut self, t: Transfer, kind: UnitKind, kept: &mut Vec<Old>)
+    pub(crate) fn input(&mut self, t: Transfer, kind: UnitKind, kept: &mut Kept<Old>)
         requires fits { InputFits self.old t }
         requires kind { kind ≡ (unit_at self.old t.unit).kind }
         requires room { HasRoom kept.old (input_writes kind self.old t) }
@@ -59,7 +59,7 @@ impl World {
 
     /// What OUT writes. Out of memory for a new block or row, nothing is altered.
     #[inline(never)]
-    pub(crate) fn output(&mut self, t: Transfer, kept: &mut Vec<Old>) -> Result<(), Memory>
+    pub(crate) fn output(&mut self, t: Transfer, kept: &mut Kept<Old>) -> Result<(), Memory>
         requires fits { OutputFits self.old t }
         requires room { HasRoom kept.old (output_writes (unit_at self.old t.unit).kind self.old t) }
         ensures tried { Tried (output_writes (unit_at self.old t.unit).kind self.old t) self.old self.new kept.old kept.new result }
@@ -79,7 +79,7 @@ impl World {
     }
 
     // The words of cells in place of those of a block.
-    fn replace(&mut self, t: Transfer, kind: UnitKind, kept: &mut Vec<Old>)
+    fn replace(&mut self, t: Transfer, kind: UnitKind, kept: &mut Kept<Old>)
         requires fits { OutputFits self.old t }
         requires kind { kind ≡ (unit_at self.old t.unit).kind }
         requires medium { has_medium kind ≡ true }
@@ -98,7 +98,7 @@ impl World {
     }
 
     // The words of cells as a new block, after as many blocks of +0 as are missing before it.
-    fn append(&mut self, t: Transfer, kind: UnitKind, kept: &mut Vec<Old>) -> Result<(), Memory>
+    fn append(&mut self, t: Transfer, kind: UnitKind, kept: &mut Kept<Old>) -> Result<(), Memory>
         requires fits { OutputFits self.old t }
         requires kind { kind ≡ (unit_at self.old t.unit).kind }
         requires medium { has_medium kind ≡ true }
@@ -120,7 +120,7 @@ impl World {
     }
 
     // The words of cells as a new row.
-    fn print(&mut self, t: Transfer, kind: UnitKind, kept: &mut Vec<Old>) -> Result<(), Memory>
+    fn print(&mut self, t: Transfer, kind: UnitKind, kept: &mut Kept<Old>) -> Result<(), Memory>
         requires fits { OutputFits self.old t }
         requires kind { kind ≡ (unit_at self.old t.unit).kind }
         requires medium { has_medium kind ≡ false }
@@ -139,7 +139,7 @@ impl World {
 
     /// What IOC writes. Out of memory for the mark of a page, nothing is altered.
     #[inline(never)]
-    pub(crate) fn control(&mut self, n: UnitNo, at: u16, kept: &mut Vec<Old>) -> Result<(), Memory>
+    pub(crate) fn control(&mut self, n: UnitNo, at: u16, kept: &mut Kept<Old>) -> Result<(), Memory>
         requires fits { ControlFits self.old n at }
         requires room { HasRoom kept.old (control_writes (unit_at self.old n).kind self.old n at) }
         ensures tried { Tried (control_writes (unit_at self.old n).kind self.old n at) self.old self.new kept.old kept.new result }
@@ -165,7 +165,7 @@ impl World {
     }
 
     // The place after the block, where the unit has one.
-    fn move_on(&mut self, kind: UnitKind, t: Transfer, kept: &mut Vec<Old>)
+    fn move_on(&mut self, kind: UnitKind, t: Transfer, kept: &mut Kept<Old>)
         requires few { t.block < 1000 }
         requires fits { has_place kind ≡ true → IsTrue (fits self.old (Old.At t.unit (t.block + 1))) }
         requires room { HasRoom kept.old (place_after kind t) }
@@ -178,7 +178,7 @@ impl World {
     }
 
     // The words of a block into cells.
-    fn to_cells(&mut self, t: Transfer, size: u8, kept: &mut Vec<Old>)
+    fn to_cells(&mut self, t: Transfer, size: u8, kept: &mut Kept<Old>)
         requires size { size ≡ block_length (unit_at self.old t.unit).kind }
         requires block { t.block < length (unit_at self.old t.unit).blocks }
         requires cells { t.cell + size ≤ 4000 }
@@ -192,7 +192,7 @@ impl World {
     }
 
     // The words of cells into a block.
-    fn from_cells(&mut self, t: Transfer, size: u8, kept: &mut Vec<Old>)
+    fn from_cells(&mut self, t: Transfer, size: u8, kept: &mut Kept<Old>)
         requires cells { t.cell + size ≤ 4000 }
         requires block { (j : ℕ) → j < size → IsTrue (fits_item self.old.units t.unit t.block j) }
         requires room { HasRoom kept.old (each size 0 (from_cell self.old t)) }

@@ -1,14 +1,16 @@
 //! The machine as a state whose changes can be taken back by the values that they replaced.
-ghost use Rattle.std.specs.Prelude.{◌≡◌};
+ghost use Rattle.std.specs.Prelude.{◌≡◌, ◌<◌, ◌∷◌, IsSome, IfSome, IsTrue, reverse, vec_len, vec_capacity};
 ghost use Rattle.mix_machine.specs.World.{IsWorld};
-ghost use Rattle.mix_machine.specs.Write.{put_value};
+ghost use Rattle.mix_machine.specs.Write.{put_value, set_value, fits};
+ghost use Rattle.mix_machine.specs.Pack.{last_value};
 ghost use Rattle.mix_machine.specs.Do.{does, kept_values, IsReal};
 ghost use Rattle.mix_machine.specs.law.Undone.{undone-does};
 
 use crate::fault::MixFault;
 use crate::old::{Change, Old};
+use crate::pack::{Kind, take_before, time};
 use crate::world::World;
-use undo_core::{Refused, Undo};
+use undo_core::{Kept, Refused, Undo};
 
 impl Undo for World {
     type Change = Change;
@@ -25,11 +27,17 @@ impl Undo for World {
 
     ghost put = { put_value };
 
+    /// Whether both are steps: those are what a journal has many of in a row.
+    #[inline(always)]
+    fn is_same(one: &Change, other: &Change) -> bool {
+        matches!(one, Change::Step) && matches!(other, Change::Step)
+    }
+
     /// Does a change (1.3.1), or reports its fault. A fault, or out of memory for what it keeps, alters nothing.
     #[tactic(auto, unfolding(crate::specs::Do::does, crate::specs::Do::kept_values))]
     // (inlined, as `Journal::go` is)
     #[inline(always)]
-    fn apply(&mut self, change: &Change, kept: &mut Vec<Old>) -> Result<(), Refused<MixFault>> {
+    fn apply(&mut self, change: &Change, kept: &mut Kept<Old>) -> Result<(), Refused<MixFault>> {
         // (the proof knows the ranges of the machine where a field of it is named)
         let _ = &self.loc;
         self.change(*change, kept)
@@ -41,16 +49,35 @@ impl Undo for World {
         self.set_value(old);
     }
 
-    /// Puts back the old values from `from` on, the last one first. It takes no memory.
-    // (written out, since it is quicker to take each value from the end of the list than to read them and cut them off)
-    fn revert(&mut self, kept: &mut Vec<Old>, from: usize) {
-        while kept.len() > from {
-            match kept.pop() {
-                None => return,
-                Some(value) => self.set_value(value),
-            }
+    /// Takes the last value of units off, and puts it back. It takes no memory.
+    #[inline(always)]
+    fn restore_last(&mut self, units: &mut Vec<u32>) {
+        match units.pop() {
+            Some(header) => self.restore_before(header, units),
+            None => unreachable!(),
         }
     }
 
     ghost undoes = { undone-does };
+}
+
+impl World {
+    // Puts back the last value of units, before their header. A location and a clock, which each step keeps, are put back by their kind at once.
+    #[inline(always)]
+    fn restore_before(&mut self, header: u32, units: &mut Vec<u32>)
+        requires room { vec_len units.old < vec_capacity units.old }
+        requires some { IsSome (last_value (header ∷ reverse units.old.items)) }
+        requires fits { IfSome (last_value (header ∷ reverse units.old.items)) (λ last. IsTrue (fits self.old last.value)) }
+        ensures { IfSome (last_value (header ∷ reverse units.old.items)) (λ last. (self.new ≡ set_value self.old last.value) × (reverse units.new.items ≡ last.before)) }
+    {
+        let payload = header / 16;
+        match Kind::of(header) {
+            Some(Kind::Location) => self.set_value(Old::Loc((payload % 65536) as u16)),
+            Some(Kind::Clock) => self.set_value(Old::Clock(time(payload, 0))),
+            _ => match take_before(header, units) {
+                Some(value) => self.set_value(value),
+                None => unreachable!(),
+            },
+        }
+    }
 }

@@ -2,17 +2,19 @@
 ghost use Rattle.std.specs.Prelude.{◌≡◌, ◌∷◌, [], IsTrue};
 ghost use Rattle.mix_machine.specs.Write.{set_value, value_at, fits, set};
 ghost use Rattle.mix_machine.specs.law.Wrote.{HasRoom, Wrote};
+ghost use Rattle.mix_machine.specs.law.Apart.{is_apart_value};
 
 use crate::old::Old;
 use crate::time::Time;
 use crate::units::UnitNo;
 use crate::world::World;
 use mix_word::{Cmp, Place, Reg, Word};
+use undo_core::Kept;
 
 impl World {
     /// Sets a value, and keeps the one that it replaces. What a step writes most has a function of its own below, which is quicker.
     #[inline(always)]
-    pub(crate) fn write(&mut self, value: Old, kept: &mut Vec<Old>)
+    pub(crate) fn write(&mut self, value: Old, kept: &mut Kept<Old>)
         requires fits { IsTrue (fits self.old value) }
         requires room { HasRoom kept.old (set value ∷ []) }
         ensures { Wrote (set value ∷ []) self.old self.new kept.old kept.new }
@@ -25,7 +27,7 @@ impl World {
 
     /// Sets a register, and keeps what it held.
     #[inline(always)]
-    pub(crate) fn write_register(&mut self, r: Reg, word: Word, kept: &mut Vec<Old>)
+    pub(crate) fn write_register(&mut self, r: Reg, word: Word, kept: &mut Kept<Old>)
         requires fits { IsTrue (fits self.old (Old.Reg r word)) }
         requires room { HasRoom kept.old (set (Old.Reg r word) ∷ []) }
         ensures { Wrote (set (Old.Reg r word) ∷ []) self.old self.new kept.old kept.new }
@@ -35,8 +37,8 @@ impl World {
     }
 
     /// Sets a cell, and keeps what it held.
-    #[inline(always)]
-    pub(crate) fn write_cell(&mut self, place: Place, word: Word, kept: &mut Vec<Old>)
+    #[inline]
+    pub(crate) fn write_cell(&mut self, place: Place, word: Word, kept: &mut Kept<Old>)
         requires fits { IsTrue (fits self.old (Old.Cell place word)) }
         requires room { HasRoom kept.old (set (Old.Cell place word) ∷ []) }
         ensures { Wrote (set (Old.Cell place word) ∷ []) self.old self.new kept.old kept.new }
@@ -47,8 +49,8 @@ impl World {
     }
 
     /// Sets the overflow toggle, and keeps what it was.
-    #[inline(always)]
-    pub(crate) fn write_over(&mut self, over: bool, kept: &mut Vec<Old>)
+    #[inline]
+    pub(crate) fn write_over(&mut self, over: bool, kept: &mut Kept<Old>)
         requires fits { IsTrue (fits self.old (Old.Over over)) }
         requires room { HasRoom kept.old (set (Old.Over over) ∷ []) }
         ensures { Wrote (set (Old.Over over) ∷ []) self.old self.new kept.old kept.new }
@@ -58,8 +60,8 @@ impl World {
     }
 
     /// Sets the comparison indicator, and keeps what it was.
-    #[inline(always)]
-    pub(crate) fn write_cmp(&mut self, cmp: Cmp, kept: &mut Vec<Old>)
+    #[inline]
+    pub(crate) fn write_cmp(&mut self, cmp: Cmp, kept: &mut Kept<Old>)
         requires fits { IsTrue (fits self.old (Old.Cmp cmp)) }
         requires room { HasRoom kept.old (set (Old.Cmp cmp) ∷ []) }
         ensures { Wrote (set (Old.Cmp cmp) ∷ []) self.old self.new kept.old kept.new }
@@ -70,7 +72,7 @@ impl World {
 
     /// Sets the location, and keeps the one before.
     #[inline(always)]
-    pub(crate) fn write_loc(&mut self, loc: u16, kept: &mut Vec<Old>)
+    pub(crate) fn write_loc(&mut self, loc: u16, kept: &mut Kept<Old>)
         requires fits { IsTrue (fits self.old (Old.Loc loc)) }
         requires room { HasRoom kept.old (set (Old.Loc loc) ∷ []) }
         ensures { Wrote (set (Old.Loc loc) ∷ []) self.old self.new kept.old kept.new }
@@ -81,7 +83,7 @@ impl World {
 
     /// Sets the clock, and keeps the time before.
     #[inline(always)]
-    pub(crate) fn write_clock(&mut self, clock: u64, kept: &mut Vec<Old>)
+    pub(crate) fn write_clock(&mut self, clock: u64, kept: &mut Kept<Old>)
         requires fits { IsTrue (fits self.old (Old.Clock clock)) }
         requires room { HasRoom kept.old (set (Old.Clock clock) ∷ []) }
         ensures { Wrote (set (Old.Clock clock) ∷ []) self.old self.new kept.old kept.new }
@@ -91,7 +93,7 @@ impl World {
     }
 
     /// Sets the time until which a unit is busy, and keeps the one before.
-    pub(crate) fn write_until(&mut self, n: UnitNo, until: u64, kept: &mut Vec<Old>)
+    pub(crate) fn write_until(&mut self, n: UnitNo, until: u64, kept: &mut Kept<Old>)
         requires fits { IsTrue (fits self.old (Old.Until n until)) }
         requires room { HasRoom kept.old (set (Old.Until n until) ∷ []) }
         ensures { Wrote (set (Old.Until n until) ∷ []) self.old self.new kept.old kept.new }
@@ -110,6 +112,19 @@ impl World {
             Old::Clock(clock) => self.clock = clock.number(),
             Old::Reg(r, word) => self.registers.set(r, word),
             Old::Cell(place, word) => self.cells[usize::from(place.number())] = word,
+            value => self.set_apart(value),
+        }
+    }
+
+    // The same of a value that steps write seldom.
+    #[inline(never)]
+    fn set_apart(&mut self, value: Old)
+        requires apart { IsTrue (is_apart_value value) }
+        requires fits { IsTrue (fits self.old value) }
+        ensures { self.new ≡ set_value self.old value }
+    {
+        match value {
+            Old::Loc(_) | Old::Clock(_) | Old::Reg(_, _) | Old::Cell(_, _) => unreachable!(),
             Old::Over(over) => self.over = over,
             Old::Cmp(cmp) => self.cmp = cmp,
             Old::Break(place, on) => self.breaks.set(place, on),

@@ -33,10 +33,10 @@ world_at-all t n m all w e f stands =
     world_at-is t n w (ap (replay does t.first) same ∙ stands)
 
 -- the machine now, as one after the first changes
-pub replay-all : (t : Timeline) (done : List Change) (v w : WorldState) → done ≡ t.changes → replay does t.first t.changes ≡ Some v → w ≡ v →
-    replay does t.first (take (length done) t.changes) ≡ Some w
+pub replay-all : (t : Timeline) (done : ℕ) (v w : WorldState) → done ≡ length t.changes → replay does t.first t.changes ≡ Some v → w ≡ v →
+    replay does t.first (take done t.changes) ≡ Some w
 replay-all t done v w e stands f =
-    let whole : take (length done) t.changes ≡ t.changes = ap (λ (xs : List Change). take (length xs) t.changes) e ∙ take-length t.changes in
+    let whole : take done t.changes ≡ t.changes = ap (λ n. take n t.changes) e ∙ take-length t.changes in
     ap (replay does t.first) whole ∙ stands ∙ ap Some (sym f)
 
 -- the machine after all changes done is the one now

@@ -3,6 +3,7 @@ mod ChangeLemmas
 mod CommandLemmas
 mod ConditionLemmas
 mod DifferenceLemmas
+mod RefusalLemmas
 mod SameWorld
 mod ShowLemmas
 mod SumLemmas

@@ -14,8 +14,9 @@ use crate::condition::Condition;
 use crate::fault::Refusal;
 use crate::reply::End;
 use crate::request::{Request, Topic};
+use crate::timeline::earlier;
 use mix_machine::{Change, Mark, Old, Part, Place, World, mark_before, mark_law};
-use undo_core::{Journal, Memory, Refused};
+use undo_core::{Journal, Memory, Refused, Values};
 
 /// Does what a request asks for.
 #[tactic(auto, unfolding(crate::specs::Command::effect_of))]
@@ -30,7 +31,7 @@ pub(crate) fn execute(journal: &mut Journal<World>, request: Request) -> Result<
         Request::RunUntil(count, condition) => run(journal, count, Stops::Until(condition)),
         Request::Back(count) => Ok(back(journal, count)),
         Request::BackAll => {
-            let count = journal.changes().len();
+            let count = journal.done();
             Ok(take_back(journal, count))
         }
         Request::BackBreak => Ok(Answer::Back(go_back_to_break(journal))),
@@ -159,7 +160,7 @@ fn is_at_break(world: &World) -> bool
 fn back(journal: &mut Journal<World>, count: u64) -> Answer
     ensures { HasEffect (effect_of_back_within journal.old count) journal.old journal.new (Ok result) }
 {
-    if (journal.changes().len() as u64) < count {
+    if (journal.done() as u64) < count {
         return Answer::Refused(Refusal::TooFewChanges);
     }
     take_back(journal, count as usize)
@@ -188,7 +189,7 @@ fn go_back_to_break(journal: &mut Journal<World>) -> usize
     ensures count { result ≡ count_to_break journal.old }
     ensures back { journal.new ≡ back_by journal.old result }
 {
-    let all = journal.changes().len();
+    let all = journal.done();
     for taken in 0..all {
         journal.back();
         if is_at_break(journal.state()) {
@@ -201,7 +202,7 @@ fn go_back_to_break(journal: &mut Journal<World>) -> usize
 fn back_until(journal: &mut Journal<World>, condition: &Condition) -> Answer
     ensures { HasEffect (effect_of_back_until condition.now journal.old) journal.old journal.new (Ok result) }
 {
-    let all = journal.changes().len();
+    let all = journal.done();
     let count = count_back(journal, condition);
     if count < all {
         go_back(journal, count + 1);
@@ -217,9 +218,11 @@ fn count_back(journal: &Journal<World>, condition: &Condition) -> usize
 {
     mark_law();
     let mut mark = journal.state().mark(condition.watched());
-    let all = journal.changes().len();
+    let all = journal.done();
+    let mut past = journal.past();
     for count in 0..all {
-        let (before, is_met) = step_back(condition, journal.kept(all - 1 - count), &mark);
+        let kept = earlier(journal, &mut past, all - 1 - count);
+        let (before, is_met) = step_back(condition, &kept, &mark);
         if is_met {
             return count;
         }
@@ -229,7 +232,7 @@ fn count_back(journal: &Journal<World>, condition: &Condition) -> usize
 }
 
 // The mark before a change that kept these values, and whether taking the change back meets the condition.
-fn step_back(condition: &Condition, kept: &[Old], mark: &Mark) -> (Mark, bool)
+fn step_back(condition: &Condition, kept: &Values<'_, Old>, mark: &Mark) -> (Mark, bool)
     ensures before { result.0 ≡ mark_before kept.now (watched condition.now) mark.now }
     ensures met { result.1 ≡ is_met condition.now result.0 mark.now result.0 }
 {
@@ -286,7 +289,7 @@ fn do_again(journal: &mut Journal<World>, count: usize) -> Result<Answer, Memory
 fn go_to(journal: &mut Journal<World>, number: u64) -> Result<Answer, Memory>
     ensures { HasEffect (effect_of_goto journal.old number) journal.old journal.new result }
 {
-    let done = journal.changes().len() as u64;
+    let done = journal.done() as u64;
     if number < done {
         Ok(take_back(journal, (done - number) as usize))
     } else {

@@ -1,6 +1,6 @@
 //! What a face asks of a session beside its requests: steps one by one, forwards and backwards, and the changes that lines ask for.
 
-ghost use Rattle.std.specs.Prelude.{◌≡◌, ◌+◌, IfNone, IfOk, IfSome, MatchResult, Some, if◌then◌else◌, length};
+ghost use Rattle.std.specs.Prelude.{◌≡◌, ◌+◌, IfErr, IfNone, IfOk, IfSome, MatchResult, Some, if◌then◌else◌, length};
 ghost use Rattle.mix_session.specs.Answer.{text_of};
 ghost use Rattle.mix_session.specs.Command.{after, effect_of, effect_of_line, Begun};
 ghost use Rattle.mix_session.specs.Session.{request_in, effect_in};
@@ -15,8 +15,9 @@ use crate::fault::Refusal;
 use crate::reply::End;
 use crate::request::Request;
 use crate::session::Session;
-use mix_machine::{Change, MixFault, Part};
-use undo_core::Memory;
+use crate::show::changes::next_change;
+use mix_machine::{Change, MixFault, Part, World};
+use undo_core::{Journal, Memory};
 
 impl Session<'_> {
     /// One step, and its fault where it is one: the change that stands ahead is done again, if that is a step, or else a new step is done. Out of
@@ -26,8 +27,9 @@ impl Session<'_> {
         ensures first { self.new.timeline.first ≡ self.old.timeline.first }
         ensures effect { let effect = effect_of self.old.timeline (step_request self.old.timeline) in
             IfOk result (λ fault. (self.new.timeline ≡ after effect) × (fault ≡ fault_of effect.answer)) }
+        ensures begun { IfErr result (λ _. Begun (effect_of self.old.timeline (step_request self.old.timeline)) self.new.timeline) }
     {
-        let request = next_step(self.ahead());
+        let request = next_step(self.journal());
         match self.execute(request) {
             Ok(answer) => Ok(fault_of(&answer)),
             Err(Memory) => Err(Memory),
@@ -41,6 +43,7 @@ impl Session<'_> {
         ensures first { self.new.timeline.first ≡ self.old.timeline.first }
         ensures effect { let effect = effect_of self.old.timeline (Request.Back 1) in
             IfOk result (λ refusal. (self.new.timeline ≡ after effect) × (refusal ≡ refusal_of effect.answer)) }
+        ensures begun { IfErr result (λ _. Begun (effect_of self.old.timeline (Request.Back 1)) self.new.timeline) }
         ensures taken { IfOk result (λ refusal. IfNone refusal (length self.new.timeline.changes + 1 ≡ length self.old.timeline.changes)) }
         ensures none { IfOk result (λ refusal. IfSome refusal (λ _. (self.new.timeline ≡ self.old.timeline) × (length self.old.timeline.changes ≡ 0))) }
     {
@@ -55,6 +58,7 @@ impl Session<'_> {
         ensures program { self.new.program ≡ self.old.program }
         ensures first { self.new.timeline.first ≡ self.old.timeline.first }
         ensures effect { IfOk result (λ _. self.new.timeline ≡ after (effect_of self.old.timeline Request.BackAll)) }
+        ensures begun { IfErr result (λ _. Begun (effect_of self.old.timeline Request.BackAll) self.new.timeline) }
     {
         match self.execute(Request::BackAll) {
             Ok(_) => Ok(()),
@@ -68,6 +72,8 @@ impl Session<'_> {
         ensures first { self.new.timeline.first ≡ self.old.timeline.first }
         ensures effect { let effect = effect_of self.old.timeline (Request.Change change) in
             IfOk result (λ refusal. (self.new.timeline ≡ after effect) × (refusal ≡ refusal_of effect.answer)) }
+        ensures begun { IfErr result (λ _. Begun (effect_of self.old.timeline (Request.Change change)) self.new.timeline) }
+        ensures refused { IfOk result (λ refusal. IfSome refusal (λ _. self.new.timeline ≡ self.old.timeline)) }
     {
         match self.execute(Request::Change(change)) {
             Ok(answer) => Ok(refusal_of(&answer)),
@@ -82,6 +88,8 @@ impl Session<'_> {
         ensures first { self.new.timeline.first ≡ self.old.timeline.first }
         ensures effect { let effect = effect_of_line self.old.timeline (change_alone (request_in self.old line.now)) in
             IfOk result (λ refusal. (self.new.timeline ≡ after effect) × (refusal ≡ refusal_of effect.answer)) }
+        ensures begun { IfErr result (λ _. Begun (effect_of_line self.old.timeline (change_alone (request_in self.old line.now))) self.new.timeline) }
+        ensures refused { IfOk result (λ refusal. IfSome refusal (λ _. self.new.timeline ≡ self.old.timeline)) }
     {
         match self.read(line) {
             Ok(Request::Change(change)) => self.change(change),
@@ -97,6 +105,8 @@ impl Session<'_> {
         ensures effect { let effect = effect_in self.old line.now in
             IfOk result (λ told. (self.new.timeline ≡ after effect) × MatchResult told
             (λ text. text.items ≡ text_of effect.answer self.old.program self.new.timeline) (λ refusal. Some refusal ≡ refusal_of effect.answer)) }
+        ensures begun { IfErr result (λ _. Begun (effect_in self.old line.now) self.new.timeline) }
+        ensures refused { IfOk result (λ told. IfErr told (λ _. self.new.timeline ≡ self.old.timeline)) }
     {
         match self.execute_line(line) {
             Err(Memory) => Err(Memory),
@@ -121,24 +131,21 @@ impl Session<'_> {
     }
 }
 
-fn next_step(ahead: &[Change]) -> Request
-    ensures { result ≡ (if is_step ahead.now then Request.Forth 1 else Request.Step 1) }
+fn next_step(journal: &Journal<World>) -> Request
+    ensures { result ≡ step_request journal.now }
 {
-    if is_step(ahead) {
+    if is_step_ahead(journal) {
         Request::Forth(1)
     } else {
         Request::Step(1)
     }
 }
 
-// Whether the first change is a step.
-fn is_step(ahead: &[Change]) -> bool
-    ensures { result ≡ is_step ahead.now }
+// Whether the next change ahead is a step.
+fn is_step_ahead(journal: &Journal<World>) -> bool
+    ensures { result ≡ is_step journal.now.ahead }
 {
-    match ahead {
-        [Change::Step, ..] => true,
-        _ => false,
-    }
+    journal.ahead() > 0 && matches!(next_change(journal), Change::Step)
 }
 
 fn fault_of(answer: &Answer) -> Option<MixFault>

@@ -1,10 +1,11 @@
 //! A session: a program, its machine, whose changes can be taken back, and the requests and commands over it.
 
-ghost use Rattle.std.specs.Prelude.{◌≡◌, ◌<◌, ◌-◌, ◌^◌, Err, IfErr, IfOk};
+ghost use Rattle.std.specs.Prelude.{◌≡◌, ◌<◌, ◌-◌, ◌^◌, Err, IfErr, IfOk, IfSome, length};
 ghost use Rattle.std.specs.Io.KnownBytes.{Appends, Keeps};
 ghost use Rattle.mix_session.specs.Timeline.{world_of};
 ghost use Rattle.mix_session.specs.Answer.{told_of, text_of};
 ghost use Rattle.mix_session.specs.Command.{after, effect_of, reply_of, Begun, HasEffect};
+ghost use Rattle.mix_session.specs.Face.{refusal_of};
 ghost use Rattle.mix_session.specs.Session.{opened, request_in, effect_in, IsMemoryOrWrite};
 ghost use Rattle.mix_stream.specs.Stream.{AppendsFront, CountsFailure};
 
@@ -19,7 +20,7 @@ use mix_stream::{Out, write_all};
 use mixal_asm::Program;
 use std::alloc::Global;
 use std::marker::Model;
-use undo_core::{Journal, Memory};
+use undo_core::{Changes, Journal, Memory};
 
 /// An assembled program, the machine that it was loaded into, and the changes of that machine.
 pub struct Session<'s> {
@@ -76,18 +77,17 @@ impl<'s> Session<'s> {
     }
 
     /// The changes that are done, without those that were taken back. It takes no memory.
-    pub fn changes(&self) -> &[Change]
-        ensures { result.now ≡ self.now.timeline.changes }
+    pub fn changes(&self) -> Changes<'_, Change>
+        ensures { result ≡ self.now.timeline.changes }
     {
         self.journal.changes()
     }
 
-    /// The changes that stand ahead, the next one first. It takes no memory.
-    pub fn ahead(&self) -> &[Change]
-        ensures { result.now ≡ self.now.timeline.ahead }
+    /// How many changes stand ahead. It takes no memory.
+    pub fn ahead(&self) -> usize
+        ensures { result ≡ length self.now.timeline.ahead }
     {
-        let done = self.journal.changes().len();
-        &self.journal.all()[done..]
+        self.journal.ahead()
     }
 
     /// What a line of a script asks for, or what is wrong with its words. Names are those of the program, and the asterisk stands for the
@@ -101,9 +101,11 @@ impl<'s> Session<'s> {
 
     /// Does what is asked for, whoever asks it: a number that no line may have is taken as it is. A refusal changes nothing. Out of memory:
     /// of steps those done stand, of `forth` the changes done again, of any other request all or nothing.
+    #[tactic(auto, using(crate::proofs::RefusalLemmas::refused_spares))]
     pub fn execute(&mut self, request: Request) -> Result<Answer, Memory>
         ensures program { self.new.program ≡ self.old.program }
         ensures effect { HasEffect (effect_of self.old.timeline request) self.old.timeline self.new.timeline result }
+        ensures refused { IfOk result (λ answer. IfSome (refusal_of answer) (λ _. self.new.timeline ≡ self.old.timeline)) }
     {
         execute(&mut self.journal, request)
     }
@@ -120,6 +122,7 @@ impl<'s> Session<'s> {
     pub(crate) fn execute_line(&mut self, line: &[u8]) -> Result<Answer, Memory>
         ensures program { self.new.program ≡ self.old.program }
         ensures effect { HasEffect (effect_in self.old line.now) self.old.timeline self.new.timeline result }
+        ensures refused { IfOk result (λ answer. IfSome (refusal_of answer) (λ _. self.new.timeline ≡ self.old.timeline)) }
     {
         match self.read(line) {
             Ok(request) => self.execute(request),

@@ -52,7 +52,7 @@ pub(crate) fn topic_lines(
         Topic::Cells(first, last) => Ok(cells_lines(alloc, world, first, last)?.into_bytes()),
         Topic::Clock => Ok(clock_line(alloc, world)?.into_bytes()),
         Topic::Breaks => Ok(breaks_line(alloc, world)?.into_bytes()),
-        Topic::Changes => Ok(changes_line(alloc, journal.changes().len())?.into_bytes()),
+        Topic::Changes => Ok(changes_line(alloc, journal.done())?.into_bytes()),
         Topic::Unit(number) => Ok(unit_lines(alloc, world, number)?.into_bytes()),
         Topic::All => Ok(all_lines(alloc, world)?.into_bytes()),
         Topic::Code(first, last) => Ok(code_lines(alloc, program, world, first, last)?),

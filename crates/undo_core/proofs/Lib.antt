@@ -1,6 +1,9 @@
+pub mod CountLemmas
 pub mod LeadsLemmas
 pub mod Redoing
 mod ReplayLemmas
+pub mod RunLemmas
 pub mod Sound
+pub mod Stored
 pub mod Reverting
 pub mod Unwinding

@@ -19,22 +19,22 @@ replay-join {S} {C} {F} gives s t (x ∷ xs) ys h =
     [ Ok u ↦ λ g. replay-join gives u t xs ys g | Err _ ↦ λ g. absurd (cc) ]) h
 
 -- the first of some changes that can be replayed
-first_given : {S C F : Type 0} (gives : S → C → Result S F) (s : S) (c : C) (cs : List C) → IsSome (replay gives s (c ∷ cs)) →
+pub first_given : {S C F : Type 0} (gives : S → C → Result S F) (s : S) (c : C) (cs : List C) → IsSome (replay gives s (c ∷ cs)) →
     (t : S) × (gives s c ≡ Ok t)
 first_given {S} {C} {F} gives s c cs some =
     (elim (gives s c) as (λ r. IsSome (option_and_then {T = S} {U = S} (λ u. replay gives u cs) (result_ok r)) → (t : S) × (r ≡ Ok t))
     [ Ok u ↦ λ _. (u, refl) | Err _ ↦ λ none. absurd (cc) ]) some
 
 module _ {S C O F : Type 0} {gives : S → C → Result S F} {keeps : S → C → List O} {put : S → O → Option S}
-    {state : S} {kept : List O} {changes : List C} {starts : List ℕ} where
+    {state : S} {kept : List O} {changes : List C} {counts : List ℕ} where
   -- all changes can be replayed
-  all_replay : IsSound gives keeps put state kept changes starts → IsSome (replay gives (unwound put kept state) changes)
+  all_replay : IsSound gives keeps put state kept changes counts → IsSome (replay gives (unwound put kept state) changes)
   all_replay sound =
-      let n = length starts in
+      let n = length counts in
       rw (ap (replay gives (unwound put kept state)) (sym (take-append-drop n changes))
       ∙ replay-join gives (unwound put kept state) state (take n changes) (drop n changes) (sound_replay sound)) sound.ahead
 
-  pub given_again : (n : ℕ) (c : C) (before : S) → IsSound gives keeps put state kept changes starts → n < length changes → c ≡ get_or changes n c →
+  pub given_again : (n : ℕ) (c : C) (before : S) → IsSound gives keeps put state kept changes counts → n < length changes → c ≡ get_or changes n c →
       replay gives (unwound put kept state) (take n changes) ≡ Some before →
       (after : S) × (gives before c ≡ Ok after) × (replay gives (unwound put kept state) (take (n + 1) changes) ≡ Some after)
   given_again n c before sound below is came =
@@ -47,12 +47,12 @@ module _ {S C O F : Type 0} {gives : S → C → Result S F} {keeps : S → C �
       (given.0, given.1, ap (replay gives first) next ∙ replay-append_some gives first before given.0 (take n changes) c came given.1)
 
   -- the same, where the changes are told as those done and those ahead
-  pub given_of : {done ahead : List C} (n : ℕ) (c : C) (before : S) → IsSound gives keeps put state kept changes starts →
-      done ≡ take (length starts) changes → ahead ≡ drop (length starts) changes → n < length (done ++ ahead) → c ≡ get_or changes n c →
+  pub given_of : {done ahead : List C} (n : ℕ) (c : C) (before : S) → IsSound gives keeps put state kept changes counts →
+      done ≡ take (length counts) changes → ahead ≡ drop (length counts) changes → n < length (done ++ ahead) → c ≡ get_or changes n c →
       replay gives (unwound put kept state) (take n (done ++ ahead)) ≡ Some before →
       (after : S) × (gives before c ≡ Ok after) × (replay gives (unwound put kept state) (take (n + 1) (done ++ ahead)) ≡ Some after)
   given_of n c before sound done_is ahead_is below is came =
-      let all : take (length starts) changes ++ drop (length starts) changes ≡ changes = take-append-drop (length starts) changes in
+      let all : take (length counts) changes ++ drop (length counts) changes ≡ changes = take-append-drop (length counts) changes in
       rw (done_is, ahead_is, all) (given_again n c before sound (rw (done_is, ahead_is, all) at below) is (rw (done_is, ahead_is, all) at came))
 
 -- the changes done are the first of all

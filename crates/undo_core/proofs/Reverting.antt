@@ -1,6 +1,7 @@
 -- The last of a list of old values is put back first.
-use Rattle.std.proofs.Common.{ℕ, ◌≡◌, ◌+◌, ◌-◌, ◌<◌, ◌≤◌, ◌++◌, ◌∙◌, List, [], ◌∷◌, Option, Some, None, IsSome, length, take, get_or, refl, sym, ap, subst, arith}
-use Rattle.std.proofs.lemmas.List.{take_more}
+use Rattle.std.proofs.Common.{ℕ, ◌≡◌, ◌+◌, ◌-◌, ◌<◌, ◌≤◌, ◌++◌, ◌∙◌, List, [], ◌∷◌, Option, Some, None, IsSome, length, take, drop, refl, sym, ap, subst, arith, length-append}
+use Rattle.std.proofs.Math.Seq.{take-append_seam}
+use Rattle.std.proofs.lemmas.List.{length-take-le, take-take, take-append-drop, drop-append-le}
 use Rattle.std.specs.Option.{option_and_then}
 use Rattle.undo_core.specs.Replay.{put_back}
 
@@ -29,9 +30,53 @@ pub last-put : {S O : Type 0} (put : S → O → Option S) (items rest : List O)
     put s o ≡ Some t → put_back put items s ≡ put_back put rest t
 last-put put items rest o s t e f = put_back-of put items rest o s e ∙ ap (option_and_then (put_back put rest)) f
 
--- the last of the first n items
-pub last_taken : {O : Type 0} (xs : List O) (n : ℕ) (x : O) → 0 < n → n ≤ length xs → x ≡ get_or xs (n - 1) x →
-    take n xs ≡ take (n - 1) xs ++ x ∷ []
-last_taken xs n x some within is =
-    let next : n ≡ n - 1 + 1 = omega arith in
-    ap (λ k. take k xs) next ∙ take_more xs (n - 1) x (omega arith) ∙ ap (λ y. take (n - 1) xs ++ y ∷ []) (sym is)
+-- the first m items without the last of them
+pub front_of : {O : Type 0} (xs front rest : List O) (x : O) (n m : ℕ) → front ≡ take m xs → m ≤ length xs → n + 1 ≡ m → front ≡ rest ++ x ∷ [] → rest ≡ take n xs
+front_of xs front rest x n m first within next is =
+    let many : length front ≡ m = ap length first ∙ length-take-le m xs within in
+    let all : length front ≡ length rest + 1 = ap length is ∙ length-append rest (x ∷ []) in
+    let place : length rest ≡ n = omega (arith, many, all, next) in
+    sym (take-append_seam rest (x ∷ [])) ∙ ap (take (length rest)) (sym is ∙ first) ∙ take-take (length rest) m xs (omega (arith, place, next)) ∙ ap (λ k. take k xs) place
+
+-- the last of them is the last of those from the nth on
+pub last_from : {O : Type 0} (xs front rest : List O) (x : O) (n m : ℕ) → front ≡ take m xs → m ≤ length xs → n < m → front ≡ rest ++ x ∷ [] → drop n front ≡ drop n rest ++ x ∷ []
+last_from xs front rest x n m first within below is =
+    let many : length front ≡ m = ap length first ∙ length-take-le m xs within in
+    let all : length front ≡ length rest + 1 = ap length is ∙ length-append rest (x ∷ []) in
+    ap (drop n) is ∙ drop-append-le n rest (x ∷ []) (omega (arith, many, all, below))
+
+put_back-join : {S O : Type 0} (put : S → O → Option S) (xs ys : List O) (s : S) (t : Option S) → put_back put ys s ≡ t →
+    put_back put (xs ++ ys) s ≡ option_and_then (put_back put xs) t
+put_back-join put [] ys s None h = h
+put_back-join put [] ys s (Some t) h = h
+put_back-join put (x ∷ xs) ys s None h = ap (option_and_then (λ u. put u x)) (put_back-join put xs ys s None h)
+put_back-join put (x ∷ xs) ys s (Some t) h = ap (option_and_then (λ u. put u x)) (put_back-join put xs ys s (Some t) h)
+
+-- values from one place on are those from there to a later one, and those from that one on
+from-place : {O : Type 0} (xs : List O) (n m : ℕ) → n ≤ m → m ≤ length xs → drop n xs ≡ drop n (take m xs) ++ drop m xs
+from-place xs n m below within =
+    ap (drop n) (sym (take-append-drop m xs)) ∙ drop-append-le n (take m xs) (drop m xs) (omega (arith, below, length-take-le m xs within))
+
+-- the last values fit where more of them can be put back
+pub later-fits : {S O : Type 0} (put : S → O → Option S) (xs : List O) (n m : ℕ) (s : S) → n ≤ m → m ≤ length xs →
+    IsSome (put_back put (drop n xs) s) → IsSome (put_back put (drop m xs) s)
+later-fits put xs n m s below within some =
+    let joined = ap (λ os. put_back put os s) (from-place xs n m below within) ∙ put_back-join put (drop n (take m xs)) (drop m xs) s _ refl in
+    some-of (put_back put (drop n (take m xs))) (put_back put (drop m xs) s) (subst IsSome joined some)
+
+-- putting back those before them gives what putting back all does
+pub later-put : {S O : Type 0} (put : S → O → Option S) (xs : List O) (n m : ℕ) (s t : S) → n ≤ m → m ≤ length xs →
+    put_back put (drop m xs) s ≡ Some t → put_back put (drop n xs) s ≡ put_back put (drop n (take m xs)) t
+later-put put xs n m s t below within is =
+    ap (λ os. put_back put os s) (from-place xs n m below within) ∙ put_back-join put (drop n (take m xs)) (drop m xs) s (Some t) is
+
+-- so many values of a list
+pub cut-length : {O : Type 0} (xs all : List O) (n : ℕ) → xs ≡ take n all → n ≤ length all → length xs ≡ n
+cut-length xs all n is within = ap length is ∙ length-take-le n all within
+
+-- one value fewer of them
+pub cut-one : {O : Type 0} (xs all : List O) (n : ℕ) → xs ≡ take n all → n ≤ length all → take (length xs - 1) xs ≡ take (n - 1) all
+cut-one xs all n is within =
+    let len = cut-length xs all n is within in
+    let place : length xs - 1 ≡ n - 1 = omega (arith, len) in
+    ap (take (length xs - 1)) is ∙ take-take (length xs - 1) n all (omega (arith, len)) ∙ ap (λ k. take k all) place

@@ -1,110 +1,159 @@
 -- The values that are kept lead back from the state after any of the changes done to the one before it.
-use Rattle.std.proofs.Common.{◌≡◌, ℕ, zero, suc, ◌+◌, ◌-◌, ◌<◌, ◌≤◌, List, [], ◌∷◌, ◌++◌, length, take, drop, get_or, Option, Some, Result, refl, ◌∙◌, ap, subst, arith}
-use Rattle.std.proofs.lemmas.List.{length-take-le, take_all, take_more, take-take}
-use Rattle.undo_core.specs.Replay.{replay, put_back, unwound, TakesBack}
-use Rattle.undo_core.specs.Leads.{IsSound}
-use Rattle.undo_core.proofs.Sound.{sound_replay, last_of, back_sound}
+use Rattle.std.proofs.Common.{◌≡◌, ℕ, zero, suc, nat_lt, true, false, ◌+◌, ◌-◌, ◌<◌, ◌≤◌, List, [], ◌∷◌, ◌++◌, length, take, drop, get_or, Option, Result, refl, sym, ◌∙◌, ap, subst, arith, length-append}
+use Rattle.std.proofs.lemmas.Bool.Decides.{nat_tests}
+use Rattle.std.proofs.lemmas.List.{length-take-le, length-drop, take_all, take_more, take-take, drop-take, drop-drop, get_or_append_left, get_or_at}
+use Rattle.undo_core.specs.Counts.{counts_of, count_large, parts_of, total}
+use Rattle.undo_core.specs.Replay.{replay, unwound, TakesBack}
+use Rattle.undo_core.specs.Leads.{IsSound, TakeBack}
+use Rattle.undo_core.proofs.CountLemmas.{length-counts}
+use Rattle.undo_core.proofs.LeadsLemmas.{total-last}
+use Rattle.undo_core.proofs.Sound.{sound_replay, sound_total, last_of, back_sound}
 
--- where the values of the first k changes end: those of the next one start there
-abbrev pub end_at : {O : Type 0} → List ℕ → List O → ℕ → ℕ
-end_at starts kept k = get_or starts k (length kept)
+length-parts : {O : Type 0} (ns : List ℕ) (kept : List O) → length (parts_of ns kept) ≡ length ns
+length-parts [] kept = refl
+length-parts (n ∷ ns) kept = let rest = length-parts ns (drop n kept) in omega (arith, rest)
 
--- the values of the change after the first k
-abbrev pub values_at : {O : Type 0} → List ℕ → List O → ℕ → List O
-values_at starts kept k = drop (end_at starts kept k) (take (end_at starts kept (k + 1)) kept)
+-- the last part, and those before it
+parts-last : {O : Type 0} (ns : List ℕ) (n : ℕ) (kept : List O) →
+    parts_of (ns ++ n ∷ []) kept ≡ parts_of ns (take (total ns) kept) ++ take n (drop (total ns) kept) ∷ []
+parts-last [] n kept = refl
+parts-last {O} (m ∷ ns) n kept =
+    let front = take (m + total ns) kept in
+    let first : take m front ≡ take m kept = take-take m (m + total ns) kept (omega arith) in
+    let rest : drop m front ≡ take (total ns) (drop m kept) = drop-take m (total ns) kept in
+    let last : drop (total ns) (drop m kept) ≡ drop (m + total ns) kept = drop-drop (total ns) m kept in
+    ap (λ (parts : List (List O)). take m kept ∷ parts) (parts-last ns n (drop m kept))
+    ∙ ap (λ (f : List O). f ∷ (parts_of ns (take (total ns) (drop m kept)) ++ take n (drop (total ns) (drop m kept)) ∷ [])) (sym first)
+    ∙ ap (λ (r : List O). take m front ∷ (parts_of ns r ++ take n (drop (total ns) (drop m kept)) ∷ [])) (sym rest)
+    ∙ ap (λ (l : List O). take m front ∷ (parts_of ns (drop m front) ++ take n l ∷ [])) last
 
--- the state after the first k changes, and the values that they keep
-pub record IsFront {S C O F : Type 0} (gives : S → C → Result S F) (keeps : S → C → List O) (put : S → O → Option S)
-    (first : S) (kept : List O) (changes : List C) (starts : List ℕ) (k : ℕ) (s : S) : Type 0 where
-  pub sound : IsSound gives keeps put s (take (end_at starts kept k) kept) changes (take k starts)
-  pub from : unwound put (take (end_at starts kept k) kept) s ≡ first
-  pub within : end_at starts kept k ≤ length kept
+-- the same, where all values are counted
+parts-of-last : {O : Type 0} (ns : List ℕ) (n : ℕ) (kept : List O) → total (ns ++ n ∷ []) ≡ length kept →
+    parts_of (ns ++ n ∷ []) kept ≡ parts_of ns (take (length kept - n) kept) ++ drop (length kept - n) kept ∷ []
+parts-of-last {O} ns n kept whole =
+    let all = total-last ns n in
+    let front : total ns ≡ length kept - n = omega (arith, whole, all) in
+    let many : n ≡ length (drop (length kept - n) kept) = omega (arith, whole, all, length-drop (length kept - n) kept) in
+    let last : take n (drop (length kept - n) kept) ≡ drop (length kept - n) kept = take_all n (drop (length kept - n) kept) (omega (arith, many)) in
+    parts-last ns n kept ∙ ap (λ k. parts_of ns (take k kept) ++ take n (drop k kept) ∷ []) front
+    ∙ ap (λ (values : List O). parts_of ns (take (length kept - n) kept) ++ values ∷ []) last
 
--- the change after the first k, which its values take back
-pub record IsStep {S C O F : Type 0} (gives : S → C → Result S F) (keeps : S → C → List O) (put : S → O → Option S)
-    (first : S) (kept : List O) (changes : List C) (starts : List ℕ) (k : ℕ) (before after : S) : Type 0 where
-  pub front : IsFront gives keeps put first kept changes starts k before
-  pub undone : put_back put (values_at starts kept k) after ≡ Some before
-  pub order : end_at starts kept k ≤ end_at starts kept (k + 1)
+pub part-before : {O : Type 0} (ns : List ℕ) (n k : ℕ) (kept : List O) → total (ns ++ n ∷ []) ≡ length kept → k < length ns →
+    get_or (parts_of (ns ++ n ∷ []) kept) k [] ≡ get_or (parts_of ns (take (length kept - n) kept)) k []
+part-before {O} ns n k kept whole below =
+    let many = length-parts ns (take (length kept - n) kept) in
+    ap (λ (parts : List (List O)). get_or parts k []) (parts-of-last ns n kept whole)
+    ∙ get_or_append_left (parts_of ns (take (length kept - n) kept)) (drop (length kept - n) kept ∷ []) [] k (omega (arith, many, below))
 
-past : (xs : List ℕ) (d : ℕ) → get_or xs (length xs) d ≡ d
-past [] d = refl
-past (x ∷ xs) d = past xs d
+pub part-last : {O : Type 0} (ns : List ℕ) (n : ℕ) (kept : List O) → total (ns ++ n ∷ []) ≡ length kept →
+    get_or (parts_of (ns ++ n ∷ []) kept) (length ns) [] ≡ drop (length kept - n) kept
+part-last {O} ns n kept whole =
+    ap (λ (parts : List (List O)). get_or parts (length ns) []) (parts-of-last ns n kept whole)
+    ∙ get_or_at (parts_of ns (take (length kept - n) kept)) (drop (length kept - n) kept) [] [] (length ns) (length-parts ns (take (length kept - n) kept))
 
-module _ {S C O F : Type 0} {gives : S → C → Result S F} {keeps : S → C → List O} {put : S → O → Option S}
-    {first : S} {kept : List O} {changes : List C} {starts : List ℕ} where
-  pub step_of : (k : ℕ) → k < length starts → (after : S) → IsFront gives keeps put first kept changes starts (k + 1) after →
-      (before : S) × IsStep gives keeps put first kept changes starts k before after
-  step_of k below after f =
-      let last : take (k + 1) starts ≡ take k starts ++ end_at starts kept k ∷ [] = take_more starts k (length kept) below in
-      let l = last_of f.sound (take k starts) (end_at starts kept k) last in
-      let order : end_at starts kept k ≤ end_at starts kept (k + 1) =
-      omega (arith, l.2.newest.within, length-take-le (end_at starts kept (k + 1)) kept f.within) in
-      let less = take-take (end_at starts kept k) (end_at starts kept (k + 1)) kept order in
-      let b = back_sound f.sound (take k starts) (end_at starts kept k) last l.0 (take (end_at starts kept k) (take (end_at starts kept (k + 1)) kept)) l.2.fits refl in (
-        l.0,
-        record {
-          front = record {
-            sound = rw less at b.0;
-            from = (rw less at b.1) ∙ f.from;
-            within = omega (arith, f.within);
-          };
-          undone = l.2.fits;
-          order = order;
-        },
-      )
+-- the change of a number, among more changes or fewer
+takes_back-among : {S C O F : Type 0} (gives : S → C → Result S F) (put : S → O → Option S) (first : S) (changes : List C) (m n k : ℕ) (values : List O) →
+    k < m → m ≤ n → TakesBack gives put first (take m changes) k values → TakesBack gives put first (take n changes) k values
+takes_back-among gives put first changes m n k values below within back after came =
+    let up : take (k + 1) (take m changes) ≡ take (k + 1) (take n changes) =
+    take-take (k + 1) m changes (omega (arith, below)) ∙ sym (take-take (k + 1) n changes (omega (arith, below, within))) in
+    let to : take k (take m changes) ≡ take k (take n changes) = take-take k m changes (omega (arith, below)) ∙ sym (take-take k n changes (omega (arith, below, within))) in
+    let led = back after (ap (replay gives first) up ∙ came) in
+    (led.0, led.1, ap (replay gives first) (sym to) ∙ led.2)
 
-  pub front_of : (state : S) → IsSound gives keeps put state kept changes starts → unwound put kept state ≡ first → (m k : ℕ) → m + k ≡ length starts →
-      (s : S) × IsFront gives keeps put first kept changes starts k s
-  front_of state sound is_first zero k e =
-      let last : k ≡ length starts = omega (arith, e) in
-      let whole : end_at starts kept k ≡ length kept = ap (λ n. end_at starts kept n) last ∙ past starts (length kept) in
-      let all : take (end_at starts kept k) kept ≡ kept = ap (λ n. take n kept) whole ∙ take_all (length kept) kept (omega arith) in (
-        state,
-        record {
-          sound = rw (all, take_all k starts (omega arith)) sound;
-          from = rw all is_first;
-          within = omega (arith, whole);
-        },
-      )
-  front_of state sound is_first (suc m) k e =
-      let more = front_of state sound is_first m (k + 1) (omega (arith, e)) in
-      let step = step_of k (omega (arith, e)) more.0 more.1 in
-      (step.0, step.1.front)
+module _ {S C O F : Type 0} {gives : S → C → Result S F} {keeps : S → C → List O} {put : S → O → Option S} {changes : List C} where
+  -- the values of the last change take it back
+  last_part : (state : S) (kept : List O) (rest : List ℕ) (count : ℕ) → IsSound gives keeps put state kept changes (rest ++ count ∷ []) →
+      TakesBack gives put (unwound put kept state) (take (length (rest ++ count ∷ [])) changes) (length rest) (drop (length kept - count) kept)
+  last_part state kept rest count sound after came =
+      let many : length (rest ++ count ∷ []) ≡ length rest + 1 = length-append rest (count ∷ []) in
+      let l = last_of sound rest count refl in
+      let b = back_sound sound rest count refl l.0 (take (length kept - count) kept) l.2.fits refl in
+      let all : take (length rest + 1) (take (length (rest ++ count ∷ [])) changes) ≡ take (length (rest ++ count ∷ [])) changes =
+      take-take (length rest + 1) (length (rest ++ count ∷ [])) changes (omega (arith, many)) ∙ ap (λ n. take n changes) (sym many) in
+      let same : state ≡ after = cc (sound_replay sound, rw all at came) in
+      let front : take (length rest) (take (length (rest ++ count ∷ [])) changes) ≡ take (length rest) changes =
+      take-take (length rest) (length (rest ++ count ∷ [])) changes (omega (arith, many)) in
+      (l.0, rw (← same) l.2.fits, rw front (rw b.1 at (sound_replay b.0)))
 
-  pub replay_of : (k : ℕ) → k ≤ length starts → (s : S) → IsFront gives keeps put first kept changes starts k s →
-      replay gives first (take k (take (length starts) changes)) ≡ Some s
-  replay_of k within s f =
-      rw (take-take k (length starts) changes within)
-      (rw (f.from, length-take-le k starts within) at (sound_replay f.sound))
+  each_part : (m : ℕ) (state : S) (kept : List O) (counts : List ℕ) → m ≡ length counts → IsSound gives keeps put state kept changes counts →
+      (k : ℕ) → k < length counts → TakesBack gives put (unwound put kept state) (take (length counts) changes) k (get_or (parts_of counts kept) k [])
+  each_part zero state kept counts len sound k below = absurd (omega (arith, len, below))
+  each_part (suc m) state kept counts len sound k below =
+      let rest = take m counts in
+      let count = get_or counts m 0 in
+      let ends : counts ≡ rest ++ count ∷ [] = sym (take_all (m + 1) counts (omega (arith, len))) ∙ take_more counts m 0 (omega (arith, len)) in
+      let many : length rest ≡ m = length-take-le m counts (omega (arith, len)) in
+      let s = subst (IsSound gives keeps put state kept changes) ends sound in
+      let whole = sound_total s in
+      let more : length (rest ++ count ∷ []) ≡ length rest + 1 = length-append rest (count ∷ []) in
+      let l = last_of s rest count refl in
+      let b = back_sound s rest count refl l.0 (take (length kept - count) kept) l.2.fits refl in
+      subst (λ (ns : List ℕ). TakesBack gives put (unwound put kept state) (take (length ns) changes) k (get_or (parts_of ns kept) k [])) (sym ends)
+      (elim (nat_lt k (length rest)) as (λ t. nat_lt k (length rest) ≡ t →
+      TakesBack gives put (unwound put kept state) (take (length (rest ++ count ∷ [])) changes) k (get_or (parts_of (rest ++ count ∷ []) kept) k [])) [
+        | true ↦ λ e.
+            let before : k < length rest = grind (arith, nat_tests) in
+            let older = each_part m l.0 (take (length kept - count) kept) rest (sym many) b.0 k before in
+            rw (part-before rest count k kept whole before)
+            (takes_back-among gives put (unwound put kept state) changes (length rest) (length (rest ++ count ∷ [])) k
+            (get_or (parts_of rest (take (length kept - count) kept)) k []) before (omega (arith, more)) (rw b.1 at older))
+        | false ↦ λ e.
+            let last : k ≡ length rest = grind (arith, nat_tests) in
+            rw (last, part-last rest count kept whole) (last_part state kept rest count s)
+      ] refl)
 
--- the values of a change of those done take it back
-unwinds : {S C O F : Type 0} (gives : S → C → Result S F) (keeps : S → C → List O) (put : S → O → Option S)
-    (state : S) (kept : List O) (changes : List C) (starts : List ℕ) → IsSound gives keeps put state kept changes starts →
-    (k : ℕ) → k < length (take (length starts) changes) →
-    TakesBack gives put (unwound put kept state) (take (length starts) changes) k (values_at starts kept k)
-unwinds {S} gives keeps put state kept changes starts sound k below after came =
-    let less : k < length starts = omega (arith, length-take-le (length starts) changes sound.within) in
-    let m = length starts - (k + 1) in
-    let f = front_of {first = unwound put kept state} state sound refl m (k + 1) (omega arith) in
-    let there = replay_of (k + 1) (omega arith) f.0 f.1 in
-    let same : f.0 ≡ after = cc in
-    let step = step_of k less f.0 f.1 in
-    (step.0, subst (λ (u : S). put_back put (values_at starts kept k) u ≡ Some step.0) same step.1.undone, replay_of k (omega arith) step.0 step.1.front)
+  -- what a journal keeps takes its changes back
+  pub take_back : (state : S) (kept : List O) (bytes large : List ℕ) → count_large bytes ≡ length large → IsSound gives keeps put state kept changes (counts_of bytes large) →
+      TakeBack gives put (unwound put kept state) (take (length (counts_of bytes large)) changes) kept bytes large
+  take_back state kept bytes large counted sound = record {
+    counted = counted;
+    whole = sound_total sound;
+    parts = λ k below. each_part (length (counts_of bytes large)) state kept (counts_of bytes large) refl sound k (omega (arith, below, length-counts bytes large));
+  }
 
--- a start that was read
-pub start_is : {O : Type 0} (read : ℕ) (items starts : List ℕ) (kept : List O) (k all : ℕ) → read ≡ get_or items k all → items ≡ starts → all ≡ length kept →
-    read ≡ end_at starts kept k
-start_is read items starts kept k all is same whole = rw (is, same, whole) refl
+module _ {S C O F : Type 0} {gives : S → C → Result S F} {put : S → O → Option S} {changes : List C} {first : S} {kept : List O} {bytes large : List ℕ} where
+  -- the last part is read, and the others are left
+  pub take_back-rest : (left : List O) (fewer less : List ℕ) (count : ℕ) → TakeBack gives put first changes kept bytes large →
+      counts_of bytes large ≡ counts_of fewer less ++ count ∷ [] → count_large fewer ≡ length less → left ≡ take (length kept - count) kept →
+      TakeBack gives put first changes left fewer less
+  take_back-rest left fewer less count back ends counted is =
+      let ns = counts_of fewer less in
+      let whole = rw ends at back.whole in
+      let more = ap length ends ∙ length-append ns (count ∷ []) in
+      let front = total-last ns count in
+      let len = length-take-le (length kept - count) kept (omega arith) in
+      rw is record {
+        counted = counted;
+        whole = omega (arith, whole, front, len);
+        parts = λ k below.
+            let there = back.parts k (omega (arith, below, more, length-counts bytes large, length-counts fewer less)) in
+            let value : get_or (parts_of (counts_of bytes large) kept) k [] ≡ get_or (parts_of ns (take (length kept - count) kept)) k [] =
+            ap (λ (l : List ℕ). get_or (parts_of l kept) k []) ends ∙ part-before ns count k kept whole (omega (arith, below, length-counts fewer less)) in
+            subst (TakesBack gives put first changes k) value there;
+      }
 
--- the values that were read: those after the start, of those before the end
-pub takes_back : {S C O F : Type 0} {gives : S → C → Result S F} {keeps : S → C → List O} {put : S → O → Option S}
-    {state : S} {kept values front all : List O} {changes : List C} {starts : List ℕ} {k start end : ℕ} → IsSound gives keeps put state kept changes starts →
-    k < length (take (length starts) changes) → start ≡ end_at starts kept k → end ≡ end_at starts kept (k + 1) →
-    all ≡ kept → front ≡ take end all → values ≡ drop start front →
-    TakesBack gives put (unwound put kept state) (take (length starts) changes) k values
-takes_back {gives = gives} {keeps = keeps} {put = put} {state = state} {kept = kept} {changes = changes} {starts = starts} {k = k} sound below first_is end_is read cut rest =
-    rw (rest, cut, read, first_is, end_is) (unwinds gives keeps put state kept changes starts sound k below)
+  pub take_back-last : (values : List O) (fewer less : List ℕ) (count : ℕ) → TakeBack gives put first changes kept bytes large →
+      counts_of bytes large ≡ counts_of fewer less ++ count ∷ [] → values ≡ drop (length kept - count) kept →
+      TakesBack gives put first changes (length fewer) values
+  take_back-last values fewer less count back ends is =
+      let ns = counts_of fewer less in
+      let whole = rw ends at back.whole in
+      let more = ap length ends ∙ length-append ns (count ∷ []) in
+      let there = back.parts (length fewer) (omega (arith, more, length-counts bytes large, length-counts fewer less)) in
+      let place : length fewer ≡ length ns = sym (length-counts fewer less) in
+      let value : get_or (parts_of (counts_of bytes large) kept) (length fewer) [] ≡ drop (length kept - count) kept =
+      ap (λ (l : List ℕ). get_or (parts_of l kept) (length fewer) []) ends ∙ ap (λ k. get_or (parts_of (ns ++ count ∷ []) kept) k []) place
+      ∙ part-last ns count kept whole in
+      subst (TakesBack gives put first changes (length fewer)) (value ∙ sym is) there
+
+  -- so many values are there
+  pub take_back-within : (fewer less : List ℕ) (count : ℕ) → TakeBack gives put first changes kept bytes large →
+      counts_of bytes large ≡ counts_of fewer less ++ count ∷ [] → count ≤ length kept
+  take_back-within fewer less count back ends =
+      let whole = rw ends at back.whole in
+      let all = total-last (counts_of fewer less) count in
+      omega (arith, whole, all)
 
 -- all of a list, by the number of its last item
 pub whole : {A : Type 0} (xs : List A) (n : ℕ) → n + 1 ≡ length xs → take (n + 1) xs ≡ xs

@@ -1,9 +1,15 @@
 //! The changes done on a state, each of which can be taken back and done again.
-ghost use Rattle.std.specs.Prelude.{◌≡◌, ◌+◌, ◌-◌, ◌<◌, ◌≤◌, ◌↔◌, ◌++◌, [], ◌∷◌, length, take, drop, get_or, vec_len, vec_capacity, Some, Ok, Err, IsSome, IsTrue, OnOk, OnErr, IfOk};
+ghost use Rattle.std.specs.Prelude.{◌≡◌, ◌+◌, ◌-◌, ◌<◌, ◌≤◌, ◌^◌, ◌↔◌, ◌++◌, [], ◌∷◌, length, take, drop, get_or, vec_len, vec_capacity, Some, Ok, Err, IsSome, IsTrue, OnOk, OnErr, IfOk};
 ghost use Rattle.std.specs.Bool.{OnFalse};
 ghost use Rattle.mix_refused.specs.Refused.{IfFault};
-ghost use Rattle.undo_core.specs.Replay.{replay, count_kept, TakesBack};
+ghost use Rattle.undo_core.specs.Replay.{replay, count_kept};
+ghost use Rattle.undo_core.specs.Runs.{items_of, IsRising};
 
+use crate::changes::Changes;
+use crate::counts::{append_count, take_count};
+use crate::kept::{Kept, revert};
+use crate::past::Past;
+use crate::runs::{Run, append, count_in, cut, item_at, lengthen};
 use crate::undo::Undo;
 use mix_refused::{Memory, Refused};
 use std::alloc::Global;
@@ -14,65 +20,73 @@ use std::marker::Model;
 pub struct Journal<S: Undo> {
     state: S,
     // The old values of the changes done, one change after the other.
-    kept: Vec<S::Old>,
-    // The changes done, as many as there are starts, and after them those ahead.
-    changes: Vec<S::Change>,
-    // Where in `kept` the values of each change done start.
-    starts: Vec<usize>,
+    kept: Kept<S::Old>,
+    // The changes done, as many as there are counts, and after them those ahead.
+    changes: Vec<Run<S::Change>>,
+    // How many values each change done keeps, and the large ones of these counts.
+    counts: Vec<u8>,
+    large: Vec<usize>,
 }
 
 impl<S: Undo> Model for Journal<S> {
     ghost use Rattle.std.specs.Prelude.{length, take, drop};
     ghost use Rattle.undo_core.specs.History.{History};
     ghost use Rattle.undo_core.specs.Replay.{unwound};
-    ghost use Rattle.undo_core.specs.Leads.{IsSound};
+    ghost use Rattle.undo_core.specs.Runs.{items_of};
+    ghost use Rattle.undo_core.specs.Leads.{IsStored};
 
     ghost Value = { History S S.Change };
 
-    ghost view = { λ j. record { first = unwound S.put j.kept.items j.state; changes = take (length j.starts.items) j.changes.items; ahead = drop (length j.starts.items) j.changes.items } };
+    ghost view = { λ j. record { first = unwound S.put j.kept.items j.state; changes = take (length j.counts.items) (items_of 0 j.changes.items); ahead = drop (length j.counts.items) (items_of 0 j.changes.items) } };
 
-    ghost invariant = { λ j. IsSound S.gives S.keeps S.put j.state j.kept.items j.changes.items j.starts.items };
+    ghost invariant = { λ j. IsStored S.gives S.keeps S.put j.state j.kept.items j.changes.items j.counts.items j.large.items };
 }
 
-// Puts an item in the place of all from this one on. There is room for it.
-fn put_last<T: Copy>(items: &mut Vec<T>, at: usize, item: T)
-    requires { vec_len items.old < vec_capacity items.old }
-    ensures { items.new.items ≡ take at items.old.items ++ item ∷ [] }
+// Puts a change in the place of all from this one on. There is room for it. The same as the last one where none stands ahead is what a step mostly is.
+#[inline(always)]
+fn put_last<S: Undo>(changes: &mut Vec<Run<S::Change>>, done: usize, change: S::Change)
+    requires rising { IsRising 0 changes.old.items }
+    requires within { done ≤ length (items_of 0 changes.old.items) }
+    requires few { done < 2 ^ 64 - 1 }
+    requires room { vec_len changes.old < vec_capacity changes.old }
+    ensures rising { IsRising 0 changes.new.items }
+    ensures items { items_of 0 changes.new.items ≡ take done (items_of 0 changes.old.items) ++ change ∷ [] }
 {
-    items.truncate(at);
-    items.push_reserved(item);
-}
-
-// The start of this number, or the end of all where there is none.
-fn start_or(starts: &[usize], number: usize, all: usize) -> usize
-    ensures { result ≡ get_or starts.now number all }
-{
-    match starts.get(number) {
-        Some(start) => *start,
-        None => all,
-    }
-}
-
-// The first items of a list, or all where there are fewer.
-fn first_of<T>(items: &[T], count: usize) -> &[T]
-    ensures { result.now ≡ take count items.now }
-{
-    if count < items.len() {
-        &items[..count]
+    if done == count_in(changes) && is_last::<S>(changes, &change) {
+        lengthen(changes, change);
     } else {
-        items
+        put_apart::<S>(changes, done, change);
     }
 }
 
-// The items of a list after the first ones, or none where there are no more.
-fn rest_of<T>(items: &[T], count: usize) -> &[T]
-    ensures { result.now ≡ drop count items.now }
+// The same of any change.
+#[inline(never)]
+fn put_apart<S: Undo>(changes: &mut Vec<Run<S::Change>>, done: usize, change: S::Change)
+    requires rising { IsRising 0 changes.old.items }
+    requires within { done ≤ length (items_of 0 changes.old.items) }
+    requires few { done < 2 ^ 64 - 1 }
+    requires room { vec_len changes.old < vec_capacity changes.old }
+    ensures rising { IsRising 0 changes.new.items }
+    ensures items { items_of 0 changes.new.items ≡ take done (items_of 0 changes.old.items) ++ change ∷ [] }
 {
-    if count < items.len() {
-        &items[count..]
-    } else {
-        &[]
+    if done < count_in(changes) {
+        cut(changes, done);
     }
+    if is_last::<S>(changes, &change) {
+        lengthen(changes, change);
+    } else {
+        append(changes, change);
+    }
+}
+
+// Whether a change is the same as the last one.
+#[inline(always)]
+fn is_last<S: Undo>(changes: &[Run<S::Change>], change: &S::Change) -> bool
+    ensures some { IsTrue result → 0 < length changes.now }
+    ensures same { IsTrue result → (get_or changes.now (length changes.now - 1) (record { item = change.now; end = 0 })).item ≡ change.now }
+{
+    let count = changes.len();
+    count > 0 && S::is_same(&changes[count - 1].item, change)
 }
 
 impl<S: Undo> Journal<S> {
@@ -84,9 +98,10 @@ impl<S: Undo> Journal<S> {
     {
         Journal {
             state: s,
-            kept: Vec::new(alloc),
+            kept: Kept::new(alloc),
             changes: Vec::new(alloc),
-            starts: Vec::new(alloc),
+            counts: Vec::new(alloc),
+            large: Vec::new(alloc),
         }
     }
 
@@ -106,11 +121,13 @@ impl<S: Undo> Journal<S> {
         ensures err { OnErr result (self.new ≡ self.old) }
     {
         self.changes.reserve(1)?;
-        self.starts.reserve(1)?;
+        self.counts.reserve(1)?;
+        self.large.reserve(1)?;
         let from = self.kept.len();
         self.state.apply(&change, &mut self.kept)?;
-        put_last(&mut self.changes, self.starts.len(), change);
-        self.starts.push_reserved(from);
+        let count = self.kept.len() - from;
+        put_last::<S>(&mut self.changes, self.counts.len(), change);
+        append_count(&mut self.counts, &mut self.large, count);
         Ok(())
     }
 
@@ -123,10 +140,10 @@ impl<S: Undo> Journal<S> {
         ensures all { self.new.changes ++ self.new.ahead ≡ self.old.changes ++ self.old.ahead }
         ensures none { OnFalse result (self.new ≡ self.old) }
     {
-        let Some(start) = self.starts.pop() else {
+        let Some(count) = take_count(&mut self.counts, &mut self.large) else {
             return false;
         };
-        self.state.revert(&mut self.kept, start);
+        revert(&mut self.state, &mut self.kept, count);
         true
     }
 
@@ -141,14 +158,18 @@ impl<S: Undo> Journal<S> {
         ensures err { OnErr result (self.new ≡ self.old) }
         ensures some { OnErr result (0 < length self.old.ahead) }
     {
-        if self.starts.len() == self.changes.len() {
+        if self.ahead() == 0 {
             return Ok(false);
         }
-        self.starts.reserve(1)?;
+        self.counts.reserve(1)?;
+        self.large.reserve(1)?;
         let from = self.kept.len();
-        let change = self.changes[self.starts.len()];
+        let change = item_at(&self.changes, self.counts.len());
         match self.state.apply(&change, &mut self.kept) {
-            Ok(()) => self.starts.push_reserved(from),
+            Ok(()) => {
+                let count = self.kept.len() - from;
+                append_count(&mut self.counts, &mut self.large, count);
+            }
             Err(Refused::Memory) => return Err(Memory),
             Err(Refused::Fault(_)) => unreachable!(),
         }
@@ -163,47 +184,34 @@ impl<S: Undo> Journal<S> {
     }
 
     /// The changes done, the oldest one first. It takes no memory.
-    pub fn changes(&self) -> &[S::Change]
-        ensures { result.now ≡ self.now.changes }
+    pub fn changes(&self) -> Changes<'_, S::Change>
+        ensures { result ≡ self.now.changes }
     {
-        &self.changes[..self.starts.len()]
+        Changes::of(&self.changes, self.counts.len())
     }
 
     /// All changes, those done and after them those ahead. It takes no memory.
-    pub fn all(&self) -> &[S::Change]
-        ensures { result.now ≡ self.now.changes ++ self.now.ahead }
+    pub fn all(&self) -> Changes<'_, S::Change>
+        ensures { result ≡ self.now.changes ++ self.now.ahead }
     {
-        self.changes.as_slice()
+        Changes::of(&self.changes, count_in(&self.changes))
     }
 
-    /// The values that the change of this number, counted from 0, overwrote, in the order in which it overwrote them. It takes no memory.
-    pub fn kept(&self, number: usize) -> &[S::Old]
-        requires { number < length self.now.changes }
-        ensures { TakesBack S.gives S.put self.now.first self.now.changes number result.now }
+    /// The changes done, to be read from the last one backwards by the values that each overwrote. It takes no memory.
+    pub fn past(&self) -> Past<'_, S>
+        ensures of { result.of ≡ self.now }
+        ensures left { result.left ≡ length self.now.changes }
     {
-        let all = self.kept.len();
-        let start = start_or(&self.starts, number, all);
-        let end = start_or(&self.starts, number + 1, all);
-        rest_of(first_of(&self.kept, end), start)
-    }
-
-    /// Leads a state from after the change of this number, counted from 0, back to before it, by the values that are kept. It takes no
-    /// memory.
-    pub fn unwind(&self, number: usize, state: &mut S)
-        requires within { number < length self.now.changes }
-        requires after { replay S.gives self.now.first (take (number + 1) self.now.changes) ≡ Some state.old }
-        ensures { replay S.gives self.now.first (take number self.now.changes) ≡ Some state.new }
-    {
-        state.restore_all(self.kept(number));
+        Past::of(self, self.kept.backwards(), &self.counts, &self.large)
     }
 
     /// Does the change of this number of all, counted from 0, once more, on a state as it was before it. What it overwrites is appended to `kept`.
-    pub fn redo(&self, number: usize, state: &mut S, kept: &mut Vec<S::Old>) -> Result<(), Memory>
+    pub fn redo(&self, number: usize, state: &mut S, kept: &mut Kept<S::Old>) -> Result<(), Memory>
         requires within { number < length (self.now.changes ++ self.now.ahead) }
         requires before { replay S.gives self.now.first (take number (self.now.changes ++ self.now.ahead)) ≡ Some state.old }
         ensures { OnOk result (replay S.gives self.now.first (take (number + 1) (self.now.changes ++ self.now.ahead)) ≡ Some state.new) }
     {
-        let change = self.changes[number];
+        let change = item_at(&self.changes, number);
         match state.apply(&change, kept) {
             Ok(()) => {}
             Err(Refused::Memory) => return Err(Memory),
@@ -212,11 +220,19 @@ impl<S: Undo> Journal<S> {
         Ok(())
     }
 
+    /// How many changes are done: fewer than 2^63. It takes no memory.
+    pub fn done(&self) -> usize
+        ensures count { result ≡ length self.now.changes }
+        ensures few { result < 2 ^ 63 }
+    {
+        self.counts.as_slice().len()
+    }
+
     /// How many changes stand ahead. It takes no memory.
     pub fn ahead(&self) -> usize
         ensures { result ≡ length self.now.ahead }
     {
-        self.changes.len() - self.starts.len()
+        count_in(&self.changes) - self.counts.len()
     }
 
     /// How many old values the changes done keep. It takes no memory.

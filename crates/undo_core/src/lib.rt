@@ -1,12 +1,24 @@
 //! States whose changes can be taken back by the values that they overwrote, and a journal over any of them.
 #![tactic(auto)]
 
+mod changes;
+mod counts;
 mod journal;
+mod kept;
+mod pack;
+mod past;
+mod runs;
 mod undo;
+mod values;
 
+pub use changes::Changes;
 pub use journal::Journal;
+pub use kept::{Kept, revert};
 pub use mix_refused::{Memory, Refused};
+pub use pack::{Last, Pack};
+pub use past::Past;
 pub use undo::Undo;
+pub use values::Values;
 
 #[cfg(test)]
 mod tests;

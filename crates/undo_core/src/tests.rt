@@ -2,13 +2,13 @@
 ghost use Rattle.std.specs.Prelude.{◌≡◌, ◌+◌, [], ◌∷◌, Some, Ok, Err, nat_le, refl, if◌then◌else◌};
 ghost use Rattle.undo_core.specs.declared.tests.CounterFault.TheVariants.{PastNine};
 
-use crate::{Journal, Memory, Refused, Undo};
+use crate::{Changes, Journal, Kept, Memory, Refused, Undo};
 use std::alloc::Global;
 use std::test::Fail;
 
 #[derive(Clone, Copy, Debug, PartialEq, Eq)]
 struct Counter {
-    number: u8,
+    number: u32,
 }
 
 #[derive(Clone, Copy, Debug, PartialEq, Eq)]
@@ -19,7 +19,7 @@ enum CounterFault {
 impl Undo for Counter {
     type Change = u8;
 
-    type Old = u8;
+    type Old = u32;
 
     type Fault = CounterFault;
 
@@ -33,17 +33,21 @@ impl Undo for Counter {
 
     ghost undoes = { λ s t c real given. refl };
 
-    fn apply(&mut self, change: &u8, kept: &mut Vec<u8>) -> Result<(), Refused<CounterFault>> {
-        let number = u16::from(self.number) + u16::from(*change);
+    fn is_same(one: &u8, other: &u8) -> bool {
+        *one == *other
+    }
+
+    fn apply(&mut self, change: &u8, kept: &mut Kept<u32>) -> Result<(), Refused<CounterFault>> {
+        let number = u64::from(self.number) + u64::from(*change);
         if number > 9 {
             return Err(Refused::Fault(CounterFault::PastNine));
         }
         kept.push(self.number)?;
-        self.number = number as u8;
+        self.number = number as u32;
         Ok(())
     }
 
-    fn restore(&mut self, old: u8) {
+    fn restore(&mut self, old: u32) {
         self.number = old;
     }
 }
@@ -83,7 +87,7 @@ fn perform(journal: &mut Journal<Counter>, act: Act) -> Told {
 }
 
 // An act on the journal that the row above left, its answer, and then the number, the changes and how many stand ahead.
-const ROWS: [(Act, Told, u8, &[u8], usize); 18] = [
+const ROWS: [(Act, Told, u32, &[u8], usize); 18] = [
     (Act::Back, Told::No, 0, &[], 0),
     (Act::Forth, Told::No, 0, &[], 0),
     (Act::Go(10), Told::PastNine, 0, &[], 0),
@@ -105,6 +109,18 @@ const ROWS: [(Act, Told, u8, &[u8], usize); 18] = [
     (Act::Go(4), Told::Yes, 4, &[4], 0),
 ];
 
+fn are_same(changes: &Changes<'_, u8>, expected: &[u8]) -> bool {
+    if changes.len() != expected.len() || changes.is_empty() != expected.is_empty() {
+        return false;
+    }
+    for (number, change) in expected.iter().enumerate() {
+        if changes.get(number) != Some(*change) {
+            return false;
+        }
+    }
+    changes.get(expected.len()).is_none()
+}
+
 #[test]
 fn a_journal_of_a_counter(rt: HostRuntime) -> Result<(), Fail> {
     let mut journal = Journal::new(rt.alloc(), Counter { number: 0 });
@@ -119,11 +135,15 @@ fn a_journal_of_a_counter(rt: HostRuntime) -> Result<(), Fail> {
             number,
             "{does:?}, changes {changes:?}"
         );
-        assert_eq!(rt; journal.changes(), changes, "{does:?}, changes {changes:?}");
+        assert_eq!(rt;
+            are_same(&journal.changes(), changes),
+            true,
+            "{does:?}, changes {changes:?}"
+        );
         assert_eq!(rt; journal.ahead(), ahead, "{does:?}, changes {changes:?}");
         assert_eq!(rt;
-            journal.all().len(),
-            changes.len() + ahead,
+            journal.all().len().checked_sub(ahead),
+            Some(changes.len()),
             "{does:?}, changes {changes:?}"
         );
         assert_eq!(rt;
@@ -159,28 +179,36 @@ fn many_changes(rt: HostRuntime) {
 
 // The number before the last change, if there is one, from the values that it keeps, of which there is one.
 #[tactic(auto, using(crate::proofs::Unwinding::whole))]
-fn before_last(journal: &Journal<Counter>) -> Option<u8> {
-    let last = journal.changes().len().checked_sub(1)?;
+fn before_last(journal: &Journal<Counter>) -> Option<u32> {
+    let mut past = journal.past();
+    let values = past.earlier()?;
     let mut state = *journal.state();
-    journal.unwind(last, &mut state);
-    if journal.kept(last) == [state.number].as_slice() {
+    state.restore_all(&values);
+    let mut left = values.copied();
+    if left.len() == 1 && left.pop() == Some(state.number) && left.is_empty() {
         Some(state.number)
     } else {
         None
     }
 }
 
-// The number after the next change ahead, if there is one.
+// The number after the next change ahead, if there is one, where that change overwrites the number before it.
 #[tactic(auto, using(crate::proofs::Redoing::done_of))]
-fn after_next(alloc: Global, journal: &Journal<Counter>) -> Option<u8> {
+fn after_next(alloc: Global, journal: &Journal<Counter>) -> Option<u32> {
     if journal.ahead() == 0 {
         return None;
     }
     let mut state = *journal.state();
-    let mut kept = Vec::new(alloc);
+    let mut kept = Kept::new(alloc);
     let done = journal.changes().len();
     journal.redo(done, &mut state, &mut kept).ok()?;
-    Some(state.number)
+    let overwritten = kept.values().pop();
+    kept.clear();
+    if overwritten == Some(journal.state().number) && kept.len() == 0 {
+        Some(state.number)
+    } else {
+        None
+    }
 }
 
 #[test]

@@ -1,8 +1,11 @@
 //! A state whose changes can be taken back by the values that they overwrote.
-ghost use Rattle.std.specs.Prelude.{◌≡◌, ◌≤◌, ◌++◌, List, Option, Result, Some, Ok, Err, IsOk, IsSome, OnOk, OnErr, vec_len, take, drop};
+ghost use Rattle.std.specs.Prelude.{◌≡◌, ◌<◌, ◌≤◌, ◌-◌, ◌++◌, List, Option, Result, Some, Ok, Err, IsOk, IsSome, IsTrue, OnOk, OnErr, length, take, drop};
 ghost use Rattle.mix_refused.specs.Refused.{IfFault, IfMemory};
 ghost use Rattle.undo_core.specs.Replay.{put_back};
 
+use crate::kept::Kept;
+use crate::pack::Pack;
+use crate::values::Values;
 use mix_refused::Refused;
 
 /// A state, its changes, and the old values that take a change back.
@@ -11,7 +14,7 @@ pub trait Undo: Drop {
     type Change: Copy;
 
     /// One place of a state with the value that stood there.
-    type Old: Copy;
+    type Old: Pack;
 
     /// Why a state refuses a change.
     type Fault: Drop;
@@ -28,12 +31,19 @@ pub trait Undo: Drop {
     /// The state with one value put back, or none where the value doesn't fit.
     ghost put: { Self → Self.Old → Option Self };
 
+    /// Whether two changes are the same. A journal keeps equal ones that follow each other once; where this is false for them, each for itself.
+    fn is_same(one: &Self::Change, other: &Self::Change) -> bool
+        ensures { IsTrue result → one.now ≡ other.now }
+    {
+        false
+    }
+
     /// Does the change and appends the values that it overwrites to `kept`. A fault, or out of memory, alters nothing;
     /// out of memory is the answer to no change that has a fault.
     fn apply(
         &mut self,
         change: &Self::Change,
-        kept: &mut Vec<Self::Old>,
+        kept: &mut Kept<Self::Old>,
     ) -> Result<(), Refused<Self::Fault>>
         ensures real { is_real self.old change.now }
         ensures given { OnOk result (gives self.old change.now ≡ Ok self.new) }
@@ -48,27 +58,32 @@ pub trait Undo: Drop {
         requires { IsSome (put self.old old) }
         ensures { put self.old old ≡ Some self.new };
 
-    /// Puts values back, the last one first. It takes no memory.
-    fn restore_all(&mut self, values: &[Self::Old])
-        requires { IsSome (put_back put values.now self.old) }
-        ensures { put_back put values.now self.old ≡ Some self.new }
+    /// Takes the last value of units off, and puts it back. It takes no memory.
+    #[inline(always)]
+    fn restore_last(&mut self, units: &mut Vec<u32>)
+        requires some { 0 < length (Self.Old.said units.old.items) }
+        requires fits { IsSome (put_back put (drop (length (Self.Old.said units.old.items) - 1) (Self.Old.said units.old.items)) self.old) }
+        ensures back { put_back put (drop (length (Self.Old.said units.old.items) - 1) (Self.Old.said units.old.items)) self.old ≡ Some self.new }
+        ensures cut { Self.Old.said units.new.items ≡ take (length (Self.Old.said units.old.items) - 1) (Self.Old.said units.old.items) }
     {
-        let mut left = values.len();
-        while left > 0 {
-            left -= 1;
-            self.restore(values[left]);
+        match Self::Old::take(units) {
+            Some(value) => self.restore(value),
+            None => unreachable!(),
         }
     }
 
-    /// Puts back the values of `kept` from `from` on, the last one first, and cuts them off. It takes no memory.
-    fn revert(&mut self, kept: &mut Vec<Self::Old>, from: usize)
-        requires within { from ≤ vec_len kept.old }
-        requires fits { IsSome (put_back put (drop from kept.old.items) self.old) }
-        ensures back { put_back put (drop from kept.old.items) self.old ≡ Some self.new }
-        ensures cut { kept.new.items ≡ take from kept.old.items }
+    /// Puts values back, the last one first. It takes no memory.
+    fn restore_all(&mut self, values: &Values<'_, Self::Old>)
+        requires { IsSome (put_back put values.now self.old) }
+        ensures { put_back put values.now self.old ≡ Some self.new }
     {
-        self.restore_all(&kept[from..]);
-        kept.truncate(from);
+        let mut left = values.copied();
+        for _ in 0..left.len() {
+            match left.pop() {
+                Some(value) => self.restore(value),
+                None => unreachable!(),
+            }
+        }
     }
 
     /// Putting back the values that an accepted change overwrote gives the state before it.

@@ -21,7 +21,7 @@ pub(crate) fn state_view(
     let asked = cells_asked(alloc, world, request)?;
     let mut body = Fields::new(alloc);
     body.number("done", session.changes().len() as u64)?;
-    body.number("ahead", session.ahead().len() as u64)?;
+    body.number("ahead", session.ahead() as u64)?;
     put_flags(alloc, &mut body, world)?;
     body.list("registers", registers(alloc, world)?)?;
     body.list("cells", cells(alloc, world, asked.as_slice())?)?;

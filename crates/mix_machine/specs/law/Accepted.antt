@@ -1,6 +1,6 @@
 -- What an accepted step moves to or from a unit has room: its unit has passed each fault.
-use Rattle.std.specs.Prelude.{ℕ, ◌+◌, ◌-◌, max, true, false, Bool, not, ◌&&◌, ◌||◌, ◌==◌, cond, nat_le, nat_lt, length, Option, Some, None, ◌≡◌, ◌<◌, ◌≤◌, IsTrue, refl}
-use Rattle.std.proofs.Common.{ap, arith}
+use Rattle.std.specs.Prelude.{ℕ, ◌+◌, true, false, Bool, not, ◌&&◌, ◌||◌, ◌==◌, cond, nat_le, nat_lt, length, Option, Some, None, ◌≡◌, ◌<◌, ◌≤◌, refl}
+use Rattle.std.proofs.Common.{arith}
 use Rattle.std.proofs.lemmas.Bool.Decides.{nat_tests}
 use Rattle.mix_word.specs.Word.{WordValue, plus}
 use Rattle.mix_word.specs.Arithmetic.{sum_of}
@@ -17,7 +17,7 @@ use Rattle.mix_machine.specs.Jump.{jump_writes}
 use Rattle.mix_machine.specs.Effects.{effects, reaches, sum_into, shift_into, quotient_into, copy_of, transfer_of}
 use Rattle.mix_machine.specs.UnitAction.{use_of, needs_unit, transfer_start, transfer_end, block_at, wound, wrong_direction, bad_order, bad_control, no_block, unit_full, marks_page}
 use Rattle.mix_machine.specs.Order.{clock_after}
-use Rattle.mix_machine.specs.units.UnitKind.{block_length, has_medium, has_output}
+use Rattle.mix_machine.specs.units.UnitKind.{has_medium, has_output}
 use Rattle.mix_machine.specs.units.Unit.{UnitState, IsUnit, most_entries, last_until}
 use Rattle.mix_machine.specs.units.Keep.{is-unit-at}
 use Rattle.mix_machine.specs.law.Plans.{UnitFits, InputFits, OutputFits, ControlFits}

@@ -1,5 +1,5 @@
 -- Which lists of writes keep the state in its ranges, and that the old values of such a list undo it.
-use Rattle.std.specs.Prelude.{ℕ, zero, suc, ◌+◌, slice_set, true, false, Bool, not, ◌&&◌, cond, nat_le, nat_lt, List, [], ◌∷◌, ◌++◌, ◌≡◌, ◌<◌, ◌≤◌, length, IsTrue, Some, refl}
+use Rattle.std.specs.Prelude.{ℕ, ◌+◌, slice_set, true, false, Bool, not, ◌&&◌, nat_le, nat_lt, List, [], ◌∷◌, ◌≡◌, ◌<◌, length, IsTrue, Some, refl}
 use Rattle.std.specs.Option.{option_and_then}
 use Rattle.std.proofs.Common.{ap, ◌∙◌, arith, rules}
 use Rattle.std.proofs.lemmas.Bool.{and_parts}
@@ -10,11 +10,11 @@ use Rattle.mix_word.specs.Word.{WordValue, zero_word}
 use Rattle.mix_word.specs.declared.register.Reg.{Reg}
 use Rattle.mix_word.specs.declared.register.Reg.TheVariants.{A, X, I1, I2, I3, I4, I5, I6, J}
 use Rattle.mix_machine.specs.Registers.{RegistersState, AreRegisters, held_in, with_register, fits_register}
-use Rattle.mix_machine.specs.World.{WorldState, IsWorld, cell_of, unit_at, has_break, last_clock}
+use Rattle.mix_machine.specs.World.{WorldState, IsWorld, cell_of, unit_at, has_break}
 use Rattle.mix_machine.specs.units.UnitKind.{has_medium, has_output}
 use Rattle.mix_machine.specs.units.Row.{RowState}
 use Rattle.mix_machine.specs.units.Unit.{most_entries, last_until}
-use Rattle.mix_machine.specs.units.Units.{UnitsState, AreUnits, length_at}
+use Rattle.mix_machine.specs.units.Units.{UnitsState, AreUnits}
 use Rattle.mix_machine.specs.units.Keep.{keep-set_place, keep-set_length, keep-set_item, keep-set_until, keep-add_blocks, keep-add_row}
 use Rattle.mix_machine.specs.Write.{set_value, value_at, fits, put_value, Write, set, grow, print, written, replaced, write_all, kept_by}
 use Rattle.mix_machine.specs.units.Back.{back-set_place, fits-place_at, back-set_until, fits-until_at, back-set_item, fits-item_at, back-add_blocks, fits-length_of_blocks, back-add_row, fits-length_of_rows}

@@ -11,7 +11,7 @@ use Rattle.mix_machine.specs.units.Row.{RowState, row_of}
 use Rattle.mix_machine.specs.units.Units.{UnitsState, AreUnits, unit_of, fits_place, fits_item, fits_until, set_until}
 use Rattle.mix_machine.specs.declared.units.kind.UnitKind.{UnitKind}
 use Rattle.mix_machine.specs.declared.units.kind.UnitKind.TheVariants.{Tape, Disk, CardReader, CardPunch, Printer, Typewriter, PaperTape}
-use Rattle.mix_machine.specs.Write.{set_value, fits, Write, set, grow, print, written, write_all, each, busy, place_after, from_cell, copies, input_writes, words_out, replace_writes, append_writes, row_writes, output_writes, control_writes, writes_in, writes_of}
+use Rattle.mix_machine.specs.Write.{set_value, fits, Write, set, grow, print, written, write_all, each, place_after, copies, input_writes, words_out, replace_writes, append_writes, row_writes, output_writes, control_writes, writes_in, writes_of}
 use Rattle.mix_machine.specs.Order.{all_fit}
 use Rattle.mix_machine.specs.law.Fits.{is_length, write_fits, AllFit, world-set_value}
 use Rattle.mix_machine.specs.law.Units.{unit-with, fits-item-after, fits-item-moved, fits-place-grown}

@@ -14,7 +14,7 @@ use crate::plan::{Effects, Outcome, Plan};
 use crate::units::UnitNo;
 use crate::world::World;
 use mix_word::{Operation, UnitUse, Uses};
-use undo_core::Refused;
+use undo_core::{Kept, Refused};
 
 const LAST_CLOCK: u64 = 1_000_000_000_000_000_000;
 
@@ -29,7 +29,7 @@ impl World {
         operation: Operation,
         outcome: Outcome,
         a: Arguments,
-        kept: &mut Vec<Old>,
+        kept: &mut Kept<Old>,
     ) -> Result<(), Refused<MixFault>>
         requires cell { self.old.loc < 4000 }
         requires f { a.f < 64 }

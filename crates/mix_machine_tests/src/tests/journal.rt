@@ -6,7 +6,7 @@ use super::steps::number_of;
 use mix_machine::{Change, Cmp, Place, Reg, Sign, Units, Word, World, halt_law, kept_count_law};
 use std::alloc::Global;
 use std::test::Fail;
-use undo_core::{Journal, Undo};
+use undo_core::{Journal, Kept, Undo, revert};
 
 // ENT1 101, MOVE 100(63), where cell 100 holds 7.
 #[test]
@@ -105,12 +105,12 @@ fn a_loaded_machine_is_read(rt: HostRuntime) -> Result<(), Fail> {
 fn try_out(alloc: Global, world: &mut World, change: Change) -> Option<usize>
     ensures { world.new ≡ world.old }
 {
-    let mut kept = Vec::new(alloc);
+    let mut kept = Kept::new(alloc);
     match world.apply(&change, &mut kept) {
         Err(_) => None,
         Ok(()) => {
             let count = kept.len();
-            world.revert(&mut kept, 0);
+            revert(world, &mut kept, count);
             Some(count)
         }
     }
@@ -129,7 +129,7 @@ fn a_change_is_reverted(rt: HostRuntime) -> Result<(), Fail> {
     assert_eq!(rt; try_out(rt.alloc(), &mut world, large), None);
     assert_eq!(rt; world.register(Reg::A), Word::ZERO);
     assert_eq!(rt; world.clock(), 0);
-    let mut kept = Vec::new(rt.alloc());
+    let mut kept = Kept::new(rt.alloc());
     assert_eq!(rt; number_of(world.apply(&Change::Step, &mut kept)), 0);
     assert_eq!(rt; kept.len(), 3);
     assert_eq!(rt; world.register(Reg::A), Word::of(Sign::Minus, 9));

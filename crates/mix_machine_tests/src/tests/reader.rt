@@ -2,7 +2,7 @@
 use mix_machine::{Change, Cmp, Place, Reg, Sign, Units, Word, World};
 use std::alloc::Global;
 use std::fmt::Write;
-use undo_core::Undo;
+use undo_core::{Kept, Undo};
 
 /// A place of a cell.
 pub fn place(text: &str) -> Option<Place> {
@@ -64,7 +64,7 @@ pub fn change(value: &str) -> Option<Change> {
 
 /// Puts a value where it stands.
 pub fn put(alloc: Global, world: &mut World, value: &str) -> Option<()> {
-    let mut kept = Vec::new(alloc);
+    let mut kept = Kept::new(alloc);
     world.apply(&change(value)?, &mut kept).ok()
 }
 

@@ -13,7 +13,7 @@ use mix_machine::{Change, MixFault, Old, Row, Unit, UnitNo, World};
 use mix_session::ToolFault;
 use mix_stream::Out;
 use std::alloc::Global;
-use undo_core::{Refused, Undo};
+use undo_core::{Kept, Refused, Undo};
 
 /// Why a run ended: the last step was a halt, one more step is a fault, or as many steps were done as were allowed.
 #[derive(Clone, Copy, Debug, PartialEq, Eq)]
@@ -48,7 +48,7 @@ pub(super) fn print_steps<W: Out>(
     ensures write { CountsFailure (result ≡ Err ToolFault.Write) (W.failed out.old) (W.failed out.new) }
     ensures only { IfErr result IsMemoryOrWrite }
 {
-    let mut kept = Vec::new(alloc);
+    let mut kept = Kept::new(alloc);
     let mut before = row_counts(world);
     let mut left = steps;
     while left > 0 {
@@ -65,7 +65,7 @@ pub(super) fn print_steps<W: Out>(
 fn print_step<W: Out>(
     alloc: Global,
     world: &mut World,
-    kept: &mut Vec<Old>,
+    kept: &mut Kept<Old>,
     before: &mut RowCounts,
     units: UnitSet,
     out: &mut W,

@@ -1,6 +1,6 @@
 //! What a face asks of the changes: the machine after each of them, what each did, and how often each instruction was executed.
 
-ghost use Rattle.std.specs.Prelude.{◌≡◌, ◌<◌, ℕ, IfOk, slice_get, string_bytes};
+ghost use Rattle.std.specs.Prelude.{◌≡◌, ◌<◌, ℕ, IfOk, string_bytes};
 ghost use Rattle.mix_session.specs.Change.{world_at, change_text};
 ghost use Rattle.mix_session.specs.Counts.{tally_at, tally_of_all};
 ghost use Rattle.mix_session.specs.Face.{change_numbered};
@@ -23,10 +23,12 @@ impl Session<'_> {
     }
 
     /// The change of a number, counted from 1, of those done and those that stand ahead; none where there is no such number.
-    pub fn change_at(&self, number: usize) -> Option<Change> {
+    pub fn change_at(&self, number: usize) -> Option<Change>
+        ensures { result ≡ change_numbered self.now.timeline number }
+    {
         match number {
             0 => None,
-            _ => change_in(self.journal().all(), number - 1),
+            _ => self.journal().all().get(number - 1),
         }
     }
 
@@ -37,15 +39,6 @@ impl Session<'_> {
         ensures all { IfOk result (λ tallies. tallies.all ≡ tally_of_all self.now.timeline) }
     {
         tallies_of(alloc, self.journal())
-    }
-}
-
-fn change_in(changes: &[Change], at: usize) -> Option<Change>
-    ensures { result ≡ slice_get changes.now at }
-{
-    match changes.get(at) {
-        None => None,
-        Some(change) => Some(*change),
     }
 }
 

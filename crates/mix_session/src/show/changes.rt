@@ -1,19 +1,20 @@
 //! The lines of the changes: what each did, and what it altered.
 
 ghost use Rattle.std.specs.Prelude.{◌≡◌, ◌<◌, ◌≤◌, ◌+◌, ◌++◌, Some, OnOk, IfOk, length, reverse, take, string_bytes};
-ghost use Rattle.undo_core.specs.Replay.{replay};
+ghost use Rattle.undo_core.specs.Replay.{replay, TakesBack};
 ghost use Rattle.mix_machine.specs.Do.{does};
+ghost use Rattle.mix_machine.specs.Write.{put_value};
 ghost use Rattle.mix_machine.specs.declared.old.Change.TheVariants.{Step};
 ghost use Rattle.mix_session.specs.Change.{world_at, change_at, change_text, altered_text, change_columns, change_line, change_line_at, last_lines, diff_text};
 
 use crate::reply::Location;
 use crate::show::columns::{add_left, add_right};
 use crate::show::differences::{Layout, Worlds, add_differences, add_places, add_registers};
-use crate::timeline::world_of;
-use mix_machine::{Change, Place, World};
+use crate::timeline::{earlier, unwind, world_of};
+use mix_machine::{Change, Old, Place, World};
 use mix_word::Instruction;
 use std::alloc::{AllocError, Global};
-use undo_core::{Journal, Memory};
+use undo_core::{Journal, Kept, Memory, Values};
 
 /// The lines of the last changes that are done, or of all where there are fewer. They are told from now backwards, by what the journal keeps: no
 /// change is done again.
@@ -24,7 +25,7 @@ pub(crate) fn last_lines(
 ) -> Result<Vec<u8>, Memory>
     ensures { IfOk result (λ text. text.items ≡ last_lines journal.now count) }
 {
-    let done = journal.changes().len();
+    let done = journal.done();
     let first = done.saturating_sub(count as usize);
     let mut text = Vec::new(alloc);
     if first == done {
@@ -34,37 +35,49 @@ pub(crate) fn last_lines(
         journal.state().copied(alloc)?,
         journal.state().copied(alloc)?,
     );
+    let mut past = journal.past();
     let mut number = done;
     while number > first {
         number -= 1;
-        add_line_before(alloc, &mut text, journal, number, &mut before, &mut after)?;
+        let values = earlier(journal, &mut past, number);
+        add_line_before(
+            alloc,
+            &mut text,
+            journal,
+            number,
+            &values,
+            &mut before,
+            &mut after,
+        )?;
     }
     text.reverse();
     Ok(text)
 }
 
 // Appends the line of the change after the first ones that are done, its last byte first. Two machines as they were after it are led back to
-// before it.
+// before it, by the values that it overwrote.
 fn add_line_before(
     alloc: Global,
     text: &mut Vec<u8>,
     journal: &Journal<World>,
     number: usize,
+    values: &Values<'_, Old>,
     before: &mut World,
     after: &mut World,
 ) -> Result<(), Memory>
     requires within { number < length journal.now.changes }
+    requires back { TakesBack does put_value journal.now.first journal.now.changes number values.now }
     requires before { replay does journal.now.first (take (number + 1) journal.now.changes) ≡ Some before.old }
     requires after { replay does journal.now.first (take (number + 1) journal.now.changes) ≡ Some after.old }
     ensures before { OnOk result (replay does journal.now.first (take number journal.now.changes) ≡ Some before.new) }
     ensures after { OnOk result (replay does journal.now.first (take number journal.now.changes) ≡ Some after.new) }
     ensures text { OnOk result (text.new.items ≡ text.old.items ++ reverse (change_line_at journal.now (number + 1))) }
 {
-    journal.unwind(number, before);
-    let change = &journal.changes()[number];
-    let line = line_of(alloc, number + 1, change, Worlds { before, after })?;
+    unwind(journal, number, values, before);
+    let change = journal.changes().at(number);
+    let line = line_of(alloc, number + 1, &change, Worlds { before, after })?;
     add_reversed(text, &line)?;
-    journal.unwind(number, after);
+    unwind(journal, number, values, after);
     Ok(())
 }
 
@@ -72,7 +85,7 @@ fn add_line_before(
 pub(crate) fn next_line(alloc: Global, journal: &Journal<World>) -> Result<Vec<u8>, Memory>
     ensures { IfOk result (λ text. text.items ≡ change_line_at journal.now (length journal.now.changes + 1)) }
 {
-    let number = journal.changes().len() + 1;
+    let number = journal.done() + 1;
     let after = world_at(alloc, journal, number)?;
     let worlds = Worlds {
         before: world_of(journal),
@@ -82,13 +95,13 @@ pub(crate) fn next_line(alloc: Global, journal: &Journal<World>) -> Result<Vec<u
     Ok(line_of(alloc, number, &change, worlds)?)
 }
 
-// The next change ahead; a step where there is none.
-fn next_change(journal: &Journal<World>) -> Change
+/// The next change ahead; a step where there is none.
+pub(crate) fn next_change(journal: &Journal<World>) -> Change
     ensures { result ≡ change_at journal.now (length journal.now.changes + 1) }
 {
-    match journal.all().get(journal.changes().len()) {
+    match journal.all().get(journal.done()) {
         None => Change::Step,
-        Some(change) => *change,
+        Some(change) => change,
     }
 }
 
@@ -227,7 +240,7 @@ pub(super) fn diff_lines(
     ensures { IfOk result (λ text. text.items ≡ diff_text journal.now number) }
 {
     let then = world_at(alloc, journal, number as usize)?;
-    let done = journal.changes().len();
+    let done = journal.done();
     let mut text = format!(in alloc; "diff {number} to {done}\n")?.into_bytes();
     let worlds = Worlds {
         before: &then,
@@ -246,7 +259,7 @@ pub(crate) fn world_at(
     ensures { IfOk result (λ w. w ≡ world_at journal.now number) }
 {
     let mut world = journal.state().copied(alloc)?;
-    if number <= journal.changes().len() {
+    if number <= journal.done() {
         lead_back(journal, number, &mut world);
     } else {
         lead_forth(alloc, journal, number.min(journal.all().len()), &mut world)?;
@@ -260,10 +273,12 @@ fn lead_back(journal: &Journal<World>, number: usize, world: &mut World)
     requires now { replay does journal.now.first journal.now.changes ≡ Some world.old }
     ensures { replay does journal.now.first (take number journal.now.changes) ≡ Some world.new }
 {
-    let mut at = journal.changes().len();
+    let mut past = journal.past();
+    let mut at = journal.done();
     while at > number {
         at -= 1;
-        journal.unwind(at, world);
+        let values = earlier(journal, &mut past, at);
+        unwind(journal, at, &values, world);
     }
 }
 
@@ -279,8 +294,8 @@ fn lead_forth(
     requires now { replay does journal.now.first journal.now.changes ≡ Some world.old }
     ensures { OnOk result (replay does journal.now.first (take number (journal.now.changes ++ journal.now.ahead)) ≡ Some world.new) }
 {
-    let mut kept = Vec::new(alloc);
-    for at in journal.changes().len()..number {
+    let mut kept = Kept::new(alloc);
+    for at in journal.done()..number {
         journal.redo(at, world, &mut kept)?;
         kept.clear();
     }

@@ -12,11 +12,11 @@ use crate::show::cells::{CELLS, place_at};
 use crate::show::code::{add_line, is_overwritten};
 use crate::show::columns::add_right;
 use crate::show::lines::{Lines, add_lines};
-use crate::timeline::world_of;
+use crate::timeline::{earlier, world_of};
 use mix_machine::{Change, Mark, Old, Part, Place, World, mark_before, mark_law};
 use mixal_asm::Program;
 use std::alloc::{AllocError, Global};
-use undo_core::{Journal, Memory};
+use undo_core::{Journal, Memory, Values};
 
 /// How often something was executed, and how long that took in u.
 #[derive(Clone, Copy)]
@@ -204,15 +204,17 @@ pub(crate) fn tallies_of(alloc: Global, journal: &Journal<World>) -> Result<Tall
     let mut all = Tally::NONE;
     let mut location = journal.state().mark(Part::Loc);
     let mut clock = journal.state().mark(Part::Clock);
-    let mut number = journal.changes().len();
+    let changes = journal.changes();
+    let mut past = journal.past();
+    let mut number = journal.done();
     while number > 0 {
         number -= 1;
-        let kept = journal.kept(number);
+        let kept = earlier(journal, &mut past, number);
         let (place, start) = (
-            before(kept, &Part::Loc, &location),
-            before(kept, &Part::Clock, &clock),
+            before(&kept, &Part::Loc, &location),
+            before(&kept, &Part::Clock, &clock),
         );
-        if is_step(journal.changes()[number]) {
+        if is_step(changes.at(number)) {
             let time = time_in(&clock).saturating_sub(time_in(&start));
             all = all.with_one(time);
             add_one(&mut cells, location_in(&place), time);
@@ -230,7 +232,7 @@ fn no_tallies(alloc: Global, count: usize) -> Result<Vec<Tally>, AllocError>
 }
 
 // The mark of a part before a change that kept these values.
-fn before(kept: &[Old], part: &Part, mark: &Mark) -> Mark
+fn before(kept: &Values<'_, Old>, part: &Part, mark: &Mark) -> Mark
     ensures { result ≡ mark_before kept.now part.now mark.now }
 {
     mark_before(kept, *part, *mark)

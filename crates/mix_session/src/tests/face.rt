@@ -10,7 +10,7 @@ fn is_at(session: &Session, loc: u16, a: i32, changes: (usize, usize)) -> bool {
     let world = session.world();
     world.loc() == loc
         && world.register(Reg::A).number() == a
-        && (session.changes().len(), session.ahead().len()) == changes
+        && (session.changes().len(), session.ahead()) == changes
 }
 
 #[test]

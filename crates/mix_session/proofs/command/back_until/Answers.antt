@@ -1,13 +1,13 @@
 -- The changes up to the one that meets the condition are taken back, or none.
-use Rattle.std.proofs.Common.{ap, length, refl}
+use Rattle.std.proofs.Common.{ap, refl}
 use Rattle.mix_session.proofs.ConditionLemmas.{back_until-found, back_until-none}
 use Rattle.mix_session.proofs.command.back_until.Goals as goal
 
 pub returns-then-count-all : goal.returns-then-count-all
 returns-then-count-all c =
-    let below = rw (ap length c.changes-all.ensures) at c.if-count-all.true in
+    let below = rw c.done-all.ensures.count at c.if-count-all.true in
     rw (back_until-found c.args.condition.now c.args.journal.now _ c.count_back-count.ensures below) (ap (λ t. t.first) c.go_back.ensures, c.go_back.ensures, refl)
 
 pub returns-else-count-all : goal.returns-else-count-all
 returns-else-count-all c =
-    rw (back_until-none c.args.condition.now c.args.journal.now _ c.count_back-count.ensures (rw (ap length c.changes-all.ensures) at c.if-count-all.false)) (refl, refl, refl)
+    rw (back_until-none c.args.condition.now c.args.journal.now _ c.count_back-count.ensures (rw c.done-all.ensures.count at c.if-count-all.false)) (refl, refl, refl)

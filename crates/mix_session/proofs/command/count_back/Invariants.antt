@@ -1,4 +1,4 @@
-use Rattle.std.proofs.Common.{◌≡◌, ◌<◌, ℕ, false}
+use Rattle.std.proofs.Common.{◌≡◌, ◌+◌, ◌<◌, ℕ, length, false}
 use Rattle.mix_machine.specs.World.{WorldState}
 use Rattle.mix_machine.specs.Part.{IsPart}
 use Rattle.mix_session.specs.Command.{is_reached_back}
@@ -10,5 +10,7 @@ abbrev pub invariant-loop-count : goal.invariant-loop-count
 invariant-loop-count l = record {
   real : IsPart (watched l.condition);
   seen : (w : WorldState) × IsSeen l.journal l.condition l.count l.mark w;
+  of : l.past.of ≡ l.journal;
+  left : l.past.left + l.count ≡ length l.journal.changes;
   none : (j : ℕ) → j < l.count → is_reached_back l.condition l.journal j ≡ false;
 }

@@ -1,5 +1,5 @@
 -- Each change taken back is one more from where the loop began, and the world is the one that the journal then stands in.
-use Rattle.std.proofs.Common.{◌≡◌, ◌+◌, ◌<◌, ◌∙◌, false, arith, ap, length, sym, below_more}
+use Rattle.std.proofs.Common.{◌≡◌, ◌+◌, ◌<◌, ◌∙◌, false, arith, length, sym, below_more}
 use Rattle.mix_session.specs.Command.{is_break_after}
 use Rattle.mix_session.proofs.TimelineLemmas.{back_by-none, back_by-next}
 use Rattle.mix_session.proofs.CommandLemmas.{is_break_after-next, is_break_after-none, count_to_break-is}
@@ -10,19 +10,19 @@ loop-taken-init c = record { back = back_by-none c.args.journal.now; none = is_b
 
 pub returns-then-is_at_break-clause-back : goal.returns-then-is_at_break-clause-back
 returns-then-is_at_break-clause-back c =
-    let below : c.loop-taken.taken < length c.args.journal.now.changes = omega (arith, ap length c.changes-all.ensures) in
+    let below : c.loop-taken.taken < length c.args.journal.now.changes = omega (arith, c.done-all.ensures.count) in
     back_by-next c.args.journal.now _ _ c.loop-taken.taken below c.loop-taken.invariant.back c.back.ensures.first c.back.ensures.changes c.back.ensures.all
 
 pub returns-then-is_at_break-clause-count : goal.returns-then-is_at_break-clause-count
 returns-then-is_at_break-clause-count c =
-    let below : c.loop-taken.taken < length c.args.journal.now.changes = omega (arith, ap length c.changes-all.ensures) in
+    let below : c.loop-taken.taken < length c.args.journal.now.changes = omega (arith, c.done-all.ensures.count) in
     let back = back_by-next c.args.journal.now _ _ c.loop-taken.taken below c.loop-taken.invariant.back c.back.ensures.first c.back.ensures.changes c.back.ensures.all in
     let here = is_break_after-next c.args.journal.now _ c.loop-taken.taken _ back c.state.ensures in
     count_to_break-is c.args.journal.now (c.loop-taken.taken + 1) (omega (arith, below)) (λ _. here ∙ sym c.is_at_break.ensures ∙ c.if-is_at_break.true) c.loop-taken.invariant.none
 
 pub loop-taken-preserved : goal.loop-taken-preserved
 loop-taken-preserved c =
-    let below : c.loop-taken.taken < length c.args.journal.now.changes = omega (arith, ap length c.changes-all.ensures) in
+    let below : c.loop-taken.taken < length c.args.journal.now.changes = omega (arith, c.done-all.ensures.count) in
     let back = back_by-next c.args.journal.now _ _ c.loop-taken.taken below c.loop-taken.invariant.back c.back.ensures.first c.back.ensures.changes c.back.ensures.all in
     let here = is_break_after-next c.args.journal.now _ c.loop-taken.taken _ back c.state.ensures in
     record {
@@ -32,7 +32,7 @@ loop-taken-preserved c =
 
 pub returns-clause-count : goal.returns-clause-count
 returns-clause-count c =
-    let all : length c.changes-all.result.now ≡ length c.args.journal.now.changes = ap length c.changes-all.ensures in
-    let same : c.loop-taken.taken ≡ length c.changes-all.result.now = omega arith in
-    count_to_break-is c.args.journal.now (length c.changes-all.result.now) (omega (arith, all)) (λ short. absurd (omega (arith, all, short)))
+    let all : c.done-all.result ≡ length c.args.journal.now.changes = c.done-all.ensures.count in
+    let same : c.loop-taken.taken ≡ c.done-all.result = omega arith in
+    count_to_break-is c.args.journal.now c.done-all.result (omega (arith, all)) (λ short. absurd (omega (arith, all, short)))
     (λ j below. c.loop-taken.invariant.none j (omega (arith, below, same)))

@@ -8,7 +8,7 @@ use Rattle.mix_machine.specs.units.UnitKind.{has_place, has_medium}
 use Rattle.mix_machine.specs.law.Plans.{fits-until-in}
 use Rattle.mix_machine.specs.law.Units.{fits-place-grown}
 use Rattle.mix_machine.specs.declared.old.Old.TheVariants.{Len, Until}
-use Rattle.mix_machine.proofs.TransferLemmas.{transferred, world-grown, with-grown, to-grown, room-grown, room-now, blocks-of, length-of}
+use Rattle.mix_machine.proofs.TransferLemmas.{transferred, world-grown, with-grown, to-grown, room-grown, blocks-of, length-of}
 use Rattle.mix_machine.proofs.WriteLemmas.{wrote-none, joined, room-first, room-next, room-rest}
 use Rattle.mix_machine.proofs.world.World.append.Goals as goal
 
@@ -25,9 +25,6 @@ add_blocks-requires-clause-room c =
     let blocks = blocks-of w t.unit _ _ c.blocks-2.ensures c.unit-unit.ensures in
     let medium = ap (λ k. has_medium k) (sym c.requires.kind) ∙ c.requires.medium in
     room-grown (view_of c.self.inside) w t _ c.self.view_is c.requires.fits medium c.requires.block blocks
-
-pub push_reserved-requires : goal.push_reserved-requires
-push_reserved-requires c = room-now _ _ _ c.requires.room
 
 pub invariant_of-self-2 : goal.invariant_of-self-2
 invariant_of-self-2 c =
@@ -58,7 +55,7 @@ move_on-requires-clause-room c =
     let busy_now = busy c.args.self.now c.args.t.unit in
     let place = place_after c.args.kind c.args.t in
     room-first place (busy_now ∷ []) c.push_reserved.new.self
-    (room-rest busy_now (place ++ busy_now ∷ []) c.args.kept.now c.push_reserved.new.self c.requires.room c.push_reserved.ensures.len c.push_reserved.ensures.capacity)
+    (room-rest busy_now (place ++ busy_now ∷ []) c.args.kept.now c.push_reserved.new.self c.requires.room c.push_reserved.ensures.room)
 
 pub write_until-requires-clause-fits : goal.write_until-requires-clause-fits
 write_until-requires-clause-fits c =
@@ -69,7 +66,7 @@ write_until-requires-clause-room c =
     let busy_now = busy c.args.self.now c.args.t.unit in
     let place = place_after c.args.kind c.args.t in
     room-next place [] busy_now (set (Until c.args.t.unit c.end_at-until.result)) _ _ c.push_reserved.new.self c.move_on.new.kept
-    (room-rest busy_now (place ++ busy_now ∷ []) c.args.kept.now c.push_reserved.new.self c.requires.room c.push_reserved.ensures.len c.push_reserved.ensures.capacity) c.move_on.ensures
+    (room-rest busy_now (place ++ busy_now ∷ []) c.args.kept.now c.push_reserved.new.self c.requires.room c.push_reserved.ensures.room) c.move_on.ensures
 
 pub returns : goal.returns
 returns c =
@@ -85,8 +82,7 @@ returns c =
     let grew : Wrote (first ∷ []) w after c.args.kept.now c.push_reserved.new.self = record {
       state = with-grown (view_of c.self.inside) w _ _ c.self.view_is grown;
       kept = c.push_reserved.ensures.items ∙ ap (λ k. c.args.kept.now.items ++ Len t.unit k ∷ []) len;
-      len = c.push_reserved.ensures.len;
-      capacity = c.push_reserved.ensures.capacity;
+      room = c.push_reserved.ensures.room;
     } in
     let place = place_after kind t in
     let moved = transferred w after _ _ _ t.unit _ place [] [] _ _ _ _ c.move_on.ensures c.write_until.ensures (wrote-none _ _) c.end_at-until.ensures refl in

@@ -7,7 +7,7 @@ use Rattle.mix_machine.specs.units.Row.{row_of}
 use Rattle.mix_machine.specs.declared.old.Old.TheVariants.{Len}
 use Rattle.mix_machine.specs.UnitAction.{transfer_end}
 use Rattle.mix_machine.specs.law.Plans.{fits-until-in}
-use Rattle.mix_machine.proofs.TransferLemmas.{transferred, world-printed, with-grown, to-printed, rows-room, room-now, length-of}
+use Rattle.mix_machine.proofs.TransferLemmas.{transferred, world-printed, with-grown, to-printed, rows-room, length-of}
 use Rattle.mix_machine.proofs.WriteLemmas.{wrote-none, room-rest}
 use Rattle.mix_machine.proofs.world.World.print.Goals as goal
 
@@ -18,9 +18,6 @@ pub add_words-requires-clause-room : goal.add_words-requires-clause-room
 add_words-requires-clause-room c =
     let medium = ap (λ k. has_medium k) (sym c.requires.kind) ∙ c.requires.medium in
     rows-room (view_of c.self.inside) c.args.self.now c.args.t.unit c.self.view_is (c.requires.fits.row medium)
-
-pub push_reserved-requires : goal.push_reserved-requires
-push_reserved-requires c = room-now _ _ 1 c.requires.room
 
 pub invariant_of-self-2 : goal.invariant_of-self-2
 invariant_of-self-2 c =
@@ -34,7 +31,7 @@ write_until-requires-clause-fits c =
 pub write_until-requires-clause-room : goal.write_until-requires-clause-room
 write_until-requires-clause-room c =
     let busy_now = busy c.args.self.now c.args.t.unit in
-    room-rest busy_now (busy_now ∷ []) c.args.kept.now c.push_reserved.new.self c.requires.room c.push_reserved.ensures.len c.push_reserved.ensures.capacity
+    room-rest busy_now (busy_now ∷ []) c.args.kept.now c.push_reserved.new.self c.requires.room c.push_reserved.ensures.room
 
 pub returns : goal.returns
 returns c =
@@ -48,7 +45,6 @@ returns c =
     let grew : Wrote (first ∷ []) w after c.args.kept.now c.push_reserved.new.self = record {
       state = with-grown (view_of c.self.inside) w _ _ c.self.view_is printed;
       kept = c.push_reserved.ensures.items ∙ ap (λ k. c.args.kept.now.items ++ Len t.unit k ∷ []) len;
-      len = c.push_reserved.ensures.len;
-      capacity = c.push_reserved.ensures.capacity;
+      room = c.push_reserved.ensures.room;
     } in
     record { wrote = transferred w w after _ _ t.unit _ (first ∷ []) [] [] c.args.kept.now _ _ _ grew c.write_until.ensures (wrote-none _ _) c.end_at-until.ensures refl; same = tt; same_kept = tt }

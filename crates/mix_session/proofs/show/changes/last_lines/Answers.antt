@@ -1,20 +1,23 @@
-use Rattle.std.proofs.Common.{arith, ap, ◌∙◌, ◌+◌, List, length}
-use Rattle.mix_machine.specs.declared.old.Change.{Change}
+use Rattle.std.proofs.Common.{arith, ap, sym, ◌∙◌, ◌+◌}
 use Rattle.mix_session.specs.Change.{change_line_at}
 use Rattle.mix_session.proofs.ChangeLemmas.{replay-all, reversed-next, reversed-none, texts-none}
 use Rattle.mix_session.proofs.show.changes.last_lines.Goals as goal
 
 pub loop-number-init : goal.loop-number-init
 loop-number-init c = record {
+  of = c.past-past.ensures.of;
+  left = c.past-past.ensures.left ∙ sym c.done-done.ensures.count;
   from = omega arith;
-  within = omega (arith, ap length c.changes-done.ensures);
-  before = replay-all c.args.journal.now _ _ _ c.changes-done.ensures c.state.ensures (c.drop.view_is ∙ c.in_ok-before-inside.ensures);
-  after = replay-all c.args.journal.now _ _ _ c.changes-done.ensures c.state-2.ensures c.in_ok-after.ensures;
-  text = c.new-text.ensures.items ∙ reversed-none (change_line_at c.args.journal.now) _ _ (ap (λ (xs : List Change). length xs + 1) c.changes-done.ensures);
+  within = omega (arith, c.done-done.ensures.count);
+  before = replay-all c.args.journal.now _ _ _ c.done-done.ensures.count c.state.ensures (c.drop.view_is ∙ c.in_ok-before-inside.ensures);
+  after = replay-all c.args.journal.now _ _ _ c.done-done.ensures.count c.state-2.ensures c.in_ok-after.ensures;
+  text = c.new-text.ensures.items ∙ reversed-none (change_line_at c.args.journal.now) _ _ (ap (λ n. n + 1) c.done-done.ensures.count);
 }
 
 pub loop-number-preserved : goal.loop-number-preserved
 loop-number-preserved c = record {
+  of = c.earlier-values.ensures.of;
+  left = c.earlier-values.ensures.left;
   from = omega arith;
   within = omega arith;
   before = c.in_ok-add_line_before.ensures.before;
@@ -24,5 +27,5 @@ loop-number-preserved c = record {
 
 pub returns-then-first-done : goal.returns-then-first-done
 returns-then-first-done c =
-    let done = ap length c.changes-done.ensures in
+    let done = c.done-done.ensures.count in
     c.new-text.ensures.items ∙ texts-none (change_line_at c.args.journal.now) _ _ (omega (arith, done, c.if-first-done.true))

@@ -7,6 +7,8 @@ use Rattle.mix_session.proofs.show.changes.last_lines.Given as goal
 
 abbrev pub invariant-loop-number : goal.invariant-loop-number
 invariant-loop-number l = record {
+  of : l.past.of ≡ l.journal;
+  left : l.past.left ≡ l.number;
   from : l.first ≤ l.number;
   within : l.number ≤ length l.journal.changes;
   before : replay does l.journal.first (take l.number l.journal.changes) ≡ Some l.before;

@@ -5,6 +5,8 @@ use Rattle.mix_session.proofs.show.changes.lead_back.Given as goal
 
 abbrev pub invariant-loop-at : goal.invariant-loop-at
 invariant-loop-at l = record {
+  of : l.past.of ≡ l.journal;
+  left : l.past.left ≡ l.at;
   from : l.number ≤ l.at;
   within : l.at ≤ length l.journal.changes;
   world : replay does l.journal.first (take l.at l.journal.changes) ≡ Some l.world;

@@ -8,6 +8,8 @@ use Rattle.mix_session.proofs.show.counts.tallies_of.Given as goal
 
 abbrev pub invariant-loop-number : goal.invariant-loop-number
 invariant-loop-number l = record {
+  of : l.past.of ≡ l.fn.journal;
+  left : l.past.left ≡ l.number;
   few : length l.fn.journal.changes < 2 ^ 64;
   within : l.number ≤ length l.fn.journal.changes;
   stands : Stands l.fn.journal l.number;

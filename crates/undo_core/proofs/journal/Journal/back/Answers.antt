@@ -1,29 +1,34 @@
 -- The last change's values fit, and putting them back leaves a sound journal with the same first state.
-use Rattle.std.proofs.Common.{[], ◌∷◌, length, length-append, ap, sym, ◌∙◌, arith}
-use Rattle.undo_core.proofs.Sound.{last_of, back_sound, back_ahead}
+use Rattle.std.proofs.Common.{length}
+use Rattle.undo_core.proofs.Sound.{back_ahead, back_changes}
+use Rattle.undo_core.proofs.Stored.{stored_last, stored_back, stored_within}
 use Rattle.undo_core.proofs.journal.Journal.back.Goals as goal
 
 pub revert-requires-clause-within : goal.revert-requires-clause-within
 revert-requires-clause-within g c =
-    let l = last_of c.self.invariant _ _ c.in-Some.ensures.items in
-    omega (arith, l.2.newest.within, c.self.inside.kept.ok.0)
+    let last = stored_last c.self.invariant c.take_count.new.bytes.items c.take_count.new.large.items c.in-Some.count c.in-Some.ensures.none in
+    last.0
 
 pub revert-requires-clause-fits : goal.revert-requires-clause-fits
 revert-requires-clause-fits g c =
-    let l = last_of c.self.invariant _ _ c.in-Some.ensures.items in
-    rw l.2.fits
+    let last = stored_last c.self.invariant c.take_count.new.bytes.items c.take_count.new.large.items c.in-Some.count c.in-Some.ensures.none in
+    last.1
 
 pub invariant_of-self-2 : goal.invariant_of-self-2
 invariant_of-self-2 g c =
-    (back_sound c.self.invariant _ _ c.in-Some.ensures.items _ _ c.revert.ensures.back c.revert.ensures.cut).0
+    (stored_back c.self.invariant c.take_count.new.bytes.items c.take_count.new.large.items c.in-Some.count _ _ c.in-Some.ensures.none c.in-Some.ensures.sound c.revert.ensures.back c.revert.ensures.cut).0
 
 pub returns-clause-first : goal.returns-clause-first
 returns-clause-first g c =
     rw (← c.self.view_is)
-    ((back_sound c.self.invariant _ _ c.in-Some.ensures.items _ _ c.revert.ensures.back c.revert.ensures.cut).1)
+    (stored_back c.self.invariant c.take_count.new.bytes.items c.take_count.new.large.items c.in-Some.count _ _ c.in-Some.ensures.none c.in-Some.ensures.sound c.revert.ensures.back c.revert.ensures.cut).1
+
+pub returns-clause-changes : goal.returns-clause-changes
+returns-clause-changes g c =
+    rw (← c.self.view_is)
+    (back_changes _ (length c.take_count.new.bytes.items) (length c.self.inside.counts.items) c.in-Some.ensures.same (stored_within c.self.invariant))
 
 pub returns-clause-ahead : goal.returns-clause-ahead
 returns-clause-ahead g c =
     rw (← c.self.view_is)
-    (back_ahead c.self.inside.changes.items (length c.pop.new.self.items) (length c.self.inside.starts.items)
-    (sym (ap length c.in-Some.ensures.items ∙ length-append c.pop.new.self.items (c.in-Some.start ∷ []))) c.self.invariant.within)
+    (back_ahead _ (length c.take_count.new.bytes.items) (length c.self.inside.counts.items) c.in-Some.ensures.same (stored_within c.self.invariant))

@@ -1,6 +1,6 @@
 use Rattle.std.proofs.Common.{◌∙◌}
-use Rattle.undo_core.proofs.Sound.{sound_count}
+use Rattle.undo_core.proofs.Stored.{stored_count}
 use Rattle.undo_core.proofs.journal.Journal.kept_len.Goals as goal
 
 pub returns : goal.returns
-returns g c = rw (← c.self.view_is) (c.len.ensures ∙ c.self.inside.kept.ok.0 ∙ sound_count c.self.invariant)
+returns g c = rw (← c.self.view_is) (c.len.ensures ∙ stored_count c.self.invariant)

@@ -1,0 +1,2 @@
+mod EffectLemmas
+mod RunLemmas

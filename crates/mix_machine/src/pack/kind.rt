@@ -1,0 +1,59 @@
+//! The kinds of packed values, and the headers that say them.
+ghost use Rattle.std.specs.Prelude.{◌≡◌, ◌<◌, ◌^◌};
+ghost use Rattle.mix_machine.specs.Pack.{header_of, kind_of};
+
+/// What a header says of its value: the location, the clock, a register, a row of cells, the overflow toggle, the comparison indicator, a
+/// breakpoint, or of an input-output unit its place, its length, a word of it or its time. A long clock is of 2^28 or more, a whole one of
+/// 2^60 or more, and a long register is one whose word takes more than 23 bits.
+#[derive(Clone, Copy, PartialEq, Eq)]
+pub(crate) enum Kind {
+    Location,
+    Clock,
+    Register,
+    Row,
+    LongClock,
+    LongRegister,
+    Overflow,
+    Comparison,
+    Breakpoint,
+    UnitPlace,
+    UnitLength,
+    UnitItem,
+    UnitTime,
+    WholeClock,
+}
+
+impl Kind {
+    /// The kind that a header says, if there is one of its number.
+    #[inline(always)]
+    pub(crate) fn of(header: u32) -> Option<Kind>
+        ensures { result ≡ kind_of header }
+    {
+        match header % 16 {
+            0 => Some(Kind::Location),
+            1 => Some(Kind::Clock),
+            2 => Some(Kind::Register),
+            3 => Some(Kind::Row),
+            4 => Some(Kind::LongClock),
+            5 => Some(Kind::LongRegister),
+            6 => Some(Kind::Overflow),
+            7 => Some(Kind::Comparison),
+            8 => Some(Kind::Breakpoint),
+            9 => Some(Kind::UnitPlace),
+            10 => Some(Kind::UnitLength),
+            11 => Some(Kind::UnitItem),
+            12 => Some(Kind::UnitTime),
+            13 => Some(Kind::WholeClock),
+            _ => None,
+        }
+    }
+
+    /// The header of a value of this kind with this payload.
+    #[inline(always)]
+    pub(crate) fn header(self, payload: u32) -> u32
+        requires { payload < 2 ^ 28 }
+        ensures { result ≡ header_of self payload }
+    {
+        payload * 16 + self as u32
+    }
+}

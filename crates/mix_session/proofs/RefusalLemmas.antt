@@ -1,0 +1,84 @@
+-- A request that is refused leaves the timeline as it was, whichever it is.
+use Rattle.std.proofs.Common.{◌≡◌, ◌+◌, ◌-◌, Bool, true, false, length, ltb, Option, Some, None, Result, Ok, Err, sym, ap, ◌∙◌, refl}
+use Rattle.std.specs.Prelude.{IfOk, IfSome, if◌then◌else◌}
+use Rattle.mix_refused.specs.declared.refused.Memory.{Memory}
+use Rattle.mix_machine.specs.Do.{does}
+use Rattle.mix_machine.specs.World.{WorldState}
+use Rattle.mix_machine.specs.declared.fault.MixFault.{MixFault}
+use Rattle.mix_machine.specs.declared.old.Change.{Change}
+use Rattle.mix_session.specs.Timeline.{Timeline, world_of, back_by, forth_by}
+use Rattle.mix_session.specs.Change.{all_changes}
+use Rattle.mix_session.specs.Command.{Effect, after, at_once, refusal_effect, sought, count_back, count_forth, effect_of, effect_of_steps, effect_of_back, effect_of_forth, effect_of_forth_within, effect_of_back_until, effect_of_forth_until, effect_of_change, effect_of_result, effect_of_show, HasEffect}
+use Rattle.mix_session.specs.Face.{refusal_of}
+use Rattle.mix_session.specs.declared.answer.Answer.{Answer}
+use Rattle.mix_session.specs.declared.answer.Answer.TheVariants as answers
+use Rattle.mix_session.specs.declared.fault.Refusal.TheVariants.{TooFewChanges, NoSuchChange}
+use Rattle.mix_session.specs.declared.request.Topic.{Topic}
+use Rattle.mix_session.specs.declared.request.Topic.TheVariants as topic
+use Rattle.mix_session.specs.declared.request.Request.{Request}
+use Rattle.mix_session.specs.declared.request.Request.TheVariants as ask
+use Rattle.mix_session.proofs.ConditionLemmas.{sought-end}
+
+-- what is refused leaves the timeline
+abbrev pub Spares : Timeline → Effect → Type 0
+Spares t effect = IfSome (refusal_of effect.answer) (λ _. after effect ≡ t)
+
+either : (b : Bool) (t : Timeline) (one other : Effect) → Spares t one → Spares t other → Spares t (if b then one else other)
+either b t one other p q = elim b as (λ v. Spares t (if v then one else other)) [ true ↦ p | false ↦ q ]
+
+of_result : (t : Timeline) (change : Change) (r : Result WorldState MixFault) → Spares t (effect_of_result t change r)
+of_result t change (Ok world) = tt
+of_result t change (Err fault) = refl
+
+of_show : (t : Timeline) (shown : Topic) → Spares t (effect_of_show t shown)
+of_show t topic.Registers = tt
+of_show t (topic.Cells from to) = tt
+of_show t topic.Clock = tt
+of_show t topic.Breaks = tt
+of_show t topic.Changes = tt
+of_show t (topic.Unit number) = tt
+of_show t topic.All = tt
+of_show t (topic.Code from to) = tt
+of_show t (topic.Value word) = tt
+of_show t topic.Values = tt
+of_show t (topic.CellValues from to) = tt
+of_show t topic.Symbols = tt
+of_show t (topic.Last n) = tt
+of_show t (topic.Diff n) = either (ltb (length (all_changes t)) n) t (refusal_effect t TooFewChanges) (at_once t (answers.Shows (topic.Diff n))) refl tt
+of_show t topic.Counts = tt
+
+pub spares : (t : Timeline) (r : Request) → Spares t (effect_of t r)
+unfolding effect_of effect_of_steps effect_of_back_until effect_of_forth_until effect_of_change
+spares t ask.Nothing = tt
+spares t (ask.Step n) = tt
+spares t (ask.Trace n) = tt
+spares t (ask.Run n) = tt
+spares t (ask.RunUntil n condition) = tt
+spares t (ask.Back n) = either (ltb (length t.changes) n) t (refusal_effect t TooFewChanges) (effect_of_back t n) refl tt
+spares t ask.BackAll = tt
+spares t ask.BackBreak = tt
+spares t (ask.BackUntil condition) =
+    let k = count_back condition t in
+    either (ltb k (length t.changes)) t (at_once (back_by t (k + 1)) (answers.BackUntil (k + 1))) (refusal_effect t NoSuchChange) tt refl
+spares t (ask.Forth n) = either (ltb (length t.ahead) n) t (refusal_effect t TooFewChanges) (effect_of_forth t n) refl tt
+spares t ask.ForthAll = tt
+spares t (ask.ForthUntil condition) =
+    let k = count_forth condition t in
+    either (ltb k (length t.ahead)) t (record { stage = forth_by t; last = k + 1; answer = answers.ForthUntil (k + 1) })
+    (record { stage = sought t; last = length t.ahead; answer = answers.Refused NoSuchChange }) tt (sym (sought-end t))
+spares t (ask.Goto n) =
+    let done = length t.changes in
+    either (ltb n done) t (effect_of_back t (done - n)) (effect_of_forth_within t (n - done)) tt
+    (either (ltb (length t.ahead) (n - done)) t (refusal_effect t TooFewChanges) (effect_of_forth t (n - done)) refl tt)
+spares t (ask.Change change) = of_result t change (does (world_of t) change)
+spares t (ask.Show shown) = of_show t shown
+
+-- the same of what is done to a journal
+pub refused_spares : (old new : Timeline) (r : Request) (result : Result Answer Memory) → HasEffect (effect_of old r) old new result →
+    IfOk result (λ answer. IfSome (refusal_of answer) (λ _. new ≡ old))
+refused_spares old new r (Ok answer) has =
+    rw has.2 (elim (refusal_of (effect_of old r).answer) as (λ o. IfSome o (λ _. after (effect_of old r) ≡ old) → IfSome o (λ _. new ≡ old)) [
+      | None ↦ λ _. tt
+      | Some refusal ↦ λ same. has.1 ∙ same
+    ] (spares old r))
+refused_spares old new r (Err memory) has = tt

@@ -1,0 +1,138 @@
+//! The old values that changes keep, in units of 32 bits.
+ghost use Rattle.std.specs.Prelude.{◌≡◌, ◌+◌, ◌-◌, ◌<◌, ◌≤◌, ◌^◌, ◌++◌, [], ◌∷◌, Some, IsSome, length, take, drop, MatchOption, OnOk, OnErr};
+ghost use Rattle.undo_core.specs.Replay.{put_back};
+
+use crate::pack::Pack;
+use crate::undo::Undo;
+use crate::values::{Backwards, Values};
+use std::alloc::{AllocError, Global};
+use std::marker::{Model, PhantomData};
+
+/// A list of old values, with the room for more.
+#[derive(Drop)]
+pub struct Kept<O: Pack> {
+    units: Vec<u32>,
+    // how many values the units say
+    count: usize,
+    of: PhantomData<O>,
+}
+
+impl<O: Pack> Model for Kept<O> {
+    ghost use Rattle.std.specs.Prelude.{◌≡◌, ◌-◌, ◌/◌, length, vec_len, vec_capacity};
+    ghost use Rattle.undo_core.specs.Pack.{KeptList};
+
+    ghost Value = { KeptList O };
+
+    ghost view = { λ k. record { items = O.said k.units.items; room = (vec_capacity k.units - vec_len k.units) / 3 } };
+
+    ghost invariant = { λ k. k.count ≡ length (O.said k.units.items) };
+}
+
+impl<O: Pack> Kept<O> {
+    /// An empty list. It takes no memory.
+    pub fn new(alloc: Global) -> Kept<O>
+        ensures { result.items ≡ [] }
+    {
+        Kept {
+            units: Vec::new(alloc),
+            count: 0,
+            of: PhantomData,
+        }
+    }
+
+    /// How many values there are. It takes no memory.
+    #[inline(always)]
+    pub fn len(&self) -> usize
+        ensures { result ≡ length self.now.items }
+    {
+        self.count
+    }
+
+    /// Makes room for so many values more.
+    #[inline(always)]
+    pub fn reserve(&mut self, more: usize) -> Result<(), AllocError>
+        requires few { more < 2 ^ 32 }
+        ensures items { self.new.items ≡ self.old.items }
+        ensures room { OnOk result (more ≤ self.new.room) }
+    {
+        self.units.reserve(3 * more)
+    }
+
+    /// Appends a value. There is room for it.
+    #[inline(always)]
+    pub fn push_reserved(&mut self, value: O)
+        requires { 0 < self.old.room }
+        ensures items { self.new.items ≡ self.old.items ++ value ∷ [] }
+        ensures room { self.old.room ≤ self.new.room + 1 }
+    {
+        value.pack(&mut self.units);
+        self.count += 1;
+    }
+
+    /// Appends a value.
+    pub fn push(&mut self, value: O) -> Result<(), AllocError>
+        ensures items { OnOk result (self.new.items ≡ self.old.items ++ value ∷ []) }
+        ensures same { OnErr result (self.new.items ≡ self.old.items) }
+    {
+        self.reserve(1)?;
+        self.push_reserved(value);
+        Ok(())
+    }
+
+    /// Takes the last value off, if there is one. It takes no memory.
+    #[inline(always)]
+    pub fn pop(&mut self) -> Option<O>
+        ensures { MatchOption result ((self.old.items ≡ []) × (self.new.items ≡ [])) (λ value. self.old.items ≡ self.new.items ++ value ∷ []) }
+    {
+        if self.count == 0 {
+            return None;
+        }
+        // (before, so that nothing stands between what is taken and what is done with it)
+        self.count -= 1;
+        match O::take(&mut self.units) {
+            Some(value) => Some(value),
+            None => unreachable!(),
+        }
+    }
+
+    /// Takes all values off. It takes no memory.
+    pub fn clear(&mut self)
+        ensures { self.new.items ≡ [] }
+    {
+        self.units.clear();
+        self.count = 0;
+    }
+
+    /// What gives memory to the list.
+    pub fn allocator(&self) -> &Global {
+        self.units.allocator()
+    }
+
+    /// All values, to be read from the last one backwards. It takes no memory.
+    pub fn values(&self) -> Values<'_, O>
+        ensures { result ≡ self.now.items }
+    {
+        Values::of(self.backwards(), self.count)
+    }
+
+    // The values, to be read from the last one backwards.
+    pub(crate) fn backwards(&self) -> Backwards<'_, O>
+        ensures { result ≡ self.now.items }
+    {
+        Backwards::of(&self.units)
+    }
+}
+
+/// Puts back the last values of `kept`, so many of them, the last one first, and takes them off. It takes no memory.
+#[inline(always)]
+pub fn revert<S: Undo>(state: &mut S, kept: &mut Kept<S::Old>, count: usize)
+    requires within { count ≤ length kept.old.items }
+    requires fits { IsSome (put_back S.put (drop (length kept.old.items - count) kept.old.items) state.old) }
+    ensures back { put_back S.put (drop (length kept.old.items - count) kept.old.items) state.old ≡ Some state.new }
+    ensures cut { kept.new.items ≡ take (length kept.old.items - count) kept.old.items }
+{
+    for _ in 0..count {
+        state.restore_last(&mut kept.units);
+    }
+    kept.count -= count;
+}

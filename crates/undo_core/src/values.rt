@@ -1,0 +1,147 @@
+//! Old values read from the last one backwards, without a copy.
+ghost use Rattle.std.specs.Prelude.{◌≡◌, ◌+◌, ◌-◌, ◌≤◌, ◌++◌, [], ◌∷◌, ◌==◌, length, take, drop, MatchOption};
+
+use crate::pack::Pack;
+use std::marker::{Model, PhantomData};
+
+/// All values that units say.
+#[derive(Drop)]
+pub(crate) struct Backwards<'a, O: Pack> {
+    units: &'a [u32],
+    // the unit that stands after these
+    more: Option<u32>,
+    of: PhantomData<O>,
+}
+
+impl<'a, O: Pack> Model for Backwards<'a, O> {
+    ghost use Rattle.std.specs.Prelude.{◌++◌, List};
+    ghost use Rattle.undo_core.specs.Pack.{unit_list};
+
+    ghost Value = { List O };
+
+    ghost view = { λ b. O.said (b.units.now ++ unit_list b.more) };
+}
+
+impl<'a, O: Pack> Backwards<'a, O> {
+    // The values that units say.
+    pub(crate) fn of(units: &'a [u32]) -> Backwards<'a, O>
+        ensures { result ≡ O.said units.now }
+    {
+        Backwards {
+            units,
+            more: None,
+            of: PhantomData,
+        }
+    }
+
+    // The last value, if there is one, and those before it.
+    #[inline(always)]
+    pub(crate) fn last(&self) -> Option<(O, Backwards<'a, O>)>
+        ensures { MatchOption result (self.now ≡ []) (λ last. self.now ≡ last.1 ++ last.0 ∷ []) }
+    {
+        let last = O::last(self.units, self.more)?;
+        let front = Backwards {
+            units: &self.units[..last.left],
+            more: last.more,
+            of: PhantomData,
+        };
+        Some((last.value, front))
+    }
+
+    // The same values.
+    #[inline(always)]
+    pub(crate) fn copied(&self) -> Backwards<'a, O>
+        ensures { result ≡ self.now }
+    {
+        Backwards {
+            units: self.units,
+            more: self.more,
+            of: PhantomData,
+        }
+    }
+
+    // The values before the last ones, so many of them.
+    pub(crate) fn before(&self, count: usize) -> Backwards<'a, O>
+        requires { count ≤ length self.now }
+        ensures { result ≡ take (length self.now - count) self.now }
+    {
+        let mut front = self.copied();
+        for _ in 0..count {
+            match front.last() {
+                Some((_, rest)) => front = rest,
+                None => unreachable!(),
+            }
+        }
+        front
+    }
+}
+
+/// The values that a change overwrote, in the order in which it overwrote them, to be read from the last one backwards.
+#[derive(Drop)]
+pub struct Values<'a, O: Pack> {
+    // those up to the last one
+    all: Backwards<'a, O>,
+    len: usize,
+}
+
+impl<'a, O: Pack> Model for Values<'a, O> {
+    ghost use Rattle.std.specs.Prelude.{◌-◌, ◌≤◌, List, length, drop};
+
+    ghost Value = { List O };
+
+    ghost view = { λ v. drop (length v.all - v.len) v.all };
+
+    ghost invariant = { λ v. v.len ≤ length v.all };
+}
+
+impl<'a, O: Pack> Values<'a, O> {
+    // The last values, so many of them.
+    pub(crate) fn of(all: Backwards<'a, O>, len: usize) -> Values<'a, O>
+        requires { len ≤ length all }
+        ensures { result ≡ drop (length all.entry - len) all.entry }
+    {
+        Values { all, len }
+    }
+
+    /// The same values. It takes no memory.
+    pub fn copied(&self) -> Values<'a, O>
+        ensures { result ≡ self.now }
+    {
+        Values {
+            all: self.all.copied(),
+            len: self.len,
+        }
+    }
+
+    /// How many values are left. It takes no memory.
+    pub fn len(&self) -> usize
+        ensures { result ≡ length self.now }
+    {
+        self.len
+    }
+
+    /// Whether none is left. It takes no memory.
+    pub fn is_empty(&self) -> bool
+        ensures { result ≡ (length self.now == 0) }
+    {
+        self.len == 0
+    }
+
+    /// Takes the last value off, if one is left. It takes no memory.
+    #[inline(always)]
+    pub fn pop(&mut self) -> Option<O>
+        ensures { MatchOption result ((self.old ≡ []) × (self.new ≡ [])) (λ value. self.old ≡ self.new ++ value ∷ []) }
+    {
+        if self.len == 0 {
+            return None;
+        }
+        match self.all.last() {
+            Some((value, front)) => {
+                self.all = front;
+                self.len -= 1;
+                Some(value)
+            }
+            None => unreachable!(),
+        }
+    }
+}
