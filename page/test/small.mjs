@@ -1,5 +1,5 @@
 // The engine with little memory, page/out/small.wasm: where memory is refused, the call says so, and the next call is right. Runs of more and more steps
-// are tried, so that it is refused at many places. The line counts the calls.
+// are tried until memory is refused for ten of them. The line counts the calls.
 
 import assert from "node:assert/strict";
 import { readFileSync } from "node:fs";
@@ -31,8 +31,11 @@ assert.match(wanted.sent, /ran 5 to 0001 clock 7: limit/);
 const right = () => assert.deepEqual(talk(short), wanted);
 
 // Commands: all done, or memory is refused, which ends the talk; more steps need no less memory.
+const REFUSED = 10;
+const MOST = 10000000; // steps that 32 MiB have no room for: each takes more than four bytes
 let refused = 0;
-for (let steps = 10000; steps <= 1000000; steps += 30000) {
+for (let steps = 10000; refused < REFUSED; steps += 30000) {
+  assert.ok(steps < MOST);
   const { status, sent, told } = talk([...opening, repl(`run ${steps}`), repl("show changes")]);
   if (status === 0) {
     assert.equal(refused, 0);
@@ -44,14 +47,13 @@ for (let steps = 10000; steps <= 1000000; steps += 30000) {
   }
   right();
 }
-assert.ok(refused > 5);
 
-// A run by `continue` stops where memory is refused, and says so; what was done stands, and can be taken back.
-const looks = Array.from({ length: 12 }, () => ["threads", {}]);
-const { status, sent } = talk([...opening, ["continue", { threadId: 1 }], ...looks, ["stepBack", { threadId: 1 }]]);
+// Runs by `continue`, each of which pauses after 1,000,000 changes, stop where memory is refused, and say so; what was done stands, and can be taken back.
+const goes = Array.from({ length: MOST / 1000000 }, () => ["continue", { threadId: 1 }]);
+const { status, sent } = talk([...opening, ...goes, ["stepBack", { threadId: 1 }]]);
 assert.equal(status, 0);
 assert.match(sent, /"T1 out of memory"/);
-assert.match(sent, /"command":"stepBack","request_seq":17,"seq":\d+,"success":true/);
+assert.match(sent, new RegExp(`"command":"stepBack","request_seq":${opening.length + goes.length + 1},"seq":\\d+,"success":true`));
 right();
 
 // Texts that there is no room for.
