@@ -30,16 +30,19 @@ assert.equal(wanted.status, 0);
 assert.match(wanted.sent, /ran 5 to 0001 clock 7: limit/);
 const right = () => assert.deepEqual(talk(short), wanted);
 
-// Commands: all done, or memory is refused, which ends the talk; more steps need no less memory.
+// Commands, each of at most a million steps: all done, or memory is refused, which ends the talk; more steps need no less memory.
+const MILLION = 1000000;
+const MOST = 10 * MILLION; // steps that 32 MiB have no room for: each takes more than four bytes
 const REFUSED = 10;
-const MOST = 10000000; // steps that 32 MiB have no room for: each takes more than four bytes
 let refused = 0;
 for (let steps = 10000; refused < REFUSED; steps += 30000) {
   assert.ok(steps < MOST);
-  const { status, sent, told } = talk([...opening, repl(`run ${steps}`), repl("show changes")]);
+  const runs = Array(Math.floor(steps / MILLION)).fill(MILLION);
+  if (steps % MILLION > 0) runs.push(steps % MILLION);
+  const { status, sent, told } = talk([...opening, ...runs.map((run) => repl(`run ${run}`)), repl("show changes")]);
   if (status === 0) {
     assert.equal(refused, 0);
-    assert.match(sent, new RegExp(`ran ${steps} to`));
+    assert.deepEqual([...sent.matchAll(/"ran (\d+) to/g)].map(([, ran]) => Number(ran)), runs);
     assert.match(sent, new RegExp(`changes ${steps}\\\\n`));
   } else {
     refused += 1;
@@ -49,7 +52,7 @@ for (let steps = 10000; refused < REFUSED; steps += 30000) {
 }
 
 // Runs by `continue`, each of which pauses after 1,000,000 changes, stop where memory is refused, and say so; what was done stands, and can be taken back.
-const goes = Array.from({ length: MOST / 1000000 }, () => ["continue", { threadId: 1 }]);
+const goes = Array(MOST / MILLION).fill(["continue", { threadId: 1 }]);
 const { status, sent } = talk([...opening, ...goes, ["stepBack", { threadId: 1 }]]);
 assert.equal(status, 0);
 assert.match(sent, /"T1 out of memory"/);
