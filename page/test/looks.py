@@ -32,11 +32,11 @@ def narrow(page, native, count):
         count.same(f"320 pixels: lesson {number + 1}", page.script(sideways), 0)
     for name in ("help", "share"):
         page.click(name)
-        count.same(f"320 pixels: {name}", page.script("const d = document.querySelector('dialog[open]'); return [d.scrollWidth <= d.clientWidth, d.getBoundingClientRect().right <= 320]"), [True, True])
+        count.same(f"320 pixels: {name}", page.script("const d = document.querySelector('dialog[open]'); return [d.scrollWidth <= d.clientWidth, d.getBoundingClientRect().right <= innerWidth]"), [True, True])
         page.press(Keys.ESCAPE)
-    page.all("#register-rows tr")[0].click()
+    page.all("#register-rows td")[0].click()
     page.idle()
-    count.same("320 pixels: who", page.script("const d = document.querySelector('dialog[open]'); return d.getBoundingClientRect().right <= 320"), True)
+    count.same("320 pixels: who", page.script("const d = document.querySelector('dialog[open]'); return d.getBoundingClientRect().right <= innerWidth"), True)
     page.press(Keys.ESCAPE)
     small = page.script("""return [...document.querySelectorAll('#time button, header button')].filter(b => b.offsetParent && b.offsetHeight < 24).map(b => b.id)""")
     count.same("320 pixels: buttons are high enough for a finger", small, [])
@@ -100,7 +100,7 @@ def names(page, native, count):
     page.script("document.querySelectorAll('details').forEach(d => { d.open = true; })")
     for name in (None, "help", "share", "who"):
         if name == "who":
-            page.all("#register-rows tr")[0].click()
+            page.all("#register-rows td")[0].click()
             page.idle()
         elif name:
             page.click(name)

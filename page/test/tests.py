@@ -1,4 +1,4 @@
-"""All tests of the page: page/test/run PROGRAM PAGE.html [NAME ..]. Some words after them do only the tests of these names."""
+"""All tests of the page: page/test/run [--webkit] PROGRAM PAGE.html [NAME ..]. Some words after them do only the tests of these names."""
 import pathlib
 import sys
 import time
@@ -9,18 +9,21 @@ import uses
 import walks
 from browser import Page
 from native import Count, Native
+from webkit import WebKit
 
 USES = (uses.examples, uses.breakpoints, uses.slider, uses.who, uses.faults, uses.cards, uses.share, looks.narrow, looks.keys, looks.names, looks.bounds)
+IN_CHROMIUM = (looks.names,)  # what asks Chromium itself
 WALKS = range(1, 13)
 
 
 def main(words):
-    program, place, only = words[0], words[1], words[2:]
+    browser = WebKit if words[0] == "--webkit" else Page
+    program, place, *only = words[browser is WebKit:]
     address = place if place.startswith("http:") else pathlib.Path(place).resolve().as_uri()
     native, count = Native(program), Count()
 
     def open_page(**given):
-        return Page(address, **given)
+        return browser(address, **given)
 
     def wanted(name):
         return not only or name in only
@@ -45,19 +48,23 @@ def main(words):
         with open_page() as page:
             test(page, native, count, *more)
             count.same(f"{test.__name__}: the browser complains of nothing", page.errors(), [])
-            if not place.startswith("http:"):
+            if browser is Page and not place.startswith("http:"):
                 looks.alone(page, native, count)
 
     row("modules", lambda: looks.modules(count))
     for test in USES:
-        row(test.__name__, lambda test=test: one(test))
+        if browser is Page or test not in IN_CHROMIUM:
+            row(test.__name__, lambda test=test: one(test))
     if place.startswith("http:"):
         print("not run: memory, since this page has another engine than its own")
+    elif browser is WebKit:
+        print("not run: memory, names, requests and pictures, which ask Chromium itself")
     else:
         row("memory", lambda: one(looks.memory))
     row("lessons", lambda: one(uses.lessons, [12, 17, 25, 45]))
     row("walks", lambda: one(walks.walks, WALKS))
-    row("pictures", lambda: looks.pictures(open_page, count))
+    if browser is Page:
+        row("pictures", lambda: looks.pictures(open_page, count))
     print(f"{count.passed} passed, {count.failed} failed")
     return 1 if count.failed else 0
 

@@ -1,0 +1,58 @@
+"""The page in WebKit, the engine of Safari, by Debian's WebKitWebDriver; its window is never narrower than some 450 pixels."""
+import glob
+import tempfile
+import time
+
+from browser import SECONDS, Page
+from selenium import webdriver
+from selenium.webdriver.webkitgtk.options import Options
+
+# It has no folder for what is saved and no answer for a question, so the page itself keeps the one and says yes to the other.
+KEPT = """window.confirm = () => true;
+const make = URL.createObjectURL;
+URL.createObjectURL = (blob) => {
+  blob.arrayBuffer().then((bytes) => { window.saved = [...new Uint8Array(bytes)]; });
+  return make.call(URL, blob);
+};"""
+
+
+class WebKit(Page):
+    def __init__(self, address, width=1280, height=900):
+        options = Options()
+        options.binary_location = glob.glob("/usr/lib/*/webkit2gtk-4*/MiniBrowser")[0]
+        options.add_argument("--automation")
+        self.driver = webdriver.WebKitGTK(options=options, executable_path="/usr/bin/WebKitWebDriver")
+        self.driver.set_script_timeout(SECONDS)
+        self.folder = tempfile.TemporaryDirectory()
+        self.size(width, height)
+        self.address = address
+        self.go(address)
+
+    def size(self, width, height):
+        self.driver.set_window_size(width, height)
+
+    def go(self, address):
+        super().go(address)
+        self.script(KEPT)
+
+    def one(self, name):
+        return self.seen(super().one(name))
+
+    def all(self, selector):
+        return [self.seen(found) for found in super().all(selector)[:1]] + super().all(selector)[1:]
+
+    def seen(self, found):
+        """The driver clicks on nothing outside the window."""
+        self.script("arguments[0].scrollIntoView({ block: 'center' })", found)
+        return found
+
+    def save(self):
+        self.script("window.saved = null")
+        self.click("save")
+        end = time.monotonic() + SECONDS
+        while self.script("return window.saved === null") and time.monotonic() < end:
+            time.sleep(0.02)
+        return bytes(self.script("return window.saved"))
+
+    def errors(self):
+        return []
