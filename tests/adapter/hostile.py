@@ -1,0 +1,155 @@
+#!/usr/bin/env python3
+"""Hostile talks: tests/adapter/hostile.py [--mutants N] [--seed SEED] PROGRAM [WORD..]
+
+A recorded talk, cut at every byte, and N mutants of it. The status is that of the rules in frames.py, nothing but whole frames is written, each message
+is right by the schema, each request that the rules read has its one response, in order, and the session ends in the state that tests/model/, which knows
+nothing of the adapter, gives for the requests that were accepted. The last line counts."""
+import argparse
+import concurrent.futures
+import json
+import os
+import random
+import re
+import subprocess
+import sys
+
+sys.dont_write_bytecode = True
+HERE = os.path.dirname(os.path.abspath(__file__))
+sys.path[:0] = [HERE, os.path.join(os.path.dirname(os.path.dirname(HERE)), "model")]
+
+import schema
+from client import Count
+from frames import Untold, commands, frame, heard, request
+
+from parts import from_words  # of tests/model/
+import bundle as model
+
+SOURCE = os.path.join(HERE, "programs", "calls.mix")
+TALK = [("initialize", {"adapterID": "mixrev", "linesStartAt1": True}), ("launch", {"program": SOURCE, "stopOnEntry": True}), ("configurationDone", {}),
+        ("threads", {}), ("next", {"threadId": 1}), ("stackTrace", {"threadId": 1}), ("scopes", {"frameId": 1}), ("stepIn", {"threadId": 1}),
+        ("setVariable", {"variablesReference": 1, "name": "A", "value": "-0"}), ("next", {"threadId": 1}), ("variables", {"variablesReference": 2}),
+        ("stepBack", {"threadId": 1}), ("evaluate", {"expression": "step 2", "context": "repl"}), ("evaluate", {"expression": "LOOP+1", "context": "watch"}),
+        ("goto", {"threadId": 1, "targetId": 16}), ("stepBack", {"threadId": 1}), ("continue", {"threadId": 1}),
+        ("setVariable", {"variablesReference": 1000, "name": "0099", "value": "5,1(4:4)"}), ("reverseContinue", {"threadId": 1}), ("next", {"threadId": 1}),
+        ("restart", {}), ("next", {"threadId": 1}), ("next", {"threadId": 1}), ("setVariable", {"variablesReference": 1, "name": "I1", "value": "4096"}),
+        ("readMemory", {"memoryReference": "0x48", "count": 12}), ("disassemble", {"memoryReference": "0x48", "instructionCount": 2}),
+        ("dataBreakpointInfo", {"variablesReference": 1, "name": "A"}), ("next", {"threadId": 1}), ("exceptionInfo", {"threadId": 1})]
+PROBE = [("evaluate", {"expression": "show changes", "context": "repl"}), ("evaluate", {"expression": "show all", "context": "repl"}), ("disconnect", {})]
+BODIES = [request(seq, command, **arguments) for seq, (command, arguments) in enumerate(TALK, 1)]
+ENDING = [request(seq, command, **arguments) for seq, (command, arguments) in enumerate(PROBE, 9001)]
+EDGES = [b"0", b"-1", b"1", b"16", b"999", b"1000", b"4000", b"1e3", b"18446744073709551616", b"null", b"true", b"{}", b"[]", b'""', b'"\\ud800"', b"\xff", b"\x00",
+         b'"repl"', b'"back 1"', b'"step 3"', b'"next"', b'"stepBack"', b'"restart"', b'"continue"', b'"setVariable"']
+
+
+def changed(draw, text):
+    """A text with a bit flipped, bytes put in or taken out, or a value in place of another."""
+    at = draw.randrange(len(text) + 1)
+    kind = draw.randrange(5)
+    if kind == 0 and at < len(text):
+        return text[:at] + bytes([text[at] ^ 1 << draw.randrange(8)]) + text[at + 1:]
+    if kind == 1:
+        return text[:at] + text[at + draw.randrange(1, 9):]
+    if kind == 2:
+        return text[:at] + bytes(draw.randrange(256) for _ in range(draw.randrange(1, 4))) + text[at:]
+    values = list(re.finditer(rb'(?<=: )("[^"]*"|-?\d+|true|false)', text))
+    if not values:
+        return text + b" "
+    value = draw.choice(values)
+    return text[:value.start()] + draw.choice(EDGES) + text[value.end():]
+
+
+def mutant(seed, k):
+    """Mutant k of a seed: frames left out, doubled, moved and changed, each of the right length; half of them with bytes of the whole changed too."""
+    draw = random.Random(f"{seed}/{k}")
+    every = list(BODIES)
+    for _ in range(draw.choice((1, 1, 2, 3, 5, 9))):
+        at = draw.randrange(len(every))
+        kind = draw.randrange(6)
+        if kind == 0:
+            every.insert(draw.randrange(len(every) + 1), every[at])
+        elif kind == 1 and len(every) > 1:
+            del every[at]
+        elif kind == 2:
+            every.insert(draw.randrange(len(every)), every.pop(at))
+        else:
+            every[at] = changed(draw, every[at])
+    text = b"".join(map(frame, every))
+    for _ in range(draw.choice((0, 0, 1, 2))):
+        text = changed(draw, text)
+    return text + b"".join(map(frame, ENDING))
+
+
+def messages(output):
+    """The messages of an output; a failure where it is anything but whole frames."""
+    found = []
+    while output:
+        head = re.match(rb"Content-Length: (\d+)\r\n\r\n", output)
+        body = output[head.end():head.end() + int(head[1])] if head else b""
+        if not head or len(body) < int(head[1]):
+            raise ValueError(f"no frame: {output[:80]!r}")
+        found.append(json.loads(body))
+        output = output[head.end() + int(head[1]):]
+    return found
+
+
+def said(command, text):
+    """What is wrong with what the adapter makes of a text, in words, and whether the state was compared."""
+    requests, status = heard(text)
+    ran = subprocess.run(command, input=text, capture_output=True, timeout=120)
+    if ran.returncode != status:
+        return f"status {ran.returncode}, and not {status}: {ran.stderr!r}", False
+    if (ran.stderr != b"") != (status == 2) or not re.fullmatch(rb"(mixrev: T\d .*\n)?", ran.stderr):
+        return f"on standard error stands {ran.stderr!r}", False
+    try:
+        every = messages(ran.stdout)
+    except ValueError as problem:
+        return str(problem), False
+    wrong = [(fault, message) for message in every for fault in schema.faults(message)]
+    if wrong:
+        return f"schema: {wrong[0]}", False
+    responses = [message for message in every if message["type"] == "response"]
+    answered = [(message["request_seq"], message["command"]) for message in responses]
+    if answered != [(message["seq"], message["command"]) for message in requests]:
+        return f"the responses are to {answered}, and the requests {[(message['seq'], message['command']) for message in requests]}", False
+    return state(requests, responses)
+
+
+def state(requests, responses):
+    """The state at the end, against that of the model."""
+    ends = [response for response in responses if response["request_seq"] in (9001, 9002)]
+    accepted = [response["success"] for response in responses]
+    if len(ends) != 2 or not all(response["success"] for response in ends):
+        return "", False
+    try:
+        script = "".join(f"{line}\n" for line in commands(requests, accepted))
+    except Untold:
+        return "", False
+    with open(SOURCE, "rb") as file:
+        wanted = model.debug(file.read(), b"", script.encode())[0].decode("latin-1")
+    found = "".join(response["body"]["result"] for response in ends)
+    return ("", True) if wanted.endswith(found) else (f"the state is {found!r}, and the model's {wanted[-len(found):]!r} after {script!r}", True)
+
+
+def main():
+    words = argparse.ArgumentParser(description=__doc__)
+    words.add_argument("--mutants", type=int, default=600)
+    words.add_argument("--seed", default="0")
+    words.add_argument("command", nargs="+")
+    given = words.parse_args()
+    from_words(["--parts", "all"])
+    count, compared = Count(), 0
+    whole = b"".join(map(frame, BODIES + ENDING))
+    cuts = range(len(whole) + 1)
+    with concurrent.futures.ThreadPoolExecutor(int(os.environ.get("WORKERS", "2"))) as workers:
+        for name, rows, text in (("cut", cuts, lambda k: whole[:k]), ("mutant", range(given.mutants), lambda k: mutant(given.seed, k))):
+            for k, (wrong, was_compared) in zip(rows, workers.map(lambda k: said(given.command, text(k)), rows)):
+                count.row(f"{name} {k} of seed {given.seed}", not wrong, wrong[:600])
+                compared += was_compared
+    count.row("states are compared", compared > given.mutants // 4, compared)
+    print(f"{len(cuts)} cuts, {given.mutants} mutants, {compared} states at their end against the model")
+    print(f"{count.passed} passed, {count.failed} failed")
+    return 1 if count.failed else 0
+
+
+if __name__ == "__main__":
+    sys.exit(main())

@@ -1,0 +1,402 @@
+#!/usr/bin/env python3
+"""Talks with the adapter over debugpy's message channel: tests/adapter/talks.py PROGRAM [WORD..]
+
+Every value that is wanted is worked out by hand from the rules of docs/MACHINE.md. The program programs/calls.mix goes through these states, a
+row after each step: n steps done, the location, the clock (1 u for ENTA, ENT1, DEC1 and jumps, 2 u for stores, 10 u for HLT), and what altered.
+
+ n   loc  clock                          n   loc  clock
+ 0   10     0                            9   13    12   cell 101 = 5
+ 1   11     1   rA = 5                  10   14    13   rI1 = 0
+ 2   12     2   rI1 = 3                 11   15    14   (J1P is not taken)
+ 3   13     4   cell 103 = 5            12   17    15   rJ = 16
+ 4   14     5   rI1 = 2                 13   18    17   cell 19, field (0:2) = 16
+ 5   12     6   rJ = 15                 14   19    18   rA = 7
+ 6   13     8   cell 102 = 5            15   16    19   rJ = 20
+ 7   14     9   rI1 = 1                 16   17    29   (HLT)
+ 8   12    10   rJ = 15
+
+Its lines 3 and 4 give cells 10 and 11, line 5 is blank, lines 6 to 13 give cells 12 to 19, and line 14 is END.
+The last line counts."""
+import base64
+import os
+import socket
+import subprocess
+import sys
+import tempfile
+import time
+
+sys.dont_write_bytecode = True
+HERE = os.path.dirname(os.path.abspath(__file__))
+sys.path.insert(0, HERE)
+
+from client import Client, Count
+
+PROGRAMS = os.path.join(HERE, "programs")
+CALLS = os.path.join(PROGRAMS, "calls.mix")
+# the state after n steps: line, location, clock
+AFTER = {0: (3, 10, 0), 1: (4, 11, 1), 2: (6, 12, 2), 3: (7, 13, 4), 4: (8, 14, 5), 5: (6, 12, 6), 6: (7, 13, 8), 7: (8, 14, 9), 8: (6, 12, 10),
+         9: (7, 13, 12), 10: (8, 14, 13), 11: (9, 15, 14), 12: (11, 17, 15), 13: (12, 18, 17), 14: (13, 19, 18), 15: (10, 16, 19), 16: (11, 17, 29)}
+ABLE = ["ConfigurationDoneRequest", "StepBack", "SetVariable", "EvaluateForHovers", "RestartRequest", "ExceptionInfoRequest", "DataBreakpoints",
+        "ReadMemoryRequest", "WriteMemoryRequest", "DisassembleRequest", "InstructionBreakpoints", "GotoTargetsRequest"]
+
+
+def program(name):
+    return os.path.join(PROGRAMS, name)
+
+
+def steps(talk, count):
+    """Steps, breakpoints, and back: a step back takes one change, a run back goes to the breakpoint before, never to the one that it stands on."""
+    count.same("capabilities", [name for name in ABLE if talk.capabilities.get("supports" + name) is not True], [])
+    count.same("entry", talk.launch(CALLS), "entry")
+    count.same("the first state", talk.state(), AFTER[0])
+    count.same("threads", len(talk.body("threads")["threads"]), 1)
+    count.row("the frame names its instruction", "ENTA 5" in talk.frame()["name"], talk.frame())
+    count.same("the frame's source", talk.frame()["source"]["path"], CALLS)
+    told = talk.lines(CALLS, 5, 14)
+    count.same("a breakpoint on a blank line is told at the line after", [told[0]["verified"], told[0].get("line")], [True, 6])
+    count.same("a breakpoint that no word follows", told[1]["verified"], False)
+    for n in (2, 5):
+        count.same(f"continue to {n}", (talk.move("continue"), talk.state()), ("breakpoint", AFTER[n]))
+    count.same("stepBack", (talk.move("stepBack"), talk.state()), ("step", AFTER[4]))
+    count.same("reverseContinue to a breakpoint", (talk.move("reverseContinue"), talk.state()), ("breakpoint", AFTER[2]))
+    talk.move("reverseContinue")
+    count.same("reverseContinue to the start", talk.state(), AFTER[0])
+    count.row("stepBack at the start is refused", "C4" in talk.refused("stepBack", threadId=1), "it is not")
+    count.same("what is refused changes nothing", talk.state(), AFTER[0])
+    for n in range(1, 9):
+        count.same(f"{'stepIn' if n % 2 else 'next'} to {n}", (talk.move("stepIn" if n % 2 else "next"), talk.state()), ("step", AFTER[n]))
+    for n in range(7, -1, -1):
+        count.same(f"stepBack to {n}", (talk.move("stepBack"), talk.state()), ("step", AFTER[n]))
+    talk.lines(CALLS)
+    talk.close()
+
+
+def halts(talk, count):
+    """A HLT stops, and the session goes on: back over it, and on after it."""
+    count.same("entry", talk.launch(CALLS), "entry")
+    talk.move("continue")
+    count.same("the HLT stops", talk.state(), AFTER[16])
+    count.same("rA after all", talk.values("Registers")["A"][:16], "+ 00 00 00 00 07")
+    count.same("rJ after all", talk.values("Registers")["J"][:7], "+ 00 20")
+    count.same("stepBack over the HLT", (talk.move("stepBack"), talk.state()), ("step", AFTER[15]))
+    talk.move("next")
+    count.same("the HLT again", talk.state(), AFTER[16])
+    # after the HLT stands SUB at 17: rJ is 20, so cell 19 gets 20, and the JMP at 19 leads to 20, the first cell of nothing: NOPs follow
+    count.same("a step after the HLT", (talk.move("next"), talk.state()), ("step", (12, 18, 31)))
+    talk.close()
+    events = {message.get("event") for message in talk.messages}
+    count.row("no end is told", not {"terminated", "exited"} & events, events)
+
+
+def subroutine(talk, count):
+    """stepOut goes on until the location is rJ as it was."""
+    talk.launch(CALLS)
+    talk.lines(CALLS, 12)
+    count.same("into the subroutine", (talk.move("continue"), talk.state()), ("breakpoint", AFTER[13]))
+    count.same("stepOut", (talk.move("stepOut"), talk.state()), ("step", AFTER[15]))
+    talk.close()
+
+
+def data(talk, count):
+    """A run stops after the step that altered a cell or a register, and a run back where that step is to be done next."""
+    talk.launch(CALLS)
+    page, _ = talk.page(102)
+    info = talk.body("dataBreakpointInfo", variablesReference=page, name="0102")
+    count.row("a cell can be watched", info["dataId"], info)
+    told = talk.body("setDataBreakpoints", breakpoints=[{"dataId": info["dataId"]}])["breakpoints"]
+    count.same("it is verified", [point["verified"] for point in told], [True])
+    count.same("to the cell", (talk.move("continue"), talk.state()), ("data breakpoint", AFTER[6]))
+    talk.move("continue")
+    count.same("never again", talk.state(), AFTER[16])
+    count.same("back to the cell", (talk.move("reverseContinue"), talk.state()), ("data breakpoint", AFTER[5]))
+    info = talk.body("dataBreakpointInfo", variablesReference=talk.scopes()["Registers"], name="A")
+    talk.body("setDataBreakpoints", breakpoints=[{"dataId": info["dataId"]}])
+    # of the steps after the fifth only the fourteenth alters rA, and before it the first
+    count.same("to the register", (talk.move("continue"), talk.state()), ("data breakpoint", AFTER[14]))
+    count.same("back to the register", (talk.move("reverseContinue"), talk.state()), ("data breakpoint", AFTER[13]))
+    count.same("and further", (talk.move("reverseContinue"), talk.state()), ("data breakpoint", AFTER[0]))
+    told = talk.body("setDataBreakpoints", breakpoints=[{"dataId": "no such part"}])["breakpoints"]
+    count.same("what is no part of the machine", [point["verified"] for point in told], [False])
+    talk.close()
+
+
+def sets(talk, count):
+    """A set is a change, which is seen at once and taken back by one step back; one that is refused changes nothing."""
+    talk.launch(CALLS)
+    talk.move("next")
+    registers = talk.scopes()["Registers"]
+    count.same("set rA", talk.body("setVariable", variablesReference=registers, name="A", value="-0")["value"][:16], "- 00 00 00 00 00")
+    count.same("set a register by a W-value", talk.body("setVariable", variablesReference=registers, name="X", value="LOOP,1(1:1)")["value"][:16],
+               "+ 01 00 00 00 12")
+    text = talk.refused("setVariable", variablesReference=registers, name="I1", value="4096")
+    count.row("a set that the machine refuses", "C5 refused by the machine: M7 index overflow" in text, text)
+    text = talk.refused("setVariable", variablesReference=registers, name="A", value="NOWHERE")
+    count.row("a set that is no W-value", "C2 bad argument" in text, text)
+    count.same("the changes are the step and two sets", talk.repl("show changes"), "changes 3")
+    page, cell = talk.page(100)
+    count.same("set a cell", talk.body("setVariable", variablesReference=page, name="0100", value="5,1(4:4)")["value"][:16], "+ 00 00 00 01 05")
+    flags = talk.scopes()["Flags"]
+    for name, value in (("over", "on"), ("cmp", "G"), ("loc", "17")):
+        talk.body("setVariable", variablesReference=flags, name=name, value=value)
+    count.same("the flags", {name: talk.values("Flags")[name] for name in ("over", "cmp")}, {"over": "on", "cmp": "G"})
+    count.same("the location", talk.state(), (11, 17, 1))
+    for _ in range(4):
+        talk.move("stepBack")
+    count.same("the cell is taken back", talk.page(100)[1]["value"][:16], "+ 00 00 00 00 00")
+    count.same("rA stands yet", talk.values("Registers")["A"][:16], "- 00 00 00 00 00")
+    talk.move("stepBack")
+    talk.move("stepBack")
+    count.same("rA is taken back", talk.values("Registers")["A"][:16], "+ 00 00 00 00 05")
+    count.same("the state is that of the step", talk.state(), AFTER[1])
+    talk.close()
+
+
+def word_bytes(text):
+    """The six bytes of a word: 0 or 1 for its sign, and its five bytes."""
+    sign, *rest = text.split()
+    return bytes([sign == "-", *(int(part) for part in rest)])
+
+
+def memory(talk, count):
+    """Memory is read and written as six bytes a cell, and disassembled."""
+    talk.launch(CALLS)
+    reference = talk.page(12)[1]["memoryReference"]
+    # ENT1 3 is 0 3 0 2 49; STA 100,1 has the address 100 = 1*64 + 36, the index 1, F 5 and C 24; DEC1 1 is 0 1 0 1 49
+    read = talk.body("readMemory", memoryReference=reference, offset=-6, count=18)
+    count.same("readMemory", base64.b64decode(read["data"]), word_bytes("+ 00 03 00 02 49") + word_bytes("+ 01 36 01 05 24") + word_bytes("+ 00 01 00 01 49"))
+    last = talk.page(3999)[1]["memoryReference"]
+    read = talk.body("readMemory", memoryReference=last, count=10)
+    count.same("readMemory past the end", (base64.b64decode(read.get("data", "")), read.get("unreadableBytes")), (bytes(6), 4))
+    changed = word_bytes("- 63 00 01 02 03")
+    talk.body("writeMemory", memoryReference=last, data=base64.b64encode(changed).decode())
+    count.same("writeMemory", talk.page(3999)[1]["value"][:16], "- 63 00 01 02 03")
+    text = talk.refused("writeMemory", memoryReference=last, data=base64.b64encode(bytes([0, 64, 0, 0, 0, 0])).decode())
+    count.row("a byte over 63 is refused", text, "it is not")
+    text = talk.refused("writeMemory", memoryReference=last, data=base64.b64encode(bytes([2, 0, 0, 0, 0, 0])).decode())
+    count.row("a sign that is neither 0 nor 1 is refused", text, "it is not")
+    text = talk.refused("writeMemory", memoryReference=last, data="?")
+    count.row("what is no base64 is refused", text, "it is not")
+    count.same("what is refused changes nothing", talk.repl("show changes"), "changes 1")
+    told = talk.body("disassemble", memoryReference=reference, instructionOffset=-1, instructionCount=3)["instructions"]
+    count.same("disassemble", [instruction["instruction"] for instruction in told], ["ENT1 3", "STA 100,1", "DEC1 1"])
+    count.same("its lines", [instruction.get("line") for instruction in told], [4, 6, 7])
+    count.same("its references", [told[1]["address"], told[0]["address"]], [reference, talk.page(11)[1]["memoryReference"]])
+    told = talk.body("disassemble", memoryReference=last, instructionOffset=0, instructionCount=3)["instructions"]
+    count.same("as many as asked, also past the end", len(told), 3)
+    told = talk.body("setInstructionBreakpoints", breakpoints=[{"instructionReference": talk.page(14)[1]["memoryReference"]}])["breakpoints"]
+    count.same("an instruction breakpoint", (told[0]["verified"], talk.move("continue"), talk.state()), (True, "instruction breakpoint", AFTER[4]))
+    talk.close()
+
+
+def evaluates(talk, count):
+    """W-values in hover and watch, commands of the script in the repl; a command of the repl moves the same timeline."""
+    talk.launch(CALLS)
+    talk.move("next")
+    for context in ("hover", "watch"):
+        found = talk.body("evaluate", expression="LOOP", context=context)["result"]
+        count.row(f"{context} of a symbol", "+ 00 00 00 00 12" in found, found)
+    found = talk.body("evaluate", expression="LOOP+1*2", context="watch")["result"]
+    count.row("watch of an expression, from left to right", "+ 00 00 00 00 26" in found, found)
+    found = talk.body("evaluate", expression="1,-1000(0:2)", context="watch")["result"]
+    count.row("watch of the W-value of the book", "- 15 40 00 00 01" in found, found)
+    found = talk.body("evaluate", expression="A", context="hover")["result"]
+    count.row("hover of a register", "+ 00 00 00 00 05" in found, found)
+    for context, expression in (("hover", "NOWHERE"), ("watch", "1+"), ("repl", "jump"), ("repl", "back 0"), ("repl", "set I1 4096"), ("watch", "\u00e9\u4e16")):
+        count.row(f"{context} of {expression} is refused", talk.refused("evaluate", expression=expression, context=context), "it is not")
+    count.same("a command", talk.repl("step 2"), "ran 2 to 0013 clock 4: limit")
+    count.same("it moved", talk.state(), AFTER[3])
+    count.same("a reply of many lines", talk.repl("show cells 12 13"), "0012 + 01 36 01 05 24\n0013 + 00 01 00 01 49")
+    talk.body("evaluate", expression="back until A", context="repl")
+    count.same("back by a command", talk.state(), AFTER[0])
+    talk.close()
+
+
+def gotos(talk, count):
+    """goto sets the location, which is a change; restart takes every change back."""
+    talk.launch(CALLS)
+    targets = talk.body("gotoTargets", source={"path": CALLS}, line=10)["targets"]
+    count.same("its line", [target["line"] for target in targets], [10])
+    count.same("goto", (talk.move("goto", targetId=targets[0]["id"]), talk.state()), ("goto", (10, 16, 0)))
+    count.same("goto is taken back", (talk.move("stepBack"), talk.state()), ("step", AFTER[0]))
+    talk.move("next")
+    talk.move("next")
+    talk.body("setVariable", variablesReference=talk.scopes()["Registers"], name="A", value="9")
+    count.same("restart", (talk.move("restart"), talk.state()), ("entry", AFTER[0]))
+    count.same("nothing stands", talk.repl("show changes"), "changes 0")
+    count.same("rA is +0", talk.values("Registers")["A"][:16], "+ 00 00 00 00 00")
+    talk.close()
+
+
+def faults(talk, count):
+    """A fault stops before the step, with its number and text; the step is not done."""
+    talk.launch(program("fault.mix"))
+    count.same("to the fault", talk.move("continue"), "exception")
+    count.same("the state before it", talk.state(), (2, 1, 1))
+    info = talk.body("exceptionInfo", threadId=1)
+    count.same("exceptionInfo", (info["exceptionId"], info.get("description")), ("M5", "no such cell"))
+    count.same("a second try", (talk.move("next"), talk.state()), ("exception", (2, 1, 1)))
+    count.same("stepBack from a fault", (talk.move("stepBack"), talk.state()), ("step", (1, 0, 0)))
+    talk.close()
+
+
+def prints(talk, count):
+    """What a unit writes is told while the program still runs; a run that comes to no stop pauses; a step back tells what was taken back."""
+    talk.launch(program("prints.mix"), devices=program("cards.deck"))
+    talk.body("continue", threadId=1)
+    body, row = talk.wait("output", talk.seen)
+    count.same("the row", body["output"].rstrip(), "HELLO")
+    count.same("it pauses", talk.stop()["reason"], "pause")
+    count.row("the row is told before", row < talk.seen - 1, (row, talk.seen))
+    # IN and OUT take 1 u each, and each JMP to itself 1 u: it stands at the jump to itself
+    count.same("after a million changes, of 1 u each", talk.state(), (4, 2, 1000000))
+    count.same("the changes", talk.repl("show changes"), "changes 1000000")
+    talk.repl("goto 2")
+    count.same("at the second change", talk.state(), (4, 2, 2))
+    told = talk.outputs("console") + talk.outputs("important")
+    count.same("stepBack over the row", (talk.move("stepBack"), talk.state()), ("step", (3, 1, 1)))
+    count.row("what was taken back is told", len(talk.outputs("console") + talk.outputs("important")) > len(told), "no output event")
+    count.same("the unit has no row", talk.repl("show unit 19").split("\n")[0], "unit 19 place 0 blocks 0 output 0")
+    talk.close()
+
+
+def long_runs(talk, count):
+    """A run that comes to no stop pauses after a million changes, forwards and backwards; what the client sends meanwhile is heard then."""
+    talk.launch(program("endless.mix"))
+    began = time.monotonic()
+    count.same("a long run pauses", talk.move("continue"), "pause")
+    took = time.monotonic() - began
+    print(f"a million steps, and their pause: {1e6 * took:.0f} microseconds")
+    count.row("that is soon", took < 10, took)
+    count.same("each jump took 1 u", talk.state(), (1, 0, 1000000))
+    talk.body("continue", threadId=1)
+    talk.body("pause", threadId=1)
+    count.same("a pause that is sent meanwhile comes after that of the run", [talk.stop()["reason"], talk.stop()["reason"]], ["pause", "pause"])
+    count.same("two million", talk.repl("show changes"), "changes 2000000")
+    for left in (1000000, 0):
+        count.same(f"back to {left}", (talk.move("reverseContinue"), talk.state()), ("pause", (1, 0, left)))
+    count.same("at the start", (talk.move("reverseContinue"), talk.state()), ("entry", (1, 0, 0)))
+    talk.move("continue")
+    count.same("restart after a long run", (talk.move("restart"), talk.state()), ("entry", (1, 0, 0)))
+    talk.body("continue", threadId=1)
+    # disconnect is heard once the run pauses
+    talk.close()
+
+
+def refusals(talk, count):
+    """What is refused before and at the launch, with number and text; then a right launch goes on."""
+    count.row("a step before the launch", talk.refused("next", threadId=1), "it is accepted")
+    count.row("no such request", talk.refused("fly"), "it is accepted")
+    for name, more, wanted in (("refused.mix", {}, "line 2: A2 no such operation"), ("nowhere.mix", {}, "T4 not opened"),
+                               ("calls.mix", {"devices": program("calls.mix")}, "K1 bad header"), ("calls.mix", {"devices": program("none.deck")}, "T4 not opened")):
+        text = talk.refused("launch", program=program(name), **more)
+        count.row(f"launch of {name} with {more}", wanted in text, text)
+    count.row("a launch without a program", talk.refused("launch", stopOnEntry=True), "it is accepted")
+    count.same("a right launch after them", talk.launch(CALLS), "entry")
+    count.row("a second launch", talk.refused("launch", program=CALLS), "it is accepted")
+    count.row("no such request after the launch", talk.refused("fly"), "it is accepted")
+    count.row("no such variables", talk.refused("variables", variablesReference=99999), "it is accepted")
+    count.same("the state", talk.state(), AFTER[0])
+    talk.close()
+
+
+def apart(talk, count):
+    """Breakpoints are the client's: no change sets or takes one away, and those of another source leave these."""
+    talk.launch(CALLS)
+    talk.lines(CALLS, 6)
+    other = talk.body("setBreakpoints", source={"path": program("fault.mix")}, breakpoints=[{"line": 1}])["breakpoints"]
+    count.same("a breakpoint in another source", [point["verified"] for point in other], [False])
+    count.same("no change was made", talk.repl("show changes"), "changes 0")
+    count.same("it stands beside those of another source", (talk.move("continue"), talk.state()), ("breakpoint", AFTER[2]))
+    talk.move("restart")
+    count.same("it stands after a restart", (talk.move("continue"), talk.state()), ("breakpoint", AFTER[2]))
+    talk.body("setBreakpoints", source={"path": CALLS}, breakpoints=[])
+    talk.move("continue")
+    count.same("it is gone", talk.state(), AFTER[16])
+    talk.close()
+
+
+def from_zero(talk, count):
+    """A client whose first line is 0."""
+    count.same("entry", talk.launch(CALLS), "entry")
+    count.same("the line", talk.frame()["line"], 2)
+    told = talk.lines(CALLS, 4)
+    count.same("a breakpoint", (told[0]["verified"], told[0].get("line")), (True, 5))
+    count.same("to it", (talk.move("continue"), talk.frame()["line"]), ("breakpoint", 5))
+    talk.close()
+
+
+def running(talk, count):
+    """Without stopOnEntry the program runs to its HLT at once."""
+    talk.launch(CALLS, stops=False)
+    talk.stop()
+    count.same("it ran to the HLT", talk.state(), AFTER[16])
+    talk.close()
+
+
+def named(command, count):
+    """A name with letters beyond ASCII: a length counts bytes and not characters, so each message still reads."""
+    with tempfile.TemporaryDirectory() as folder:
+        path = os.path.join(folder, "Z\u00e4hler \u4e16\u754c.mix")
+        with open(CALLS) as source, open(path, "w") as file:
+            file.write(source.read())
+
+        def at_path(talk, count):
+            count.same("entry", talk.launch(path), "entry")
+            count.same("its path", talk.frame()["source"]["path"], path)
+            count.same("a step", (talk.move("next"), talk.state()), ("step", AFTER[1]))
+            talk.close()
+
+        talked(command, count, at_path)
+
+
+def over_sockets(command, count):
+    """The streams are the two ends of a socket pair, as VS Code gives them, where no name of a stream can be opened anew."""
+    ours, theirs = socket.socketpair()
+    process = subprocess.Popen(command, stdin=theirs, stdout=theirs, stderr=subprocess.PIPE)
+    theirs.close()
+    body = b'{"seq":1,"type":"request","command":"initialize","arguments":{"adapterID":"mixrev"}}'
+    ours.sendall(b"Content-Length: %d\r\n\r\n%s" % (len(body), body))
+    ours.settimeout(10)
+    try:
+        answer = ours.recv(65536)
+    except TimeoutError:
+        answer = b""
+    count.row("sockets: a response", b'"success":true' in answer.replace(b" ", b""), answer)
+    ours.shutdown(socket.SHUT_WR)
+    try:
+        count.same("sockets: status at the end", process.wait(10), 0)
+    except subprocess.TimeoutExpired:
+        process.kill()
+        count.row("sockets: status at the end", False, "it did not end")
+
+
+TALKS = (steps, halts, subroutine, data, sets, memory, evaluates, gotos, faults, prints, long_runs, refusals, apart, running)
+
+
+def talked(command, count, talk, **initialize):
+    """Has a talk; one that can't go on is a failure."""
+    client = Client(command, count, talk.__name__)
+    try:
+        client.begin(**initialize)
+        talk(client, count)
+    except Exception as problem:
+        count.row(f"{talk.__name__} goes on", False, f"{type(problem).__name__} {problem}")
+        client.kill()
+
+
+def main():
+    command = [os.path.abspath(sys.argv[1]), *sys.argv[2:]]
+    count = Count()
+    for talk in TALKS:
+        talked(command, count, talk)
+    talked(command, count, from_zero, linesStartAt1=False, columnsStartAt1=False)
+    named(command, count)
+    over_sockets(command, count)
+    print(f"{count.passed} passed, {count.failed} failed")
+    return 1 if count.failed else 0
+
+
+if __name__ == "__main__":
+    status = main()
+    sys.stdout.flush()
+    os._exit(status)

@@ -1,0 +1,157 @@
+"""Bundles that are the examples and the bundles of tests/runs/ with mistakes in them: bits flipped, lines doubled, cut, and spliced. The program against
+the model."""
+
+import concurrent.futures
+import glob
+import multiprocessing
+import os
+import random
+import signal
+
+from cuts import DECK, GREETED, HELLO, READ, READS
+from running import TOP, Count, Endless, Runner, bundle, folder, lines, ring
+
+import bundle as model
+
+MODEL_SECONDS = 10  # after which a bundle is not compared: the model is slow, and a mutant may ask for a million steps
+EDGES = [b"0", b"1", b"-1", b"63", b"64", b"999", b"1000", b"3999", b"4000", b"4095", b"4096", b"1000000", b"1000001", b"1073741823",
+         b"1073741824", b"9999999999", b"99999999999", b"%SCRIPT", b"%DEVICES", b"%UNIT 0", b"%UNIT 16 delay 5", b"run 100000",
+         b"step 1000", b"back all", b"forth 9", b"until", b"back until A", b"run 100 until cell 100",
+         b"trace 9", b"show counts", b"show diff 1", b"\"", b"=", b",", b"(", b"*", b"\r", b"\t", b"\x00", b"\xff"]
+
+
+def originals():
+    names = sorted(glob.glob(os.path.join(TOP, "examples", "*.mix")) + glob.glob(os.path.join(TOP, "tests", "runs", "*.mix")))
+    texts = []
+    for name in names:
+        with open(name, "rb") as file:
+            texts.append(file.read())
+    # and every kind of unit
+    units = lines(*("show unit %d" % unit for unit in (0, 8, 16, 17, 18, 19, 20)))
+    writes = lines(" IN 200(16)", " OUT 200(17)", " OUT 200(18)", " IOC 0(18)", " OUT 0(9)", " IN 0(0)", " JBUS *(19)", " OUT 0(19)", " IOC -1(0)", " HLT", " END 0")
+    return texts + [bundle(READS, READ, DECK), bundle(HELLO, GREETED), bundle(writes, lines("run 50", "back 3", "forth 2") + units, DECK)]
+
+
+def mutant(texts, seed, k):
+    """Mutant k of a seed is the same as long as the examples are."""
+    draw = random.Random("%s/%d" % (seed, k))
+    text = bytearray(draw.choice(texts))
+    for _ in range(draw.choice((1, 1, 1, 2, 2, 3, 5, 8, 20))):
+        text = CHANGES[draw.randrange(len(CHANGES))](draw, text, texts)
+    return bytes(text)
+
+
+def flip(draw, text, texts):
+    if text:
+        text[draw.randrange(len(text))] ^= 1 << draw.randrange(8)
+    return text
+
+
+def byte(draw, text, texts):
+    if text:
+        text[draw.randrange(len(text))] = draw.choice(b"\x00\n\"?\xff %*=-+/:,()0129ABFHhX\r\t")
+    return text
+
+
+def lines_changed(draw, text, texts):
+    """A line doubled, left out, moved, or many times there."""
+    every = bytes(text).split(b"\n")
+    at = draw.randrange(len(every))
+    kind = draw.randrange(4)
+    if kind == 0:
+        every.insert(at, every[at])
+    elif kind == 1:
+        del every[at]
+    elif kind == 2:
+        every.insert(draw.randrange(len(every)), every.pop(at))
+    else:
+        every[at:at] = [every[at]] * draw.randrange(2, 60)
+    return bytearray(b"\n".join(every))
+
+
+def cut(draw, text, texts):
+    first, last = sorted((draw.randrange(len(text) + 1), draw.randrange(len(text) + 1)))
+    return [text[:last], text[:first] + text[last:]][draw.randrange(2)]
+
+
+def spliced(draw, text, texts):
+    other = draw.choice(texts)
+    if draw.randrange(2):
+        return text[:draw.randrange(len(text) + 1)] + other[draw.randrange(len(other)):]
+    # lines of the other one among its own
+    mine, every = bytes(text).split(b"\n"), other.split(b"\n")
+    first = draw.randrange(len(every))
+    at = draw.randrange(len(mine) + 1)
+    mine[at:at] = every[first:first + draw.randrange(1, 12)]
+    return bytearray(b"\n".join(mine))
+
+
+def word(draw, text, texts):
+    """A word in place of another, at an edge."""
+    parts = bytes(text).split(b" ")
+    parts[draw.randrange(len(parts))] = draw.choice(EDGES)
+    return bytearray(b" ".join(parts))
+
+
+def number(draw, text, texts):
+    digits = [at for at, value in enumerate(text) if 48 <= value < 58]
+    if not digits:
+        return text
+    first = last = draw.choice(digits)
+    while last < len(text) and 48 <= text[last] < 58:
+        last += 1
+    while first and 48 <= text[first - 1] < 58:
+        first -= 1
+    return text[:first] + draw.choice(EDGES[:13]) + text[last:]
+
+
+CHANGES = [flip, byte, lines_changed, cut, spliced, word, number]
+
+
+def model_of(text):
+    """What the model gives, or None where it takes too long."""
+    signal.signal(signal.SIGALRM, ring)
+    signal.alarm(MODEL_SECONDS)
+    try:
+        return model.run(text)
+    except (Endless, MemoryError, RecursionError):
+        return None
+    finally:
+        signal.alarm(0)
+
+
+def some(program, seed, numbers):
+    texts, failures, compared, statuses = originals(), [], 0, [0, 0, 0, 0]
+    with folder() as place:
+        runner = Runner(program, place)
+        for k in numbers:
+            text = mutant(texts, seed, k)
+            found = runner.run(text)
+            if found[2] in (0, 1, 2, 3):
+                statuses[found[2]] += 1
+            else:
+                failures.append(("mutant %d" % k, found, "status 0 to 3"))
+                continue
+            wanted = model_of(text)
+            if wanted is not None:
+                compared += 1
+                if wanted != found:
+                    failures.append(("mutant %d" % k, found, wanted))
+    return failures, compared, statuses
+
+
+def rows(program, workers, quick=False, seed="0", number=None):
+    count, compared, statuses = Count(), 0, [0, 0, 0, 0]
+    number = number or (500 if quick else 10000)
+    parts = 10 * workers
+    with concurrent.futures.ProcessPoolExecutor(workers, multiprocessing.get_context("fork")) as pool:
+        given = [(program, seed, range(k, number, parts)) for k in range(parts)]
+        for failures, some_compared, some_statuses in pool.map(some, *zip(*given)):
+            compared += some_compared
+            statuses = [a + b for a, b in zip(statuses, some_statuses)]
+            for name, found, wanted in failures:
+                count.same("%s of seed %s" % (name, seed), found, wanted)
+    count.passed = number - count.failed
+    print("mutants: seed %s, %d of them, %d compared with the model; with status 0, 1, 2 and 3: %d, %d, %d, %d" % (
+        (seed, number, compared) + tuple(statuses)))
+    return count

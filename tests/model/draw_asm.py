@@ -1,0 +1,297 @@
+"""Random sources for the whole assembler, towards its edges and faults: `python3 tests/model/draw_asm.py SEED K` prints bundle K of a seed."""
+
+import random
+import sys
+
+import draw_request as texts
+from lines import OPERATIONS
+
+MACHINE = [name for name, op in OPERATIONS.items() if op[0] == "machine"]
+COMMON = b"ENTA LDA STA JMP LD1 ENT1 ADD CMPA JNE STZ HLT NOP MOVE OUT STJ".split()
+NAMES = b"X Y Z START LOOP A1 2X LONGSYMBOL B2 HF".split()
+SMALL = [0, 0, 1, 2, 3, 5, 7, 63, 64, 100, 3999, 4000, 4095]
+EDGES = [0, 1, 63, 64, 4000, 4094, 4095, 4095, 4096, 4096, 4097, 5000, 8192, 262143, 262144, 1073741823]
+PLACES = b"0 0 0 0 1 1 2 5 10 30 100 100 100 105 1000 1000 3990 3990 3996 3998 3999 4000 -0 *-1 *-1 *-2 *+1 *+3 *".split()
+WINDOWS = [(0, 40), (95, 130), (995, 1020), (3980, 3999)]
+FIELDS = b"0:5 1:5 0:2 3:3 4:4 5:5 1:1 0:0 4:5 1:3 5 8 36".split()
+ENDS = [b"\n"] * 12 + [b"\r\n"] * 3
+
+
+class Draft:
+    """A source as it is drawn: its lines, and what they define and use, as far as the draws look at it."""
+
+    def __init__(self, r):
+        self.r, self.lines = r, []
+        self.defined, self.used, self.back, self.ahead = [], [], [], []
+        self.own = []  # the dH of the line that is drawn, which is none of its dB
+
+    def blanks(self):
+        return self.r.choice(texts.BLANKS)
+
+    def say(self, loc, op, address=b"", remark=True):
+        """A line, in one of the forms that it may have."""
+        r = self.r
+        self.back, self.own = self.back + self.own, []
+        line = loc + self.blanks() + texts.folded(r, op)
+        if address or op.upper() == b"ALF":
+            line += (b"" if op.upper() == b"ALF" else self.blanks()) + address
+            if remark and r.randrange(8) == 0 and op.upper() != b"ALF":
+                line += self.blanks() + r.choice((b"remark", b"? \xff", b"*", b"5"))
+        self.lines.append(line)
+
+    # LOC
+
+    def loc(self):
+        r = self.r
+        kind = r.randrange(20)
+        if kind < 9:
+            return b""
+        if kind < 13:
+            return self.local_loc()
+        waiting = [name for name in self.used if name not in self.defined]
+        free = [name for name in NAMES if name not in self.defined]
+        if waiting and kind < 18:
+            return self.new(r.choice(waiting))
+        return self.new(r.choice(free)) if free else b""
+
+    def new(self, name):
+        self.defined.append(name)
+        return texts.folded(self.r, name)
+
+    def local_loc(self):
+        digit = self.r.choice((2, 2, 2, 9, 0, 1))
+        if self.ahead and self.r.randrange(2):
+            digit = self.r.choice(self.ahead)
+        return self.dH(digit)
+
+    def dH(self, digit):
+        self.own.append(digit)
+        self.ahead = [one for one in self.ahead if one != digit]
+        return b"%d%s" % (digit, self.r.choice(b"H H H h".split()))
+
+    # ADDRESS
+
+    def known(self):
+        """An atom that has a value at this line."""
+        r = self.r
+        kind = r.randrange(8)
+        if kind < 2 and self.defined:
+            return texts.folded(r, r.choice(self.defined))
+        if kind < 4 and self.back:
+            return b"%d%s" % (r.choice(self.back + self.own[:r.randrange(12) == 0]), r.choice(b"B B b".split()))
+        if kind == 4:
+            return b"*"
+        return b"%d" % r.choice(SMALL)
+
+    def expression(self):
+        r = self.r
+        text = r.choice((b"", b"", b"", b"-", b"+")) + self.known()
+        for _ in range(r.choice((0, 0, 0, 1, 1, 2))):
+            text += r.choice((b"+", b"-", b"-", b"/", b":", b"*") if r.randrange(8) else (b"//",)) + r.choice((self.known(), b"1", b"2"))
+        return text
+
+    def w_value(self):
+        r = self.r
+        parts = []
+        for _ in range(r.choice((1, 1, 1, 1, 2, 3))):
+            one = self.expression() if r.randrange(3) else b"%s%d" % (r.choice((b"", b"", b"-")), r.choice(EDGES))
+            parts.append(one + (b"(%s)" % r.choice(FIELDS) if r.randrange(4) == 0 else b""))
+        return b",".join(parts)
+
+    def ahead_name(self):
+        r = self.r
+        if r.randrange(2):
+            digit = r.choice((2, 2, 2, 9, 0))
+            self.ahead.append(digit)
+            return b"%d%s" % (digit, r.choice(b"F F F f".split()))
+        waiting = [name for name in NAMES if name not in self.defined]
+        if not waiting:
+            return b"0"
+        name = r.choice(waiting)
+        self.used.append(name)
+        return texts.folded(r, name)
+
+    def literal(self):
+        r = self.r
+        kind = r.randrange(8)
+        if kind < 5:
+            return b"=%s=" % r.choice((b"3", b"3", b"-1", b"0", b"-0", b"5(0:2)", b"1(1:1),2(5:5)", b"*", b"*-1"))
+        if kind < 7 and self.back:
+            return b"=%dB=" % r.choice(self.back)
+        name = r.choice(self.defined or [b"9"])  # a literal is read at END: its symbols may be defined later
+        return b"=%s=" % texts.folded(r, name)
+
+    def address(self):
+        r = self.r
+        kind = r.randrange(20)
+        if kind < 6:
+            a = self.ahead_name()
+        elif kind < 9:
+            a = self.literal()
+        elif kind < 11:
+            a = b""
+        elif kind < 15:
+            a = self.known()
+        else:
+            a = b"%s%d" % (r.choice((b"", b"", b"-")), r.choice(SMALL))
+        if r.randrange(5) == 0:
+            a += b"," + r.choice(b"1 2 6 0 -0 2+4".split())
+        if r.randrange(5) == 0:
+            a += b"(%s)" % r.choice(FIELDS + [b"63", b"0", b"19", b"-0"])
+        return a
+
+    # Lines
+
+    def line(self):
+        r = self.r
+        kind = r.randrange(30)
+        if kind < 15:
+            loc = self.loc()
+            self.say(loc, r.choice(COMMON if r.randrange(3) else MACHINE), self.address())
+        elif kind < 19:
+            loc = self.loc() or self.loc()
+            value = self.w_value() if r.randrange(3) else b"%s%d" % (r.choice((b"", b"-")), r.choice(EDGES[:8]))
+            self.say(loc, b"EQU", value)
+        elif kind < 22:
+            self.say(self.loc(), b"ORIG", r.choice(PLACES))
+        elif kind < 25:
+            self.say(self.loc(), b"CON", self.w_value())
+        elif kind < 27:
+            self.say(self.loc(), b"ALF", r.choice((b" AB", b"  ABCDE", b" MIXAL", b'  "A B" x', b"   A", b"", b' ""', b" \tA~[#'",
+                                                   b"  TOO LONG")))
+        elif kind < 29:
+            self.lines.append(r.choice((b"", b" ", b"*", b"* any ?\xff", b"\t", b"* END 0")))
+        else:
+            self.say(b"", r.choice((b"HLT", b"NUM", b"CHAR")), r.choice((b"halt ?\xff", b"5", b"-1", b"*", b"x")))
+
+    def end(self):
+        r = self.r
+        kind = r.randrange(12)
+        loc = b"" if kind < 6 else self.loc()
+        if kind in (6, 7) and self.ahead:
+            loc = self.dH(r.choice(self.ahead))
+        if r.randrange(12) and self.ahead:  # dF that no dH meets: mostly mended before END
+            for digit in sorted(set(self.ahead)):
+                self.say(self.dH(digit), r.choice((b"NOP", b"EQU", b"CON", b"ORIG")), r.choice((b"5", b"0", b"100")))
+        kind = r.randrange(10)
+        unmet = [name for name in self.used if name not in self.defined]
+        if kind < 4:
+            address = b""
+        elif kind < 6:
+            address = b"%d" % r.choice((0, 1, 5, 100, 3999, 4096, 8095))
+        elif kind < 8 and (unmet or self.defined):
+            address = texts.folded(r, r.choice(unmet + self.defined))
+        else:
+            address = r.choice((b"*-1", self.known(), b"-5", b"7(4:4)", b"*", b"-0"))
+        self.say(loc, b"END", address)
+
+
+# A line that is at fault, mostly; where more than one fault is in it, the first is told.
+WRONG = b"""X? NOP/X NOP?/X LDA 5?/ ? ?/X/X ADDD/5 NOP/2F NOP/ABCDEFGHIJK NOP/2B EQU 5/ JMP ABCDEFGHIJK/ JMP 2H/ LDA 5+
+ LDA 1+-2/ LDA 5(5/ LDA 5$/ LDA Q)/ LDA =3/ LDA =3=+1/ EQU/X EQU/ ORIG/ CON/ CON 1,/ LDA 12345678901/ CON 1073741824
+ LDA Q+1/ LDA Q*2/ LDA -Q/ CON Q/ CON 2F/ ORIG Q/X EQU X/X EQU X+1/ CON 3F/ LDA 2F+1/ CON 5//0/ CON 1073741823+1/ LDA 5/0
+ LDA 4096/ LDA -4096/ LDA 1:0:0/ LDA 1073741823/ STA 4096,7/ LDA 0,7/ LDA 0(64)/ CON 1(6)/ LDA 0,-1/ LDA 5/0,7
+ ORIG 4001/ ORIG -1/ ORIG 1073741823/ ORIG 4001X/ ALF "A/ ALF "ABCDEF"/ ALF A?/ ALF "?"/ ALF "?/ CON 8B/ LDA 8B/ LDA 8B+Q
+ LDA Q+8B/ JMP 8F/ LDA =Q=/ LDA ==/ LDA =8B=/ LDA =1(6)=/ LDA =5/0=/ LDA =2F=/ LDA =12345678901=/ LDA =5$=/ LDA =1073741823+1=
+ LDA ,7/ LDA (64)/ LDA X,7(64)/ CON -5(0:6)/X EQU 5000/Y EQU -4096/2H EQU 4096/Z EQU 4095+1/Y EQU 1073741823/9H EQU -5000""".replace(b"\n", b"/").replace(b"5//0", b"5@0")
+WRONG = [line.replace(b"5@0", b"5/0") for line in WRONG.replace(b"5/0", b"5@0").replace(b"1//3", b"1@@3").split(b"/")]
+AT_THE_END = b"""ORIG 4000/ORIG 3999/ORIG 3998/LDA =Q=/LDA =1(9)=/LDA =7=/JMP 7F/JMP NOWHERE/LDA =NOWHERE=/JMP 7F/JMP NOWHERE2/LDA =*=""".split(b"/")
+WRONG_ENDS = b""" END 4000/ END 4095/ END Q/ END Q+1/ END 2F/ END 8B/ END 5?/ END?/X END? /X END 5/X END X/Y END NOWHERE/2H END 2B
+7H END/7H END 4000/ END ABCDEFGHIJK/ END 12345678901/ END 5/0/ END 1,/ END 1(6)/NOWHERE END NOWHERE/ END NOWHERE
+ END 0(0:5),62(4:4),31(5:5)/ END 0(0:5),62(4:4),32(5:5)/ EN/ END -4000/2F END/ END *""".replace(b"\n", b"/").replace(b"5/0", b"5@0").split(b"/")
+WRONG_ENDS = [line.replace(b"@", b"/") for line in WRONG_ENDS]
+
+
+def wrong_line(draft):
+    """A line with a fault, mostly."""
+    r = draft.r
+    kind = r.randrange(12)
+    if kind < 2 and draft.defined:  # a name twice, and perhaps another fault
+        address = r.choice((b"5", b"Q", b"4096", b"4001", b"5+", b"5?", b"0,7"))
+        return texts.folded(r, r.choice(draft.defined)) + b" " + r.choice(b"EQU NOP ORIG CON ALF LDA ADDD".split()) + b" " + address
+    waiting = [name for name in draft.used if name not in draft.defined] + [b"%dH" % digit for digit in draft.ahead]
+    if kind < 6 and waiting:  # an address that doesn't fit, or just does
+        return r.choice(waiting) + b" EQU " + r.choice(b"4096 -4096 4095 -4095 5000 -0 4095+1 4096(0:3) 4096(4:5) 1073741823 4096? 4096)".split())
+    return r.choice(WRONG) if kind < 9 else texts.line(r).replace(b"\n", b"")
+
+
+def source(r):
+    """The lines of a source, accepted ones and those with some faults in about equal parts."""
+    draft = Draft(r)
+    bold = r.randrange(2)
+    for _ in range(r.choice((0, 1, 2, 3, 5, 5, 8, 12, 20))):
+        draft.line()
+    if bold and r.randrange(3) == 0:
+        for _ in range(r.randrange(1, 5)):
+            draft.say(draft.loc() if r.randrange(3) == 0 else b"", *r.choice(AT_THE_END).split(b" "))
+    lines = draft.lines
+    if not (bold and r.randrange(4) == 0):
+        draft.end()
+    elif r.randrange(6):
+        lines.append(r.choice(WRONG_ENDS))
+    if bold and r.randrange(2):
+        for _ in range(r.choice((1, 1, 2, 3))):
+            at = r.choice((r.randrange(len(lines) + 1), max(len(lines) - 1, 0)))
+            lines.insert(at, wrong_line(draft))
+    if bold and r.randrange(6) == 0:
+        at = r.randrange(len(lines) or 1)
+        lines[at:at + 1] = [texts.spoiled(r, line).replace(b"\n", b"") for line in lines[at:at + 1]]
+    if r.randrange(5) == 0:
+        lines.append(r.choice((b" END 4000", b"X NOP", b"?", b"", b"2H END", b" ORIG 5000")))
+    return lines
+
+
+def joined(r, lines):
+    text = b"".join(line + (r.choice(ENDS) if r.randrange(4) == 0 else b"\n") for line in lines)
+    return text.rstrip(b"\r\n") if r.randrange(20) == 0 else text
+
+
+def huge(r, which):
+    """At a limit of size or past it, and long chains."""
+    kind, more = divmod(which % 18, 2)
+    if kind == 0:
+        return b"\n" * (19999 + more) + b" END 0\n"
+    if kind == 1:
+        return b"* \n" * (20000 + more)
+    if kind == 2:
+        return b" JMP X\n" * (3999 + more) + b" END 0\n"  # and X, which no line defines
+    if kind == 3:
+        return b" LDA =%d=\n" % r.randrange(9) * (2000 + more) + b" END 0\n"
+    if kind == 4:
+        return b" END 0\n" + b"*" * (1048576 - 8 + more) + b"\n"
+    if kind == 5:  # chains that run through cells which are overwritten
+        return b"".join(r.choice((b" JMP X\n", b" JMP Y\n", b" JMP 2F\n", b" ORIG 0\n", b"2H NOP\n")) for _ in range(9000)) + \
+            r.choice((b"X EQU -7\n", b"X EQU 4095\n", b"X EQU 4096\n", b"")) + b"2H HLT\n END Y\n"
+    if kind == 6:
+        return b"".join(b"N%d EQU %d\n" % (at, at % 5000 - 500) for at in range(6000)) + b" CON N77\n JMP N%d\n END\n" % r.randrange(6000)
+    if kind == 7:
+        return b"".join(b" LDA N%d\n" % at for at in range(1500 + more)) + \
+            b"".join(b"N%d CON %d\n" % (at, at) for at in range(0, 1500, 2)) + b" END 0\n"
+    return b" JMP 2F\n2H JMP 2B\n ORIG 0\n" * 5000 + b"2H END 2B\n"
+
+
+def numbered_source(seed, k):
+    """Source K of a seed, whichever were drawn before it."""
+    r = random.Random("%s/%d" % (seed, k))
+    if k % 500 == 499:
+        return huge(r, k // 500)
+    text = joined(r, source(r))
+    if r.randrange(40) == 0:
+        return text[:r.randrange(len(text) + 1)]
+    return text
+
+
+def numbered(seed, k):
+    """The same source in a bundle, whose script shows the cells and where the program begins."""
+    text = numbered_source(seed, k)
+    r = random.Random("%s/%d/script" % (seed, k))
+    if not text.endswith(b"\n"):
+        text += b"\n"
+    shows = [b"show regs"] + [b"show cells %d %d" % window for window in WINDOWS]
+    if r.randrange(100) == 0 or k % 500 == 499:
+        shows.append(b"show cells 0 3999")
+    return text + b"%SCRIPT\n" + b"".join(line + b"\n" for line in shows)
+
+
+if __name__ == "__main__":
+    sys.stdout.buffer.write(numbered(sys.argv[1], int(sys.argv[2])))

@@ -1,0 +1,301 @@
+"""Random decks and transfers, towards edges and faults: `python3 tests/model/draw_units.py SEED K` prints bundle K of a seed.
+
+The source is END alone and every instruction is put by `set cell`, so a program without the whole assembler can be compared too."""
+
+import random
+import sys
+
+from draw_machine import Scene, any_word
+from parts import has
+from units import KINDS
+
+CHARACTERS = b"ABIJRSZ09.,()+-*/=$<>@;:'~[# az"
+NO_CHARACTERS = [b"?", b'"', b"\xff", b"\x00", b"!", b"_", b"\r", b"%", b"\x0b"]
+ENDS = [b"\n"] * 14 + [b"\r\n"] * 2
+DELAYS = b"0 1 2 3 5 10 10 30 100 1000 000000000000000007 999999999999999999 999999999999999998 500000000000000000".split()
+WRONG_HEADERS = b"""%UNIT/%UNIT 21/%UNIT 99/%UNIT 021/%UNIT 005/%UNIT 100/%UNIT -1/%UNIT x/%UNIT0/%/%%UNIT 0/%DEVICES/%SCRIPT /%UNIT 5 5/%UNIT 5 delay
+%UNIT 5 delay x/%UNIT 5 delay -1/%UNIT 5 delay 1000000000000000000/%UNIT 5 delay 5 5/%UNIT 5delay 5/%UNIT 5 delay5/%UNIT 5 DELAYS 5/%UNITS 5
+%UNIT 5 5 delay/%UNIT +5/%UNIT 5;/%UNIT\x0b5/%UNIT 5 delay 0000000000000000005/% UNIT 5/%UNIT 19 delay/%unit 17/%UNIT 18/%UNIT 22 delay 5""".replace(b"\n", b"/").split(b"/")
+WRONG_WORDS = b"""0000000007 +000000007 +00000000070 +6400000000 +0000000064 -0064000000 +00-0000007 ++000000007 +00000x0007 + - x 7 +00:0000007
+    +0000000007+0000000007 *0000000007 +0000_00007 %UNIT +0000000007, \xff""".split()
+
+
+def header(r, unit, delay=None):
+    number = b"%d" % unit if unit > 9 or r.randrange(4) else b"%02d" % unit
+    line = r.choice((b"%UNIT", b"%UNIT", b"%UNIT", b"%unit", b"%Unit")) + blanks(r) + number
+    if delay is not None:
+        line += blanks(r) + r.choice((b"delay", b"delay", b"DELAY", b"dElAy")) + blanks(r) + delay
+    return line + r.choice((b"", b"", b"", b"", b" ", b"\t"))
+
+
+def blanks(r):
+    return r.choice((b" ", b" ", b" ", b"  ", b"\t", b" \t"))
+
+
+def word(r):
+    sign, magnitude = any_word(r)
+    return sign.encode() + b"".join(b"%02d" % (magnitude >> shift & 63) for shift in (24, 18, 12, 6, 0))
+
+
+def medium(r, blocks):
+    """The lines of so many blocks."""
+    words = [word(r) if r.randrange(3) == 0 else b"+0000000000" for _ in range(100 * blocks)]
+    lines = []
+    while words:
+        count = r.choice((1, 5, 5, 5, 10, 10, 20, 100, 130))
+        lines.append(r.choice((b"", b"", b" ")) + blanks(r).join(words[:count]) if r.randrange(8) else b" ".join(words[:count]) + b" ")
+        words = words[count:]
+        if r.randrange(20) == 0:
+            lines.append(r.choice((b"", b" ", b"\t ")))
+    return lines
+
+
+def written_line(r, width):
+    size = r.choice((0, 1, 3, 5, 20, width - 1, width, width)) if r.randrange(3) else r.randrange(12)
+    line = bytes(r.choice(CHARACTERS) for _ in range(size))
+    if r.randrange(6) == 0:
+        line = line.replace(b"A", b"\t")
+    return line + r.choice((b"", b"", b"", b" ", b"\t", b" " * 90))
+
+
+def contents(r, unit):
+    kind = KINDS[unit]
+    if kind.medium:
+        return medium(r, r.choice((0, 1, 1, 2, 3)))
+    if kind.input:
+        return [written_line(r, 5 * kind.size) for _ in range(r.choice((0, 1, 1, 2, 4)))]
+    return [b"", b" \t"][:r.randrange(3)]
+
+
+def deck(r, wrong):
+    """The lines of a deck, and the units that it fills."""
+    lines, units = [b"", b" \t"][:r.choice((0, 0, 0, 1, 2))], []
+    for _ in range(r.choice((0, 1, 1, 2, 2, 3, 5))):
+        unit = r.choice((r.randrange(8), r.randrange(8, 16), r.randrange(16, 21), r.choice((16, 18, 19, 20))))
+        if unit in units and not (wrong and r.randrange(4) == 0):
+            continue
+        delay = r.choice(DELAYS) if r.randrange(2) or unit in (17, 18) else None
+        lines += [header(r, unit, delay)] + contents(r, unit)
+        units.append(unit)
+    if wrong:
+        for _ in range(r.choice((1, 1, 1, 2, 2, 3))):
+            spoil(r, lines)
+    return lines, units
+
+
+def spoil(r, lines):
+    at = r.randrange(len(lines) + 1)
+    headers = [place for place, line in enumerate(lines) if line.startswith(b"%")]
+    if headers and r.randrange(2):
+        at = min(r.choice(headers) + r.choice((0, 1, 1, 2)), len(lines))
+    kind = r.randrange(12)
+    if kind < 2:
+        lines.insert(at, r.choice(WRONG_HEADERS))
+    elif kind < 3 and headers:
+        lines.insert(at, lines[r.choice(headers)])
+    elif kind < 5:
+        lines.insert(at, r.choice(WRONG_WORDS) if r.randrange(2) else word(r))
+    elif kind < 7 and headers:
+        at = r.choice(headers) + 1
+        lines.insert(at, written_line(r, r.choice((70, 80))) + r.choice((b"X", b"?", b"XXXXXXXXXXX", b"?" * 80)))
+    elif kind < 8:
+        lines.insert(at, r.choice((b"X", b"?", b"", b"*", b" %UNIT 0", b"-", b"x" * 71, b"x" * 81, b"+0000000000")))
+    elif at < len(lines):
+        if kind < 10:
+            spot = r.randrange(len(lines[at]) + 1)
+            lines[at] = lines[at][:spot] + r.choice(NO_CHARACTERS + [b"", b" ", b"X", b"7"]) + lines[at][spot + r.randrange(2):]
+        elif kind < 11:
+            del lines[at]
+        else:
+            lines.insert(r.randrange(len(lines) + 1), lines[at])
+
+
+# Transfers
+
+
+def block_place(r, size):
+    if r.randrange(8):
+        return r.choice((100, 100, 100, 100, 200, 150, 1000, 0, 4000 - size, r.randrange(4000 - size)))
+    return r.choice((4000 - size, 4001 - size, 3999, 4000, 4095, -1, -size))
+
+
+def control_of(r, unit):
+    if unit < 8:
+        return r.choice((0, 0, 1, 1, 2, 3, -1, -1, -2, -5, 1000, 4095, -4095))
+    return r.choice((0, 0, 0, 0, 0, 0, 1, -1, 5, -4095))
+
+
+def fill(s, place, size):
+    """Some of the cells of a block."""
+    r = s.r
+    for _ in range(r.choice((0, 1, 2, 3))):
+        at = place + r.choice((0, 1, 2, size - 1, r.randrange(size)))
+        if 0 <= at < 4000:
+            s.cell(at, any_word(r))
+
+
+def a_unit(r, units):
+    if units and r.randrange(4):
+        return r.choice(units)
+    return r.choice((0, 7, 8, 15, 16, 17, 18, 19, 20, 20, r.randrange(21), r.randrange(21), r.choice((21, 21, 22, r.randrange(21, 64)))))
+
+
+def able(unit):
+    """What the unit can do, the transfers more often than the jumps."""
+    if unit > 20:
+        return (34, 35, 36, 37, 38)
+    kind = KINDS[unit]
+    return (34, 38) + (36, 36) * (kind.medium or kind.input) + (37, 37, 37) * (kind.medium or kind.output) + (35,) * (unit not in (16,
+        17, 19))
+
+
+def transfer(s, place, units, target=None):
+    """One of the five operations, put in a cell; what to look at."""
+    r = s.r
+    unit = a_unit(r, units)
+    size = KINDS[unit].size if unit < 21 else 14
+    c = r.choice(able(unit) if r.randrange(8) else (34, 35, 36, 37, 38))
+    if c in (34, 38):
+        m = r.choice((place, place, place + 1, 0, 100, 100, r.choice((4000, -1)))) if target is None else target
+    elif c == 35:
+        m = control_of(r, unit)
+    else:
+        m = block_place(r, size)
+        if c == 37:
+            fill(s, m, size)
+        if 8 <= unit < 16 and r.randrange(5):
+            s.register("X", (r.choice("++++-"), r.choice((0, 0, 1, 1, 2, 3, 4))) if r.randrange(12) else (r.choice("+-"),
+                r.choice((1, 1000, 4096, 1073741823))))
+    s.code(place, m, unit, c, r.choice((None, 0, 0, 0)))
+    return unit, m, size
+
+
+def look(s, unit, m, size):
+    r = s.r
+    if unit < 21 or r.randrange(8) == 0:
+        s.say("show", "unit", unit)
+    places = sorted(set(at for at in (m - 1, m, m + 1, m + size - 1, m + size) if 0 <= at < 4000))
+    if places and r.randrange(2):
+        s.say("show", "cells", places[0], min(places[0] + 2, 3999))
+        s.say("show", "cells", places[-1] - min(places[-1], 1), places[-1])
+    if r.randrange(2):
+        s.say("show", r.choice(("regs", "regs", "clock")))
+
+
+def one(s, units):
+    r = s.r
+    place = r.choice((0, 0, 5, 2000, 3999, 150))
+    s.say("set", "loc", place)
+    seen = transfer(s, place, units)
+    s.say("step", r.choice((1, 1, 1, 2)))
+    look(s, *seen)
+    again(s, seen[0])
+
+
+def several(s, units):
+    """A small program: transfers, waiting for a unit, other work."""
+    r = s.r
+    place, count = r.choice((0, 10, 3990)), r.randrange(2, 7)
+    seen = []
+    for k in range(count):
+        if r.randrange(4) == 0:
+            s.code(place + k, r.choice((1, 2, 5)), 0, r.choice((48, 55, 49)), 0)
+        else:
+            seen.append(transfer(s, place + k, units, r.choice((place + k, place + k, place, place + k + 1))))
+    s.say("set", "loc", place)
+    for _ in range(r.randrange(1, 4)):
+        s.say(r.choice(("step", "run")) if has("commands") else "step", r.choice((1, 2, count, count, 10, 40)))
+        s.say("show", "clock")
+    for unit, m, size in seen[:3]:
+        look(s, unit, m, size)
+    again(s, seen[0][0] if seen else 0)
+
+
+def again(s, unit):
+    r = s.r
+    if r.randrange(2):
+        back = r.choice((1, 1, 2, 3, "all"))
+        s.say("back", back)
+        if unit < 21:
+            s.say("show", "unit", unit)
+        if has("commands") and r.randrange(2):
+            s.say("forth", 1 if back == "all" else back)
+            s.say("show", "unit", min(unit, 20))
+
+
+def script(r, units):
+    scene = Scene(r)
+    for _ in range(r.choice((1, 1, 2, 3, 5))):
+        (one if r.randrange(3) else several)(scene, units)
+    if r.randrange(4) == 0:
+        scene.say("show", "unit", r.choice((0, 15, 16, 20, 21, 99, "00", "9999999999", "99999999999", "x", "-1", "+1", "")))
+    if has("show-all") and r.randrange(3) == 0:
+        scene.say("show", "all")
+    if r.randrange(3) == 0:
+        scene.say("back", "all")
+        for unit in sorted(set(units))[:2]:
+            scene.say("show", "unit", unit)
+    return [line.encode() for line in scene.lines]
+
+
+def joined(r, lines):
+    plain = r.randrange(5)
+    return b"".join(line + (b"\n" if plain else r.choice(ENDS)) for line in lines)
+
+
+# Full lists
+
+
+def full(r, which):
+    """Lists of 1,000 and one more, in the deck and by OUT; now and then the largest deck."""
+    kind, more = divmod(which % 20, 2)
+    card = b"%%UNIT %d\n" % r.choice((16, 19, 20))
+    if kind < 2:
+        last = r.choice((b"A", b"", b"?", b"?", b"x" * 100, b"x" * 100)) + b"\n"
+        return card + b"A\n" * 999 + (b"\n" * more) + last + b"%UNIT 3\n", [b"show unit 16", b"step"]
+    if kind == 2:
+        words = b"+0000000001 " * 100
+        last = r.choice((b"+0000000001 +6400000000", b"x", b"", b"+0000000001")) if more else b""
+        return b"%%UNIT %d\n" % r.randrange(16) + (words + b"\n") * 1000 + last + b"\n%UNIT 16\n", [b"step"]
+    if kind == 3:
+        words = b"+0000000001 " * 99
+        last = b"+6400000000 " * more + b"+0000000001 +0000000001\n"  # the block before it ends in this line
+        return b"%%UNIT %d\n" % r.randrange(16) + words + b"\n" + (b"+0000000001 " * 100 + b"\n") * 999 + last, [b"step"]
+    if kind == 4 and which % 3 == 0:
+        return b" " * (33554431 + more) + b"\n", [b"step"]
+    unit = r.choice((17, 18, 18, 19, 20, r.randrange(8), r.randrange(8)))
+    out = ((100 * 64 + 0) * 64 + unit) * 64 + 37
+    page = unit * 64 + 35
+    lines = [b"set cell 0 %d" % out, b"set cell 1 39", b"set cell 100 %d" % r.randrange(2**30), b"step %d" % (1998 + more),
+             b"show regs", b"step 3"]
+    if unit == 18 and r.randrange(2):
+        lines += [b"set cell 2 %d" % page, b"set loc 2", b"step", b"back 2"]
+    if kind > 7:
+        unit = r.randrange(8, 16)
+        out += unit - out // 64 % 64 * 1 and (unit - (out // 64) % 64) * 64
+        lines = [b"set cell 0 %d" % out, b"set X %d" % (999 + more),
+                 b"set cell 100 7", b"step", b"show regs", b"set X 998", b"set loc 0", b"step",
+                 b"back 4", b"show unit %d" % unit]
+    elif unit > 16 or r.randrange(3) == 0:
+        lines += [b"show unit %d" % unit, b"back 1999", b"show unit %d" % unit]
+    return r.choice((b"", b"%%UNIT %d delay 5\n" % unit)), lines
+
+
+def numbered(seed, k):
+    """Bundle K of a seed, whichever were drawn before it."""
+    r = random.Random("%s/%d" % (seed, k))
+    if k % 100 == 99:
+        text, lines = full(r, k // 100)
+        return b" END 0\n%DEVICES\n" + text + b"%SCRIPT\n" + b"".join(line + b"\n" for line in lines)
+    wrong = r.randrange(3) == 0
+    lines, units = deck(r, wrong)
+    text = joined(r, lines)
+    if wrong and r.randrange(12) == 0:
+        text = text[:r.randrange(len(text) + 1)]
+    if text and not text.endswith(b"\n"):
+        text += b"\n"
+    return b" END 0\n" + (b"%DEVICES\n" + text if text or r.randrange(2) else b"") + b"%SCRIPT\n" + joined(r, script(r, units))
+
+
+if __name__ == "__main__":
+    sys.stdout.buffer.write(numbered(sys.argv[1], int(sys.argv[2])))

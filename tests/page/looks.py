@@ -1,0 +1,193 @@
+"""How the page looks, and that everyone can use it: a narrow window, keys alone, a name for every control, no request, and the pictures of it."""
+import json
+import pathlib
+import subprocess
+import time
+
+from selenium.webdriver.common.keys import Keys
+from uses import natively
+
+HERE = pathlib.Path(__file__).resolve().parent
+PAGE = HERE.parents[1] / "page"
+OUT = PAGE / "out"
+CONTROLS = {"button", "textbox", "slider", "combobox", "link", "checkbox", "searchbox", "spinbutton", "DisclosureTriangle", "dialog", "region", "log", "group", "table"}
+
+
+def modules(count):
+    """Each module of JavaScript by itself."""
+    for path in sorted([*PAGE.glob("*.js"), *HERE.glob("*.js"), *HERE.glob("*.mjs")]):
+        ran = subprocess.run(["node", "--check", "--input-type=module"], input=path.read_bytes(), capture_output=True)
+        count.row(f"node --check {path.name}", ran.returncode == 0, ran.stderr.decode())
+        count.row(f"{path.name}: at most 250 lines", len(path.read_text().splitlines()) <= 250)
+
+
+def narrow(page, native, count):
+    """320 pixels: nothing stands out of the page to the side."""
+    page.size(320, 800)
+    sideways = "const e = document.documentElement; return e.scrollWidth - e.clientWidth"
+    for number in range(12):
+        page.lesson(number)
+        page.script("document.querySelectorAll('details').forEach(d => { d.open = !d.hidden; })")
+        page.click("run")
+        page.say("show code 0 20")
+        count.same(f"320 pixels: lesson {number + 1}", page.script(sideways), 0)
+    for name in ("help", "share"):
+        page.click(name)
+        count.same(f"320 pixels: {name}", page.script("const d = document.querySelector('dialog[open]'); return [d.scrollWidth <= d.clientWidth, d.getBoundingClientRect().right <= innerWidth]"), [True, True])
+        page.press(Keys.ESCAPE)
+    page.all("#register-rows td")[0].click()
+    page.idle()
+    count.same("320 pixels: who", page.script("const d = document.querySelector('dialog[open]'); return d.getBoundingClientRect().right <= innerWidth"), True)
+    page.press(Keys.ESCAPE)
+    small = page.script("""return [...document.querySelectorAll('#time button, header button')].filter(b => b.offsetParent && b.offsetHeight < 24).map(b => b.id)""")
+    count.same("320 pixels: buttons are high enough for a finger", small, [])
+
+
+def keys(page, native, count):
+    """Without a mouse."""
+    page.lesson(0)
+    page.script("document.body.focus(); document.activeElement.blur()")
+    seen = []
+    for _ in range(60):
+        page.press(Keys.TAB)
+        name = page.script("const e = document.activeElement; return e.id || e.getAttribute('aria-label') || e.textContent.trim().slice(0, 30)")
+        if name in seen:
+            break
+        seen.append(name)
+    for need in ("lessons", "open", "save", "share", "help", "step", "run", "text", "cells-which", "command", "anew"):
+        count.row(f"keys: the tab key comes to {need}", need in seen, seen)
+    for wanted in ("rA: who wrote it?", "Line 1: breakpoint", "overflow: who wrote it?"):
+        count.row(f"keys: the tab key comes to {wanted}", wanted in seen, seen)
+    page.script("document.activeElement.blur()")
+    page.press(Keys.F8)
+    page.press(Keys.F8)
+    page.press(Keys.F7)
+    page.chord(Keys.SHIFT, Keys.F8)
+    page.chord(Keys.SHIFT, Keys.F7)
+    page.chord(Keys.CONTROL, Keys.F8)
+    page.chord(Keys.CONTROL, Keys.F7)
+    done = [command for command, _ in page.log()]
+    count.same("keys: steps", done, ["step 1", "step 1", "back 1", "forth all", "run 1000000", "back all", "forth all", "back all"])
+    natively("keys: steps", page, native, count)
+    page.script("document.getElementById('text').focus(); document.getElementById('text').setSelectionRange(0, 0)")
+    for _ in range(5):
+        page.press(Keys.ARROW_DOWN)
+    page.press(Keys.F9)
+    pressed = [line for line, row in enumerate(page.all("#gutter .line button"), 1) if row.get_attribute("aria-pressed") == "true"]
+    count.same("keys: a breakpoint at the cursor", pressed, [6])
+    page.script("document.querySelector('#gutter button').focus()")
+    page.press(Keys.ARROW_DOWN, Keys.ARROW_DOWN, Keys.ARROW_DOWN, Keys.ARROW_DOWN, Keys.ENTER)
+    pressed = [line for line, row in enumerate(page.all("#gutter .line button"), 1) if row.get_attribute("aria-pressed") == "true"]
+    count.same("keys: a breakpoint by the line's button", pressed, [5, 6])
+    page.chord(Keys.CONTROL, Keys.ENTER)
+    page.press("show clock", Keys.ENTER)
+    count.same("keys: a command", page.log()[-1], ("show clock", "clock 0\n"))
+    page.press(Keys.ARROW_UP)
+    count.same("keys: a command called back", page.value("command"), "show clock")
+    page.script("document.getElementById('slider').focus()")
+    page.press(Keys.END)
+    page.press(Keys.ARROW_LEFT)
+    count.same("keys: the slider", [command for command, _ in page.log()][-2:], ["goto 4", "goto 3"])
+    page.script("document.querySelector('#register-rows button').focus()")
+    page.press(Keys.ENTER)
+    page.press(Keys.ENTER)
+    count.same("keys: who wrote rA, and back there", page.log()[-1][0], "back until A")
+
+
+def names(page, native, count):
+    """A screen reader's name for every control."""
+    page.lesson(8)
+    page.click("run")
+    page.script("document.querySelectorAll('details').forEach(d => { d.open = true; })")
+    for name in (None, "help", "share", "who"):
+        if name == "who":
+            page.all("#register-rows td")[0].click()
+            page.idle()
+        elif name:
+            page.click(name)
+        nodes = page.command("Accessibility.getFullAXTree")["nodes"]
+        without = [node["role"]["value"] for node in nodes if not node["ignored"] and node["role"]["value"] in CONTROLS and not node.get("name", {}).get("value", "").strip()]
+        found = sum(node["role"]["value"] in CONTROLS for node in nodes if not node["ignored"])
+        count.row(f"names: {name or 'the page'}, {found} controls", found > (5 if name is None else 0) and not [role for role in without if role not in ("table", "group")], without)
+        page.script("document.querySelectorAll('dialog[open]').forEach(d => d.close())")
+    count.same("names: what happens is told", page.one("status").get_attribute("role"), "status")
+    count.row("names: the slider tells the moment", page.one("slider").get_attribute("aria-valuetext").startswith("change 81 of 81, location "), page.one("slider").get_attribute("aria-valuetext"))
+
+
+def alone(page, native, count):
+    """It asks for nothing but itself."""
+    asked = []
+    for entry in page.driver.get_log("performance"):
+        message = json.loads(entry["message"])["message"]
+        if message["method"] == "Network.requestWillBeSent":
+            asked.append(message["params"]["request"]["url"])
+    other = [url for url in asked if not url.startswith((page.address.split("#")[0], "blob:", "data:", "about:"))]
+    count.row("alone: no request", not other and asked, other or "nothing was seen")
+
+
+def pictures(open_page, count):
+    """The pictures, to be looked at: wide and narrow, light and dark."""
+    OUT.mkdir(exist_ok=True)
+    for width, height in ((1280, 1000), (320, 700)):
+        for dark in (False, True):
+            with open_page(width=width, height=height, dark=dark) as page:
+                shade = "dark" if dark else "light"
+                page.lesson(4)
+                page.click("run")
+                page.say("back until cell 2009")
+                page.shot(OUT / f"primes-{width}-{shade}.png")
+                page.lesson(8)
+                page.click("script-next")
+                page.click("script-next")
+                page.shot(OUT / f"bill-{width}-{shade}.png", whole=True)
+                ink, ground = page.script("const s = getComputedStyle(document.documentElement); return [s.color, s.backgroundColor]")
+                light = [sum(int(part) for part in colour.split("(")[1].split(")")[0].split(",")[:3]) for colour in (ink, ground)]
+                count.row(f"pictures: {width} {shade}", (light[0] > light[1]) == dark, (ink, ground))
+
+
+def bounds(page, native, count):
+    """A million steps, and the slider to any of them."""
+    page.lesson(0)
+    page.put("text", " ENT1 0\nLOOP INC1 1\n ST1 100\n DEC1 1\n JMP LOOP\n END 0\n")
+    page.click("run")
+    count.row("bounds: a million steps", page.log()[-1][1].startswith("ran 1000000 to "), page.log())
+    times = []
+    for moment in (0, 123456, 500000, 777777, 999999, 1000000):
+        begun = time.monotonic()
+        page.slide(moment, ends=False)
+        times.append(round(1000 * (time.monotonic() - begun)))
+        page.slide(moment)
+    print(f"a million steps: the slider to 0, 123456, 500000, 777777, 999999, 1000000 takes {times} ms")
+    page.say("show regs")
+    natively("bounds: a million steps", page, native, count)
+
+
+def memory(page, native, count):
+    """More changes than the engine has memory for, and a stop: nothing is lost."""
+    page.lesson(0)
+    source = "LOOP INCA 1\n STA 100\n JMP LOOP\n END LOOP\n"
+    page.put("text", source + "%SCRIPT\n" + "run 1000000\n" * 100)
+    page.click("step")
+    page.press_button(page.all("#gutter .line button")[1])
+
+    def stands(name):
+        count.same(f"{name}: the text", page.value("text"), source)
+        count.same(f"{name}: the breakpoint", page.all("#gutter .line button")[1].get_attribute("aria-pressed"), "true")
+        count.same(f"{name}: the commands", page.log(), [("step 1", "ran 1 to 0001 clock 1: limit\n")])
+        count.same(f"{name}: the script", len(page.all("#script-lines li")), 100)
+
+    page.one("script-all").click()
+    end = time.monotonic() + 10
+    while not page.one("stop").is_displayed() and time.monotonic() < end:
+        time.sleep(0.02)
+    page.click("stop")
+    count.row("stop: told", page.text("status").startswith("Not done: it was stopped."), page.text("status"))
+    stands("stop")
+    page.click("script-all")
+    count.row("memory: told", page.text("status").startswith("Not done: T1 out of memory."), page.text("status"))
+    stands("memory")
+    page.click("back")
+    page.click("run")
+    page.click("run")
+    count.same("memory: it goes on", [command for command, _ in page.log()], ["step 1", "back 1", "forth 1", "run 3"])
+    natively("memory: it goes on", page, native, count)

@@ -1,0 +1,78 @@
+// The engine with little memory, page/out/small.wasm: where memory is refused, the call says so, and the next call is right. Runs of more and more steps
+// are tried until memory is refused for ten of them. The line counts the calls.
+
+import assert from "node:assert/strict";
+import { readFileSync } from "node:fs";
+import { Engine, EngineFault } from "../../page/engine.js";
+
+const engine = await Engine.load(readFileSync(process.argv[2] || new URL("../../page/out/small.wasm", import.meta.url)));
+const writer = new TextEncoder();
+const reader = new TextDecoder();
+const SOURCE = " ENT1 1\nL STA 100,1\n INC1 1\n CMP1 =3000=\n JNE L\n ENT1 1\n JMP L\n END 0\n"; // no end
+const opening = [["initialize", {}], ["launch", { sourceText: SOURCE, stopOnEntry: true }], ["configurationDone", {}]];
+const repl = (expression) => ["evaluate", { expression, context: "repl" }];
+let calls = 0;
+
+function talk(requests) {
+  const frames = requests.map(([command, given], index) => {
+    const body = JSON.stringify({ seq: index + 1, type: "request", command, arguments: given });
+    return `Content-Length: ${body.length}\r\n\r\n${body}`;
+  });
+  calls += 1;
+  const { status, bytes, errors } = engine.talk(writer.encode(frames.join("")));
+  return { status, sent: reader.decode(bytes), told: reader.decode(errors) };
+}
+
+// A short talk has the same answer as before, whatever was refused before it.
+const short = [...opening, repl("run 5"), ["stackTrace", { threadId: 1 }], repl("show regs")];
+const wanted = talk(short);
+assert.equal(wanted.status, 0);
+assert.match(wanted.sent, /ran 5 to 0001 clock 7: limit/);
+const right = () => assert.deepEqual(talk(short), wanted);
+
+// Commands, each of at most a million steps: all done, or memory is refused, which ends the talk; more steps need no less memory.
+const MILLION = 1000000;
+const MOST = 10 * MILLION; // steps that 32 MiB have no room for: each takes more than four bytes
+const REFUSED = 10;
+let refused = 0;
+for (let steps = 10000; refused < REFUSED; steps += 30000) {
+  assert.ok(steps < MOST);
+  const runs = Array(Math.floor(steps / MILLION)).fill(MILLION);
+  if (steps % MILLION > 0) runs.push(steps % MILLION);
+  const { status, sent, told } = talk([...opening, ...runs.map((run) => repl(`run ${run}`)), repl("show changes")]);
+  if (status === 0) {
+    assert.equal(refused, 0);
+    assert.deepEqual([...sent.matchAll(/"ran (\d+) to/g)].map(([, ran]) => Number(ran)), runs);
+    assert.match(sent, new RegExp(`changes ${steps}\\\\n`));
+  } else {
+    refused += 1;
+    assert.deepEqual([status, told], [2, "mixrev: T1 out of memory\n"]);
+  }
+  right();
+}
+
+// Runs by `continue`, each of which pauses after 1,000,000 changes, stop where memory is refused, and say so; what was done stands, and can be taken back.
+const goes = Array(MOST / MILLION).fill(["continue", { threadId: 1 }]);
+const { status, sent } = talk([...opening, ...goes, ["stepBack", { threadId: 1 }]]);
+assert.equal(status, 0);
+assert.match(sent, /"T1 out of memory"/);
+assert.match(sent, new RegExp(`"command":"stepBack","request_seq":${opening.length + goes.length + 1},"seq":\\d+,"success":true`));
+right();
+
+// Texts that there is no room for.
+const text = "* " + "x".repeat(78) + "\n";
+let none = 0;
+for (let lines = 1000; lines <= 600000; lines *= 2) {
+  const long = [["initialize", {}], ["launch", { sourceText: text.repeat(lines) + SOURCE, stopOnEntry: true }], ["configurationDone", {}], repl("run 5")];
+  try {
+    const answer = talk(long);
+    if (answer.status === 2) none += 1;
+    else assert.match(answer.sent, lines < 16000 ? /ran 5 to/ : /ran 5 to|line \d+: A\d+/);
+  } catch (fault) {
+    assert.ok(fault instanceof EngineFault && fault.kind === "memory", String(fault));
+    none += 1;
+  }
+  right();
+}
+assert.ok(none > 2);
+console.log(`${calls} calls with little memory, ${refused + none + 1} of them refused: as they should be`);

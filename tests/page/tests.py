@@ -1,0 +1,75 @@
+"""All tests of the page: tests/page/run [--webkit] PROGRAM PAGE.html [NAME ..]. Some words after them do only the tests of these names."""
+import pathlib
+import sys
+import time
+import traceback
+
+import looks
+import uses
+import walks
+from browser import Page
+from native import Count, Native
+from webkit import WebKit
+
+USES = (uses.examples, uses.breakpoints, uses.slider, uses.who, uses.faults, uses.cards, uses.share, looks.narrow, looks.keys, looks.names, looks.bounds)
+IN_CHROMIUM = (looks.names,)  # what asks Chromium itself
+WALKS = range(1, 13)
+
+
+def main(words):
+    browser = WebKit if words[0] == "--webkit" else Page
+    program, place, *only = words[browser is WebKit:]
+    address = place if place.startswith("http:") else pathlib.Path(place).resolve().as_uri()
+    native, count = Native(program), Count()
+
+    def open_page(**given):
+        return browser(address, **given)
+
+    def wanted(name):
+        return not only or name in only
+
+    def row(name, test):
+        if not wanted(name):
+            return
+        for again in (False, True):
+            begun, before = time.monotonic(), (count.passed, count.failed)
+            try:
+                test()
+            except Exception:
+                count.row(name, False, traceback.format_exc())
+            failed = count.failed > before[1]
+            print(f"{name}: {'FAILED' if failed else 'done'}, {time.monotonic() - begun:.0f} s", flush=True)
+            if not failed or again:
+                return
+            print(f"{name}: once more", flush=True)
+            count.passed, count.failed = before
+
+    def one(test, *more):
+        with open_page() as page:
+            test(page, native, count, *more)
+            count.same(f"{test.__name__}: the browser complains of nothing", page.errors(), [])
+            if browser is Page and not place.startswith("http:"):
+                looks.alone(page, native, count)
+
+    row("modules", lambda: looks.modules(count))
+    for test in USES:
+        if browser is Page or test not in IN_CHROMIUM:
+            row(test.__name__, lambda test=test: one(test))
+    if place.startswith("http:"):
+        print("not run: memory, since this page has another engine than its own")
+    elif browser is WebKit:
+        print("not run: memory, names, requests and pictures, which ask Chromium itself")
+    else:
+        row("memory", lambda: one(looks.memory))
+    row("lessons", lambda: one(uses.lessons, [12, 17, 25, 45]))
+    row("walks", lambda: one(walks.walks, WALKS))
+    if browser is Page:
+        row("pictures", lambda: looks.pictures(open_page, count))
+    print(f"{count.passed} passed, {count.failed} failed")
+    return 1 if count.failed else 0
+
+
+if __name__ == "__main__":
+    if len(sys.argv) < 3:
+        sys.exit(__doc__)
+    sys.exit(main(sys.argv[1:]))
