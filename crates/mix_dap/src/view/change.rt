@@ -36,11 +36,16 @@ pub(crate) fn change_view(
         before: &before,
         after: &after,
     };
+    Ok(body(alloc, number, change, worlds)?)
+}
+
+// It borrows the two states: where values are owned that take long to drop, each `?` is dear to prove.
+fn body(alloc: Global, number: u64, change: Change, worlds: Worlds<'_>) -> Result<Value, Memory> {
     let mut body = Fields::new(alloc);
     body.number("number", number)?;
-    body.number("location", u64::from(before.loc()))?;
-    body.text("text", change_text(alloc, &change, &before)?.as_str())?;
-    let time = after.clock().saturating_sub(before.clock());
+    body.number("location", u64::from(worlds.before.loc()))?;
+    body.text("text", change_text(alloc, &change, worlds.before)?.as_str())?;
+    let time = worlds.after.clock().saturating_sub(worlds.before.clock());
     put_digits(alloc, &mut body, "time", u128::from(time))?;
     body.list("items", items(alloc, change, worlds)?)?;
     Ok(body.done())
