@@ -32,6 +32,3 @@ pub use units::{
     DeckFault, DeckKind, MAX_DECK_BYTES, Row, Unit, UnitKind, UnitNo, Units, are_same_words,
 };
 pub use world::World;
-
-#[cfg(test)]
-mod tests;

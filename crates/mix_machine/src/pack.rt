@@ -6,8 +6,6 @@ ghost use Rattle.mix_machine.specs.law.Packed.{said-fewer};
 mod appending;
 mod kind;
 mod reading;
-#[cfg(test)]
-mod tests;
 
 use crate::old::Old;
 pub(crate) use crate::pack::kind::Kind;

@@ -158,6 +158,3 @@ impl Units {
         unit.add_row(Row::page())
     }
 }
-
-#[cfg(test)]
-mod tests;

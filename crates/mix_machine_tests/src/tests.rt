@@ -1,6 +1,10 @@
 //! Steps, changes and decks as rows of text, each judged by the one function that reads its kind of row; and what is no row.
+mod alike;
+mod counter;
 mod decks;
 mod journal;
+mod late;
+mod packed;
 mod reader;
 mod rows;
 mod same;
@@ -8,7 +12,9 @@ mod stands;
 mod steps;
 mod texts;
 
+use self::alike::is_alike;
 use self::decks::{has_fault, is_dealt, is_filled, is_refused};
+use self::packed::{are_cells_packed, are_mixed_packed, is_no_value, is_packed};
 use self::steps::{is_right, is_right_change};
 use std::test::Fail;
 
@@ -72,5 +78,39 @@ fn decks_fill_units(rt: HostRuntime) {
 fn cards_stand_in_place_of_others(rt: HostRuntime) {
     for row in rows::cards::ROWS.lines() {
         assert_eq!(rt; is_dealt(rt.alloc(), row), Some(true), "{row}");
+    }
+}
+
+#[test]
+fn units_are_alike(rt: HostRuntime) {
+    for row in rows::alike::ROWS.lines() {
+        assert_eq!(rt; is_alike(rt.alloc(), row), Some(true), "{row}");
+    }
+}
+
+#[test]
+fn values_are_packed(rt: HostRuntime) {
+    for row in rows::packed::VALUES.lines() {
+        assert_eq!(rt; is_packed(rt.alloc(), row), Some(true), "{row}");
+    }
+}
+
+#[test]
+fn cells_are_packed(rt: HostRuntime) {
+    for row in rows::packed::CELLS.lines() {
+        assert_eq!(rt; are_cells_packed(rt.alloc(), row), Some(true), "{row}");
+    }
+}
+
+#[test]
+fn cells_with_a_location_are_packed(rt: HostRuntime) {
+    let (values, back) = (rows::packed::PLACES, rows::packed::BACK);
+    assert_eq!(rt; are_mixed_packed(rt.alloc(), values, back, 13), Some(true));
+}
+
+#[test]
+fn ill_units_are_no_value(rt: HostRuntime) {
+    for row in rows::packed::NONE.lines() {
+        assert_eq!(rt; is_no_value(rt.alloc(), row), Some(true), "{row}");
     }
 }

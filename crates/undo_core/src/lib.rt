@@ -19,6 +19,3 @@ pub use pack::{Last, Pack};
 pub use past::Past;
 pub use undo::Undo;
 pub use values::Values;
-
-#[cfg(test)]
-mod tests;

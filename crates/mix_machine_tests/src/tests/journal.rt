@@ -1,12 +1,17 @@
-//! What is no row: changes one after the other, one of them taken back; a loaded machine read; and a change reverted.
+//! What is no row: changes one after the other, one of them taken back; a loaded machine read; a change reverted; a copy; the marks of parts;
+//! and a time.
 ghost use Rattle.std.specs.Prelude.{◌≡◌};
 
 use super::reader::{machine, word};
+use super::same::{is_same, is_same_time};
 use super::steps::number_of;
-use mix_machine::{Change, Cmp, Place, Reg, Sign, Units, Word, World, halt_law, kept_count_law};
+use mix_machine::{
+    Change, Cmp, Mark, Old, Part, Place, Reg, Sign, Time, Units, Word, World, halt_law,
+    kept_count_law, mark_before,
+};
 use std::alloc::Global;
 use std::test::Fail;
-use undo_core::{Journal, Kept, Undo, revert};
+use undo_core::{Journal, Kept, Undo, Values, revert};
 
 // ENT1 101, MOVE 100(63), where cell 100 holds 7.
 #[test]
@@ -134,4 +139,61 @@ fn a_change_is_reverted(rt: HostRuntime) -> Result<(), Fail> {
     assert_eq!(rt; kept.len(), 3);
     assert_eq!(rt; world.register(Reg::A), Word::of(Sign::Minus, 9));
     Ok(())
+}
+
+// A machine with a value of each kind, late in its clock.
+const MACHINE: &str = "A=-1 I1=+7 I6=-9 J=+3 5=+6 over=on cmp=less break=63 left=1000 %9=2 %19=1,5";
+
+#[test]
+fn a_copy_is_the_same(rt: HostRuntime) -> Result<(), Fail> {
+    let world = machine(rt.alloc(), "+0,0,2,5", MACHINE).ok_or("no machine")?;
+    let copy = world.copied(rt.alloc())?;
+    assert!(rt; is_same(&world, &copy) && is_same_time(&world, &copy));
+    Ok(())
+}
+
+// The mark of a part before what is kept and the one after, and whether they are the same.
+fn marks_of(world: &World, kept: &Values<'_, Old>, part: &Part) -> (Mark, Mark, bool) {
+    let before = mark_before(kept, *part, world.mark(*part));
+    let after = world.mark(*part);
+    (before, after, before.is_same(after))
+}
+
+// Of rA, which is set twice, the toggle, which is set, and the location.
+#[test]
+fn marks_before_and_after(rt: HostRuntime) -> Result<(), Fail> {
+    let mut world = machine(rt.alloc(), "", "at=7").ok_or("no machine")?;
+    let mut kept = Kept::new(rt.alloc());
+    let minus = Word::of(Sign::Minus, 0);
+    let first = Change::SetReg(Reg::A, Word::of(Sign::Minus, 1));
+    assert_eq!(rt; number_of(world.apply(&first, &mut kept)), 0);
+    let second = Change::SetReg(Reg::A, minus);
+    assert_eq!(rt; number_of(world.apply(&second, &mut kept)), 0);
+    assert_eq!(rt;
+        number_of(world.apply(&Change::SetOver(true), &mut kept)),
+        0
+    );
+    let register = (Mark::Word(Word::ZERO), Mark::Word(minus), false);
+    assert_eq!(rt;
+        marks_of(&world, &kept.values(), &Part::Register(Reg::A)),
+        register
+    );
+    let toggle = (Mark::Toggle(false), Mark::Toggle(true), false);
+    assert_eq!(rt; marks_of(&world, &kept.values(), &Part::Over), toggle);
+    let location = (Mark::Location(7), Mark::Location(7), true);
+    assert_eq!(rt; marks_of(&world, &kept.values(), &Part::Loc), location);
+    Ok(())
+}
+
+#[test]
+fn times_in_two_halves(rt: HostRuntime) {
+    for n in [
+        0,
+        0xffff_ffff,
+        0x1_0000_0000,
+        1_000_000_000_000_000_000,
+        u64::MAX,
+    ] {
+        assert_eq!(rt; Time::of(n).number(), n, "{n}");
+    }
 }

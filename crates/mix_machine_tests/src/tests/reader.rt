@@ -1,4 +1,5 @@
 //! What a row says of words, places and values, and the machine that stands before its steps.
+use super::late::{DECK, wait};
 use mix_machine::{Change, Cmp, Place, Reg, Sign, Units, Word, World};
 use std::alloc::Global;
 use std::fmt::Write;
@@ -84,7 +85,9 @@ pub fn machine(alloc: Global, codes: &str, before: &str) -> Option<World> {
     let program = program(alloc, codes, start)?;
     let mut world = World::load(alloc, &program, start, units(alloc, before)?).ok()?;
     for value in before.split_whitespace() {
-        if !value.starts_with('%') {
+        if let Some(left) = value.strip_prefix("left=") {
+            wait(alloc, &mut world, left)?;
+        } else if !value.starts_with('%') {
             put(alloc, &mut world, value)?;
         }
     }
@@ -96,7 +99,7 @@ fn program(alloc: Global, codes: &str, start: Place) -> Option<Vec<(Place, Word)
     let mut words = Vec::new(alloc);
     let mut next = start.number();
     for code in codes.split_whitespace() {
-        if !code.starts_with('@') && !code.starts_with('*') {
+        if !code.starts_with('@') && !code.starts_with('*') && !code.starts_with('<') {
             words.push((Place::of(next)?, word(code)?)).ok()?;
             next = next.checked_add(1)?;
         }
@@ -110,6 +113,8 @@ fn units(alloc: Global, before: &str) -> Option<Units> {
     for value in before.split_whitespace() {
         if let Some(unit) = value.strip_prefix('%') {
             push_unit(&mut deck, unit)?;
+        } else if value.starts_with("left=") {
+            write!(deck, "{DECK}").ok()?;
         }
     }
     Units::read(alloc, deck.as_bytes()).ok()

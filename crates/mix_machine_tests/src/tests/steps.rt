@@ -19,11 +19,10 @@ pub fn is_right(alloc: Global, row: &str) -> Option<bool> {
     let mut journal = Journal::new(alloc, machine(alloc, codes, before)?);
     let steps = marked(codes, '*', 1)?;
     let fault = go(&mut journal, steps);
+    take_back(&mut journal, marked(codes, '<', 0)?);
     let is_done = is_done(&journal, fault, after)?
         && is_all_else_same(journal.state(), &first, &other, after);
-    for _step in 0..steps {
-        journal.back();
-    }
+    take_back(&mut journal, steps);
     Some(is_done && is_at_start(&journal, &first))
 }
 
@@ -46,13 +45,20 @@ pub fn is_right_change(alloc: Global, row: &str) -> Option<bool> {
 
 const HLT: &str = "+0,0,2,5";
 
-// Some steps, and the number of the fault of the last one.
-fn go(journal: &mut Journal<World>, steps: u16) -> u8 {
+/// Some steps, and the number of the fault of the last one.
+pub fn go(journal: &mut Journal<World>, steps: u16) -> u8 {
     let mut last = 0;
     for _step in 0..steps {
         last = number_of(journal.go(Change::Step));
     }
     last
+}
+
+// Takes the last steps back, if there are so many.
+fn take_back(journal: &mut Journal<World>, steps: u16) {
+    for _step in 0..steps {
+        journal.back();
+    }
 }
 
 /// The number of a fault: 0 where there is none, and 255 where there is no memory.

@@ -78,3 +78,12 @@ JBUS of a unit that is not busy goes to no cell | +4000,0,0,34 | | ok at=1 clock
 JRED to no cell | +4000,0,0,38 | | M5 at=0
 IN and IOC with a delay | *2 +100,0,20,36 +0,0,20,35 | %20=1,5 | ok clock=7 20:place=0 20:until=12 kept=22 ..
 ";
+
+pub const BACK: &str = "\
+OUT and IOC of the printer with a delay of 8 | *2 +300,0,18,37 +0,0,18,35 | %18=0,8 300=-7 323=-7 | ok 18:rows=2 18:blocks=0 18:row0.0=+7 18:row0.23=+7 18:page=1 18:until=18 at=2 clock=10 kept=8 ..
+IOC of the printer taken back | *2 <1 +300,0,18,37 +0,0,18,35 | %18=0,8 323=-7 | ok 18:rows=1 18:row0.23=+7 18:until=9 at=1 clock=1 kept=4 ..
+OUT to block 2 of a disk with none, and to block 1 | *3 +300,0,8,37 +1,0,2,55 +400,0,8,37 | X=+2 300=-7 399=-7 499=+5 | ok 8:blocks=3 8:place=0 8:rows=0 8:0.0=+0 8:1.98=+0 8:1.99=+5 8:2.0=-7 8:2.99=-7 kept=110 ..
+OUT to block 1 of a disk, and to block 2, taken back | *3 <1 +300,0,8,37 +2,0,2,55 +400,0,8,37 | X=+1 399=-7 | ok 8:blocks=2 8:1.99=-7 kept=7 ..
+IOC of a tape to its last block | +2,0,3,35 | %3=3 | ok 3:place=2 3:blocks=3 3:rows=0 at=1 clock=1 3:until=1 kept=4 ..
+OUT to the end of a tape, taken back | *3 <1 +300,0,3,37 +300,0,3,37 +300,0,3,37 | 399=-7 | ok 3:blocks=2 3:place=2 3:1.99=-7 3:until=2 at=2 clock=2 kept=10 ..
+";
