@@ -20,7 +20,7 @@ pub enum Change {
 /// One place of the state and a value of it: the location, the clock, a register, a cell, the overflow toggle, the comparison indicator,
 /// or whether a cell has a breakpoint; of a unit where it reads next, how long its blocks or its rows are, word j of block i, or the time
 /// until which it is busy.
-#[derive(Clone, Copy, Debug, PartialEq, Eq)]
+#[derive(Clone, Copy, PartialEq, Eq)]
 pub enum Old {
     Loc(u16),
     Clock(Time),

@@ -23,7 +23,7 @@ pub enum Part {
 
 /// The mark of a part, by which it is seen whether a change altered the part: what it holds; and of a unit the time in u until which its
 /// last transfer takes, which each IN, OUT and IOC on it makes greater.
-#[derive(Clone, Copy, Debug, PartialEq, Eq)]
+#[derive(Clone, Copy, PartialEq, Eq)]
 pub enum Mark {
     Word(Word),
     Toggle(bool),

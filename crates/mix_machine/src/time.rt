@@ -5,7 +5,7 @@ use std::marker::Model;
 
 /// A time in u, below 2^64.
 // Its halves, so that an old value takes 12 bytes and not 16.
-#[derive(Clone, Copy, Debug, PartialEq, Eq)]
+#[derive(Clone, Copy, PartialEq, Eq)]
 pub struct Time {
     low: u32,
     high: u32,

@@ -3,7 +3,7 @@ ghost use Rattle.std.specs.Prelude.{◌≡◌, ◌+◌, ◌-◌, ◌<◌, ◌≤
 ghost use Rattle.undo_core.specs.Runs.{items_of, IsRising, end_of};
 
 /// An item that follows itself, and how many items there are up to the last time that it does.
-#[derive(Clone, Copy, Debug)]
+#[derive(Clone, Copy)]
 pub(crate) struct Run<T: Copy> {
     pub(crate) item: T,
     pub(crate) end: usize,

@@ -5,7 +5,7 @@ ghost use Rattle.mix_machine.specs.Pack.{header_of, kind_of};
 /// What a header says of its value: the location, the clock, a register, a row of cells, the overflow toggle, the comparison indicator, a
 /// breakpoint, or of an input-output unit its place, its length, a word of it or its time. A long clock is of 2^28 or more, a whole one of
 /// 2^60 or more, and a long register is one whose word takes more than 23 bits.
-#[derive(Clone, Copy, PartialEq, Eq)]
+#[derive(Clone, Copy)]
 pub(crate) enum Kind {
     Location,
     Clock,

@@ -4,7 +4,7 @@ ghost use Rattle.mix_machine.specs.Part.{is_same_kind};
 ghost use Rattle.mix_machine.specs.units.UnitKind.{kinds, kind_of, block_length, has_place, has_medium, has_output};
 
 /// What a unit is (1.3.1): a tape, a disk, a card reader, a card punch, a printer, a typewriter or a paper tape.
-#[derive(Clone, Copy, Debug, PartialEq, Eq)]
+#[derive(Clone, Copy, PartialEq, Eq)]
 pub enum UnitKind {
     Tape,
     Disk,

@@ -152,11 +152,16 @@ fn a_copy_is_the_same(rt: HostRuntime) -> Result<(), Fail> {
     Ok(())
 }
 
-// The mark of a part before what is kept and the one after, and whether they are the same.
-fn marks_of(world: &World, kept: &Values<'_, Old>, part: &Part) -> (Mark, Mark, bool) {
-    let before = mark_before(kept, *part, world.mark(*part));
-    let after = world.mark(*part);
-    (before, after, before.is_same(after))
+// Whether a part has these marks before what is kept and after it, and whether they are told to be the same where they are.
+fn has_marks(
+    world: &World,
+    kept: &Values<'_, Old>,
+    part: &Part,
+    before: Mark,
+    after: Mark,
+) -> bool {
+    let found = mark_before(kept, *part, world.mark(*part));
+    found == before && world.mark(*part) == after && found.is_same(after) == (before == after)
 }
 
 // Of rA, which is set twice, the toggle, which is set, and the location.
@@ -165,23 +170,20 @@ fn marks_before_and_after(rt: HostRuntime) -> Result<(), Fail> {
     let mut world = machine(rt.alloc(), "", "at=7").ok_or("no machine")?;
     let mut kept = Kept::new(rt.alloc());
     let minus = Word::of(Sign::Minus, 0);
-    let first = Change::SetReg(Reg::A, Word::of(Sign::Minus, 1));
-    assert_eq!(rt; number_of(world.apply(&first, &mut kept)), 0);
-    let second = Change::SetReg(Reg::A, minus);
-    assert_eq!(rt; number_of(world.apply(&second, &mut kept)), 0);
-    assert_eq!(rt;
-        number_of(world.apply(&Change::SetOver(true), &mut kept)),
-        0
-    );
-    let register = (Mark::Word(Word::ZERO), Mark::Word(minus), false);
-    assert_eq!(rt;
-        marks_of(&world, &kept.values(), &Part::Register(Reg::A)),
-        register
-    );
-    let toggle = (Mark::Toggle(false), Mark::Toggle(true), false);
-    assert_eq!(rt; marks_of(&world, &kept.values(), &Part::Over), toggle);
-    let location = (Mark::Location(7), Mark::Location(7), true);
-    assert_eq!(rt; marks_of(&world, &kept.values(), &Part::Loc), location);
+    for change in [
+        Change::SetReg(Reg::A, Word::of(Sign::Minus, 1)),
+        Change::SetReg(Reg::A, minus),
+        Change::SetOver(true),
+    ] {
+        assert_eq!(rt; number_of(world.apply(&change, &mut kept)), 0);
+    }
+    let values = kept.values();
+    let (zero, minus) = (Mark::Word(Word::ZERO), Mark::Word(minus));
+    assert!(rt; has_marks(&world, &values, &Part::Register(Reg::A), zero, minus));
+    let (off, on) = (Mark::Toggle(false), Mark::Toggle(true));
+    assert!(rt; has_marks(&world, &values, &Part::Over, off, on));
+    let seven = Mark::Location(7);
+    assert!(rt; has_marks(&world, &values, &Part::Loc, seven, seven));
     Ok(())
 }
 
