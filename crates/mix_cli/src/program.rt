@@ -218,7 +218,7 @@ fn with_sources<'a>(alloc: Global) -> Result<Command<'a>, AllocError>
     with_one(command, debug)
 }
 
-/// What clap reads the words by.
+/// The definitions by which clap reads the words.
 pub(crate) fn program<'a>(alloc: Global) -> Result<Command<'a>, AllocError>
     ensures app { IfOk result (λ c. app_of c ≡ mixrev) }
 {

@@ -28,7 +28,7 @@ use mixal_asm::assemble;
 use serde_json::Value;
 use std::alloc::Global;
 
-/// Whether the client goes on.
+/// Whether the client has more to ask.
 #[derive(Clone, Copy, Debug, PartialEq, Eq)]
 pub enum Flow {
     /// More requests are waited for.

@@ -45,7 +45,8 @@ pub enum Fault {
 }
 
 impl Fault {
-    /// The number by which the protocol tells errors apart: 100 and the number of A, 200 of C, 300 of D, 400 of K, 500 of T.
+    /// The number of an error in the protocol: 100 and the number of A, 200 of C, 300 of Q, 400 of
+    /// K, 500 of T.
     pub fn number(self) -> u64
         ensures { result ≡ fault_number self }
     {

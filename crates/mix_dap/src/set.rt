@@ -82,7 +82,7 @@ fn line_with(alloc: Global, words: &str, name: &str, value: &str) -> Result<Stri
     Ok(line)
 }
 
-/// The cells where a line of the source may be gone to: the first one from the line on.
+/// The cells that a `goto` to a line of the source may lead to: the first one from the line on.
 pub(crate) fn goto_targets(
     alloc: Global,
     session: &Session,

@@ -8,26 +8,26 @@ use mix_refused::{Memory, Refused};
 use serde_json::Value;
 use std::alloc::Global;
 
-/// An adapter to which no program was launched yet.
+/// An adapter without a launched program.
 #[derive(Clone, Copy)]
 pub struct Waiting {
     alloc: Global,
     client: Client,
 }
 
-/// What a request comes to before a program is launched.
+/// The outcome of a request before a program is launched.
 #[derive(Drop)]
 pub enum Asked {
     /// It was answered, and the next one is waited for.
     Answered,
     /// The client is done.
     Over,
-    /// A program is to be launched with these texts, and the request waits for its answer.
+    /// These texts are to be launched, and the request waits for its answer.
     Launch(Texts),
 }
 
 impl Waiting {
-    /// An adapter that has heard of nothing.
+    /// An adapter that has had no request yet.
     pub fn new(alloc: Global) -> Waiting {
         Waiting {
             alloc,

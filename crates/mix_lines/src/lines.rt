@@ -45,7 +45,7 @@ pub fn is_comment(line: &[u8]) -> bool
     line.starts_with(b"*")
 }
 
-/// Whether a byte parts words: a space or a tab.
+/// Whether a byte separates words: a space or a tab.
 pub fn is_blank(byte: u8) -> bool
     ensures { result ≡ is_blank byte }
 {

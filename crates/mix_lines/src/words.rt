@@ -19,7 +19,7 @@ pub fn next_word(line: &[u8]) -> Option<(&[u8], &[u8])>
     }
 }
 
-/// The words of a line that are still to come, seen as their list.
+/// The words of a line that have not been read yet, as a list.
 #[derive(Drop)]
 pub struct Words<'a> {
     rest: &'a [u8],
@@ -39,7 +39,7 @@ impl<'a> Words<'a> {
         Words { rest: line }
     }
 
-    /// Takes the next word, or gives `None` where no word is left.
+    /// Returns the next word, or `None` if no word is left.
     pub fn next(&mut self) -> Option<&'a [u8]>
         ensures { MatchOption result ((self.old ≡ []) × (self.new ≡ [])) (λ word. self.old ≡ word.now ∷ self.new) }
     {

@@ -31,7 +31,7 @@ impl World {
         }
     }
 
-    /// The time until which a transfer of a unit takes.
+    /// The clock at which a transfer of a unit ends.
     pub(crate) fn end_at(&self, n: UnitNo) -> u64
         requires { transfer_end self.now n ≤ last_until }
         ensures { result ≡ transfer_end self.now n }

@@ -80,7 +80,7 @@ impl Units {
         unit.set_place(place);
     }
 
-    /// Sets the time until which the last transfer of a unit takes.
+    /// Sets the clock at which the last transfer of a unit ends.
     pub(crate) fn set_until(&mut self, n: UnitNo, until: u64)
         requires { IsTrue (fits_until n until) }
         ensures { self.new ≡ set_until self.old n until }
@@ -137,7 +137,8 @@ impl Units {
         unit.add_blocks(gap, words)
     }
 
-    /// Appends a row of so many words, without their signs, to what a unit has written. Out of memory, all units are as they were.
+    /// Appends a row of words, without their signs, to what a unit has written. If memory runs out,
+    /// all units are as they were.
     pub(crate) fn add_words(&mut self, n: UnitNo, words: &[Word]) -> Result<(), Memory>
         requires short { length words.now ≤ 24 }
         requires room { length (unit_of self.old n).rows < most_entries }

@@ -34,7 +34,8 @@ struct Span {
     to: usize,
 }
 
-/// Tells of a refused source. Where that cannot be written, or memory is refused, nothing more is told.
+/// Reports a refused source. If that cannot be written, or memory runs out, nothing more is
+/// reported.
 pub(crate) fn tell_refusal<E: Out>(
     alloc: Global,
     name: &str,

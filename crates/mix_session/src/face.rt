@@ -20,8 +20,9 @@ use mix_machine::{Change, MixFault, Part, World};
 use undo_core::{Journal, Memory};
 
 impl Session<'_> {
-    /// One step, and its fault where it is one: the change that stands ahead is done again, if that is a step, or else a new step is done. Out of
-    /// memory changes nothing.
+    /// One step, and its fault if it has one. If the next change that was taken back is a step, it
+    /// is done again; otherwise a new step is done. If memory runs out, the machine is as before,
+    /// or the step is done.
     pub fn step(&mut self) -> Result<Option<MixFault>, Memory>
         ensures program { self.new.program ≡ self.old.program }
         ensures first { self.new.timeline.first ≡ self.old.timeline.first }
@@ -36,7 +37,7 @@ impl Session<'_> {
         }
     }
 
-    /// Takes the last change back; the refusal where there is none. It takes no memory.
+    /// Takes the last change back, or returns the refusal if there is none.
     #[tactic(auto, unfolding(crate::specs::Command::effect_of))]
     pub fn back(&mut self) -> Result<Option<Refusal>, Memory>
         ensures program { self.new.program ≡ self.old.program }

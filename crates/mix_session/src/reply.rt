@@ -8,7 +8,7 @@ use mix_machine::{MixFault, World};
 use std::alloc::{AllocError, Global};
 use std::fmt;
 
-/// What became of a command.
+/// The outcome of a command.
 #[derive(Clone, Copy, Debug, PartialEq, Eq)]
 pub enum Told {
     Accepted,

@@ -15,9 +15,7 @@ use mix_machine::{Change, Part, Place, UnitNo, Word};
 use mixal_asm::Program;
 use mixal_text::{Names, w_value, whole_expression};
 
-/// What may be asked of a session: nothing; steps, steps told one by one, steps that a breakpoint stops too, or a condition besides; changes
-/// taken back (so many, all, up to a breakpoint, or until a condition is met); changes done again (so many, all, or until a condition is met); the
-/// state after so many changes; a change of the machine; or what is to be shown.
+/// A request to a session: what one line of a script asks for.
 #[derive(Clone, Copy, Debug, PartialEq, Eq)]
 pub enum Request {
     Nothing,
@@ -37,8 +35,8 @@ pub enum Request {
     Show(Topic),
 }
 
-/// What is to be shown; of `Cells`, `Code` and `CellValues` the first and the last cell, of `Last` how many changes, of `Diff` the number of
-/// changes after which the other state stands.
+/// What `show` shows. `Cells`, `Code` and `CellValues` have the first and the last cell, `Last` the
+/// number of changes, `Diff` the number of changes after which the other state is taken.
 #[derive(Clone, Copy, Debug, PartialEq, Eq)]
 pub enum Topic {
     Registers,
@@ -61,7 +59,8 @@ pub enum Topic {
 /// The most steps that one command may ask for.
 const MAX_STEPS: u64 = 1_000_000;
 
-/// Reads a line: what it asks for, or what is wrong with its words. The asterisk stands for `here`, the location.
+/// Reads a line: its request, or what is wrong with its words. The asterisk is `here`, the
+/// location.
 #[tactic(auto, unfolding(crate::specs::Request::request_of))]
 pub(crate) fn read_request(
     line: &[u8],

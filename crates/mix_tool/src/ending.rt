@@ -58,7 +58,7 @@ pub(crate) fn tell_not_opened<E: Out>(alloc: Global, name: &str, errors: &mut E)
     FAILED
 }
 
-/// The status of a run; its fault is told.
+/// The status of a run; its fault is reported.
 pub(crate) fn status<E: Out>(alloc: Global, outcome: Result<u8, ToolFault>, errors: &mut E) -> u8
     requires { E.failed errors.old < 2 ^ 64 - 1 }
     ensures status { result ≡ status_of_run outcome }
@@ -81,7 +81,7 @@ pub(crate) fn tell_beside<E: Out>(line: Result<String, AllocError>, errors: &mut
     }
 }
 
-/// The status of a run that told things beside what it wrote; its fault is told too.
+/// The status of a run that also wrote on standard error; its fault is reported there too.
 pub(crate) fn status_beside<E: Out>(
     alloc: Global,
     outcome: Result<u8, ToolFault>,

@@ -36,7 +36,7 @@ fn row_named(rows: &[Row], name: &[u8]) -> Option<Row>
 }
 
 impl Operation {
-    /// The name (1.3.1), two to four capitals and digits.
+    /// The name (1.3.1): two to four capitals and digits.
     pub fn name(self) -> &'static str
         ensures is { result.now ≡ name_of self }
         ensures named { operation_named result.now ≡ Some self }

@@ -25,7 +25,7 @@ impl Model for Place {
 }
 
 impl Place {
-    /// The place of this number (1.3.1), or none where it is 4000 or more, and there is no such cell.
+    /// The cell with this number (1.3.1), or `None` if the number is 4000 or more.
     pub fn of(n: u16) -> Option<Place>
         ensures valid { IsSome result ↔ (n < 4000) }
         ensures value { IfSome result (λ p. p ≡ n) }

@@ -4,7 +4,7 @@ ghost use Rattle.mix_word.specs.Uses.{uses_of, needs};
 
 use crate::operation::Operation;
 
-/// What an operation uses of its instruction (1.3.1).
+/// Which parts of its instruction an operation uses (1.3.1).
 #[derive(Clone, Copy, PartialEq, Eq)]
 pub enum Uses {
     /// neither M nor F
@@ -33,7 +33,7 @@ pub enum UnitUse {
 }
 
 impl Operation {
-    /// What it uses of its instruction (1.3.1).
+    /// Which parts of its instruction it uses (1.3.1).
     #[inline(always)]
     pub fn uses(self) -> Uses
         ensures { result ≡ uses_of self }

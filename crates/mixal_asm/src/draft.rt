@@ -109,7 +109,7 @@ impl<'s> Draft<'s> {
         Ok(())
     }
 
-    /// A word at the location, which is A11 at 4000, and the name that it waits for.
+    /// A word at the location, and the name that it waits for. At location 4000 it is A11.
     pub(crate) fn emit(&mut self, word: Word, awaits: Option<Key>) -> Result<(), Refused<AsmKind>>
         requires { IsOpen self.old.names awaits }
         ensures ok { OnOk result (with_word self.old word awaits ≡ Ok self.new) }

@@ -5,7 +5,7 @@ ghost use Rattle.mixal_text.specs.Operator.{operator_at, operator_length, outcom
 use crate::fault::TextFault;
 use mix_word::{Sign, Word, add, div, mul, sub};
 
-/// What stands between two atoms: `+`, `-`, `*`, `/`, `//` or `:`.
+/// The operator between two atoms: `+`, `-`, `*`, `/`, `//` or `:`.
 #[derive(Clone, Copy)]
 pub(crate) enum Operator {
     Add,
@@ -35,7 +35,8 @@ pub(crate) fn split_operator(text: &[u8]) -> Option<(Operator, &[u8])>
 }
 
 impl Operator {
-    /// What it makes of two words. A sum that overflows is A8, and so is a quotient that is none.
+    /// The result for two words. A sum that overflows is A8, and so is a quotient that does not
+    /// exist.
     pub(crate) fn outcome(self, a: Word, b: Word) -> Result<Word, TextFault>
         ensures { result ≡ outcome_of self a b }
     {

@@ -131,7 +131,8 @@ impl<S: Undo> Journal<S> {
         Ok(())
     }
 
-    /// Takes the last change back, which then stands ahead. It takes no memory, and is false where no change is left.
+    /// Takes the last change back; it can then be done again. It takes no memory, and returns false
+    /// if no change is left.
     pub fn back(&mut self) -> bool
         ensures left { IsTrue result ↔ (0 < length self.old.changes) }
         ensures first { self.new.first ≡ self.old.first }
@@ -147,7 +148,8 @@ impl<S: Undo> Journal<S> {
         true
     }
 
-    /// Does the next change ahead again. It is false where none is ahead; out of memory alters nothing.
+    /// Does the next change that was taken back again. It returns false if there is none; out of
+    /// memory changes nothing.
     pub fn forth(&mut self) -> Result<bool, Memory>
         ensures more { IfOk result (λ b. IsTrue b ↔ (0 < length self.old.ahead)) }
         ensures first { self.new.first ≡ self.old.first }
@@ -205,7 +207,8 @@ impl<S: Undo> Journal<S> {
         Past::of(self, self.kept.backwards(), &self.counts, &self.large)
     }
 
-    /// Does the change of this number of all, counted from 0, once more, on a state as it was before it. What it overwrites is appended to `kept`.
+    /// Repeats the change with this number, counted from 0 over those done and those taken back, on
+    /// a copy of the state before it. What it overwrites is appended to `kept`.
     pub fn redo(&self, number: usize, state: &mut S, kept: &mut Kept<S::Old>) -> Result<(), Memory>
         requires within { number < length (self.now.changes ++ self.now.ahead) }
         requires before { replay S.gives self.now.first (take number (self.now.changes ++ self.now.ahead)) ≡ Some state.old }

@@ -48,7 +48,7 @@ impl<O: Pack> Kept<O> {
         self.count
     }
 
-    /// Makes room for so many values more.
+    /// Makes room for this many more values.
     #[inline(always)]
     pub fn reserve(&mut self, more: usize) -> Result<(), AllocError>
         requires few { more < 2 ^ 32 }
@@ -123,7 +123,8 @@ impl<O: Pack> Kept<O> {
     }
 }
 
-/// Puts back the last values of `kept`, so many of them, the last one first, and takes them off. It takes no memory.
+/// Puts back the last `count` values of `kept`, the last one first, and removes them. It takes no
+/// memory.
 #[inline(always)]
 pub fn revert<S: Undo>(state: &mut S, kept: &mut Kept<S::Old>, count: usize)
     requires within { count ≤ length kept.old.items }

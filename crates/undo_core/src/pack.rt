@@ -25,7 +25,7 @@ pub trait Pack: Copy {
     fn take(units: &mut Vec<u32>) -> Option<Self>
         ensures { MatchOption result (said units.old.items ≡ []) (λ value. said units.old.items ≡ said units.new.items ++ value ∷ []) };
 
-    /// The last value of units, if there is one: after the units of a list there may be one more.
+    /// The last value in the units, if there is one. The top unit may be held apart, in `more`.
     fn last(units: &[u32], more: Option<u32>) -> Option<Last<Self>>
         ensures is { MatchOption result (said (units.now ++ unit_list more) ≡ [])
             (λ last. said (units.now ++ unit_list more) ≡ said (take last.left units.now ++ unit_list last.more) ++ last.value ∷ []) }

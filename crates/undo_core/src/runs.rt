@@ -2,7 +2,7 @@
 ghost use Rattle.std.specs.Prelude.{◌≡◌, ◌+◌, ◌-◌, ◌<◌, ◌≤◌, ◌^◌, ◌++◌, [], ◌∷◌, length, take, get_or, vec_len, vec_capacity, IsTrue};
 ghost use Rattle.undo_core.specs.Runs.{items_of, IsRising, end_of};
 
-/// An item that follows itself, and how many items there are up to the last time that it does.
+/// An item that is repeated, and how many items there are up to the end of the repetition.
 #[derive(Clone, Copy)]
 pub(crate) struct Run<T: Copy> {
     pub(crate) item: T,
@@ -50,7 +50,7 @@ fn run_at<T: Copy>(runs: &[Run<T>], number: usize) -> usize
     low
 }
 
-/// Leaves the first items, so many of them.
+/// Keeps the first `count` items and drops the others.
 pub(crate) fn cut<T: Copy>(runs: &mut Vec<Run<T>>, count: usize)
     requires rising { IsRising 0 runs.old.items }
     requires within { count < length (items_of 0 runs.old.items) }

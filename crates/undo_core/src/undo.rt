@@ -10,10 +10,10 @@ use mix_refused::Refused;
 
 /// A state, its changes, and the old values that take a change back.
 pub trait Undo: Drop {
-    /// What is asked of a state.
+    /// What a state is asked to do.
     type Change: Copy;
 
-    /// One place of a state with the value that stood there.
+    /// One part of a state, with the value that it held.
     type Old: Pack;
 
     /// Why a state refuses a change.

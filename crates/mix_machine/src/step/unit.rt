@@ -22,7 +22,7 @@ use mix_word::{Operation, Reg, Sign};
 const MOST_ENTRIES: u16 = 1000;
 
 impl World {
-    /// JBUS: a jump where the last transfer of the unit is not over yet at this clock.
+    /// JBUS: a jump if the last transfer of the unit is not over at this clock.
     pub(crate) fn jump_busy(&self, a: Arguments) -> Outcome
         ensures { result ≡ outcome_of Operation.Jbus self.now a }
     {
@@ -36,7 +36,7 @@ impl World {
         })
     }
 
-    /// JRED: a jump where it doesn't.
+    /// JRED: a jump if the last transfer of the unit is over at this clock.
     pub(crate) fn jump_ready(&self, a: Arguments) -> Outcome
         ensures { result ≡ outcome_of Operation.Jred self.now a }
     {

@@ -85,14 +85,14 @@ impl Unit {
         self.rows.get(usize::from(i))
     }
 
-    /// How long a transfer takes beside the time of its step, in u (1.3.1).
+    /// How long a transfer goes on after its step, in u (1.3.1).
     pub fn delay(&self) -> u64
         ensures { result ≡ self.now.delay }
     {
         self.delay
     }
 
-    /// The time until which the last transfer takes, in u (1.3.1).
+    /// The clock at which the last transfer ends, in u (1.3.1).
     pub fn until(&self) -> u64
         ensures is { result ≡ self.now.until }
         ensures bound { result ≤ last_until }
@@ -168,7 +168,7 @@ impl Unit {
         self.place = place;
     }
 
-    /// Sets the time until which the last transfer takes.
+    /// Sets the clock at which the last transfer ends.
     pub(crate) fn set_until(&mut self, until: u64)
         requires { until ≤ last_until }
         ensures { self.new ≡ record self.old { until = until } }

@@ -78,7 +78,7 @@ fn say<E: Out>(text: &str, errors: &mut E) {
     }
 }
 
-/// A person is greeted, once.
+/// Greets a person, once.
 pub(crate) fn greet<E: Out>(talker: Talker, errors: &mut E)
     ensures { talker ≡ Talker.Program → errors.new ≡ errors.old }
 {
@@ -88,7 +88,7 @@ pub(crate) fn greet<E: Out>(talker: Talker, errors: &mut E)
     }
 }
 
-/// A person is asked for a line.
+/// Prompts a person for a line.
 pub(crate) fn prompt<E: Out>(talker: Talker, errors: &mut E)
     ensures { talker ≡ Talker.Program → errors.new ≡ errors.old }
 {

@@ -5,7 +5,7 @@ ghost use Rattle.mix_session.specs.Columns.{blanks, left_in, right_in};
 
 use std::alloc::AllocError;
 
-/// Appends so many blanks.
+/// Appends this many blanks.
 pub(super) fn add_blanks(text: &mut Vec<u8>, count: usize) -> Result<(), AllocError>
     ensures { OnOk result (text.new.items ≡ text.old.items ++ blanks count) }
 {

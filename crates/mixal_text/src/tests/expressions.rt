@@ -84,7 +84,7 @@ fn is_refused(text: &[u8], number: u8) -> bool {
     number_of(expression(text, &Known, here())) == number && number_of(whole) == number
 }
 
-/// An expression that begins a text: its value, and how many bytes it has.
+/// An expression at the beginning of a text: its value and its length in bytes.
 const BEGINNINGS: [(&str, u32, usize); 14] = [
     ("2000,2(0:3)", 2000, 4),
     ("0:3)", 3, 3),
