@@ -27,9 +27,9 @@ def rotation(draw, n):
 
 
 def extremes(draw, n):
+    """An entry takes 8u, if it is compared with the smallest at all, and a little more if it is a new one."""
     table = draw.numbers(n, 1, 999)
-    lows = sum(one < min(table[at + 1 :]) for at, one in enumerate(table[:-1]))
-    return Case({"N": n, "data": table}, [max(table), min(table)], ("A", "X"), (f"clock <= {8 * n + 2 * lows + 9}",))
+    return Case({"N": n, "data": table}, [max(table), min(table)], ("A", "X"), (f"clock <= {9 * n + 60}",))
 
 
 def smallest_factors(draw, n):

@@ -4,7 +4,7 @@ from exercise import Case, Exercise
 
 def full_queue(draw, n):
     """The queue gets full at once, and is empty at the end; between them all may come."""
-    room = draw.number(2, 6)
+    room = draw.number(2, 6) + n // 2
     operations = [*range(11, 12 + room), *(draw.one_of((0, 20 + k)) for k in range(n)), *[0] * (room + 1)]
     waiting, out, vain = [], [], 0
     for number in operations:
@@ -14,7 +14,7 @@ def full_queue(draw, n):
             out.append(waiting.pop(0))
         else:
             vain += 1
-    return Case({"M": room, "data": [*operations, -1]}, [vain, *out, 0], ("I6", f"OUT+1 OUT+{len(out) + 1}"))
+    return Case({"M": room, "data": [*operations, -1]}, [vain, *out, 0], ("I6", f"OUT+1 OUT+{len(out) + 1}"), (f"clock <= {20 * len(operations) + 40}",))
 
 
 def circle_left(draw, n):
@@ -113,5 +113,5 @@ EXERCISES = [
              two_clerks, (1, 2, 6, 20), ("JGE  READY", "JG   READY")),
     Exercise("18_tree_stack", "The letters of the N nodes are in ORDER+1 and so on, in preorder.", preorder, (1, 2, 8, 20), ("LD1  TREE,1(1:2)", "LD1  TREE,1(3:4)")),
     Exercise("19_tree_threads", "Each of the N nodes without a right subtree gets its thread, with the sign -; the last one in inorder leads to 0.",
-             threads, (1, 2, 8, 20), ("ENT4 0,1", "ENT4 0,2")),
+             threads, (1, 2, 8, 20), ("J4Z  3F", "J4NZ 3F")),
 ]

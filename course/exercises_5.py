@@ -3,9 +3,12 @@ from exercise import Case, Exercise
 
 
 def stable_words(draw, n):
+    """An insertion takes 9u to 11u for each word that is moved, and some 12u for each word."""
     words = [(at % 63 + 1, draw.number(1, 6) * 10) for at in range(n)]
+    moved = sum(one > other for at, (_, one) in enumerate(words) for _, other in words[at + 1 :])
     return Case({"N": n, "data": [f"        CON  {letter}(1:1),{key}(4:5)" for letter, key in words]},
-                [letter * 64**4 + key for letter, key in sorted(words, key=lambda word: word[1])], ("KEY+1 KEY+N",))
+                [letter * 64**4 + key for letter, key in sorted(words, key=lambda word: word[1])], ("KEY+1 KEY+N",),
+                (f"clock <= {11 * moved + 14 * n + 20}",))
 
 
 def three_increments(draw, n):
