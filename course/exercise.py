@@ -1,0 +1,78 @@
+"""What the exercises of the course are made of: the numbers of a student, a case, and the files of grade/ that say it."""
+import hashlib
+import typing
+
+
+class Draw:
+    """Numbers that some words settle, the same on every computer: the lesson, the student, the case, and a word that the teacher keeps."""
+
+    def __init__(self, *words):
+        self.words, self.drawn = "\n".join(words), 0
+
+    def number(self, low, high):
+        """A number from low to high."""
+        self.drawn += 1
+        digest = hashlib.sha256(f"{self.words}\n{self.drawn}".encode()).digest()
+        return low + int.from_bytes(digest, "big") % (high - low + 1)
+
+    def numbers(self, count, low, high):
+        return [self.number(low, high) for _ in range(count)]
+
+    def one_of(self, values):
+        return values[self.number(0, len(values) - 1)]
+
+    def shuffled(self, values):
+        values = list(values)
+        for at in range(len(values) - 1, 0, -1):
+            other = self.number(0, at)
+            values[at], values[other] = values[other], values[at]
+        return values
+
+    def distinct(self, count, low, high):
+        """Numbers that differ, in no order."""
+        found = set()
+        while len(found) < count:
+            found.add(self.number(low, high))
+        return self.shuffled(sorted(found))
+
+
+class Case(typing.NamedTuple):
+    """What a program is given, and what it must leave: numbers in the cells that are named, or rows on the printer.
+
+    `given` has a number for a symbol that EQU defines, a string for a cell that CON fills, and a list for the lines of a block of data."""
+
+    given: dict
+    wanted: list
+    cells: tuple = ()
+    limits: tuple = ()
+    cards: list = None
+    deck: list = None
+    told: str = ""
+
+    def lines(self):
+        """The lines that take the place of those in a source."""
+        for name, value in self.given.items():
+            if isinstance(value, list):
+                yield from (f"* {name}", *(line if isinstance(line, str) else f"        CON  {line}" for line in value), f"* end of {name}")
+            else:
+                yield f"{name:<7} {'EQU ' if isinstance(value, int) else 'CON '} {value}"
+
+    def files(self, put, limited):
+        """The files of the case, as grade/README.md describes them."""
+        found = {"wanted": self.wanted, "data": self.lines() if put and self.given else (), "cells": self.cells, "deck": self.deck, "cards": self.cards}
+        found["unit"] = () if self.cells else ("18",)
+        found["limits"], found["steps"] = self.limits if limited else (), (100000,)
+        return {name: "".join(f"{line}\n" for line in lines) for name, lines in found.items() if lines}
+
+
+class Exercise(typing.NamedTuple):
+    """The folder of its lesson; what a program must keep and leave; the case that is made of a draw and a size; the sizes of the cases, of which the
+    student sees the last but one; an instruction of its answer with a wrong one. With `put` false the data are what the student has to find, and are
+    wrong if the first two are exchanged."""
+
+    name: str
+    contract: str
+    make: typing.Callable
+    sizes: tuple
+    wrong: tuple
+    put: bool = True

@@ -1,0 +1,117 @@
+"""The exercises of chapter 2: what their programs must leave, by Python's lists, dictionaries and recursion."""
+from exercise import Case, Exercise
+
+
+def full_queue(draw, n):
+    """The queue gets full at once, and is empty at the end; between them all may come."""
+    room = draw.number(2, 6) + n // 2
+    operations = [*range(11, 12 + room), *(draw.one_of((0, 20 + k)) for k in range(n)), *[0] * (room + 1)]
+    waiting, out, vain = [], [], 0
+    for number in operations:
+        if number and len(waiting) < room:
+            waiting.append(number)
+        elif not number and waiting:
+            out.append(waiting.pop(0))
+        else:
+            vain += 1
+    return Case({"M": room, "data": [*operations, -1]}, [vain, *out, 0], ("I6", f"OUT+1 OUT+{len(out) + 1}"), (f"clock <= {20 * len(operations) + 40}",))
+
+
+def circle_left(draw, n):
+    """A row of things, each before the next; the last of them comes before a circle, which leads to others."""
+    things = draw.shuffled(range(1, n + 1))
+    row, circle, after = things[: n // 3], things[n // 3 : 2 * n // 3], things[2 * n // 3 :]
+    relations = [*zip(row, row[1:]), *zip(circle, [*circle[1:], circle[0]]), *((circle[-1], one) for one in after)]
+    relations += [(row[-1], draw.one_of(circle))] if row else []
+    left = sorted(circle + after, reverse=True)
+    lines = [f"        CON  {j}(1:2),{k}(4:5)" for j, k in draw.shuffled(relations)]
+    shown = ("ROW+1 ROW+N", "LEFT+1 LEFT+N")
+    return Case({"N": n, "M": len(relations), "data": lines}, [*row, *[0] * (n - len(row)), *left, *[0] * (n - len(left))], shown)
+
+
+def list_lines(name, terms):
+    """A polynomial as a circular list in two-word nodes, the head first."""
+    lines = []
+    for at, one in enumerate([None, *sorted(terms, reverse=True)]):
+        following = f"{name}+{2 * (at + 1)}" if at < len(terms) else name
+        lines += [f"        CON  {terms.get(one, 0)}", f"        CON  {'-1(0:3)' if one is None else '%d(1:1),%d(2:2),%d(3:3)' % one},{following}(4:5)"]
+    return lines
+
+
+def given_back(draw, n):
+    """P is added to Q; then its nodes come before the free ones: the first of them, and at last its head, which leads to what was free before."""
+    p, q = ({tuple(draw.numbers(3, 0, 2)): draw.one_of((-2, -1, 1, 2)) for _ in range(size)} for size in (n, draw.number(0, n)))
+    free, place = [1200 + 2 * k for k in range(15, -1, -1)], {one: 1102 + 2 * at for at, one in enumerate(sorted(q, reverse=True))}
+    for one in sorted(p, reverse=True):
+        if one not in q:
+            place[one] = free.pop(0)
+        elif p[one] + q[one] == 0:
+            free.insert(0, place.pop(one))
+    head = -(64**2 + (free[0] if free else 0))
+    first = 1002 if p else 1000
+    cells, wanted = ["I6", "P+1"], [first, head]
+    for one in sorted(place):
+        cells, wanted = [*cells, str(place[one])], [*wanted, p.get(one, 0) + q.get(one, 0)]
+    return Case({"K": 16, "p": list_lines("P", p), "q": list_lines("Q", q)}, wanted, tuple(cells))
+
+
+def two_clerks(draw, n):
+    comes, needs = sorted(draw.distinct(n, 0, 6 * n)), draw.numbers(n, 1, 20)
+    free, begins = [0, 0], []
+    for come, need in zip(comes, needs):
+        free.sort()
+        begins.append(max(come, free[0]))
+        free[0] = begins[-1] + need
+    return Case({"N": n, "comes": comes, "needs": needs}, begins, ("BEGINS+1 BEGINS+N",))
+
+
+def grown(draw, names, tree):
+    """A tree of these nodes: of each its left and right nodes, and a letter; the node at its root."""
+    if not names:
+        return 0
+    left = draw.number(0, len(names) - 1)
+    tree[names[0]] = (grown(draw, names[1 : left + 1], tree), grown(draw, names[left + 1 :], tree), draw.number(1, 39))
+    return names[0]
+
+
+def tree_of(draw, n):
+    tree = {}
+    root = grown(draw, draw.shuffled(range(1, n + 1)), tree)
+    return tree, root, {"N": n, "ROOT": root, "data": ["        CON  %d(1:2),%d(3:4),%d(5:5)" % tree[node] for node in sorted(tree)]}
+
+
+def preorder(draw, n):
+    tree, root, given = tree_of(draw, n)
+    letters, waiting = [], [root]
+    while waiting:
+        left, right, letter = tree[waiting.pop()]
+        letters.append(letter)
+        waiting += [node for node in (right, left) if node]
+    return Case(given, letters, ("ORDER+1 ORDER+N",))
+
+
+def inorder(tree, node):
+    return inorder(tree, tree[node][0]) + [node] + inorder(tree, tree[node][1]) if node else []
+
+
+def threads(draw, n):
+    tree, root, given = tree_of(draw, n)
+    order = inorder(tree, root)
+    following = dict(zip(order, [*order[1:], 0]))
+    numbers = [(1 if right else -1) * ((left * 4096 + (right or following[node])) * 64 + letter) for node, (left, right, letter) in sorted(tree.items())]
+    return Case(given, numbers, ("TREE+1 TREE+N",))
+
+
+EXERCISES = [
+    Exercise("14_queue", "The queue has room for M numbers. A number from OPS+1 on is put in; 0 takes one out, into OUT+1 and so on; -1 is the end. At the "
+             "halt rI6 says how often this was not possible.", full_queue, (0, 9, 25), ("JE   AMISS", "JG   AMISS")),
+    Exercise("15_topological_sort", "The things that can be sorted are in ROW+1 and so on, in their order; those that are left over are in LEFT+1 and so "
+             "on, the largest number first. The other cells of both tables are 0.", circle_left, (3, 9, 18), ("JAZ  2F", "JANZ 2F")),
+    Exercise("16_polynomials", "P is added to Q as in the lesson. Then all nodes of P are free: rI6 has the first of them, and the head of P leads to what "
+             "was free before. The time of this does not depend on P.", given_back, (1, 3, 6), ("ST6  P+1(4:5)", "ST5  P+1(4:5)")),
+    Exercise("17_counter", "BEGINS+k gets the time at which person k of N is served, if there are two clerks.",
+             two_clerks, (1, 2, 6, 20), ("JGE  READY", "JG   READY")),
+    Exercise("18_tree_stack", "The letters of the N nodes are in ORDER+1 and so on, in preorder.", preorder, (1, 2, 8, 20), ("LD1  TREE,1(1:2)", "LD1  TREE,1(3:4)")),
+    Exercise("19_tree_threads", "Each of the N nodes without a right subtree gets its thread, with the sign -; the last one in inorder leads to 0.",
+             threads, (1, 2, 8, 20), ("J4Z  3F", "J4NZ 3F")),
+]

@@ -1,0 +1,123 @@
+"""The exercises of chapters 5 and 6: what their programs must leave, by Python's sort, pairs of keys, and places in a list."""
+from exercise import Case, Exercise
+
+
+def stable_words(draw, n):
+    """An insertion takes 9u to 11u for each word that is moved, and some 12u for each word."""
+    words = [(at % 63 + 1, draw.number(1, 6) * 10) for at in range(n)]
+    moved = sum(one > other for at, (_, one) in enumerate(words) for _, other in words[at + 1 :])
+    return Case({"N": n, "data": [f"        CON  {letter}(1:1),{key}(4:5)" for letter, key in words]},
+                [letter * 64**4 + key for letter, key in sorted(words, key=lambda word: word[1])], ("KEY+1 KEY+N",),
+                (f"clock <= {11 * moved + 14 * n + 20}",))
+
+
+def three_increments(draw, n):
+    """The clock by the column of times: each pass moves a key once for each larger one before it in its part."""
+    keys = draw.distinct(n, 1, 999)
+    table, taken, moves, firsts = list(keys), 0, 0, 0
+    for h in (7, 3, 1):
+        parts = [table[at::h] for at in range(h)]
+        taken += n - h
+        for part in parts:
+            moves += sum(one > other for at, one in enumerate(part) for other in part[at + 1 :])
+            firsts += sum(one < min(part[:at]) for at, one in enumerate(part) if at)
+        for at, part in enumerate(parts):
+            table[at::h] = sorted(part)
+    return Case({"N": n, "data": keys}, sorted(keys), ("KEY+1 KEY+N",), (f"clock <= {32 + 14 * taken + 11 * moves - 3 * firsts}",))
+
+
+def keys_in_order(draw, n):
+    """Parts of n, n-1, .. 2 keys, of each of which the right part has one key less."""
+    n += draw.number(0, 8)
+    keys = draw.distinct(n, 1, 999)
+    return Case({"N": n, "data": sorted(keys)}, sorted(keys), ("KEY+1 KEY+N",), (f"clock = {18 + 49 * (n - 1) + 2 * (n * n + n - 2)}",),
+                told=f"Your N is {n}. Your keys are {', '.join(map(str, keys))}, in another order.")
+
+
+def three_largest(draw, n):
+    """No key goes down further than the levels below it; 20u are the most for a level."""
+    keys, levels = draw.distinct(n, 1, 999), sum(20 * (n.bit_length() - k.bit_length()) + 18 for k in range(1, n // 2 + 1))
+    return Case({"N": n, "data": keys}, sorted(keys)[-3:], ("KEY+N-2 KEY+N",), (f"clock <= {levels + 3 * (20 * n.bit_length() + 25) + 20}",))
+
+
+def keys_in_table(draw, n):
+    keys = draw.distinct(n, 1, 999)
+    return Case({"N": n, "data": keys}, sorted(keys), ("OUT+1 OUT+N",))
+
+
+def last_two_digits(draw, n):
+    keys = [tuple(draw.numbers(3, 0, 9)) for _ in range(n)]
+    order = sorted(range(1, n + 1), key=lambda k: keys[k - 1][1:])
+    links = dict(zip([0, *order], [*order, 0]))
+    return Case({"N": n, "data": ["        CON  %d(3:3),%d(4:4),%d(5:5)" % key for key in keys]}, [links[k] for k in range(n + 1)], ("LINK LINK+N",))
+
+
+def two_at_once(draw, n):
+    keys = draw.distinct(n, 1, 999)
+    wanted = draw.one_of([*keys, 1000])
+    place = keys.index(wanted) + 1 if wanted in keys else 0
+    return Case({"N": n, "WANTED": wanted, "data": keys}, [place], ("I2",), (f"clock <= {22 + (7 * (place or n + 1) + 1) // 2}",))
+
+
+def by_halves(draw, n):
+    keys = sorted(draw.distinct(n, 1, 999))
+    wanted = draw.one_of([keys[0], keys[-1], draw.one_of(keys), draw.number(1, 999)])
+    halves = [(n + 2 ** (j - 1)) // 2**j for j in range(1, n.bit_length() + 3)]
+    place = keys.index(wanted) + 1 if wanted in keys else 0
+    return Case({"N": n, "WANTED": wanted, "data": keys, "halves": halves[: halves.index(0) + 1]}, [place], ("I1",),
+                (f"clock <= {14 + 10 * (n.bit_length() + 1)}",))
+
+
+def middle_first(keys):
+    """Each key after the one in the middle of those around it."""
+    if not keys:
+        return []
+    middle = len(keys) // 2
+    return [keys[middle], *middle_first(keys[:middle]), *middle_first(keys[middle + 1 :])]
+
+
+def fewest_comparisons(draw, size):
+    """The clock of a full tree by the column of times: half of the comparisons go to the right, and half of the new nodes."""
+    levels = draw.number(2, 5)
+    n = 2**levels - 1
+    keys = sorted(draw.distinct(n, 1, 999))
+    compared = sum(level * 2**level for level in range(levels))
+    clock = 6 + 10 + 4 * n + 3 * (n - 1) + 4 * compared + 5 * compared - 2 * (n - 1) + 3 * (n - 1) + (n - 1) // 2 + 3 * (n - 1)
+    return Case({"N": n, "data": middle_first(keys)}, [n], ("I4",), (f"clock <= {clock}",), told=f"Your N is {n}. Your keys are {', '.join(map(str, keys))}.")
+
+
+def probed(keys, m):
+    """The table of m cells after these keys came, each into the first free cell from its remainder down."""
+    table = [0] * m
+    for key in keys:
+        table[next(at for at in ((key - step) % m for step in range(m)) if not table[at])] = key
+    return table
+
+
+def opposite_order(draw, n):
+    n, m = n + draw.number(0, 4), 2 * n + 1 + draw.number(0, 6)
+    keys = draw.distinct(n, m, 999)
+    while probed(keys, m) == probed(keys[::-1], m) or keys[-1] % m != keys[-2] % m:
+        keys = draw.distinct(n, m, 999)
+    return Case({"N": n, "M": m, "data": keys[::-1]}, probed(keys[::-1], m), ("TABLE TABLE+M-1",),
+                told=f"Your M is {m}, your N is {n}. Your keys come in this order: {', '.join(map(str, keys))}.")
+
+
+EXERCISES = [
+    Exercise("20_insertion", "The N words from KEY+1 on are sorted by bytes 4 and 5 alone; words that agree in them keep their order.",
+             stable_words, (2, 3, 8, 30), ("JGE  PLACE", "JG   PLACE")),
+    Exercise("21_shell", "The N keys from KEY+1 on are sorted by the increments 7, 3 and 1.", three_increments, (16, 25, 40), ("CON  3", "CON  9")),
+    Exercise("22_quicksort", "The program of the lesson is kept. Its N and its data are your keys, in increasing order.", keys_in_order, (8,), None, put=False),
+    Exercise("23_heapsort", "KEY+N-2 to KEY+N get the three largest of the N keys from KEY+1 on.", three_largest, (4, 10, 40), ("CMP2 =N-3=", "CMP2 =N-2=")),
+    Exercise("24_list_merge", "OUT+1 to OUT+N get the N keys from KEY+1 on, in their order.", keys_in_table, (2, 4, 8, 16), ("STA  OUT,2", "STA  OUT-1,2")),
+    Exercise("25_radix", "LINK leads to the smallest of the N keys by bytes 4 and 5 alone, LINK+k from key k to the next, the last to 0; keys that agree keep "
+             "their order.", last_two_digits, (1, 2, 8, 30), ("CMP6 =P=", "CMP6 =P+1=")),
+    Exercise("26_two_searches", "At the halt rI2 has the place of WANTED among the N keys from KEY+1 on, or 0 if it is not there.",
+             two_at_once, (1, 2, 9, 40), ("INC1 2", "INC1 1")),
+    Exercise("27_binary_search", "At the halt rI1 has the place of WANTED among the N keys from KEY+1 on, or 0 if it is not there. The table of halves from "
+             "HALVES+1 on is given.", by_halves, (1, 2, 7, 16, 16, 31, 31), ("DEC1 0,3", "DEC1 1,3")),
+    Exercise("28_search_tree", "The program of the lesson is kept. Its N and its data are your keys, in an order with the fewest comparisons; at the halt rI4 "
+             "has N.", fewest_comparisons, (0,), None, put=False),
+    Exercise("29_hashing", "The program of the lesson is kept. Its M, its N and its data are your keys, in the opposite order.",
+             opposite_order, (7,), None, put=False),
+]
