@@ -60,6 +60,3 @@ fn value(text: &[u8]) -> u64
     }
     value
 }
-
-#[cfg(test)]
-mod tests;

@@ -67,6 +67,3 @@ fn nonblank_in(text: &[u8]) -> Option<usize>
 {
     text.iter().position(|byte| !is_blank(*byte))
 }
-
-#[cfg(test)]
-mod tests;

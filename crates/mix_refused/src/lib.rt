@@ -4,6 +4,3 @@
 mod refused;
 
 pub use refused::{Memory, Refused};
-
-#[cfg(test)]
-mod tests;

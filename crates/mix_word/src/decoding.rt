@@ -9,7 +9,7 @@ use crate::operation::{Condition, JumpKind, Operation, ShiftKind};
 use crate::register::DataReg;
 
 /// What a pair (C, F) names: an operation, one of the floating-point attachment, or none.
-#[derive(Clone, Copy, PartialEq, Eq)]
+#[derive(Clone, Copy)]
 pub enum Decoded {
     Named(Operation),
     Floating,

@@ -11,7 +11,7 @@ use crate::word::{Sign, Word};
 use std::fmt;
 
 /// A word of which only the sign and bytes 4 and 5 are written, as of an index register (1.3.1): `+ 02 36`.
-#[derive(Clone, Copy, PartialEq, Eq)]
+#[derive(Clone, Copy)]
 pub struct Short(pub Word);
 
 impl fmt::Display for Sign {

@@ -6,7 +6,7 @@ use crate::word::{Sign, Word};
 use std::marker::Model;
 
 /// A field (L:R) of a word, 0 <= L <= R <= 5 (1.3.1).
-#[derive(Clone, Copy, PartialEq, Eq)]
+#[derive(Clone, Copy)]
 pub struct Field {
     left: u8,
     right: u8,

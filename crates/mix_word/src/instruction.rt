@@ -10,7 +10,7 @@ use crate::word::{Parts, Sign, Word};
 use std::fmt;
 
 /// The number of a word, in decimal (1.3.1): that of -0 is `-0`.
-#[derive(Clone, Copy, PartialEq, Eq)]
+#[derive(Clone, Copy)]
 pub struct Number(pub Word);
 
 impl fmt::Display for Number {
@@ -41,7 +41,7 @@ impl fmt::Display for Signed {
 
 /// The F of an instruction as it is written after the address (1.3.2): nothing where it is the normal one of the operation, a
 /// number, or a field.
-#[derive(Clone, Copy, PartialEq, Eq)]
+#[derive(Clone, Copy)]
 pub(crate) enum FPart {
     Normal,
     Number(u8),
@@ -165,7 +165,7 @@ impl fmt::Display for AfterName {
 
 /// A word as a line of MIXAL gives it, from the operation on (1.3.2): `LDA 2000,2(0:3)`, or `CON` and its number where it is no
 /// instruction of MIX.
-#[derive(Clone, Copy, PartialEq, Eq)]
+#[derive(Clone, Copy)]
 pub struct Instruction(pub Word);
 
 impl fmt::Display for Instruction {

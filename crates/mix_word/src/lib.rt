@@ -17,8 +17,6 @@ mod place;
 mod register;
 mod rows;
 mod shifting;
-#[cfg(test)]
-mod tests;
 mod uses;
 mod word;
 

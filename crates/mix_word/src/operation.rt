@@ -10,7 +10,7 @@ use crate::register::DataReg;
 use crate::rows::{Row, rows};
 
 /// A shift (1.3.1): of rA alone, of rA and rX, or of both circularly, to the left or to the right.
-#[derive(Clone, Copy, PartialEq, Eq)]
+#[derive(Clone, Copy)]
 pub enum ShiftKind {
     Sla,
     Sra,
@@ -21,7 +21,7 @@ pub enum ShiftKind {
 }
 
 /// A jump that looks at no register (1.3.1): always, by the overflow toggle, or by the comparison indicator.
-#[derive(Clone, Copy, PartialEq, Eq)]
+#[derive(Clone, Copy)]
 pub enum JumpKind {
     Jmp,
     Jsj,
@@ -36,7 +36,7 @@ pub enum JumpKind {
 }
 
 /// What a jump asks of the number in a register (1.3.1).
-#[derive(Clone, Copy, PartialEq, Eq)]
+#[derive(Clone, Copy)]
 pub enum Condition {
     Negative,
     Zero,
@@ -47,7 +47,7 @@ pub enum Condition {
 }
 
 /// An operation of MIX (1.3.1), without those of the floating-point attachment.
-#[derive(Clone, Copy, PartialEq, Eq)]
+#[derive(Clone, Copy)]
 pub enum Operation {
     Nop,
     Add,

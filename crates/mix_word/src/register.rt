@@ -21,7 +21,7 @@ pub enum Reg {
 
 /// A register that operations load, store and compare: any but rJ, in the order of the operation codes (1.3.1).
 #[rattlefmt::skip]
-#[derive(Clone, Copy, PartialEq, Eq)]
+#[derive(Clone, Copy)]
 pub enum DataReg { A, I1, I2, I3, I4, I5, I6, X }
 
 impl Reg {

@@ -5,7 +5,7 @@ ghost use Rattle.mix_word.specs.Uses.{uses_of, needs};
 use crate::operation::Operation;
 
 /// Which parts of its instruction an operation uses (1.3.1).
-#[derive(Clone, Copy, PartialEq, Eq)]
+#[derive(Clone, Copy)]
 pub enum Uses {
     /// neither M nor F
     Nothing,
@@ -24,7 +24,7 @@ pub enum Uses {
 }
 
 /// What an operation does with the unit F (1.3.1): it looks whether the unit is busy, or it is IOC, IN or OUT.
-#[derive(Clone, Copy, PartialEq, Eq)]
+#[derive(Clone, Copy)]
 pub enum UnitUse {
     Looks,
     Controls,

@@ -64,7 +64,7 @@ impl Model for Word {
 }
 
 /// An instruction word in its parts (1.3.1): the sign, bytes 1 and 2 below 4096, and bytes 3, 4 and 5, each below 64.
-#[derive(Clone, Copy, PartialEq, Eq)]
+#[derive(Clone, Copy)]
 pub struct Parts {
     pub sign: Sign,
     pub address: u16,

@@ -20,7 +20,7 @@ use mix_word::Word;
 
 /// The A-part of an address (1.3.2): a value; a future reference to a symbol that is not defined yet, or to dF by its
 /// digit d; or a literal, as the W-value between its equals signs, which is a slice of the text.
-#[derive(Debug, Drop)]
+#[derive(Drop)]
 pub enum APart<'a> {
     Value(Word),
     Name(Symbol),
@@ -29,7 +29,7 @@ pub enum APart<'a> {
 }
 
 /// What an ADDRESS says (1.3.2): the A-part, the index, 0 to 6, and F, 0 to 63.
-#[derive(Debug, Drop)]
+#[derive(Drop)]
 pub struct Operand<'a> {
     pub a: APart<'a>,
     pub index: u8,

@@ -7,7 +7,7 @@ use crate::local::{Direction, Local};
 use crate::symbol::Symbol;
 
 /// What a line defines (1.3.2): an ordinary symbol, or the local symbol dH by its digit d, 0 to 9.
-#[derive(Debug, PartialEq, Eq, Drop)]
+#[derive(Drop)]
 pub enum Label {
     Name(Symbol),
     Local(u8),

@@ -15,8 +15,6 @@ mod op;
 mod operator;
 mod part;
 mod symbol;
-#[cfg(test)]
-mod tests;
 mod w_values;
 mod words;
 

@@ -15,7 +15,7 @@ use mix_lines::is_comment;
 use mix_word::{Operation, code_of};
 
 /// What a line says (1.3.2): nothing, or LOC, OP and ADDRESS. ADDRESS is a slice of the line, and empty after ALF.
-#[derive(Debug, Drop)]
+#[derive(Drop)]
 pub enum Line<'a> {
     Remark,
     Code {

@@ -7,7 +7,7 @@ use mix_word::{MAX_LETTERS, Operation, Uses, Word, long_name_law, named};
 
 /// What a line does (1.3.2): a symbolic operation of MIX, by its code C and the F that it has where none is written, both
 /// 0 to 63; or a pseudo-operation, ALF with the word of its five characters.
-#[derive(Clone, Copy, Debug, PartialEq, Eq)]
+#[derive(Clone, Copy)]
 pub enum Op {
     Machine { code: u8, f: u8 },
     Equ,

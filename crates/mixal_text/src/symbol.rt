@@ -18,7 +18,7 @@ pub(crate) const MAX_CHARACTERS: usize = 10;
 
 /// An ordinary symbol (1.3.2), seen as its name in capitals: one to ten letters and digits, at least one of them a
 /// letter, and no local symbol such as `2H`.
-#[derive(Debug, Drop)]
+#[derive(Drop)]
 pub struct Symbol {
     characters: ArrayVec<u8, MAX_CHARACTERS>,
 }
