@@ -33,6 +33,8 @@ def endless(program, count):
     with open("/dev/zero", "rb") as zero:
         answer = subprocess.run([program], stdin=zero, capture_output=True, timeout=SECONDS)
     count.same("/dev/zero itself", (answer.stdout, answer.stderr, answer.returncode), T6)
+    if takes_words(program):
+        endless_files(program, count)
     with folder() as place:
         name = os.path.join(place, "long")
         with open(name, "wb") as file:
@@ -42,6 +44,21 @@ def endless(program, count):
             taken = os.lseek(file.fileno(), 0, os.SEEK_CUR)
         count.same("ten times the limit", (answer.stdout, answer.stderr, answer.returncode), T6)
         count.same("bytes that were taken of it", taken, BUNDLE + 1)
+
+
+def endless_files(program, count):
+    """Files that never end, of blank lines: a source, a script, cards."""
+    with folder() as place:
+        source = os.path.join(place, "source")
+        with open(source, "wb") as file:
+            file.write(b" END 0")
+        for words, wanted in [(["list", "/dev/stdin"], (b"line 1: A16 source too long\n", b"", 1)), (["debug", source, "/dev/stdin"], T6),
+                              (["run", source, "--cards", "/dev/stdin"], refused_deck(1, b"K9 deck too long"))]:
+            feeder = subprocess.Popen(["yes", ""], stdout=subprocess.PIPE, stderr=subprocess.DEVNULL)
+            answer = subprocess.run([program, *words], stdin=feeder.stdout, capture_output=True, timeout=SECONDS)
+            feeder.stdout.close()
+            feeder.wait(SECONDS)
+            count.same("%s of blank lines without an end" % words[0], (answer.stdout, answer.stderr, answer.returncode), wanted)
 
 
 def sizes():
@@ -149,6 +166,16 @@ def written_units():
         (b"ran 2000 to 0000 clock 2000: fault M13 unit full\nunit 18 place 0 blocks 0 output 1000\n" + b"> %PAGE\n" * 1000, b"", 3)
 
 
+def refused_decks():
+    """Each fault of a deck, at a line of its own."""
+    tape, word = lines("%UNIT 0"), lines("+0000000000")
+    for line, fault, before, deck in [
+            (1, b"K1 bad header", 0, b"X"), (2, b"K2 unit given twice", 0, tape + tape), (9, b"K3 line too long", 7, lines("%UNIT 16", "*".rjust(81))),
+            (10, b"K4 no MIX character", 8, lines("%UNIT 16", "?")), (99, b"K5 bad word", 97, tape + b"X"), (100, b"K6 part of a block", 97, tape + word),
+            (4096, b"K7 unit takes no input", 4095, lines("%UNIT 17")), (20001, b"K8 too many blocks", 18999, lines("%UNIT 16") + b"\n" * 1001)]:
+        yield fault.decode(), bundle(END, b"", b"\n" * before + deck), refused_deck(line, fault)
+
+
 def by_files(place):
     """The same of files that the command line names: words, what is wanted. A part at its limit is read, and one byte over it is refused."""
     source, script, deck, zero = (os.path.join(place, name) for name in ("source", "script", "deck", "long"))
@@ -182,7 +209,7 @@ def rows(program, workers, quick=False):
                 count.same(" ".join(words), runner.run(b"", words), wanted)
     with folder() as place:
         runner = Runner(program, place)
-        for part in (sizes, counts, full_units, written_units):
+        for part in (sizes, counts, refused_decks, full_units, written_units):
             for name, text, wanted in part():
                 found = runner.run(text)
                 count.row(name, found == wanted, "found %s, and not %s" % (shown(found), shown(wanted)))

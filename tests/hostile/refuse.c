@@ -1,8 +1,10 @@
 /* In front of the C library's: the allocation of the number REFUSED_ALLOCATION is refused, REFUSED_COUNT of them in all (1), and the file
-   REFUSED_TO is then there. The bytes of each that is asked for are written to the file ASKED_TO, a line each; each read of standard input and each
-   write of standard output to the file CALLED_TO, with what it gave. */
+   REFUSED_TO is then there. The bytes of each that is asked for are written to the file ASKED_TO, a line each; each read and each write of standard
+   output to the file CALLED_TO, with what it gave. A read gives READ_MOST bytes at most, and the one of the number READ_FAILS fails; a write of
+   standard output takes WRITE_MOST, and the one of the number WRITE_FAILS fails. */
 #define _GNU_SOURCE
 #include <dlfcn.h>
+#include <errno.h>
 #include <fcntl.h>
 #include <stdio.h>
 #include <stdlib.h>
@@ -72,14 +74,38 @@ static void called(const char *what, ssize_t gave) {
     if (file >= 0 && ((Write)dlsym(RTLD_NEXT, "write"))(file, line, snprintf(line, sizeof line, "%s %zd\n", what, gave)) < 0) abort();
 }
 
+/* A number from the environment, or another where it is not given. */
+static long given(const char *name, long other) {
+    const char *number = getenv(name);
+    return number ? atol(number) : other;
+}
+
+/* Whether a call of this number fails: errno says so. */
+static int fails(const char *name, long number) {
+    if (number != given(name, 0)) return 0;
+    errno = EIO;
+    return 1;
+}
+
+static size_t at_most(const char *name, size_t size) {
+    size_t most = given(name, size);
+    return most < size ? most : size;
+}
+
 ssize_t read(int from, void *to, size_t size) {
-    ssize_t gave = ((ssize_t (*)(int, void *, size_t))dlsym(RTLD_NEXT, "read"))(from, to, size);
-    if (from == 0) called("read", gave);
+    static long reads = 0;
+    ssize_t gave = -1;
+    if (!fails("READ_FAILS", ++reads))
+        gave = ((ssize_t (*)(int, void *, size_t))dlsym(RTLD_NEXT, "read"))(from, to, at_most("READ_MOST", size));
+    called("read", gave);
     return gave;
 }
 
 ssize_t write(int to, const void *from, size_t size) {
-    ssize_t gave = ((Write)dlsym(RTLD_NEXT, "write"))(to, from, size);
-    if (to == 1) called("write", gave);
+    static long writes = 0;
+    if (to != 1) return ((Write)dlsym(RTLD_NEXT, "write"))(to, from, size);
+    ssize_t gave = -1;
+    if (!fails("WRITE_FAILS", ++writes)) gave = ((Write)dlsym(RTLD_NEXT, "write"))(to, from, at_most("WRITE_MOST", size));
+    called("write", gave);
     return gave;
 }

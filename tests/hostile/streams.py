@@ -3,6 +3,7 @@ written is a beginning of what is due."""
 
 import os
 import pty
+import shlex
 import shutil
 import subprocess
 import threading
@@ -104,6 +105,48 @@ def by_files(program, place, count):
         count.same(command, shell('"$0" ' + command, program, source, [script, gone]), wanted)
 
 
+READS = b" IN 100(16)\n END 0\n"
+STEPS = b" HLT\n END 0\n%SCRIPT\nstep\n"
+NO_END = b"line 1: A13 no END\n"
+# The files of the plans below; the folder is one that can be opened and not be read.
+FILES = {"read.mix": READS, "refused.mix": b"", "step.txt": b"step\n", "card.deck": b"%UNIT 16\nA CARD\n"}
+# Words, standard input, and then the status, what is written and what is told of a fault of the tool.
+PLANS = [
+    ("", STEPS, 0, b"ran 1 to 0001 clock 10: halt\n", b""),
+    ("dap", b"Content-Length: 2\r\n", 2, b"", b"T7 input cut"),
+    ("list read.mix", b"", 0, lines("0000  + 01 36 00 16 36      1   IN 100(16)", "0000                        2   END 0", "symbols 0"), b""),
+    ("list refused.mix", b"", 1, NO_END, b""),
+    ("debug read.mix step.txt --devices card.deck", b"", 0, b"ran 1 to 0001 clock 1: limit\n", b""),
+    ("debug read.mix step.txt", b"", 3, b"ran 0 to 0000 clock 0: fault M11 no block\n", b""),
+    ("debug refused.mix step.txt", b"", 1, NO_END, b""),
+    ("debug read.mix step.txt --devices read.mix", b"", 2, b"", b"T5 deck refused at line 1: K1 bad header"),
+    ("list none", b"", 2, b"", b"T4 not opened: none"),
+    ("list ''", b"", 2, b"", b"T4 not opened: "),
+    ("list folder", b"", 2, b"", b"T2 read failed"),
+    # the first that cannot be opened, and nothing is read: not even a source that is refused
+    ("debug no_a no_b --devices no_c", b"", 2, b"", b"T4 not opened: no_a"),
+    ("debug refused.mix no_b --devices no_c", b"", 2, b"", b"T4 not opened: no_c"),
+    ("debug refused.mix step.txt --devices no_c", b"", 2, b"", b"T4 not opened: no_c"),
+    ("debug refused.mix no_b --devices card.deck", b"", 2, b"", b"T4 not opened: no_b"),
+    ("debug refused.mix no_b", b"", 2, b"", b"T4 not opened: no_b"),
+    ("debug read.mix folder", b"", 2, b"", b"T2 read failed")]
+
+
+def plans(program, place, count):
+    """What each plan comes to, and the same where what is told cannot be written."""
+    os.mkdir(os.path.join(place, "folder"))
+    for name, text in FILES.items():
+        with open(os.path.join(place, name), "wb") as file:
+            file.write(text)
+    for words, text, status, output, told in PLANS:
+        for errors, more in ((subprocess.PIPE, told and b"mixrev: %s\n" % told), (open("/dev/full", "wb"), None)):
+            ran = subprocess.run([program, *shlex.split(words)], input=text, stdout=subprocess.PIPE, stderr=errors, cwd=place, timeout=SECONDS)
+            count.same("%r, %s" % (words, "told" if errors == subprocess.PIPE else "untold"), (ran.returncode, ran.stdout, ran.stderr), (status, output, more))
+    # the program's own name is no subcommand
+    ran = subprocess.run(["list"], executable=program, input=STEPS, capture_output=True, timeout=SECONDS)
+    count.same("a program by the name of list", (ran.stdout, ran.stderr, ran.returncode), (b"ran 1 to 0001 clock 10: halt\n", b"", 0))
+
+
 def rows(program, workers, quick=False):
     count = Count()
     with folder() as place:
@@ -134,6 +177,7 @@ def rows(program, workers, quick=False):
 
         if takes_words(program):
             by_files(program, place, count)
+            plans(program, place, count)
         if shutil.which("cc"):
             calls(program, place, count)
         for text in (b" END 0\n", TEXT) if os.path.exists("/dev/ptmx") else ():

@@ -1,11 +1,12 @@
 // The engine with little memory, page/out/small.wasm: where memory is refused, the call says so, and the next call is right. Runs of more and more steps
-// are tried until memory is refused for ten of them. The line counts the calls.
+// are tried until memory is refused for ten of them. Before that the room of an answer, byte by byte. The line counts the calls.
 
 import assert from "node:assert/strict";
 import { readFileSync } from "node:fs";
 import { Engine, EngineFault } from "../../page/engine.js";
 
-const engine = await Engine.load(readFileSync(process.argv[2] || new URL("../../page/out/small.wasm", import.meta.url)));
+const module = readFileSync(process.argv[2] || new URL("../../page/out/small.wasm", import.meta.url));
+const engine = await Engine.load(module);
 const writer = new TextEncoder();
 const reader = new TextDecoder();
 const SOURCE = " ENT1 1\nL STA 100,1\n INC1 1\n CMP1 =3000=\n JNE L\n ENT1 1\n JMP L\n END 0\n"; // no end
@@ -22,6 +23,40 @@ function talk(requests) {
   const { status, bytes, errors } = engine.talk(writer.encode(frames.join("")));
   return { status, sent: reader.decode(bytes), told: reader.decode(errors) };
 }
+
+// Talks without the glue, in a room of so many bytes, each 7 before: the status, the two lengths, and the room after it.
+const { exports } = (await WebAssembly.instantiate(module)).instance;
+const bytesAt = (place, size) => new Uint8Array(exports.memory.buffer, Number(place), size);
+
+function inRoom(text, size) {
+  const frames = writer.encode(text);
+  const [input, out, lengths] = [frames.length, size, 16].map((needed) => exports.room(BigInt(needed)));
+  bytesAt(input, frames.length).set(frames);
+  bytesAt(out, size).fill(7);
+  calls += 1;
+  const status = Number(exports.talk(input, BigInt(frames.length), out, BigInt(size), lengths, lengths + 8n));
+  const [count, told] = [...new BigUint64Array(exports.memory.buffer, Number(lengths), 2)].map(Number);
+  return { status, count, told, room: bytesAt(out, size).slice() };
+}
+
+// What a client sends, the status, and what is told on the error output, which stands behind what is sent; the rest of the room stays.
+const DISCONNECT = 'Content-Length: 51\r\n\r\n{"seq":1,"type":"request","command":"disconnect"}  ';
+for (const [text, status, error] of [
+  ["", 0, ""],
+  [DISCONNECT, 0, ""],
+  ["Content-Length: 3\r\n\r\n{}", 2, "mixrev: T7 input cut\n"],
+  ["Content-Length: 999999999\r\n\r\n", 2, "mixrev: T6 input too long\n"],
+]) {
+  const given = inRoom(text, 512);
+  const told = reader.decode(given.room);
+  assert.deepEqual([given.status, given.told], [status, error.length], text);
+  assert.ok(given.count === 0 || told.startsWith("Content-Length: "), text);
+  assert.ok(told.startsWith(error, given.count), text);
+  assert.ok(given.room.subarray(given.count + given.told).every((byte) => byte === 7), text);
+}
+// A room that is too small stays, and the length that it needs is told.
+const large = inRoom(DISCONNECT, 512);
+assert.deepEqual(inRoom(DISCONNECT, 16), { status: 3, count: large.count, told: 0, room: new Uint8Array(16).fill(7) });
 
 // A short talk has the same answer as before, whatever was refused before it.
 const short = [...opening, repl("run 5"), ["stackTrace", { threadId: 1 }], repl("show regs")];

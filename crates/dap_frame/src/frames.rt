@@ -15,7 +15,7 @@ pub const MAX_HEADER: usize = 4_096;
 pub const MAX_BODY: usize = 134_217_728;
 
 /// What stands at the beginning of a text.
-#[derive(Clone, Copy, Debug, PartialEq, Eq)]
+#[derive(Clone, Copy)]
 pub enum Next<'t> {
     /// A whole frame: its body, and what follows it.
     Body(&'t [u8], &'t [u8]),

@@ -4,6 +4,3 @@
 mod frames;
 
 pub use frames::{MAX_BODY, MAX_HEADER, Next, frame, next_frame};
-
-#[cfg(test)]
-mod tests;

@@ -6,7 +6,7 @@ ghost use Rattle.dap_message.specs.Command.{all_commands, command_name, command_
 
 /// What a request asks for: its `command` in the Debug Adapter Protocol, of those that a machine that runs both ways has, and views of a machine of
 /// MIX beside it.
-#[derive(Clone, Copy, Debug, PartialEq, Eq)]
+#[derive(Clone, Copy)]
 pub enum Command {
     Initialize,
     Launch,

@@ -10,6 +10,3 @@ pub use command::Command;
 pub use fields::Fields;
 pub use outbox::Outbox;
 pub use request::{MessageFault, Request};
-
-#[cfg(test)]
-mod tests;

@@ -11,7 +11,7 @@ use std::alloc::Global;
 use std::fmt;
 
 /// Why a body is no request.
-#[derive(Clone, Copy, Debug, PartialEq, Eq)]
+#[derive(Clone, Copy)]
 pub enum MessageFault {
     /// It is no JSON, no UTF-8, or nested deeper than 127.
     NotJson,

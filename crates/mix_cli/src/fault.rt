@@ -11,7 +11,7 @@ use clap::error::ErrorKind;
 use std::alloc::AllocError;
 
 /// Why a command line gives no plan: its words are a mistake or ask for help, or memory is refused.
-#[derive(Debug, Drop)]
+#[derive(Drop)]
 pub enum LineFault {
     /// The text that help shows, or that names the mistake.
     Line(Error),

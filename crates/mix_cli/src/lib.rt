@@ -7,6 +7,3 @@ mod words;
 
 pub use fault::{FAILED, LineFault, line_status};
 pub use words::{Plan, Printing, read_words};
-
-#[cfg(test)]
-mod tests;

@@ -17,7 +17,7 @@ use std::alloc::{AllocError, Global};
 /// What the program is to do: a bundle from standard input; the listing of a source; a session of a source, with a deck where one is named, by a
 /// script or, where none is named, a talk; a run of a source, with cards and a deck where they are named, of so many steps at most, 1 to 10^18;
 /// or to be a debug adapter. The texts are names of files.
-#[derive(Debug, Drop)]
+#[derive(Drop)]
 pub enum Plan {
     Bundle,
     List(String),
@@ -37,7 +37,7 @@ pub enum Plan {
 }
 
 /// Of which units a run writes the rows (1.3.1): the card punch 17, the printer 18, the typewriter 19, the paper tape 20.
-#[derive(Clone, Copy, Debug, PartialEq, Eq)]
+#[derive(Clone, Copy)]
 pub struct Printing {
     pub punch: bool,
     pub printer: bool,

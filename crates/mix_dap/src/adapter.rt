@@ -29,7 +29,7 @@ use serde_json::Value;
 use std::alloc::Global;
 
 /// Whether the client has more to ask.
-#[derive(Clone, Copy, Debug, PartialEq, Eq)]
+#[derive(Clone, Copy)]
 pub enum Flow {
     /// More requests are waited for.
     On,

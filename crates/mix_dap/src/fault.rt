@@ -14,7 +14,7 @@ use std::fmt;
 
 /// Why a request is refused: a refusal of the session, a fault of the source or the deck, a file that can't be read, or Q1 to Q6 of the
 /// adapter.
-#[derive(Clone, Copy, Debug, PartialEq, Eq)]
+#[derive(Clone, Copy)]
 pub enum Fault {
     /// C1 to C6.
     Session(Refusal),

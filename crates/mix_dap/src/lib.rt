@@ -27,6 +27,3 @@ pub use fault::Fault;
 pub use launch::{FileLibrary, Library, NoLibrary, Texts};
 pub use stream::{serve, serve_from};
 pub use waiting::{Asked, Waiting};
-
-#[cfg(test)]
-mod tests;

@@ -16,7 +16,7 @@ use std::alloc::Global;
 pub(crate) const PIECE: u32 = 100_000;
 
 /// Why a run stops.
-#[derive(Clone, Copy, Debug, PartialEq, Eq)]
+#[derive(Clone, Copy)]
 pub(crate) enum Stop {
     /// The last step was a HLT.
     Halt,

@@ -21,7 +21,7 @@ use std::rt::Files;
 const PIECES: u32 = 10;
 
 /// What ends a talk before the client is done.
-#[derive(Clone, Copy, Debug, PartialEq, Eq)]
+#[derive(Clone, Copy)]
 enum Broken {
     /// T1.
     Memory,
@@ -156,7 +156,7 @@ fn talk<L: Library, R: Read, W: Out>(
             }
         };
         send(alloc, &mut outbox, out)?;
-        if flow == Flow::Over {
+        if matches!(flow, Flow::Over) {
             return Ok(());
         }
     }
@@ -204,7 +204,7 @@ fn debug<R: Read, W: Out>(
         run_on(alloc, &mut adapter, outbox, out)?;
         match ear.hear(input)? {
             Heard::Request(request) => {
-                if adapter.receive(&request, outbox)? == Flow::Over {
+                if matches!(adapter.receive(&request, outbox)?, Flow::Over) {
                     return Ok(Flow::Over);
                 }
             }

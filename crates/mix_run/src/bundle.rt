@@ -47,6 +47,3 @@ fn split_at_marker<'a>(text: &'a [u8], marker: &[u8]) -> (&'a [u8], &'a [u8])
     }
     (text, rest)
 }
-
-#[cfg(test)]
-mod tests;

@@ -20,6 +20,3 @@ pub use print::options::{PrintOptions, UnitSet};
 pub use print::{PrintAnswer, RanTo, RunEnd, run_printed};
 pub use run::{run_bundle, run_debug};
 pub use talk::{Talker, run_talk};
-
-#[cfg(test)]
-mod tests;

@@ -58,6 +58,3 @@ pub fn run_list<R: In, W: Out>(alloc: Global, source: &mut R, out: &mut W) -> Re
         Ok(program) => list(alloc, &program, out),
     }
 }
-
-#[cfg(test)]
-mod tests;

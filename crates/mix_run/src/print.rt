@@ -29,7 +29,7 @@ pub use steps::RunEnd;
 
 /// Where a run came to: why it ended, the location and the clock in u then, and the line of the source that put the last word into the cell at
 /// that location, if one did. After a fault that is the line of the instruction at fault.
-#[derive(Clone, Copy, Debug, PartialEq, Eq)]
+#[derive(Clone, Copy)]
 pub struct RanTo {
     pub end: RunEnd,
     pub loc: u16,
@@ -38,7 +38,7 @@ pub struct RanTo {
 }
 
 /// What is answered of a run: where it came to, or the first fault of its source.
-#[derive(Clone, Copy, Debug, PartialEq, Eq)]
+#[derive(Clone, Copy)]
 pub enum PrintAnswer {
     Ran(RanTo),
     Refused(AsmFault),
@@ -214,6 +214,3 @@ pub fn run_printed<S: In, D: In, C: In, W: Out, E: Out>(
         Ok(program) => print_program(alloc, &program, deck, cards, options, out),
     }
 }
-
-#[cfg(test)]
-mod tests;

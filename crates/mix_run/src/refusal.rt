@@ -10,7 +10,7 @@ use mixal_text::{TextFault, read_line};
 use std::alloc::{AllocError, Global};
 
 /// The part of a line that a fault is about: what stands before its first blank, the operation, the address, both, or none of them.
-#[derive(Clone, Copy, Debug, PartialEq, Eq)]
+#[derive(Clone, Copy)]
 enum Part {
     Label,
     Operation,
@@ -58,7 +58,7 @@ fn report(alloc: Global, name: &str, source: &[u8], fault: &AsmFault) -> Result<
     let head = format!(in alloc; "{name}:{}: {}\n", fault.line, fault.kind)?;
     let mut text = head.into_bytes();
     match line_of(source, fault.line) {
-        Some(line) if part_of(line, fault.kind) != Part::Nothing => {
+        Some(line) if !matches!(part_of(line, fault.kind), Part::Nothing) => {
             text.extend_from_slice(line)?;
             text.push(b'\n')?;
             add_mark(&mut text, line, marked(line, fault.kind))?;
@@ -204,6 +204,3 @@ fn add_mark(text: &mut Vec<u8>, line: &[u8], span: Span) -> Result<(), AllocErro
     text.push(b'\n')?;
     Ok(())
 }
-
-#[cfg(test)]
-mod tests;

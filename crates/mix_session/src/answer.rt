@@ -16,7 +16,7 @@ use undo_core::{Journal, Memory};
 
 /// What became of a request: nothing was asked; so many steps were done, and why no more, told one by one or not; so many changes were taken back
 /// or done again, of which the last one met a condition or not; a change was made; something is to be shown; or it was refused.
-#[derive(Clone, Copy, Debug, PartialEq, Eq)]
+#[derive(Clone, Copy)]
 pub enum Answer {
     Nothing,
     Ran(u32, End),

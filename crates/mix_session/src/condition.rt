@@ -6,7 +6,7 @@ ghost use Rattle.mix_session.specs.Condition.{watched, is_met};
 use mix_machine::{Mark, Part, Place};
 
 /// What a command waits for: a change that alters a part of the machine, or the location of a cell.
-#[derive(Clone, Copy, Debug, PartialEq, Eq)]
+#[derive(Clone, Copy)]
 pub enum Condition {
     Alters(Part),
     At(Place),

@@ -9,7 +9,7 @@ use std::fmt;
 mod wrapped;
 
 /// What ends a whole call of the tool: T1, T2, T3, T5 and T6, in the order of their numbers.
-#[derive(Clone, Copy, Debug, PartialEq, Eq)]
+#[derive(Clone, Copy)]
 pub enum ToolFault {
     Memory,
     Read,
@@ -59,7 +59,7 @@ impl fmt::Display for ToolFault {
 }
 
 /// Why a command is refused: C1 to C6, in the order of their numbers.
-#[derive(Clone, Copy, Debug, PartialEq, Eq)]
+#[derive(Clone, Copy)]
 pub enum Refusal {
     NoSuchCommand,
     BadArgument,
@@ -114,6 +114,3 @@ impl fmt::Display for Refusal {
         }
     }
 }
-
-#[cfg(test)]
-mod tests;

@@ -26,6 +26,3 @@ pub use reply::{End, Told};
 pub use request::{Request, Topic};
 pub use session::Session;
 pub use show::counts::{Tallies, Tally};
-
-#[cfg(test)]
-mod tests;

@@ -9,7 +9,7 @@ use std::alloc::{AllocError, Global};
 use std::fmt;
 
 /// The outcome of a command.
-#[derive(Clone, Copy, Debug, PartialEq, Eq)]
+#[derive(Clone, Copy)]
 pub enum Told {
     Accepted,
     Refused,
@@ -28,7 +28,7 @@ impl Told {
 }
 
 /// Why `step` or `run` did no more steps.
-#[derive(Clone, Copy, Debug, PartialEq, Eq)]
+#[derive(Clone, Copy)]
 pub enum End {
     Halt,
     Until,
@@ -151,6 +151,3 @@ pub(crate) fn ok_line(alloc: Global) -> Result<String, AllocError>
     let text = format!(in alloc; "ok\n")?;
     Ok(text)
 }
-
-#[cfg(test)]
-mod tests;

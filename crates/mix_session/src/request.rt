@@ -16,7 +16,7 @@ use mixal_asm::Program;
 use mixal_text::{Names, w_value, whole_expression};
 
 /// A request to a session: what one line of a script asks for.
-#[derive(Clone, Copy, Debug, PartialEq, Eq)]
+#[derive(Clone, Copy)]
 pub enum Request {
     Nothing,
     Step(u32),
@@ -37,7 +37,7 @@ pub enum Request {
 
 /// What `show` shows. `Cells`, `Code` and `CellValues` have the first and the last cell, `Last` the
 /// number of changes, `Diff` the number of changes after which the other state is taken.
-#[derive(Clone, Copy, Debug, PartialEq, Eq)]
+#[derive(Clone, Copy)]
 pub enum Topic {
     Registers,
     Cells(Place, Place),

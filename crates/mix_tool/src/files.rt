@@ -221,6 +221,3 @@ pub fn run_plan<F: Files, R: In, C: Read, W: Out, E: Out>(
         ),
     }
 }
-
-#[cfg(test)]
-mod tests;

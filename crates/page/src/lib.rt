@@ -42,6 +42,3 @@ pub extern "C" fn talk(
         NO_ROOM
     }
 }
-
-#[cfg(test)]
-mod tests;

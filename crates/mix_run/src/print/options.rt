@@ -3,7 +3,7 @@ ghost use Rattle.std.specs.Prelude.{◌≡◌, true, false};
 
 /// The units whose rows are printed (1.3.1): of the card punch, unit 17, the printer, 18, the typewriter, 19, and the paper tape, 20, those that
 /// are true.
-#[derive(Clone, Copy, Debug, PartialEq, Eq)]
+#[derive(Clone, Copy)]
 pub struct UnitSet {
     pub card_punch: bool,
     pub printer: bool,
@@ -30,7 +30,7 @@ impl UnitSet {
 }
 
 /// What is asked of a run.
-#[derive(Clone, Copy, Debug, PartialEq, Eq)]
+#[derive(Clone, Copy)]
 pub struct PrintOptions {
     /// The most steps that are done.
     pub steps: u64,

@@ -16,7 +16,7 @@ use std::alloc::Global;
 use undo_core::{Kept, Refused, Undo};
 
 /// Why a run ended: the last step was a halt, one more step is a fault, or as many steps were done as were allowed.
-#[derive(Clone, Copy, Debug, PartialEq, Eq)]
+#[derive(Clone, Copy)]
 pub enum RunEnd {
     Halted,
     Faulted(MixFault),

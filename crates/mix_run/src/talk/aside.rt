@@ -10,7 +10,7 @@ use mix_stream::{Out, write_all};
 
 /// Who talks: another program or a file, whose lines are all commands; or a person at a terminal, who is prompted, may ask for help by a line
 /// that begins with the word `help`, and ends the talk by the line `quit`.
-#[derive(Clone, Copy, Debug, PartialEq, Eq)]
+#[derive(Clone, Copy)]
 pub enum Talker {
     Program,
     Person,
@@ -22,7 +22,7 @@ const GREETING: &str =
 const PROMPT: &str = "(mixrev) ";
 
 /// What a line of a talk is.
-#[derive(Clone, Copy, Debug, PartialEq, Eq)]
+#[derive(Clone, Copy)]
 pub(crate) enum Line {
     Command,
     Help,

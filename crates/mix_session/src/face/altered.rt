@@ -11,7 +11,7 @@ use std::alloc::{AllocError, Global};
 use undo_core::Memory;
 
 /// A part of the machine, of those that an item of `show diff` tells of.
-#[derive(Clone, Copy, Debug, PartialEq, Eq)]
+#[derive(Clone, Copy)]
 pub enum Altered {
     Register(Reg),
     Over,

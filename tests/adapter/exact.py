@@ -1,0 +1,199 @@
+#!/usr/bin/env python3
+"""The adapter to the byte: tests/adapter/exact.py PROGRAM [WORD..]
+
+What a client sends as bytes, the messages that come back as they stand there, and where each request leads. Every value that is wanted is worked out by
+hand from docs/DAP.md and docs/MACHINE.md. The last line counts."""
+import json
+import os
+import subprocess
+import sys
+
+sys.dont_write_bytecode = True
+sys.path.insert(0, os.path.dirname(os.path.abspath(__file__)))
+
+from client import Count
+from frames import bodies, frame, request
+
+SOURCE = " ENTA 5\n INCA 7\n STA 100\n HLT\n END 0\n"
+DISCONNECT = b'Content-Length: 51\r\n\r\n{"seq":1,"type":"request","command":"disconnect"}  '
+CUT = b"mixrev: T7 input cut\n"
+LONG = b"mixrev: T6 input too long\n"
+GOOD = [b"", 0]
+DONE = ("configurationDone", {})
+
+# What a client sends, what it is told on standard error, and the status.
+ENDS = [(b"", b"", 0), (DISCONNECT, b"", 0), (b"hello\r\n\r\nContent-Length: 2\r\n\r\n{}", b"", 0), (b"Content-Length: 3\r\n\r\n{}", CUT, 2),
+        (b"Content-Length: 999999999\r\n\r\n", LONG, 2), (b"Content-Length: 134217729\n\n", LONG, 2), (b"Content-Length: 2\r\n", CUT, 2)]
+
+# A frame, and what follows it: a request that follows the frame is heard, so the body ends where it is to.
+WHOLE = [(b"Content-Length: 2\r\n\r\n{}", b""), (b"Content-Length: 2\r\n\r\n{}", b"Content"), (b"content-length:3\n\nabc", b"d"),
+         (b"Content-Type: x\r\nContent-Length: 0\r\n\r\n", b"rest"), (b"CONTENT-LENGTH: 1\r\nother\r\n\r\na", b"b"),
+         (b"Content-Length: 9\r\nContent-Length: 1\r\n\r\na", b"b"), (b"hello\r\n\r\n", b"rest")]
+
+# Beginnings of a frame: nothing is heard yet, and the input is cut; none at all is its end.
+PARTIAL = [b"", b"Content-Length: 2", b"Content-Length: 2\r\n", b"Content-Length: 2\r\n\r", b"Content-Length: 2\r\n\r\n", b"Content-Length: 2\r\n\r\n{"]
+
+# Bodies that are no request: JSON that is broken off, and an event.
+UNHEARD = [b"{", b'{"seq":1,"type":"event","event":"x"}']
+
+# A request by its name and its arguments, the location after it, and how many changes are done.
+LEADS = [("configurationDone", {}, 0, 0), ("stepBack", {}, 0, 0), ("next", {}, 1, 1), ("stepBack", {}, 0, 0), ("next", {}, 1, 1),
+         ("setBreakpoints", {"breakpoints": [{"line": 3}]}, 1, 1), ("continue", {}, 2, 2), ("continue", {}, 4, 4), ("reverseContinue", {}, 2, 2),
+         ("reverseContinue", {}, 0, 0), ("setVariable", {"variablesReference": 1, "name": "I1", "value": "4096"}, 0, 0),
+         ("setVariable", {"variablesReference": 1, "name": "A", "value": "1"}, 0, 1)]
+
+# Steps of a face, one by one: the location, rA, and how many changes are done and stand ahead. What is refused leaves them.
+STEPS = [("stepBack", {}, 0, 0, (0, 0)), ("next", {}, 1, 5, (1, 0)), ("next", {}, 2, 12, (2, 0)), ("stepBack", {}, 1, 5, (1, 1)), ("next", {}, 2, 12, (2, 0)),
+         ("restart", {}, 0, 0, (0, 2)), ("goto", {"targetId": 3}, 3, 0, (1, 0)),
+         ("setVariable", {"variablesReference": 1, "name": "A", "value": "-7"}, 3, -7, (2, 0)),
+         ("setVariable", {"variablesReference": 1, "name": "I1", "value": "4096"}, 3, -7, (2, 0)),
+         ("evaluate", {"expression": "show changes", "context": "repl"}, 3, -7, (2, 0))]
+
+# What is told of the last four of them: a refusal by the machine, a reply, and the name of a part that can be watched.
+TOLD = ['"message":"C5 refused by the machine: M7 index overflow"', '"result":"changes 2\\n"', '"dataId":"A"']
+
+# How many changes stand ahead after each command of tests/runs/back_and_forth.mix.
+AHEAD = [0, 3, 1, 1, 1, 1, 0, 1, 0, 0, 4, 0, 0, 299999, 0, 300001, 0, 0, 0, 0, 1]
+FORTH = os.path.join(os.path.dirname(os.path.dirname(os.path.abspath(__file__))), "runs", "back_and_forth.mix")
+
+VIEWED = "A EQU 100\n ENTA 5\n INCA 7\n STA A\n HLT\n END 0\n"
+CARDS = "FIRST\n SECOND\n"
+# A request by its name and its arguments, and a part of what answers it.
+VIEWS = [
+    ("mix/program", {}, '"rows":[{"cell":0,"instruction":true,"line":2},{"cell":1,"instruction":true,"line":3},'),
+    ("mix/program", {}, '"start":0,"symbols":[{"name":"A","number":"100","value":"+ 00 00 00 01 36"}]'),
+    ("mix/state", {}, '"ahead":0,"altered":[],"cells":[],"clock":"0","cmp":"E","done":0,"halted":false,"location":0,"over":false'),
+    ("mix/units", {}, '"kind":"card reader","place":0,"unit":16,"unread":["FIRST"," SECOND"]'),
+    ("mix/units", {"unit": 16, "block": 1}, '"block":[{"characters":" SECO","number":'),
+    ("next", {}, '"reason":"step"'), ("next", {}, '"reason":"step"'), ("next", {}, '"reason":"step"'),
+    ("mix/state", {"cells": [[100, 100]]}, '"altered":["loc","clock","cell 100"],"cells":[{"cell":100,"characters":"    K","number":"12",'
+     '"text":"LD4 0(0:0)","word":"+ 00 00 00 00 12"}],"clock":"4"'),
+    ("mix/state", {"nonzero": True}, '"registers":[{"characters":"    K","name":"A","number":"12","word":"+ 00 00 00 00 12"}'),
+    ("mix/counts", {}, '{"cell":2,"count":"1","time":"2"}],"count":"3","time":"4"'),
+    ("mix/change", {"number": 2}, '"items":[{"after":"+ 00 00 00 00 12","before":"+ 00 00 00 00 05","part":"A"}],"location":1,"number":2,"text":"INCA 7","time":"1"'),
+    ("mix/change", {"number": 4}, '"id":306'), ("mix/change", {}, '"id":302'), ("mix/state", {"cells": [[2, 1]]}, '"id":302'),
+    ("mix/state", {"cells": [[0, 4000]]}, '"id":306'), ("mix/units", {"unit": 21}, '"id":306'),
+    # a text where a number is due, a number where a text is, and each as it is to be
+    ("setVariable", {"variablesReference": "1", "name": "A", "value": "1"}, '"id":302'), ("setVariable", {"variablesReference": 1, "name": 1, "value": "1"}, '"id":302'),
+    ("setVariable", {"variablesReference": 1, "name": "A", "value": "1"}, '"success":true')]
+
+# A program that types a row; after its launch and the stop at its entry these are asked for, and of what comes back these messages, each with its number.
+HI = " OUT 3(19)\n HLT\n ORIG 3\n ALF HI\n END 0\n"
+ASKED = [("next", 7), ("fly", 8), ("disconnect", 9)]
+SENT = ['{"command":"next","request_seq":7,"seq":%d,"success":true,"type":"response"}',
+        '{"body":{"error":{"format":"Q1 no such request","id":301,"showUser":true}},"command":"fly","message":"Q1 no such request","request_seq":8,'
+        '"seq":%d,"success":false,"type":"response"}',
+        '{"body":{"category":"stdout","output":"HI\\n"},"event":"output","seq":%d,"type":"event"}']
+
+# A reply with a letter of two bytes, which the length of its frame counts.
+LETTER = " NOP 0 \u00e9!\n END 0\n"
+REPLIED = '{"body":{"result":"         0           0  0000      1   NOP 0 \u00e9!\\n         0           0  total\\n","variablesReference":0},' \
+    '"command":"evaluate","request_seq":3,"seq":%d,"success":true,"type":"response"}'
+
+
+def sent(command, text):
+    """What is sent, what is told on standard error, and the status."""
+    ran = subprocess.run(command, input=text, capture_output=True, timeout=120)
+    return ran.stdout, ran.stderr, ran.returncode
+
+
+def told(*requests):
+    """The frames of requests that are numbered from 1 on."""
+    return b"".join(frame(request(seq, name, **given)) for seq, (name, given) in enumerate(requests, 1))
+
+
+def launch(source, **given):
+    return "launch", {"stopOnEntry": True, "sourceText": source, **given}
+
+
+def texts(command, text):
+    """The messages that come back, and how the talk ended."""
+    output, *ended = sent(command, text)
+    return [body.decode() for body in bodies(output)], ended
+
+
+def ends(command, count):
+    for text, errors, status in ENDS:
+        output, *ended = sent(command, text)
+        count.same(f"{text}: its end", ended, [errors, status])
+        count.row(f"{text}: what is sent", output == b"" or output.startswith(b"Content-Length: "), output)
+
+
+def frames(command, count):
+    for whole, rest in WHOLE:
+        found, ended = texts(command, whole + DISCONNECT)
+        count.same(f"{whole}, and a request behind it", ([json.loads(text).get("command") for text in found], ended), ([None, "disconnect"], GOOD))
+        count.same(f"{whole}, and {rest} behind it", texts(command, whole + rest)[1], [CUT, 2] if rest else GOOD)
+    for partial in PARTIAL:
+        count.same(f"{partial}", sent(command, partial), (b"", CUT, 2) if partial else (b"", *GOOD))
+    for body in UNHEARD:
+        found, ended = texts(command, frame(body))
+        count.same(f"{body} is no request", ([json.loads(text)["event"] for text in found], ended), (["output"], GOOD))
+
+
+def messages(command, count):
+    asked = b"".join(frame(request(seq, name, threadId=1, name="x")) for name, seq in ASKED)
+    found, ended = texts(command, told(launch(HI), DONE) + asked)
+    count.same("a talk ends", ended, GOOD)
+    for wanted in SENT:
+        count.row(wanted, any(text == wanted % number for number, text in enumerate(found, 1)), found)
+    asked = told(launch(LETTER), DONE, ("evaluate", {"expression": "show counts", "context": "repl"}))
+    frames = [frame((REPLIED % number).encode()) for number in range(1, 9)]
+    output = sent(command, asked)[0]
+    count.row("a length in bytes", output.endswith(tuple(frames)), output)
+
+
+def states(command, opening, requests):
+    """The state, as a page is told it, after each of some requests."""
+    found, _ = texts(command, told(*opening, *(each for asked in requests for each in (asked, ("mix/state", {})))))
+    return [message["body"] for message in map(json.loads, found) if message.get("command") == "mix/state"]
+
+
+def leads(command, count):
+    """Where each request leads, once the run that it may begin has stopped."""
+    found = states(command, [launch(SOURCE)], [row[:2] for row in LEADS])
+    count.same("states", len(found), len(LEADS))
+    for (name, given, *wanted), state in zip(LEADS, found):
+        count.same(f"{name} {given}", [state["location"], state["done"]], wanted)
+
+
+def steps(command, count):
+    found = states(command, [launch(SOURCE), DONE], [row[:2] for row in STEPS])
+    count.same("states of steps", len(found), len(STEPS))
+    for (name, given, loc, a, changes), state in zip(STEPS, found):
+        registers = {register["name"]: int(register["number"]) for register in state["registers"]}
+        count.same(f"{name} {given}", (state["location"], registers["A"], (state["done"], state["ahead"])), (loc, a, changes))
+    found, _ = texts(command, told(launch(SOURCE), DONE, *[row[:2] for row in STEPS[6:]], ("dataBreakpointInfo", {"variablesReference": 1, "name": "A"})))
+    for text in TOLD:
+        count.row(f"{text} is told", any(text in message for message in found), found)
+
+
+def ahead(command, count):
+    with open(FORTH) as file:
+        source, script = file.read().split("%SCRIPT\n")
+    found = states(command, [launch(source), DONE], [("evaluate", {"expression": line, "context": "repl"}) for line in script.splitlines()])
+    count.same("what stands ahead", [state["ahead"] for state in found], AHEAD)
+
+
+def views(command, count):
+    """What a page is told: each part stands in a message from the response to its request on, and before the next response."""
+    found, _ = texts(command, told(launch(VIEWED, cardsText=CARDS), *[row[:2] for row in VIEWS]))
+    answers = {}
+    for message in found:
+        at = json.loads(message).get("request_seq") or max(answers, default=0)
+        answers.setdefault(at, []).append(message)
+    for seq, (name, given, part) in enumerate(VIEWS, 2):
+        count.row(f"{name} {given}", any(part in message for message in answers.get(seq, [])), answers.get(seq))
+
+
+def main():
+    command = [os.path.abspath(sys.argv[1]), *sys.argv[2:]]
+    count = Count()
+    for part in (ends, frames, messages, leads, steps, ahead, views):
+        part(command, count)
+    print(f"{count.passed} passed, {count.failed} failed")
+    return 1 if count.failed else 0
+
+
+if __name__ == "__main__":
+    sys.exit(main())

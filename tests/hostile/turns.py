@@ -1,0 +1,159 @@
+"""Each read and each write of a run fails in turn, and streams give and take a few bytes a call.
+
+A small library in front of the C library's lets one call fail, and few bytes through. After a failed read nothing is written, and T2 is told; after a
+failed write a beginning of what is due stands there, and T3 is told; either way no read and no write is called after it. What is due does not depend
+on how many bytes a call gives or takes. Each answer is worked out here, from the rules alone."""
+
+import itertools
+import os
+import shutil
+
+from cuts import GREETED, HELLO
+from memory import FIRST, library
+from running import Count, Runner, bundle, folder, lines
+from streams import T2, T3
+from turned import COPY, COPIED, FAILED_LISTS, FAILED_READS, INSERTED, LISTED, PRINTED, REFUSED
+
+ALL = 1 << 20  # more bytes than any of these runs reads or writes
+SIZES = (1, 7, ALL)
+
+# Bundles, what each writes, and its status: short commands; the first example; a program that types; a program that reads cards, and its deck.
+BUNDLES = [
+    (bundle(lines(" ENTA 5", " STA 9", " HLT", " END 0"), lines("step 9", "back 1")),
+     lines("ran 3 to 0003 clock 13: halt", "back 1 to 0002 clock 3"), 0),
+    (bundle(FIRST, lines("step 4", "back 2", "show regs")),
+     lines("ran 4 to 0004 clock 14: halt", "back 2 to 0002 clock 2", "A  + 00 00 00 00 12", "X  + 00 00 00 00 00", "I1 + 00 00", "I2 + 00 00", "I3 + 00 00",
+           "I4 + 00 00", "I5 + 00 00", "I6 + 00 00", "J  + 00 00", "over off cmp E loc 0002 clock 2"), 0),
+    (bundle(HELLO, GREETED),
+     lines("ran 2 to 1002 clock 11: halt", "unit 19 place 0 blocks 0 output 1", "> " + "MIXAL HELLO WORLD".ljust(70), "back 2 to 1000 clock 0", "changes 0"), 0),
+    (bundle(lines(" IN 100(16)", " IN 100(16)", " END 0"), lines("step 2", "back 2", "back 1"), lines("%UNIT 16", "A CARD")),
+     lines("ran 1 to 0001 clock 1: fault M11 no block", "? C4 fewer changes than asked", "back 1 to 0000 clock 0"), 3)]
+# A source, a deck and a script.
+PARTS = [b" HLT\n END\n", b"\n\n", b"step\n"]
+HALTED = lines("ran 1 to 0001 clock 10: halt")
+
+
+class Turns:
+    """Runs of a program behind the library."""
+
+    def __init__(self, program, place, count):
+        self.runner, self.library, self.place, self.count = Runner(program, place), library(place), place, count
+        self.told = os.path.join(place, "called")
+
+    def file(self, name, text):
+        """The name of a file with this text."""
+        name = os.path.join(self.place, name)
+        with open(name, "wb") as file:
+            file.write(text)
+        return name
+
+    def run(self, text, words=(), **bounds):
+        """Standard output, standard error and the status, and each call with what it gave."""
+        if os.path.exists(self.told):
+            os.unlink(self.told)
+        given = {name.upper(): str(bound) for name, bound in bounds.items()}
+        answer = self.runner.run(text, words, {"LD_PRELOAD": self.library, "CALLED_TO": self.told, **given})
+        with open(self.told) as file:
+            return answer, file.read().split("\n")[:-1]
+
+    def read_fails(self, name, text, words, call):
+        """This read fails: nothing is written, and nothing is called after it."""
+        answer, calls = self.run(text, words, read_most=1, read_fails=call)
+        self.count.same("%s: read %d fails" % (name, call), (answer, len(calls), calls[-1:]), ((b"", T2, 2), call, ["read -1"]))
+
+    def write_fails(self, name, text, words, wanted, size, call):
+        """This write fails, if there are so many; whether it does."""
+        (output, errors, status), calls = self.run(text, words, write_most=size, write_fails=call)
+        failed = "write -1" in calls
+        if not failed:
+            self.count.same("%s: %d writes of %d bytes" % (name, call - 1, size), (output, errors, status), wanted)
+            return False
+        written = sum(int(said.split()[1]) for said in calls[:-1] if said.startswith("write"))
+        self.count.same("%s: write %d of %d bytes fails" % (name, call, size), (output, errors, status, calls.count("write -1"), calls[-1]),
+                        (wanted[0][:written], T3, 2, 1, "write -1"))
+        return True
+
+    def each_write_fails(self, name, text, words, wanted, sizes):
+        for size in sizes:
+            for call in itertools.count(1):
+                if not self.write_fails(name, text, words, wanted, size, call):
+                    self.count.row("%s: a write for each %d bytes" % (name, size), call > -(-len(wanted[0]) // size) or size == ALL, call)
+                    break
+
+
+def bundles(turns):
+    for k, (text, output, status) in enumerate(BUNDLES):
+        name = "bundle %d" % k
+        # a read for each byte, and one that finds the end
+        for call in range(1, len(text) + 2):
+            turns.read_fails(name, text, (), call)
+        turns.each_write_fails(name, text, (), (output, b"", status), (1, 5, ALL))
+        turns.count.same(name + ", 7 bytes a read", turns.run(text, read_most=7)[0], (output, b"", status))
+
+
+def sessions(turns):
+    """The parts of a session, read one after the other, and none after a part that is refused."""
+    source, deck, script = (turns.file(name, part) for name, part in zip(("source", "deck", "script"), PARTS))
+    words = ["debug", source, script, "--devices", deck]
+    reads = sum(len(part) + 1 for part in PARTS)
+    for call in range(1, reads + 1):
+        turns.read_fails("a session", b"", words, call)
+    answer, calls = turns.run(b"", words, read_most=1)
+    turns.count.same("a session that is read byte by byte", (answer, len(calls)), ((HALTED, b"", 0), reads + 1))
+    for name, refused, units, wanted in [("source", b" JMP 0", b"", (b"line 2: A13 no END\n", b"", 1)),
+                                         ("deck", b" END 0", b"\nX", (b"", b"mixrev: T5 deck refused at line 2: K1 bad header\n", 2))]:
+        words = ["debug", turns.file("refused", refused), script, "--devices", turns.file("units", units)]
+        answer, calls = turns.run(b"", words, read_most=1)
+        reads = len(refused) + 1 + (len(units) + 1 if name == "deck" else 0)
+        turns.count.same("a %s that is refused: nothing is read after it" % name, (answer, sum(said.startswith("read") for said in calls)), (wanted, reads))
+
+
+def listings(turns):
+    for k, (source, status, output) in enumerate(LISTED):
+        words = ["list", turns.file("listed", source)]
+        for size in SIZES:
+            turns.count.same("listing %d, %d bytes a call" % (k, size), turns.run(b"", words, read_most=size, write_most=size)[0], (output, b"", status))
+    for source, whole, size, call, written in FAILED_LISTS:
+        answer, calls = turns.run(b"", ["list", turns.file("listed", source)], write_most=size, write_fails=call)
+        turns.count.same("write %d of a listing fails, %d bytes a call" % (call, size), (answer, calls.count("write -1"), calls[-1]),
+                         ((whole[:written], T3, 2), 1, "write -1"))
+    for call in FAILED_READS:
+        turns.read_fails("a listing", b"", ["list", turns.file("listed", INSERTED)], call)
+
+
+def printed(turns):
+    """Runs that print: what is printed, and what is told at the end, by so many bytes a call."""
+    name = turns.file("a.mix", b"")
+
+    def words(row):
+        cards = [] if row[2] is None else ["--cards", turns.file("cards", row[2])]
+        return ["run", turns.file("a.mix", row[0]), *row[3], "--devices", turns.file("deck", row[1]), *cards]
+
+    for k, row in enumerate(PRINTED):
+        told = name.encode() + b":" + row[5] if row[5] else b""
+        for size in SIZES:
+            turns.count.same("run %d, %d bytes a call" % (k, size), turns.run(b"", words(row), read_most=size, write_most=size)[0],
+                             (row[4], told, 3 if told else 0))
+    for k, (*row, told, status) in enumerate(REFUSED):
+        turns.count.same("refused run %d" % k, turns.run(b"", words(row))[0], (b"", told.replace(b"a.mix", name.encode()), status))
+    copied = (COPY, b"%UNIT 16\nONE\n", b"TWO\n", ["--steps", "100"])
+    reads = sum(len(part) + 1 for part in copied[:3])
+    for call in range(1, reads + 1):
+        turns.read_fails("a run", b"", words(copied), call)
+    turns.count.same("a run that is read byte by byte", turns.run(b"", words(copied), read_most=1)[0],
+                     (b"TWO\n", name.encode() + b":1: M11 no block at 0000 clock 3\n", 3))
+    for row in (PRINTED[0], COPIED):
+        told = name.encode() + b":" + row[5] if row[5] else b""
+        turns.each_write_fails("a run", b"", words(row), (row[4], told, 3 if told else 0), (1, 3, ALL))
+
+
+def rows(program, workers, quick=False):
+    count = Count()
+    if not shutil.which("cc"):
+        print("turns: left out, since there is no C compiler")
+        return count
+    with folder() as place:
+        turns = Turns(program, place, count)
+        for part in (bundles, sessions, listings, printed):
+            part(turns)
+    return count
