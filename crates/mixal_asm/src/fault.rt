@@ -8,7 +8,7 @@ use mixal_text::TextFault;
 use std::fmt;
 
 /// Why a source is refused (1.3.2), in the order of the numbers, but for those of a line's text, which come first here.
-#[derive(Clone, Copy, Debug, PartialEq, Eq)]
+#[derive(Clone, Copy)]
 pub enum AsmKind {
     /// A1 to A3, A5 to A8, A10, A12, A14: a fault of a line's text. A14 is also a dF that no later dH meets.
     Text(TextFault),
@@ -76,7 +76,7 @@ impl fmt::Display for AsmKind {
 }
 
 /// The first fault of a source, at its line, counted from 1.
-#[derive(Clone, Copy, Debug, PartialEq, Eq)]
+#[derive(Clone, Copy)]
 pub struct AsmFault {
     pub line: u32,
     pub kind: AsmKind,
