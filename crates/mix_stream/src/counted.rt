@@ -33,6 +33,3 @@ impl<T> Counted<T> {
         Failed
     }
 }
-
-#[cfg(test)]
-mod tests;

@@ -9,6 +9,3 @@ mod output;
 pub use counted::{Counted, Failed};
 pub use input::{In, read_up_to};
 pub use output::{Out, write_all};
-
-#[cfg(test)]
-mod tests;

@@ -18,8 +18,6 @@ mod row;
 mod scope;
 mod source;
 mod symbols;
-#[cfg(test)]
-mod tests;
 mod words;
 
 pub use assembler::Assembler;

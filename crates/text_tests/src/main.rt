@@ -1,4 +1,4 @@
-//! Rows of text over the libraries of words, lines and MIXAL. Each is answered by a public call, and what differs from what is wanted is printed.
+//! Rows of text over the libraries of words, lines, streams and MIXAL. Each is answered by a public call, and what differs from what is wanted is printed.
 //!
 //! A row is `LIBRARY KIND |INPUT| WANTED`, where the input is one field or more, parted by bars. A field stands as it is: blanks count, and
 //! `\t`, `\n`, `\r` and `\xNN` are the bytes that they name. A word is its sign and its five bytes, or its sign and a number. Empty lines and
@@ -6,12 +6,16 @@
 #![tactic(auto)]
 
 mod arithmetic;
+mod assembler;
+mod device;
 mod expressions;
 mod lines;
+mod listing;
 mod mixal;
 mod operations;
 mod reader;
 mod row;
+mod streams;
 mod words;
 mod writer;
 

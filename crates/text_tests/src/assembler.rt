@@ -1,0 +1,164 @@
+//! Kinds of rows: a source, and what its program or its assembler tells.
+use crate::listing::{failed_listing, full, listing};
+use crate::reader::{bytes, number, one_text, three, two};
+use crate::writer::{push, push_bytes, push_value, text};
+use mix_refused::Refused;
+use mix_word::{Place, Word};
+use mixal_asm::{Assembler, Fed, Program, Source, assemble};
+use mixal_text::{Names, Symbol};
+use std::alloc::Global;
+use std::fmt::Write;
+
+/// Answers a row of this kind.
+pub fn answer(alloc: Global, kind: &str, fields: &[&str]) -> Option<String> {
+    match kind {
+        "program" => program(alloc, &one_text(alloc, fields)?),
+        "symbols" => symbols(alloc, &one_text(alloc, fields)?),
+        "fault" => fault(alloc, &one_text(alloc, fields)?),
+        "long" => long(alloc, three(fields)?),
+        "waiting" => waiting(alloc, &one_text(alloc, fields)?),
+        "listing" => listing(alloc, &one_text(alloc, fields)?),
+        "failed listing" => failed_listing(alloc, fields),
+        "full" => full(alloc, two(fields)?),
+        _ => of_each(alloc, kind, two(fields)?),
+    }
+}
+
+// A source, and what is asked of its program, parted by commas.
+fn of_each(alloc: Global, kind: &str, (source, asked): (&str, &str)) -> Option<String> {
+    let source = bytes(alloc, source)?;
+    let program = assemble(alloc, &source).ok()?;
+    let mut answer = String::new(alloc);
+    for asked in asked.split(' ') {
+        match kind {
+            "lines" => push_line(&mut answer, &program, Place::of(number(asked)?)?)?,
+            "instructions" => push_instruction(&mut answer, &program, Place::of(number(asked)?)?)?,
+            "words" => push_word(&mut answer, program.word_at(Place::of(number(asked)?)?))?,
+            "cells" => push_cell(&mut answer, &program, number(asked)?)?,
+            "values" => push_symbol(&mut answer, &program, &Symbol::of(asked.as_bytes())?)?,
+            "backs" => push_word(&mut answer, program.back(number(asked)?))?,
+            _ => return None,
+        }
+    }
+    Some(answer)
+}
+
+// The words in order, each after its place; the start; and how many future references there are.
+fn program(alloc: Global, source: &[u8]) -> Option<String> {
+    let program = assemble(alloc, source).ok()?;
+    let mut answer = String::new(alloc);
+    for (place, word) in program.words() {
+        let (place, word) = (place.number(), *word);
+        write!(answer, "{place} {word}, ").ok()?;
+    }
+    let (start, patches) = (program.start().number(), program.patches());
+    write!(answer, "start {start}, patches {patches}").ok()?;
+    Some(answer)
+}
+
+// The symbols in order, each with its value.
+fn symbols(alloc: Global, source: &[u8]) -> Option<String> {
+    let program = assemble(alloc, source).ok()?;
+    let mut answer = String::new(alloc);
+    for (symbol, value) in program.symbols() {
+        push_bytes(&mut answer, symbol.name())?;
+        write!(answer, " {value}, ").ok()?;
+    }
+    Some(answer)
+}
+
+// The fault of a source; its kind, its number and its text.
+fn fault(alloc: Global, source: &[u8]) -> Option<String> {
+    match assemble(alloc, source) {
+        Ok(_) => text(alloc, "no fault"),
+        Err(Refused::Memory) => None,
+        Err(Refused::Fault(fault)) => {
+            let (number, text) = (fault.kind.number(), fault.kind.text());
+            let kind = fault.kind;
+            format!(in alloc; "{fault}; {kind}; {number}; {text}").ok()
+        }
+    }
+}
+
+// The same of a source that has so many times a piece, and then an end.
+fn long(alloc: Global, (piece, count, end): (&str, &str, &str)) -> Option<String> {
+    let piece = bytes(alloc, piece)?;
+    let mut source = Vec::new(alloc);
+    for _ in 0..number::<u32>(count)? {
+        source.extend_from_slice(&piece).ok()?;
+    }
+    source.extend_from_slice(&bytes(alloc, end)?).ok()?;
+    fault(alloc, &source)
+}
+
+// How many future references wait after each line, up to END.
+fn waiting(alloc: Global, source: &[u8]) -> Option<String> {
+    let mut answer = String::new(alloc);
+    let mut assembler = Assembler::new(alloc);
+    for line in source.split(|byte| *byte == b'\n') {
+        match assembler.line(line).ok()? {
+            Fed::More(next) => {
+                push_value(&mut answer, next.waiting())?;
+                assembler = next;
+            }
+            Fed::Done(program) => {
+                let (start, patches) = (program.start().number(), program.patches());
+                write!(answer, "start {start}, patches {patches}").ok()?;
+                return Some(answer);
+            }
+        }
+    }
+    Some(answer)
+}
+
+// Where the word of a place comes from: the number and the text of its line, or what was inserted.
+fn push_line(answer: &mut String, program: &Program<'_>, place: Place) -> Option<()> {
+    match program.source_at(place) {
+        Some(Source::Line(number, text)) => {
+            push_value(answer, *number)?;
+            push_bytes(answer, text)?;
+        }
+        Some(Source::Literal(text)) => {
+            push(answer, "literal ")?;
+            push_bytes(answer, text)?;
+        }
+        Some(Source::Name(symbol)) => {
+            push(answer, "symbol ")?;
+            push_bytes(answer, symbol.name())?;
+        }
+        None => push(answer, "none")?,
+    }
+    push(answer, ", ")
+}
+
+fn push_instruction(answer: &mut String, program: &Program<'_>, place: Place) -> Option<()> {
+    match program.source_at(place) {
+        Some(source) if source.is_instruction() => push(answer, "yes, "),
+        Some(_) => push(answer, "no, "),
+        None => push(answer, "none, "),
+    }
+}
+
+fn push_word(answer: &mut String, word: Option<Word>) -> Option<()> {
+    match word {
+        Some(word) => write!(answer, "{word}, ").ok(),
+        None => push(answer, "none, "),
+    }
+}
+
+fn push_cell(answer: &mut String, program: &Program<'_>, line: u64) -> Option<()> {
+    match program.cell_from(line) {
+        Some(place) => push_value(answer, place.number()),
+        None => push(answer, "none "),
+    }
+}
+
+// The value of a symbol, by both calls that give it.
+fn push_symbol(answer: &mut String, program: &Program<'_>, symbol: &Symbol) -> Option<()> {
+    push_word(answer, program.symbol(symbol))?;
+    if program.symbol(symbol) == program.value(symbol) {
+        Some(())
+    } else {
+        push(answer, "but another as a name, ")
+    }
+}
