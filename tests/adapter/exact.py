@@ -73,6 +73,10 @@ VIEWS = [
     ("mix/change", {"number": 2}, '"items":[{"after":"+ 00 00 00 00 12","before":"+ 00 00 00 00 05","part":"A"}],"location":1,"number":2,"text":"INCA 7","time":"1"'),
     ("mix/change", {"number": 4}, '"id":306'), ("mix/change", {}, '"id":302'), ("mix/state", {"cells": [[2, 1]]}, '"id":302'),
     ("mix/state", {"cells": [[0, 4000]]}, '"id":306'), ("mix/units", {"unit": 21}, '"id":306'),
+    # refusals of commands, by number and text
+    ("evaluate", {"expression": "stop", "context": "repl"}, '"format":"C1 no such command","id":201,'),
+    ("evaluate", {"expression": "set A", "context": "repl"}, '"format":"C2 bad argument","id":202,'),
+    ("evaluate", {"expression": "step 0", "context": "repl"}, '"format":"C3 number out of range","id":203,'),
     # a text where a number is due, a number where a text is, and each as it is to be
     ("setVariable", {"variablesReference": "1", "name": "A", "value": "1"}, '"id":302'), ("setVariable", {"variablesReference": 1, "name": 1, "value": "1"}, '"id":302'),
     ("setVariable", {"variablesReference": 1, "name": "A", "value": "1"}, '"success":true')]
