@@ -93,12 +93,21 @@ fn alf_of_each(alloc: Global, characters: &[u8]) -> Option<String> {
 
 fn alf_byte(character: u8) -> Option<u8> {
     match read_line(&[b' ', b'A', b'L', b'F', b' ', character]) {
-        Ok(
-            Line::Code {
-                op: Op::Alf(word),
-                ..
-            },
-        ) => Some(word.byte(1)),
-        _ => None,
+        Ok(line) => first_byte(line),
+        Err(_) => None,
+    }
+}
+
+fn first_byte(line: Line<'_>) -> Option<u8> {
+    match line {
+        Line::Remark => None,
+        Line::Code { op, .. } => first_byte_of_op(op),
+    }
+}
+
+fn first_byte_of_op(op: Op) -> Option<u8> {
+    match op {
+        Op::Alf(word) => Some(word.byte(1)),
+        Op::Machine { .. } | Op::Equ | Op::Orig | Op::Con | Op::End => None,
     }
 }
