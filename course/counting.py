@@ -8,12 +8,12 @@ SHIFTS = ("SLA", "SRA", "SLAX", "SRAX", "SLC", "SRC")
 TRANSFERS = ("IN", "OUT", "IOC")
 
 
-def time_of(name, address=""):
+def time_of(name, address="", quantities=None):
     """The time of an operation in u, as the table of 1.3.1 has it; that of a transfer without waiting."""
     if name in LONG:
         return LONG[name]
     if name == "MOVE":
-        return 1 + 2 * int(address.partition("(")[2].rstrip(")") or 1)
+        return 1 + 2 * value_of(address.partition("(")[2].rstrip(")") or "1", quantities or {})
     return 2 if name[:2] in ("LD", "ST") or name[:3] in ("ADD", "SUB", "CMP") or name in SHIFTS else 1
 
 
@@ -67,8 +67,8 @@ def times(outcome, waiting=False, **quantities):
         wanted = value_of(told, quantities) if told is not None else "no times in its line"
         yield f"how often line {number} is done, {' '.join(line.split())}", count, wanted
         if not (waiting and name in TRANSFERS):
-            yield f"time of line {number}, {name}", took, count * time_of(name, address)
-            time += count * time_of(name, address)
+            yield f"time of line {number}, {name}", took, count * time_of(name, address, quantities)
+            time += count * time_of(name, address, quantities)
         else:
             time += took
         steps += count
