@@ -4,9 +4,8 @@ import re
 import subprocess
 
 from lesson import Lesson
-from running import Bundle
+from machine import CHARACTERS
 
-CHARACTERS = " ABCDEFGHI~JKLMNOPQR[#STUVWXYZ0123456789.,()+-*/=$<>@;:'"
 LISTED = re.compile(r"^(\d{4})  \+((?: \d\d){5})")
 
 

@@ -2,19 +2,16 @@
 import ast
 import operator
 
+from machine import TIMES
+
 OPERATORS = {ast.Add: operator.add, ast.Sub: operator.sub, ast.Mult: operator.mul, ast.FloorDiv: operator.floordiv}
-LONG = {"MUL": 10, "DIV": 12, "NUM": 10, "CHAR": 10, "HLT": 10}
-SHIFTS = ("SLA", "SRA", "SLAX", "SRAX", "SLC", "SRC")
 TRANSFERS = ("IN", "OUT", "IOC")
 
 
 def time_of(name, address="", quantities=None):
-    """The time of an operation in u, as the table of 1.3.1 has it; that of a transfer without waiting."""
-    if name in LONG:
-        return LONG[name]
-    if name == "MOVE":
-        return 1 + 2 * value_of(address.partition("(")[2].rstrip(")") or "1", quantities or {})
-    return 2 if name[:2] in ("LD", "ST") or name[:3] in ("ADD", "SUB", "CMP") or name in SHIFTS else 1
+    """The time of an operation in u, that of a transfer without waiting."""
+    time = TIMES[name]
+    return 1 + 2 * value_of(address.partition("(")[2].rstrip(")") or "1", quantities or {}) if name == "MOVE" else time
 
 
 def value_of(text, quantities):

@@ -2,8 +2,9 @@
 import re
 from math import comb, factorial
 
-from cards import CHARACTERS, cards_of
+from cards import cards_of
 from exercise import Case, Exercise
+from machine import CHARACTERS
 
 
 def degrees(draw, size):

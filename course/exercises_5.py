@@ -1,6 +1,6 @@
 """The exercises of chapters 5 and 6: what their programs must leave, by Python's sort, pairs of keys, and places in a list."""
-from cards import CHARACTERS
 from exercise import Case, Exercise
+from machine import CHARACTERS
 
 
 def stable_words(draw, n):

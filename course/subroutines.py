@@ -5,6 +5,7 @@ import re
 
 from counting import count_at, times
 from lesson import RUN, Lesson
+from machine import CHARACTERS
 
 
 def truncated(above, below):
@@ -30,9 +31,6 @@ def entrances_exits(run):
         yield "remainders by the third exit", ran.numbers(rems), [remainder for _, remainder in found]
         yield "the first and the second exit", (ran.register("I4"), ran.register("I5")), (none, whole)
         yield from times(ran, N=len(pairs), Z=none, V=whole)
-
-
-CHARACTERS = " ABCDEFGHI~JKLMNOPQR[#STUVWXYZ0123456789.,()+-*/=$<>@;:'"
 
 
 def in_groups(text):

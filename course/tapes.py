@@ -1,9 +1,9 @@
 """Facts of the lesson on tapes: Python's sort, and the waiting of each transfer in closed form."""
 import random
 
-from cards import CHARACTERS
 from counting import times
 from lesson import RUN, Lesson
+from machine import CHARACTERS
 
 NINES = "99999"
 
