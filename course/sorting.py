@@ -151,6 +151,9 @@ def list_merge(run):
         yield from times(ran, N=len(table), **merges(table))
         ran = run("answer.mix", N=len(table), data=table, script=["run 100000", "show values TABLE+1 TABLE+N"])
         yield "the keys in a table", ran.numbers("show values TABLE+1 TABLE+N"), sorted(table)
+    for table, order in (([50, 20, 50], [2, 3, 1]), ([7, 7, 7, 7], [1, 2, 3, 4]), ([7] * 6, [5, 6, 1, 2, 3, 4])):
+        ran = run(N=len(table), data=table, script=["run 100000", "show values LINK LINK+N"])
+        yield f"the order of {table}, which is stable if there are 2, 4, 8 .. keys", along_links(ran, len(table)), order
     for n in (4, 5):
         compared = sum(measured(run(N=n, data=table, script=RUN), "C")["C"] for table in itertools.permutations(range(1, n + 1)))
         sizes, average = [1] * n, Fraction(0)
