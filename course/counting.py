@@ -2,19 +2,16 @@
 import ast
 import operator
 
+from machine import TIMES
+
 OPERATORS = {ast.Add: operator.add, ast.Sub: operator.sub, ast.Mult: operator.mul, ast.FloorDiv: operator.floordiv}
-LONG = {"MUL": 10, "DIV": 12, "NUM": 10, "CHAR": 10, "HLT": 10}
-SHIFTS = ("SLA", "SRA", "SLAX", "SRAX", "SLC", "SRC")
 TRANSFERS = ("IN", "OUT", "IOC")
 
 
-def time_of(name, address=""):
-    """The time of an operation in u, as the table of 1.3.1 has it; that of a transfer without waiting."""
-    if name in LONG:
-        return LONG[name]
-    if name == "MOVE":
-        return 1 + 2 * int(address.partition("(")[2].rstrip(")") or 1)
-    return 2 if name[:2] in ("LD", "ST") or name[:3] in ("ADD", "SUB", "CMP") or name in SHIFTS else 1
+def time_of(name, address="", quantities=None):
+    """The time of an operation in u, that of a transfer without waiting."""
+    time = TIMES[name]
+    return 1 + 2 * value_of(address.partition("(")[2].rstrip(")") or "1", quantities or {}) if name == "MOVE" else time
 
 
 def value_of(text, quantities):
@@ -67,8 +64,8 @@ def times(outcome, waiting=False, **quantities):
         wanted = value_of(told, quantities) if told is not None else "no times in its line"
         yield f"how often line {number} is done, {' '.join(line.split())}", count, wanted
         if not (waiting and name in TRANSFERS):
-            yield f"time of line {number}, {name}", took, count * time_of(name, address)
-            time += count * time_of(name, address)
+            yield f"time of line {number}, {name}", took, count * time_of(name, address, quantities)
+            time += count * time_of(name, address, quantities)
         else:
             time += took
         steps += count

@@ -37,7 +37,7 @@ class Draw:
 
 
 class Case(typing.NamedTuple):
-    """What a program is given, and what it must leave: numbers in the cells that are named, or rows on the printer.
+    """What a program is given, and what it must leave: numbers in the cells that are named, or rows on a unit, the printer if no other is named.
 
     `given` has a number for a symbol that EQU defines, a string for a cell that CON fills, and a list for the lines of a block of data."""
 
@@ -48,6 +48,7 @@ class Case(typing.NamedTuple):
     cards: list = None
     deck: list = None
     told: str = ""
+    unit: str = "18"
 
     def lines(self):
         """The lines that take the place of those in a source."""
@@ -60,7 +61,7 @@ class Case(typing.NamedTuple):
     def files(self, put, limited):
         """The files of the case, as grade/README.md describes them."""
         found = {"wanted": self.wanted, "data": self.lines() if put and self.given else (), "cells": self.cells, "deck": self.deck, "cards": self.cards}
-        found["unit"] = () if self.cells else ("18",)
+        found["unit"] = () if self.cells else (self.unit,)
         found["limits"], found["steps"] = self.limits if limited else (), (100000,)
         return {name: "".join(f"{line}\n" for line in lines) for name, lines in found.items() if lines}
 

@@ -2,7 +2,9 @@
 import re
 from math import comb, factorial
 
+from cards import cards_of
 from exercise import Case, Exercise
+from machine import CHARACTERS
 
 
 def degrees(draw, size):
@@ -61,15 +63,15 @@ def three_exits(draw, n):
     above, below = draw.numbers(n, -500, 500), [draw.one_of([0, 1, 2, 5, draw.number(-9, -1), draw.number(10, 99)]) for _ in range(n)]
     left = [(abs(one) % abs(other) * (-1 if one < 0 else 1)) if other else 0 for one, other in zip(above, below)]
     whole = sum(other != 0 and one % other == 0 for one, other in zip(above, below))
-    return Case({"N": n, "above": above, "below": below}, [below.count(0), whole, *left], ("I4", "I5", "RESTS+1 RESTS+N"))
+    return Case({"N": n, "above": above, "below": below}, [below.count(0), whole, *left], ("I4", "I5", "REMS+1 REMS+N"))
 
 
 def swapped_text(draw, n):
-    text = "".join(draw.one_of("ABCDEFGHIJKLMNOPQRSTUVWXYZ+-") if draw.number(0, 2) else draw.one_of("12345") + draw.one_of("XYZ07") for _ in range(n)) + "."
-    long = re.sub(r"(\d)(.)", lambda found: found[2] * (int(found[1]) + 1), text)
-    swapped = re.sub(r"([^.])([^.])", r"\2\1", long)
-    card = "".join(letter + " " * draw.number(0, 1) for letter in text)
-    return Case({}, ["  ".join(swapped[at : at + 3] for at in range(0, len(swapped), 3))], cards=[card])
+    text = "".join(draw.one_of(CHARACTERS[1:40]) for _ in range(n)) + "."
+    swapped = re.sub(r"([^.])([^.])", r"\2\1", text)
+    digits = "".join("%02d" % CHARACTERS.index(one) for one in text)
+    card = "".join(digit + " " * (draw.number(0, 3) == 0) for digit in digits)
+    return Case({}, [" ".join(swapped[at : at + 4] for at in range(0, len(swapped), 4))], cards=[card])
 
 
 def squares(draw, n):
@@ -84,27 +86,51 @@ def two_buffers(draw, n):
                 deck=[f"%UNIT 16 delay {delay}", *("%010d" % number for number in numbers)])
 
 
+def fibonacci(draw, size):
+    before, number, index = 1, 1, 2
+    while before + number < 64**5:
+        before, number, index = number, before + number, index + 1
+    return Case({}, [number, index], ("RESULT", "INDEX"))
+
+
+def checked_sum(draw, n):
+    """Sums that fit, that just fit, and that do not."""
+    table = draw.numbers(n, 0, (2 * 64**5 - 2) // n if draw.number(0, 1) else 999)
+    return Case({"N": n, "data": table}, [sum(table) if sum(table) < 64**5 else -1], ("SUM",))
+
+
+def punched(draw, n):
+    words, first = draw.numbers(n, 1, 64**5 - 1), draw.number(100, 3000)
+    return Case({"N": n, "TO": first, "data": words}, [card.rstrip() for card in cards_of(first, words)], unit="17")
+
+
 EXERCISES = [
     Exercise("01_degrees", "The cell FAHREN has the degrees. RESULT gets the nearest whole number of degrees Celsius.",
              degrees, (0, 1, 2, 3, 4, 5, 6), ("JLE  1F", "JL   1F")),
     Exercise("02_fields", "The word at DATE keeps its year; its day and its month are exchanged.", fields, (0, 1, 2), ("LDX  DATE(2:2)", "LDX  DATE(1:1)")),
     Exercise("03_reversal", "The table of N entries from TABLE+1 on is reversed.", reversal, (1, 2, 3, 8, 31), ("J1P  SWAP", "J1NN SWAP")),
-    Exercise("04_rotation", "The table of N entries from TABLE+1 on is moved K places to the right, as a circle.",
+    Exercise("04_rotation", "The table of N entries from TABLE+1 on is rotated K positions to the right.",
              rotation, (2, 3, 7, 20), ("ENT2 K", "ENT2 K-1")),
     Exercise("05_maximum", "At the halt rA has the largest of the N entries from TABLE+1 on, and rX the smallest.",
              extremes, (1, 2, 12, 40), ("JLE  NEXT", "JGE  NEXT")),
     Exercise("06_sieve", "For each k from 2 to N, TABLE+k gets the smallest prime factor of k, or 0 if k is prime.",
              smallest_factors, (2, 20, 90, 150), ("JANZ 1F", "JAZ  1F")),
-    Exercise("07_josephus", "LAST gets the number of the last of N men, of whom each M-th is taken out.", last_man, (1, 2, 11, 24), ("INCX M", "INCX M-1")),
-    Exercise("08_cycles_counted", "TALLY+k gets the number of permutations of N things that leave k of them in their places, for k from 0 to N.",
+    Exercise("07_josephus", "LAST gets the number of the last of N men, of whom every M-th leaves the circle.", last_man, (1, 2, 11, 24), ("INCX M", "INCX M-1")),
+    Exercise("08_cycles_counted", "TALLY+k gets the number of permutations of N things that leave k of them fixed, for k from 0 to N.",
              fixed_points, (1, 2, 3, 4, 5), ("JNE  1F", "JE   1F")),
     Exercise("09_inverse", "The program of the lesson is kept. Its N and its data are the permutation of N numbers that takes it the longest.",
              longest_inverse, (0,), None, put=False),
-    Exercise("10_entrances_exits", "For k from 1 to N, RESTS+k gets the remainder of ABOVE+k divided by BELOW+k, or 0 if BELOW+k is 0. At the halt rI4 "
+    Exercise("10_entrances_exits", "For k from 1 to N, REMS+k gets the remainder of ABOVE+k divided by BELOW+k, or 0 if BELOW+k is 0. At the halt rI4 "
              "says how many divisors are 0, and rI5 how many divisions leave no remainder.", three_exits, (1, 5, 20), ("JXZ  1,3", "JXZ  2,3")),
     Exercise("11_coroutines", "The text of one card is printed as the lesson says, but each two of its characters are exchanged.",
-             swapped_text, (0, 1, 2, 9, 14), ("J5NN 2B", "J5P  2B")),
+             swapped_text, (0, 1, 2, 9, 22), ("STA  PAIR(5:5)", "STA  PAIR(4:5)")),
     Exercise("12_interpreter", "The squares of N, N-1 and so on to 1 are printed, ten digits on a line.", squares, (1, 4), ("NOP  0(TIMES)", "NOP  0(PLUS)")),
-    Exercise("13_buffers", "SUM gets the sum of the numbers in columns 1 to 10 of N cards; of each card there are WORK rounds of 2u of other work.",
+    Exercise("13_buffers", "SUM gets the sum of the numbers in columns 1 to 10 of N cards. Each card needs WORK rounds of 2u of other work.",
              two_buffers, (1, 2, 6, 12), ("ENN3 -16,3", "ENN3 0,3")),
+    Exercise("30_overflow", "RESULT gets the largest Fibonacci number below 64^5, and INDEX its index; F(1) and F(2) are 1.",
+             fibonacci, (0,), ("JOV  DONE", "JNOV DONE")),
+    Exercise("31_hunt", "SUM gets the sum of the N numbers from TABLE+1 on, or -1 if it does not fit into a word.",
+             checked_sum, (1, 4, 4, 10, 10), ("JOV  *+1", "NOP  *+1")),
+    Exercise("32_loader", "The N words from WORDS+1 on, none of which is 0 or negative, are punched as cards for the loader, which puts them into the cells "
+             "from TO on and begins there.", punched, (1, 7, 8, 20), ("CMP3 =14=", "CMP3 =12=")),
 ]

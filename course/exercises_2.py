@@ -14,7 +14,7 @@ def full_queue(draw, n):
             out.append(waiting.pop(0))
         else:
             vain += 1
-    return Case({"M": room, "data": [*operations, -1]}, [vain, *out, 0], ("I6", f"OUT+1 OUT+{len(out) + 1}"), (f"clock <= {20 * len(operations) + 40}",))
+    return Case({"M": room, "data": [*operations, -1]}, [vain, *out, 0], ("I6", f"TAKEN+1 TAKEN+{len(out) + 1}"), (f"clock <= {20 * len(operations) + 40}",))
 
 
 def circle_left(draw, n):
@@ -102,9 +102,26 @@ def threads(draw, n):
     return Case(given, numbers, ("TREE+1 TREE+N",))
 
 
+def free_nodes(draw, n):
+    """The nodes in the cells after NODE, each with two links, 0 for none; what the root reaches, and the list of the others."""
+    nodes = {k: tuple(draw.number(1, n) if draw.number(0, 1) else 0 for _ in "ab") for k in range(1, n + 1)}
+    root, found, waiting = draw.number(1, n), set(), []
+    waiting.append(root)
+    while waiting:
+        node = waiting.pop()
+        if node and node not in found:
+            found.add(node)
+            waiting += nodes[node]
+    free = [*sorted(set(nodes) - found), 0]
+    links = dict(zip(free, free[1:]))
+    words = [links[k] * 64**3 if k in links else nodes[k][0] * 64**3 + nodes[k][1] * 64 for k in sorted(nodes)]
+    lines = [f"        CON  {left}(1:2),{right}(3:4)" for left, right in nodes.values()]
+    return Case({"N": n, "ROOT": root, "data": lines}, [free[0], *words], ("AVAIL", "NODE+1 NODE+N"))
+
+
 EXERCISES = [
-    Exercise("14_queue", "The queue has room for M numbers. A number from OPS+1 on is put in; 0 takes one out, into OUT+1 and so on; -1 is the end. At the "
-             "halt rI6 says how often this was not possible.", full_queue, (0, 9, 25), ("JE   AMISS", "JG   AMISS")),
+    Exercise("14_queue", "The queue has room for M numbers. A number from OPS+1 on is inserted; 0 removes one, into TAKEN+1 and so on; -1 is the end. "
+             "At the halt rI6 is the number of overflows and underflows.", full_queue, (0, 9, 25), ("JE   AMISS", "JG   AMISS")),
     Exercise("15_topological_sort", "The things that can be sorted are in ROW+1 and so on, in their order; those that are left over are in LEFT+1 and so "
              "on, the largest number first. The other cells of both tables are 0.", circle_left, (3, 9, 18), ("JAZ  2F", "JANZ 2F")),
     Exercise("16_polynomials", "P is added to Q as in the lesson. Then all nodes of P are free: rI6 has the first of them, and the head of P leads to what "
@@ -114,4 +131,6 @@ EXERCISES = [
     Exercise("18_tree_stack", "The letters of the N nodes are in ORDER+1 and so on, in preorder.", preorder, (1, 2, 8, 20), ("LD1  TREE,1(1:2)", "LD1  TREE,1(3:4)")),
     Exercise("19_tree_threads", "Each of the N nodes without a right subtree gets its thread, with the sign -; the last one in inorder leads to 0.",
              threads, (1, 2, 8, 20), ("J4Z  3F", "J4NZ 3F")),
+    Exercise("34_marking", "AVAIL gets the number of the first node that ROOT does not reach, or 0. In ascending order these nodes are linked by their bytes "
+             "1 and 2, and are 0 otherwise. All other nodes are as they were given.", free_nodes, (1, 2, 9, 25), ("JAP  4F", "JANP 4F")),
 ]

@@ -1,5 +1,6 @@
 """The exercises of chapters 5 and 6: what their programs must leave, by Python's sort, pairs of keys, and places in a list."""
 from exercise import Case, Exercise
+from machine import CHARACTERS
 
 
 def stable_words(draw, n):
@@ -12,7 +13,7 @@ def stable_words(draw, n):
 
 
 def three_increments(draw, n):
-    """The clock by the column of times: each pass moves a key once for each larger one before it in its part."""
+    """The clock by the times in square brackets: each pass moves a key once for each larger one before it in its part."""
     keys = draw.distinct(n, 1, 999)
     table, taken, moves, firsts = list(keys), 0, 0, 0
     for h in (7, 3, 1):
@@ -23,7 +24,7 @@ def three_increments(draw, n):
             firsts += sum(one < min(part[:at]) for at, one in enumerate(part) if at)
         for at, part in enumerate(parts):
             table[at::h] = sorted(part)
-    return Case({"N": n, "data": keys}, sorted(keys), ("KEY+1 KEY+N",), (f"clock <= {32 + 14 * taken + 11 * moves - 3 * firsts}",))
+    return Case({"N": n, "data": keys}, sorted(keys), ("KEY+1 KEY+N",), (f"clock <= {32 + 14 * taken + 10 * moves - 3 * firsts}",))
 
 
 def keys_in_order(draw, n):
@@ -42,7 +43,7 @@ def three_largest(draw, n):
 
 def keys_in_table(draw, n):
     keys = draw.distinct(n, 1, 999)
-    return Case({"N": n, "data": keys}, sorted(keys), ("OUT+1 OUT+N",))
+    return Case({"N": n, "data": keys}, sorted(keys), ("TABLE+1 TABLE+N",))
 
 
 def last_two_digits(draw, n):
@@ -56,7 +57,7 @@ def two_at_once(draw, n):
     keys = draw.distinct(n, 1, 999)
     wanted = draw.one_of([*keys, 1000])
     place = keys.index(wanted) + 1 if wanted in keys else 0
-    return Case({"N": n, "WANTED": wanted, "data": keys}, [place], ("I2",), (f"clock <= {22 + (7 * (place or n + 1) + 1) // 2}",))
+    return Case({"N": n, "WANTED": wanted, "data": keys}, [place], ("I1",), (f"clock <= {18 + (7 * (n + 1 - place) + 1) // 2}",))
 
 
 def by_halves(draw, n):
@@ -103,21 +104,29 @@ def opposite_order(draw, n):
                 told=f"Your M is {m}, your N is {n}. Your keys come in this order: {', '.join(map(str, keys))}.")
 
 
+def sorted_cards(draw, n):
+    letters = CHARACTERS[1:39]
+    cards = ["".join(draw.one_of(letters) for _ in range(4)) + letters[at % 38] + f" CARD {at}" for at in range(n)]
+    return Case({}, sorted(cards, key=lambda card: [CHARACTERS.index(one) for one in card[:5]]), cards=[*draw.shuffled(cards), "99999"])
+
+
 EXERCISES = [
     Exercise("20_insertion", "The N words from KEY+1 on are sorted by bytes 4 and 5 alone; words that agree in them keep their order.",
-             stable_words, (2, 3, 8, 30), ("JGE  PLACE", "JG   PLACE")),
+             stable_words, (2, 3, 8, 30), ("JLE  PLACE", "JL   PLACE")),
     Exercise("21_shell", "The N keys from KEY+1 on are sorted by the increments 7, 3 and 1.", three_increments, (16, 25, 40), ("CON  3", "CON  9")),
     Exercise("22_quicksort", "The program of the lesson is kept. Its N and its data are your keys, in increasing order.", keys_in_order, (8,), None, put=False),
     Exercise("23_heapsort", "KEY+N-2 to KEY+N get the three largest of the N keys from KEY+1 on.", three_largest, (4, 10, 40), ("CMP2 =N-3=", "CMP2 =N-2=")),
-    Exercise("24_list_merge", "OUT+1 to OUT+N get the N keys from KEY+1 on, in their order.", keys_in_table, (2, 4, 8, 16), ("STA  OUT,2", "STA  OUT-1,2")),
+    Exercise("24_list_merge", "TABLE+1 to TABLE+N get the N keys from KEY+1 on, in their order.", keys_in_table, (2, 4, 8, 16), ("STA  TABLE,2", "STA  TABLE-1,2")),
     Exercise("25_radix", "LINK leads to the smallest of the N keys by bytes 4 and 5 alone, LINK+k from key k to the next, the last to 0; keys that agree keep "
              "their order.", last_two_digits, (1, 2, 8, 30), ("CMP6 =P=", "CMP6 =P+1=")),
-    Exercise("26_two_searches", "At the halt rI2 has the place of WANTED among the N keys from KEY+1 on, or 0 if it is not there.",
-             two_at_once, (1, 2, 9, 40), ("INC1 2", "INC1 1")),
-    Exercise("27_binary_search", "At the halt rI1 has the place of WANTED among the N keys from KEY+1 on, or 0 if it is not there. The table of halves from "
+    Exercise("26_sequential_search", "At the halt rI1 has the position of WANTED among the N keys from KEY+1 on, or 0 if it is not there.",
+             two_at_once, (1, 2, 9, 40), ("DEC1 2", "DEC1 1")),
+    Exercise("27_binary_search", "At the halt rI1 has the position of WANTED among the N keys from KEY+1 on, or 0 if it is not there. The table of halves from "
              "HALVES+1 on is given.", by_halves, (1, 2, 7, 16, 16, 31, 31), ("DEC1 0,3", "DEC1 1,3")),
     Exercise("28_search_tree", "The program of the lesson is kept. Its N and its data are your keys, in an order with the fewest comparisons; at the halt rI4 "
              "has N.", fewest_comparisons, (0,), None, put=False),
     Exercise("29_hashing", "The program of the lesson is kept. Its M, its N and its data are your keys, in the opposite order.",
              opposite_order, (7,), None, put=False),
+    Exercise("33_tapes", "The cards have different first words. They are printed in the order of these words; a card that begins with 99999 is the last and is "
+             "not printed. Tapes 0 to 3 are blank.", sorted_cards, (1, 2, 3, 12), ("CMPX LAST", "CMPA LAST")),
 ]

@@ -1,6 +1,7 @@
 """Facts of the lessons of 1.3.1 and 1.3.2, by Python's own numbers, lists and divisions."""
 import itertools
 import math
+import random
 
 from counting import measured, times
 from lesson import RUN, Lesson
@@ -8,11 +9,11 @@ from lesson import RUN, Lesson
 
 def degrees(run):
     for celsius in (37, 0, 100, -40, -7, 12345):
-        ran = run(script=[f"set cell CELSIUS {celsius}", *RUN, "show values CELSIUS REST", "back until X", "show values"])
-        quotient, rest = divmod(abs(9 * celsius), 5)
+        ran = run(script=[f"set cell CELSIUS {celsius}", *RUN, "show values CELSIUS REMAIN", "back until X", "show values"])
+        quotient, remainder = divmod(abs(9 * celsius), 5)
         sign = -1 if celsius < 0 else 1
-        wanted = [celsius, sign * quotient + 32, sign * rest]
-        yield f"{celsius} degrees in Fahrenheit, and the fifths left over", ran.numbers("show values CELSIUS REST"), wanted
+        wanted = [celsius, sign * quotient + 32, sign * remainder]
+        yield f"{celsius} degrees in Fahrenheit, and the fifths left over", ran.numbers("show values CELSIUS REMAIN"), wanted
         yield f"how the run of {celsius} ends", ran.end, "halt"
         yield f"the lower half of the product of {celsius}", ran.register("X"), 9 * celsius
     for fahrenheit in (98, 20, 0, -40, 451, 99, 100, 101):
@@ -29,7 +30,7 @@ def fields(run):
     for day, month, year in ((24, 11, 1938), (1, 1, 1), (31, 12, 4094)):
         put = f"set cell DATE {day}(1:1),{month}(2:2),{year}(4:5)"
         ran = run(script=[put, "run 100", "show cells DATE DATE", "show values DAY YEAR"])
-        yield "the date put off", ran.lines("show cells DATE DATE")[0][5:], date_word("-", day, 1, year + 1)
+        yield "the date moved on", ran.lines("show cells DATE DATE")[0][5:], date_word("-", day, 1, year + 1)
         yield "its parts before, and how the run ends", (ran.numbers("show values DAY YEAR"), ran.end), ([day, month, year], "halt")
         ran = run("answer.mix", script=[put, "run 100", "show cells DATE DATE"])
         yield "day and month changed", ran.lines("show cells DATE DATE")[0][5:], date_word("+", month, day, year)
@@ -41,7 +42,7 @@ def reversal(run):
         table = [100 + 7 * k for k in range(n)]
         for name in ("lesson.mix", "answer.mix"):
             ran = run(name, N=n, data=table, script=[*RUN, show])
-            yield f"{name}, {n} entries turned round", ran.numbers(show), table[::-1]
+            yield f"{name}, {n} entries reversed", ran.numbers(show), table[::-1]
             yield from times(ran, N=n)
 
 
@@ -66,7 +67,7 @@ def maximum(run):
         more, less = (new_extremes(table, better) for better in (lambda a, b: a > b, lambda a, b: a < b))
         place = len(table) - table[::-1].index(max(table))
         ran = run(N=len(table), data=table, script=[*RUN, "show values"])
-        yield "the largest entry and its place", (ran.register("A"), ran.register("I2")), (max(table), place)
+        yield "the largest entry and its position", (ran.register("A"), ran.register("I2")), (max(table), place)
         yield from times(ran, N=len(table), A=more)
         ran = run("answer.mix", N=len(table), data=table, script=[*RUN, "show values"])
         yield "the largest and the smallest", (ran.register("A"), ran.register("X")), (max(table), min(table))
@@ -76,7 +77,7 @@ def maximum(run):
         ran = run(N=4, data=table, script=RUN)
         found += measured(ran, "A")["A"]
     harmonic = sum(math.factorial(4) // k for k in range(1, 5))  # 4! times the sum of 1/k
-    yield "new largest entries in all orders of four: 4! times H(4) - 1", found, harmonic - math.factorial(4)
+    yield "new largest entries in all orders of four: 4! times (H(4) - 1)", found, harmonic - math.factorial(4)
 
 
 def is_prime(n):
@@ -117,6 +118,25 @@ def josephus(run):
         yield from times(ran, N=n)
 
 
+def overflow(run):
+    draw = random.Random(130)
+    tables = [[900000000, 400000000, 700000000, 5, 1000000000, 60000000], [7], [64**5 - 1, 1], [64**5 - 1] * 9]
+    tables += [[draw.randrange(64**5) for _ in range(n)] for n in (5, 20, 62)]
+    for table in tables:
+        n, plain = len(table), list(range(11, 11 + len(table)))
+        shows = ["show values HIGH LOW", "show values DOWN DOWN+N", "show values UP+1 UP+N+1"]
+        ran = run(N=n, data={"sums": table, "down": plain, "up": plain}, script=[*RUN, *shows])
+        yield "the sum in two words", ran.numbers(shows[0]), list(divmod(sum(table), 64**5))
+        yield "the table moved down", ran.numbers(shows[1]), [*plain, plain[-1]]
+        yield "the table moved up", ran.numbers(shows[2]), [plain[0]] * (n + 1)
+        yield from times(ran, N=n, C=sum(table) // 64**5)
+    before, number, index = 1, 1, 2
+    while before + number < 64**5:
+        before, number, index = number, before + number, index + 1
+    ran = run("answer.mix", script=["run 1000", "show values RESULT INDEX"])
+    yield "the largest Fibonacci number in a word, and its index", ran.numbers("show values RESULT INDEX"), [number, index]
+
+
 LESSONS = [
     Lesson("01_degrees", degrees, ("DIV  =5=", "DIV  =4=")),
     Lesson("02_fields", fields, ("STA  DATE(2:2)", "STA  DATE(1:2)")),
@@ -125,4 +145,5 @@ LESSONS = [
     Lesson("05_maximum", maximum, ("JGE  NEXT", "JG   NEXT")),
     Lesson("06_sieve", sieve, ("JG   COLLECT", "JGE  COLLECT")),
     Lesson("07_josephus", josephus, ("ENT4 M-1", "ENT4 M")),
+    Lesson("30_overflow", overflow, ("JNOV 2F", "JOV  2F")),
 ]

@@ -7,7 +7,7 @@ from lesson import RUN, Lesson
 
 
 def queued(operations, room):
-    """What comes out of a queue that holds so many, and how often: put in, put in vain, taken, taken in vain."""
+    """What is removed from a queue with room for so many, and how often it overflows and underflows."""
     waiting, out, over, under = [], [], 0, 0
     for number in operations:
         if number and len(waiting) < room:
@@ -28,11 +28,11 @@ def queue(run):
     for places, operations in cases:
         out, over, under = queued(operations, places - 1)
         put, tried = sum(map(bool, operations)) - over, sum(map(bool, operations))
-        show, taken = f"show values OUT+1 OUT+{len(out) + 1}", operations.count(0)
+        show, taken = f"show values TAKEN+1 TAKEN+{len(out) + 1}", operations.count(0)
         ran = run(M=places, data=[*operations, -1], script=[*RUN, show, "show values"])
-        yield f"what comes out of {places} places", ran.numbers(show), [*out, 0]
-        yield "how often in vain", ran.register("I6"), over + under
-        vain, waiting, puts = 0, 0, 0  # puts in vain that tried to go round the end
+        yield f"what is removed from {places} cells", ran.numbers(show), [*out, 0]
+        yield "overflows and underflows", ran.register("I6"), over + under
+        vain, waiting, puts = 0, 0, 0  # insertions that overflow where the rear goes from M to 1
         for number in operations:
             full = waiting == places - 1
             vain += bool(number) and full and puts % places == places - 1
@@ -40,9 +40,9 @@ def queue(run):
             waiting += (not full) if number else -(waiting > 0)
         yield from times(ran, I=tried, D=taken, O=over, U=under, A=put // places + vain, B=len(out) // places)
         out, over, under = queued(operations, places)
-        show = f"show values OUT+1 OUT+{len(out) + 1}"
+        show = f"show values TAKEN+1 TAKEN+{len(out) + 1}"
         ran = run("answer.mix", M=places, data=[*operations, -1], script=[*RUN, show, "show values"])
-        yield f"what comes out where all {places} places are used", (ran.numbers(show), ran.register("I6")), ([*out, 0], over + under)
+        yield f"what is removed when all {places} cells are used", (ran.numbers(show), ran.register("I6")), ([*out, 0], over + under)
 
 
 def descendants(relations, things):
@@ -55,8 +55,8 @@ def descendants(relations, things):
 
 def topological_sort(run):
     draw = random.Random(223)
-    book = [(9, 2), (3, 7), (7, 5), (5, 8), (8, 6), (4, 6), (1, 3), (7, 4), (9, 5), (2, 8)]
-    cases = [(9, book), (9, [(6, 5), *book[1:]]), (3, [(2, 1), (1, 2), (2, 3)]), (4, [(3, 2)])]
+    own = [(2, 9), (7, 2), (1, 4), (4, 6), (7, 4), (9, 3), (6, 3), (2, 5), (5, 8), (3, 8)]
+    cases = [(9, own), (9, [(3, 9), *own[1:]]), (3, [(2, 1), (1, 2), (2, 3)]), (4, [(3, 2)])]
     for n, m in ((20, 30), (40, 150)):
         row = draw.sample(range(1, n + 1), n)
         cases.append((n, [tuple(row[at] for at in sorted(draw.sample(range(n), 2))) for _ in range(m)]))
@@ -90,7 +90,7 @@ def list_lines(name, terms):
 
 
 def linked(words, first, last):
-    """The places of the two-word nodes from the first on, up to the place that ends the list; a list that does not end is at fault."""
+    """The locations of the two-word nodes from the first on, up to the link that ends the list; a list that does not end is at fault."""
     places = []
     while first != last:
         if first in places:
@@ -112,7 +112,7 @@ def polynomial_at(words, head):
 
 def polynomials(run):
     draw = random.Random(224)
-    cases = [({(1, 0, 0): 1, (0, 1, 0): 1, (0, 0, 1): 1}, {(2, 0, 0): 1, (0, 1, 0): -2, (0, 0, 1): -1}), ({}, {(0, 0, 0): 7}), ({(5, 0, 0): 3}, {}),
+    cases = [({(1, 0, 0): 2, (0, 1, 0): 3, (0, 0, 0): 5}, {(1, 1, 0): 1, (0, 1, 0): -1, (0, 0, 0): -5}), ({}, {(0, 0, 0): 7}), ({(5, 0, 0): 3}, {}),
              ({(1, 1, 1): 4, (0, 0, 0): -4}, {(1, 1, 1): -4, (0, 0, 0): 4})]
     for _ in range(6):
         cases.append(tuple({tuple(draw.choices(range(3), k=3)): draw.choice([-2, -1, 1, 2]) for _ in range(draw.randrange(14))} for _ in range(2)))
@@ -126,9 +126,15 @@ def polynomials(run):
             yield f"{name}: the sum", polynomial_at(words, 1100), [(one, total[one]) for one in sorted(total, reverse=True) if total[one]]
             given = len(p) + 1 if name == "answer.mix" else 0
             free = linked(words, ran.register("I6"), 0)
-            yield f"{name}: free places", len(free), 20 - len(set(p) - both) + gone + given
+            yield f"{name}: free terms", len(free), 20 - len(set(p) - both) + gone + given
             if name == "lesson.mix":
                 yield from times(ran, K=20, A=len(both) - gone, B=gone, C=len(set(p) - both), D=len(set(q) - both))
+    for name in ("lesson.mix", "answer.mix"):
+        for room, terms in ((1, 2), (2, 2), (1, 3), (3, 3)):
+            p = {(k, 0, 0): k for k in range(1, terms + 1)}
+            ran = run(name, K=room, data={"p": list_lines("P", p), "q": list_lines("Q", {})}, script=[*RUN, "show values", "show values 0 1"])
+            yield f"{name}: overflow with {terms} new terms and room for {room}", ran.register("I5") == 1, terms > room
+            yield f"{name}: the cells of link 0 stay", ran.numbers("show values 0 1"), [0, 0]
 
 
 def counter(run):

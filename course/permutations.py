@@ -1,5 +1,5 @@
-"""Facts of the lessons of 1.3.3: Stirling's numbers, numbers of fixed points, and sums over all permutations, none of them by running through cycles
-as the programs do."""
+"""Facts of the lessons of 1.3.3: Stirling numbers of the first kind, numbers of fixed points, and sums
+over all permutations. None of them runs through cycles as the programs do."""
 import itertools
 import re
 from fractions import Fraction
@@ -18,7 +18,7 @@ def cycle_numbers(n):
 
 
 def fixed_numbers(n):
-    """How many leave 0 to n numbers in their places: those are chosen, and the others all moved."""
+    """How many leave 0 to n numbers fixed: those are chosen, and all others are moved."""
     moved = [sum((-1) ** k * factorial(m) // factorial(k) for k in range(m + 1)) for m in range(n + 1)]
     return [comb(n, k) * moved[n - k] for k in range(n + 1)]
 
@@ -51,12 +51,12 @@ def cycles_counted(run):
         walked = factorial(n) * (n + 1) * (harmonic(n + 1) - 1)  # from each number to one that is no larger
         yield from times(ran, N=n, **steps, W=walked, C=factorial(n) * harmonic(n))
         ran = run("answer.mix", N=n, script=[*RUN, "show values TALLY TALLY+N"])
-        yield f"permutations of {n} by the numbers that stay", ran.numbers("show values TALLY TALLY+N"), fixed_numbers(n)
+        yield f"permutations of {n} by their fixed numbers", ran.numbers("show values TALLY TALLY+N"), fixed_numbers(n)
         yield from times(ran, N=n, **steps)
 
 
 def larger_before(images):
-    """For each number, how many larger ones stand before it in its cycle, up to one that is smaller or itself; their sum."""
+    """For each number, how many larger ones precede it in its cycle, back to one that is not larger; their sum."""
     found = 0
     for m in range(1, len(images) + 1):
         before = images.index(m) + 1
@@ -67,13 +67,13 @@ def larger_before(images):
 
 def inverse(run):
     show, extra = "show values X+1 X+N", 0
-    tables = [*itertools.permutations(range(1, 5)), (6, 2, 1, 5, 4, 3), (1,), (2, 1), (9, 8, 7, 6, 5, 4, 3, 2, 1), tuple(range(2, 21)) + (1,)]
+    tables = [*itertools.permutations(range(1, 5)), (3, 6, 5, 2, 1, 4), (1,), (2, 1), (9, 8, 7, 6, 5, 4, 3, 2, 1), tuple(range(2, 21)) + (1,)]
     for images in tables:
         ran = run(N=len(images), data=images, script=[*RUN, show])
         yield f"the inverse of {images}", ran.numbers(show), [images.index(m) + 1 for m in range(1, len(images) + 1)]
         yield from times(ran, N=len(images), A=larger_before(images))
         extra += measured(ran, "A")["A"] if len(images) == 4 else 0
-    yield "A in all permutations of four: 4! times 5 H(4) - 8", extra, factorial(4) * (5 * harmonic(4) - 8)
+    yield "A in all permutations of four: 4! times (5 H(4) - 8)", extra, factorial(4) * (5 * harmonic(4) - 8)
     ran = run("answer.mix", script=[*RUN, show])
     yield "the inverse that takes longest", ran.numbers(show), [2, 3, 4, 5, 6, 1]
     yield from times(ran, N=6, A=max(map(larger_before, itertools.permutations(range(1, 7)))))

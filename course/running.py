@@ -115,10 +115,12 @@ class Runner:
     def bundle(self, name):
         return Bundle((self.folder / name).read_text())
 
-    def __call__(self, name="lesson.mix", script=None, deck=None, data=None, **constants):
+    def __call__(self, name="lesson.mix", script=None, deck=None, data=None, mend=None, **constants):
         bundle = self.bundle(name)
         if name == "lesson.mix":
             self.change(bundle)
+        if mend:
+            mend(bundle)
         bundle.set_constants(constants)
         if isinstance(data, dict):
             for block, lines in data.items():

@@ -1,22 +1,38 @@
-"""Facts of the lessons of chapter 6: places by Python's lists, path lengths by formulas, ancestors by the order of coming, probes in other orders."""
+"""Facts of the lessons of chapter 6: positions by Python's lists, path lengths by formulas, ancestors by the order of insertion, probes in other orders."""
 import random
 
 from counting import measured, times
 from lesson import RUN, Lesson
 
 
-def two_searches(run):
+def sequential_search(run):
     draw = random.Random(61)
     for n in (1, 2, 7, 8, 25):
         keys = draw.sample(range(1, 1000), n)
         for wanted in (*keys, 0, 1001):
             place = keys.index(wanted) + 1 if wanted in keys else 0
-            found, looks, all_looks = int(place > 0), place or n, place or n + 1
+            found, looks, all_looks = int(place > 0), n + 1 - place if place else n, n + 1 - place
             rounds = (all_looks + 1) // 2
             for name in ("lesson.mix", "sentinel.mix", "answer.mix"):
                 ran = run(name, N=n, WANTED=wanted, data=keys, script=[*RUN, "show values"])
-                yield f"{name}: the place of {wanted}", ran.register("I2"), place
+                yield f"{name}: the position of {wanted}", ran.register("I1"), place
                 yield from times(ran, N=n, S=found, C=looks, R=rounds, H=all_looks % 2)
+    yield from adapting(run, draw)
+
+
+def adapting(run, draw):
+    for n, m in ((8, 12), (1, 4), (2, 9), (12, 60)):
+        keys = draw.sample(range(1, 100), n)
+        row, table, looks, hits, moves = [draw.choice([*keys, 100]) for _ in range(m)], list(keys), 0, 0, 0
+        for wanted in row:
+            place = table.index(wanted) if wanted in table else -1
+            looks, hits = looks + n - place, hits + (place >= 0)
+            if 0 <= place < n - 1:
+                table[place : place + 2] = table[place : place + 2][::-1]
+                moves += 1
+        ran = run("adapting.mix", N=n, M=m, data={"data": keys, "row": row}, script=[*RUN, "show values KEY+1 KEY+N"])
+        yield f"the table after {m} searches", ran.numbers("show values KEY+1 KEY+N"), table
+        yield from times(ran, M=m, C=looks, F=hits, X=moves)
 
 
 def binary_search(run):
@@ -28,12 +44,12 @@ def binary_search(run):
         for wanted in range(5, 10 * n + 6, 5):
             ran = run(N=n, WANTED=wanted, data=keys, script=[*RUN, "show values"])
             place = wanted // 10 if wanted % 10 == 0 else 0
-            yield f"the place of {wanted}", ran.register("I3"), place
+            yield f"the position of {wanted}", ran.register("I3"), place
             found = measured(ran, "CD")
             looks.setdefault(place > 0, []).append(found["C"])
             yield from times(ran, N=n, S=int(place > 0), **found)
             ran = run("answer.mix", N=n, WANTED=wanted, data={"data": keys, "halves": halves}, script=[*RUN, "show values"])
-            yield f"the place of {wanted} by halves", ran.register("I1"), place
+            yield f"the position of {wanted} by halves", ran.register("I1"), place
             yield from times(ran, N=n, S=int(place > 0), **measured(ran, "CD"))
         levels = [k.bit_length() for k in range(1, n + 1)]  # the tree of the search is full but for its last level
         yield f"looks that find the keys, {n} of them", sorted(looks[True]), levels
@@ -61,7 +77,7 @@ def search_tree(run):
             shows = [f"show values {part}+1 {part}+{len(keys)}" for part in ("KEY", "LEFT", "RIGHT")]
             ran = run(name, N=len(row), data=row, script=[*RUN, "show values", *shows])
             yield f"{name}: the keys, each once", ran.numbers(shows[0]), keys
-            yield f"{name}: how many were there", ran.register("I5"), len(row) - len(keys)
+            yield f"{name}: how many were there already", ran.register("I5"), len(row) - len(keys)
             parents = {}
             for part, show in zip(("LEFT", "RIGHT"), shows[1:]):
                 parents.update({child: (node, part) for node, child in enumerate(ran.numbers(show), 1) if child})
@@ -76,7 +92,7 @@ def search_tree(run):
 
 
 def probes(keys, m):
-    """How often places are looked at when these keys come in this order, and how often it goes round the end."""
+    """How many probes these keys need in this order, and how often one goes from cell 0 to cell m - 1."""
     table, looked, rounds = [0] * m, 0, 0
     for key in keys:
         places = [(key % m - step) % m for step in range(m)]
@@ -88,7 +104,7 @@ def probes(keys, m):
 
 def hashing(run):
     draw, pi = random.Random(64), [31, 415, 926, 535, 897, 932, 384, 626]
-    cases = [(11, pi), (8, pi), (3, [5]), (7, [14, 7, 21]), *((m, draw.sample(range(1, 5000), n)) for m, n in ((13, 10), (31, 30), (64, 40)))]
+    cases = [(11, pi), (9, pi), (3, [5]), (7, [14, 7, 21]), *((m, draw.sample(range(1, 5000), n)) for m, n in ((13, 10), (31, 30), (64, 40)))]
     for m, keys in cases:
         looked, rounds = probes(sorted(keys), m)  # the sums do not depend on the order
         for name in ("lesson.mix", "answer.mix"):
@@ -96,16 +112,20 @@ def hashing(run):
             table = ran.numbers("show values TABLE TABLE+M-1")
             yield f"{name}: the keys of the table", sorted(key for key in table if key), sorted(keys)
             free = [(key, table.index(key)) for key in keys if any(not table[(key % m - step) % m] for step in range((key % m - table.index(key)) % m))]
-            yield f"{name}: keys that are not found before a free place", free, []
+            yield f"{name}: keys that are not found before an empty cell", free, []
             yield from times(ran, N=len(keys), C=looked, R=rounds)
+    for n, m in ((8, 8), (12, 11), (3, 3), (4, 3)):
+        ran = run(N=n, M=m, data=draw.sample(range(1, 5000), n), script=["run 100000", "show values", "show values TABLE TABLE+M-1"])
+        yield f"{n} keys in {m} cells: overflow", (ran.end, ran.register("I6")), ("halt", 1)
+        yield "the cells that stay empty then", ran.numbers("show values TABLE TABLE+M-1").count(0), 1
     twice = run(N=5, M=7, data=[5, 12, 5, 4, 12], script=["run 10000", "show values TABLE TABLE+M-1"]).numbers("show values TABLE TABLE+M-1")
     yield "keys that come twice, each once in the table", twice, [0, 0, 0, 4, 12, 5, 0]
     both = [run(name, script=["run 10000", "show values TABLE TABLE+M-1"]).numbers("show values TABLE TABLE+M-1") for name in ("lesson.mix", "answer.mix")]
-    yield "the places that are taken in both orders", *([bool(key) for key in table] for table in both)
+    yield "the cells that are taken in both orders", *([bool(key) for key in table] for table in both)
 
 
 LESSONS = [
-    Lesson("26_two_searches", two_searches, ("ENT1 1-N", "ENT1 2-N")),
+    Lesson("26_sequential_search", sequential_search, ("J1P  LOOK", "J1NN LOOK")),
     Lesson("27_binary_search", binary_search, ("ENT1 1,3", "ENT1 0,3")),
     Lesson("28_search_tree", search_tree, ("LD3  LEFT,2", "LD3  RIGHT,2")),
     Lesson("29_hashing", hashing, ("ENT2 M-1", "ENT2 M")),

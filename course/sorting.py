@@ -15,8 +15,13 @@ def inversions(keys):
 
 
 def left_minima(keys):
-    """How many keys are smaller than all before them, but the first."""
+    """How many keys are smaller than all before them, not counting the first."""
     return sum(all(key < other for other in keys[:at]) for at, key in enumerate(keys) if at)
+
+
+def right_maxima(keys):
+    """How many keys are larger than all after them, not counting the last."""
+    return sum(all(key > other for other in keys[at + 1 :]) for at, key in enumerate(keys[:-1]))
 
 
 def drawn_tables(seed, sizes):
@@ -29,17 +34,17 @@ def insertion(run):
     for table in tables:
         ran = run(N=len(table), data=table, script=[*RUN, SHOW])
         yield "the keys in order", ran.numbers(SHOW), sorted(table)
-        yield from times(ran, N=len(table), A=left_minima(table), B=inversions(table))
+        yield from times(ran, N=len(table), A=right_maxima(table), B=inversions(table))
     moves = sum(measured(run(N=4, data=table, script=RUN), "B")["B"] for table in itertools.permutations(range(1, 5)))
-    yield "B in all orders of four: half of the pairs of places", moves, factorial(4) * 6 // 2
+    yield "B in all orders of four: half of the pairs of positions", moves, factorial(4) * 6 // 2
     own = [50, 20, 70, 10, 40, 30, 90, 60, 100, 80]
-    yield "inversions and minima of the lesson's keys, as its text says", (inversions(own), left_minima(own)), (13, 2)
+    yield "inversions and maxima of the lesson's keys, as its text says", (inversions(own), right_maxima(own)), (13, 1)
     draw = random.Random(1)
     for n in (6, 30):
         words = [(draw.randrange(1, 60), draw.randrange(1, 5)) for _ in range(n)]
         ran = run("answer.mix", N=n, data=[f"        CON  {letter}(1:1),{key}(4:5)" for letter, key in words], script=["run 100000", "show cells KEY+1 KEY+N"])
         found = [(bytes[0], bytes[4]) for _, bytes in ran.words("show cells KEY+1 KEY+N").values()]
-        yield "the words in order, equal ones as they stood", found, sorted(words, key=lambda word: word[1])
+        yield "the words in order, equal ones in their old order", found, sorted(words, key=lambda word: word[1])
 
 
 def passes(table, increments):
@@ -54,9 +59,9 @@ def passes(table, increments):
 
 
 def shell(run):
-    book = [46, 9, 33, 58, 15, 3, 61, 27, 40, 52, 8, 21, 64, 36, 12, 5]
-    cases = [(book, [8, 4, 2, 1]), (book, [7, 3, 1]), (book, [1]), *((table, [5, 2, 1]) for table in drawn_tables(522, (8, 30)))]
-    yield "inversions of the lesson's keys, as its text says", inversions(book), 66
+    own = [46, 9, 33, 58, 15, 3, 61, 27, 40, 52, 8, 21, 64, 36, 12, 5]
+    cases = [(own, [8, 4, 2, 1]), (own, [7, 3, 1]), (own, [1]), *((table, [5, 2, 1]) for table in drawn_tables(522, (8, 30)))]
+    yield "inversions of the lesson's keys, as its text says", inversions(own), 66
     for table, increments in cases:
         for name in ("lesson.mix", "answer.mix"):
             ran = run(name, N=len(table), T=len(increments), data={"data": table, "increments": increments}, script=[*RUN, SHOW])
@@ -65,7 +70,7 @@ def shell(run):
 
 
 def quicksort_averages(n):
-    """Parts that are divided, exchanges, and comparisons, on an average of all orders of n keys: a part of n makes two of k and n-1-k."""
+    """Partitions, exchanges and comparisons, on an average of all orders of n keys: a subfile of n makes two of k and n-1-k."""
     averages = [(Fraction(0),) * 3] * 2
     for m in range(2, n + 1):
         own = (Fraction(1), Fraction(m - 2, 6), Fraction(m + 1))
@@ -74,7 +79,7 @@ def quicksort_averages(n):
 
 
 def most_waiting(n):
-    """How many parts wait at most: the larger one of each waits, and the smaller one has less than half of the keys."""
+    """How many subfiles wait at most: the larger one of each two waits, and the smaller one has less than half of the keys."""
     return 0 if n < 2 else 1 + most_waiting((n - 1) // 2)
 
 
@@ -84,7 +89,7 @@ def quicksort(run):
         waiting = f"show values LOW+1 LOW+{most_waiting(len(table)) + 1}"
         ran = run(N=len(table), data=table, script=[*RUN, SHOW, waiting])
         yield "the keys in order", ran.numbers(SHOW), sorted(table)
-        yield "places of the stack beyond the most that can wait", ran.numbers(waiting)[-1], 0
+        yield "the stack beyond the most that can wait", ran.numbers(waiting)[-1], 0
         yield from times(ran, N=len(table), **measured(ran, "ABCDL"))
     for n in (3, 4, 5):
         sums = dict.fromkeys("ABCD", 0)
@@ -94,7 +99,7 @@ def quicksort(run):
         yield f"A, B and C+D in all orders of {n}", (sums["A"], sums["B"], sums["C"] + sums["D"]), tuple(factorial(n) * one for one in quicksort_averages(n))
     ran = run("answer.mix", script=[*RUN, SHOW])
     found = measured(ran, "ABCD")
-    yield "keys in order: a part of each size from 10 to 2", (found["A"], found["B"], found["C"] + found["D"]), (9, 0, sum(range(3, 12)))
+    yield "keys in order: a subfile of each size from 10 to 2", (found["A"], found["B"], found["C"] + found["D"]), (9, 0, sum(range(3, 12)))
 
 
 def heapsort(run):
@@ -103,12 +108,12 @@ def heapsort(run):
         n = len(table)
         ran = run(N=n, data=table, script=["run 100000 until loc HEAP", SHOW])
         heap = ran.numbers(SHOW)
-        yield "places where the heap is none", [k for k in range(2, n + 1) if heap[k // 2 - 1] < heap[k - 1]], []
+        yield "positions whose key is larger than its parent", [k for k in range(2, n + 1) if heap[k // 2 - 1] < heap[k - 1]], []
         ran = run(N=n, data=table, script=[*RUN, SHOW])
         yield "the keys in order", ran.numbers(SHOW), sorted(table)
         found, sifts = measured(ran, "BI"), n // 2 + n - 1
         one_or_two = count_at(ran, "JE 2F")
-        yield from times(ran, N=n, **found, G=sifts + found["B"] - one_or_two, E=one_or_two - count_at(ran, "CMPX KEY+1,3"))
+        yield from times(ran, N=n, **found, S=sifts, G=sifts + found["B"] - one_or_two, E=one_or_two - count_at(ran, "CMPX KEY+1,3"))
         if n > 3:
             three = run("answer.mix", N=n, data=table, script=["run 100000", "show values KEY+N-2 KEY+N"])
             yield "the three largest", three.numbers("show values KEY+N-2 KEY+N"), sorted(table)[-3:]
@@ -144,8 +149,11 @@ def list_merge(run):
         order = along_links(ran, len(table))
         yield "each key once, in order", ([table[k - 1] for k in order], sorted(order)), (sorted(table), list(range(1, len(table) + 1)))
         yield from times(ran, N=len(table), **merges(table))
-        ran = run("answer.mix", N=len(table), data=table, script=["run 100000", "show values OUT+1 OUT+N"])
-        yield "the keys in a table", ran.numbers("show values OUT+1 OUT+N"), sorted(table)
+        ran = run("answer.mix", N=len(table), data=table, script=["run 100000", "show values TABLE+1 TABLE+N"])
+        yield "the keys in a table", ran.numbers("show values TABLE+1 TABLE+N"), sorted(table)
+    for table, order in (([50, 20, 50], [2, 3, 1]), ([7, 7, 7, 7], [1, 2, 3, 4]), ([7] * 6, [5, 6, 1, 2, 3, 4])):
+        ran = run(N=len(table), data=table, script=["run 100000", "show values LINK LINK+N"])
+        yield f"the order of {table}, which is stable if there are 2, 4, 8 .. keys", along_links(ran, len(table)), order
     for n in (4, 5):
         compared = sum(measured(run(N=n, data=table, script=RUN), "C")["C"] for table in itertools.permutations(range(1, n + 1)))
         sizes, average = [1] * n, Fraction(0)
@@ -165,13 +173,13 @@ def radix(run):
         for name, digits in (("lesson.mix", 3), ("answer.mix", 2)):
             ran = run(name, N=len(table), data=data, script=[*RUN, "show values LINK LINK+N"])
             wanted = sorted(range(1, len(table) + 1), key=lambda k: table[k - 1][3 - digits :])
-            yield f"{name}: the keys in order, equal ones as they stood", along_links(ran, len(table)), wanted
+            yield f"{name}: the keys in order, equal ones in their old order", along_links(ran, len(table)), wanted
             empty = sum(10 - len({key[2 - at] for key in table}) for at in range(digits))
             yield from times(ran, N=len(table), M=10, P=digits, E=empty)
 
 
 LESSONS = [
-    Lesson("20_insertion", insertion, ("JGE  PLACE", "JG   PLACE")),
+    Lesson("20_insertion", insertion, ("JLE  PLACE", "JL   PLACE")),
     Lesson("21_shell", shell, ("ENT1 1,3", "ENT1 2,3")),
     Lesson("22_quicksort", quicksort, ("JL   2B", "JLE  2B")),
     Lesson("23_heapsort", heapsort, ("CMPX KEY+1,3", "CMPX KEY-1,3")),

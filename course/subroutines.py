@@ -1,57 +1,57 @@
 """Facts of the lessons of 1.4: divisions and texts by Python's own means, the times of waiting by closed forms."""
 import math
+import random
 import re
 
 from counting import count_at, times
 from lesson import RUN, Lesson
+from machine import CHARACTERS
 
 
 def truncated(above, below):
-    """Quotient and rest, the rest with the sign of what is divided."""
+    """Quotient and remainder; the remainder has the sign of the dividend."""
     quotient = abs(above) // abs(below) * (1 if (above < 0) == (below < 0) else -1)
     return quotient, above - quotient * below
 
 
 def entrances_exits(run):
-    quots, rests = "show values QUOTS+1 QUOTS+N", "show values RESTS+1 RESTS+N"
+    quots, rems = "show values QUOTS+1 QUOTS+N", "show values REMS+1 REMS+N"
     cases = [[(17, 5), (100, 10), (5, 0), (-29, 7)], [(0, 0)], [(63, 64), (0, 9), (-8, -3), (12, -4), (1, 0), (0, 0), (1000000, 999)]]
     for pairs in cases:
         data = {"above": [above for above, _ in pairs], "below": [below for _, below in pairs]}
         found = [truncated(*pair) if pair[1] else (0, 0) for pair in pairs]
         none = sum(below == 0 for _, below in pairs)
         whole = sum(below != 0 and above % below == 0 for above, below in pairs)
-        ran = run(N=len(pairs), data=data, script=[*RUN, quots, rests, "show values"])
+        ran = run(N=len(pairs), data=data, script=[*RUN, quots, rems, "show values"])
         yield "quotients", ran.numbers(quots), [quotient for quotient, _ in found]
-        yield "rests", ran.numbers(rests), [rest for _, rest in found]
+        yield "remainders", ran.numbers(rems), [remainder for _, remainder in found]
         yield "how many have none", ran.register("I4"), none
         yield from times(ran, N=len(pairs), Z=none)
-        ran = run("answer.mix", N=len(pairs), data=data, script=[*RUN, rests, "show values"])
-        yield "rests by the third exit", ran.numbers(rests), [rest for _, rest in found]
+        ran = run("answer.mix", N=len(pairs), data=data, script=[*RUN, rems, "show values"])
+        yield "remainders by the third exit", ran.numbers(rems), [remainder for _, remainder in found]
         yield "the first and the second exit", (ran.register("I4"), ran.register("I5")), (none, whole)
         yield from times(ran, N=len(pairs), Z=none, V=whole)
 
 
 def in_groups(text):
-    return "  ".join(text[at : at + 3] for at in range(0, len(text), 3))
-
-
-def expanded(code):
-    return re.sub(r"(\d)(.)", lambda found: found[2] * (int(found[1]) + 1), code)
+    return " ".join(text[at : at + 4] for at in range(0, len(text), 4))
 
 
 def coroutines(run):
-    for card in ("M2I0X 4+R 9EV.", ".", "A.", "AB.", "A B C.", "9Z9Y8X.REST", "1 2 3 4 5 6.", "A0B1C2D3E4F5G6H7I8J9K."):
-        code = card[: card.index(".") + 1].replace(" ", "")
-        text, units = expanded(code), re.findall(r"\d?.", code)
+    draw = random.Random(142)
+    texts = [(".", ""), ("A.", "0140"), ("AB.", "01 0240"), ("TELEGRAPH.", None), ("MIX, BY 2.", None), ("ABCDEFGH.", None)]
+    texts += [("".join(draw.choices(CHARACTERS[1:40], k=draw.randrange(20, 36))) + ".", None) for _ in range(3)]
+    for text, card in texts:
+        codes = [digit for one in text for digit in "%02d" % CHARACTERS.index(one)]
+        spread = "".join(digit + " " * (draw.random() < 0.1) for digit in codes)
+        card = card or (spread if len(spread) <= 80 else "".join(codes))
+        used = card.rindex("40") + 2
         ran = run(deck=["%UNIT 16", card], script=[*RUN, "show unit 18"])
-        yield f"the groups of {card}", ran.rows(18), [in_groups(text)]
-        groups, rest = divmod(len(text), 3)
-        yield from times(ran, T=len(text), K=len(units), D=sum(len(unit) == 2 for unit in units), L=sum(unit[0].isalpha() for unit in units),
-                         B=card[: card.index(".")].count(" "), V=math.ceil((card.index(".") + 1) / 5), G=groups + (rest > 0), H=groups + (rest > 1),
-                         I=groups, J=groups - (rest == 0))
+        yield f"the groups of {card}", ran.rows(18), [in_groups(text).rstrip()]
+        yield from times(ran, T=len(text), B=card[:used].count(" "), V=math.ceil(used / 5))
         ran = run("answer.mix", deck=["%UNIT 16", card], script=[*RUN, "show unit 18"])
         swapped = re.sub(r"([^.])([^.])", r"\2\1", text)
-        yield f"the groups with characters changed of {card}", ran.rows(18), [in_groups(swapped)]
+        yield f"the groups with exchanged characters of {card}", ran.rows(18), [in_groups(swapped).rstrip()]
 
 
 # Programs for the small machine, each with what it prints; the cell of COUNT is free for them.
@@ -98,7 +98,7 @@ def buffers(run):
 
 LESSONS = [
     Lesson("10_entrances_exits", entrances_exits, ("JXZ  0,3", "JXZ  1,3")),
-    Lesson("11_coroutines", coroutines, ("J5NN 2B", "J5P  2B")),
+    Lesson("11_coroutines", coroutines, ("STA  PAIR(5:5)", "STA  PAIR(4:5)")),
     Lesson("12_interpreter", interpreter, ("JANZ STEP", "JAZ  STEP")),
     Lesson("13_buffers", buffers, ("JBUS *(READER)", "JRED *(READER)")),
 ]

@@ -1,16 +1,18 @@
 """The talks and the counts that a lesson's README.md shows, run and compared line by line.
 
-A talk is a block that begins with "```text NAME.mix". Its lines that begin with `mix> ` are the commands of the bundle, all of them and
-in their order; below each stands its reply, in which a line `..` stands for lines that are left out. A block that begins with "```text times NAME.mix N=4 N=7"
+A talk is a block that begins with "```text NAME.mix". Its lines that begin with the prompt `(mixrev) ` are the commands of the bundle,
+all of them and in their order. Below each command is its reply, in which a line `..` stands for lines that are left
+out, and ` ..` at the end of a line for its rest. A block that
+begins with "```text after NAME.mix" has commands that follow those of the bundle. A block that begins with "```text times NAME.mix N=4 N=7"
 is what `course/times` writes of these values."""
 import re
 
 from columns import columns
 from running import Bundle, replies_of
 
-BLOCK = re.compile(r"^```text (\S+\.mix)\n(.*?)^```$", re.S | re.M)
+BLOCK = re.compile(r"^```text (after )?(\S+\.mix)\n(.*?)^```$", re.S | re.M)
 COLUMNS = re.compile(r"^```text times (\S+\.mix) (.*?)\n(.*?)^```$", re.S | re.M)
-PROMPT = "mix> "
+PROMPT = "(mixrev) "
 LEFT_OUT = ".."
 
 
@@ -32,22 +34,34 @@ def shown_in(text):
     return talk
 
 
+def is_line(shown, written):
+    """Whether a line that is shown is the one written; at its end ` ..` stands for what is left out."""
+    return written.startswith(shown[: -len(LEFT_OUT)]) if shown.endswith(" " + LEFT_OUT) else written.rstrip() == shown.rstrip()
+
+
 def is_shown(shown, written):
-    """Whether the lines that are shown are those that are written, with `..` for some that are left out."""
-    pattern = "".join("(?:.*\n)+?" if line == LEFT_OUT else re.escape(line.rstrip()) + "\n" for line in shown)
-    return re.fullmatch(pattern, "".join(line.rstrip() + "\n" for line in written)) is not None
+    """Whether the lines shown are those written, with `..` for some that are left out."""
+    if not shown:
+        return not written
+    if shown[0] != LEFT_OUT:
+        return bool(written) and is_line(shown[0], written[0]) and is_shown(shown[1:], written[1:])
+    return any(is_shown(shown[1:], written[at:]) for at in range(1, len(written) + 1))
 
 
 def talks(program, folder):
     """Compares each talk of a lesson's README.md; that of `lesson.mix` and that of `answer.mix` have to be there."""
     text, seen = (folder / "README.md").read_text(), set()
     for found in BLOCK.finditer(text):
-        name, shown = found[1], shown_in(found[2])
-        seen.add(name)
-        said = talk_of(program, Bundle((folder / name).read_text()))
+        name, shown = found[2], shown_in(found[3])
+        bundle = Bundle((folder / name).read_text())
+        first = len(bundle.commands()) if found[1] else 0
+        if found[1]:
+            bundle.script += [command for command, _ in shown]
+        seen.add(name if not found[1] else "")
+        said = talk_of(program, bundle)[first:]
         yield f"the commands of {name}", [command for command, _ in shown], [command for command, _ in said]
         for (command, lines), (_, reply) in zip(shown, said):
-            different = [line for line in lines if line != LEFT_OUT and line.rstrip() not in map(str.rstrip, reply)]
+            different = [line for line in lines if line != LEFT_OUT and not any(is_line(line, one) for one in reply)]
             yield f"lines of the reply to {command} of {name} that are not written", different, []
             yield f"whether the reply to {command} of {name} is shown whole and in order", is_shown(lines, reply), True
     for found in COLUMNS.finditer(text):

@@ -1,4 +1,4 @@
-"""Facts of the lessons of 2.3.1: the orders of a tree by recursion, and its threads by the order."""
+"""Facts of the lessons of 2.3: the orders of a tree and what it reaches by recursion, its threads by the order."""
 import random
 
 from counting import times
@@ -6,7 +6,7 @@ from lesson import RUN, Lesson
 
 
 def drawn_tree(n, draw):
-    """A tree of n nodes as a dictionary: of each node its left and its right side, and a letter."""
+    """A tree of n nodes as a dictionary: of each node its left and its right subtree, and a letter."""
     tree = {}
 
     def grown(names):
@@ -19,8 +19,8 @@ def drawn_tree(n, draw):
     return tree, grown(draw.sample(range(1, n + 1), n))
 
 
-def symmetric(tree, node):
-    return symmetric(tree, tree[node][0]) + [node] + symmetric(tree, tree[node][1]) if node else []
+def inorder(tree, node):
+    return inorder(tree, tree[node][0]) + [node] + inorder(tree, tree[node][1]) if node else []
 
 
 def preorder(tree, node):
@@ -32,8 +32,8 @@ def lines(tree):
 
 
 def threads(tree, root):
-    """The node that each node without a right side leads to."""
-    order = symmetric(tree, root)
+    """The thread of each node without a right subtree."""
+    order = inorder(tree, root)
     return {node: following for node, following in zip(order, [*order[1:], 0]) if not tree[node][1]}
 
 
@@ -46,7 +46,7 @@ def drawn_trees():
 def tree_stack(run):
     show = "show values ORDER+1 ORDER+N"
     for tree, root in drawn_trees():
-        for name, order in (("lesson.mix", symmetric), ("answer.mix", preorder)):
+        for name, order in (("lesson.mix", inorder), ("answer.mix", preorder)):
             ran = run(name, N=len(tree), ROOT=root, data=lines(tree), script=[*RUN, show])
             yield f"{name}: the letters", ran.numbers(show), [tree[node][2] for node in order(tree, root)]
             yield from times(ran, N=len(tree))
@@ -63,13 +63,47 @@ def tree_threads(run):
     for tree, root in drawn_trees():
         data = ["        CON  %d(0:0),%d(1:1),%d(2:2),%d(3:3),%d(4:4),%d(5:5)" % (sign, *word) for sign, word in threaded(tree, root)]
         ran = run(N=len(tree), ROOT=root, data=data, script=[*RUN, show])
-        yield "the letters by the threads", ran.numbers(show), [tree[node][2] for node in symmetric(tree, root)]
+        yield "the letters by the threads", ran.numbers(show), [tree[node][2] for node in inorder(tree, root)]
         yield from times(ran, N=len(tree), A=sum(left > 0 for left, _, _ in tree.values()), B=sum(right > 0 for _, right, _ in tree.values()))
         ran = run("answer.mix", N=len(tree), ROOT=root, data=lines(tree), script=[*RUN, "show cells TREE+1 TREE+N"])
         yield "the threads", list(ran.words("show cells TREE+1 TREE+N").values()), threaded(tree, root)
 
 
+def reached(nodes, root):
+    """The nodes that links lead to from a root, by a set that grows."""
+    found, waiting = set(), [root]
+    while waiting:
+        node = waiting.pop()
+        if node and node not in found:
+            found.add(node)
+            waiting += nodes[node]
+    return found
+
+
+def marking(run):
+    draw = random.Random(235)
+    own = {1: (2, 4), 2: (3, 0), 3: (1, 5), 4: (5, 2), 5: (5, 9), 6: (7, 2), 7: (6, 0), 8: (0, 8), 9: (4, 0)}
+    cases = [(own, 1), ({1: (0, 0)}, 1), ({1: (1, 1)}, 1), ({k: (k + 1 if k < 9 else 0, 0) for k in range(1, 10)}, 1)]
+    for n in (2, 5, 12, 40):
+        cases.append(({k: (draw.choice([0, draw.randrange(1, n + 1)]), draw.choice([0, draw.randrange(1, n + 1)])) for k in range(1, n + 1)}, draw.randrange(1, n + 1)))
+    for nodes, root in cases:
+        n, marked = len(nodes), reached(nodes, root)
+        data = ["        CON  %d(1:2),%d(3:4)" % nodes[node] for node in sorted(nodes)]
+        ran = run(N=n, ROOT=root, data=data, script=[*RUN, "show cells NODE+1 NODE+N"])
+        found = list(ran.words("show cells NODE+1 NODE+N").values())
+        wanted = [(1, [*divmod(nodes[node][0], 64), *divmod(nodes[node][1], 64), 2 * (node in marked)]) for node in sorted(nodes)]
+        yield "the nodes that are marked, and all links", found, wanted
+        yield from times(ran, R=len(marked), Z=sum(nodes[node].count(0) for node in marked))
+        ran = run("answer.mix", N=n, ROOT=root, data=data, script=["run 100000", "show cells NODE+1 NODE+N", "show values AVAIL AVAIL"])
+        free = [*sorted(set(nodes) - marked), 0]
+        links = dict(zip(free, free[1:]))
+        wanted = [(1, [*divmod(links[node], 64), 0, 0, 0] if node in links else [*divmod(nodes[node][0], 64), *divmod(nodes[node][1], 64), 0]) for node in sorted(nodes)]
+        yield "the first free node", ran.numbers("show values AVAIL AVAIL"), free[:1]
+        yield "the links of free nodes, and no marks", list(ran.words("show cells NODE+1 NODE+N").values()), wanted
+
+
 LESSONS = [
     Lesson("18_tree_stack", tree_stack, ("INC3 1", "INC3 2")),
     Lesson("19_tree_threads", tree_threads, ("JANN LEFT", "JAN  LEFT")),
+    Lesson("34_marking", marking, ("JAP  1F", "JANN 1F")),
 ]

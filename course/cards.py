@@ -1,0 +1,62 @@
+"""Facts of the lesson on the card loader: decks of cards, made of the words of a program as the listing has them."""
+import random
+import re
+import subprocess
+
+from lesson import Lesson
+from machine import CHARACTERS
+
+LISTED = re.compile(r"^(\d{4})  \+((?: \d\d){5})")
+
+
+def words_of(program, path):
+    """The words of a source by their locations, each a list of bytes."""
+    said = subprocess.run([program, "list", str(path)], capture_output=True, text=True).stdout
+    found = [LISTED.match(line) for line in said.splitlines()]
+    return {int(one[1]): [int(byte) for byte in one[2].split()] for one in found if one}
+
+
+def number(word):
+    return sum(byte * 64**at for at, byte in enumerate(reversed(word)))
+
+
+def cards_of(first, numbers):
+    """The cards of a program from its first location on: seven words each, and the card that begins it."""
+    for at in range(0, len(numbers), 7):
+        yield f"{first + at:05d}     " + "".join(f"{one:010d}" for one in numbers[at : at + 7])
+    yield f"{first:05d}   GO"
+
+
+def deck_of(program, folder, name, filled=False):
+    """The deck of a program: the loader as characters, and the program as numbers, filled up with zeros if asked."""
+    loader = "".join(CHARACTERS[byte] for word in words_of(program, folder / "loader.mixal").values() for byte in word)
+    words = words_of(program, folder / name)
+    numbers = [number(words[at]) for at in sorted(words)]
+    return [loader, *cards_of(min(words), [*numbers, *[0] * (-len(numbers) % 7 if filled else 0)])]
+
+
+def loader(run):
+    hello, copier = deck_of(run.program, run.folder, "hello.mixal"), deck_of(run.program, run.folder, "copier.mixal", filled=True)
+    yield "the cards of the lesson", run.bundle("lesson.mix").deck, ["%UNIT 16", *hello]
+    yield "the cards of the copier", run.bundle("copy.mix").deck, ["%UNIT 16", *copier]
+    text = "".join(re.findall(r'ALF +"(.....)"', (run.folder / "hello.mixal").read_text()))
+    ran = run(script=["run 10000", "show unit 18"])
+    yield "what the loaded program prints", (ran.rows(18), ran.end), ([text.rstrip()], "halt")
+    draw = random.Random(131)
+    for size in (1, 6, 7, 8, 20):
+        first, numbers = draw.randrange(100, 3900), [draw.randrange(1, 64**5) for _ in range(size)]
+        cards = [hello[0], *cards_of(first, numbers)]
+        ran = run(deck=["%UNIT 16", *cards], script=[f"run 10000 until loc {first}", f"show values {first} {first + size - 1}"])
+        yield f"{size} loaded words", ran.numbers(f"show values {first} {first + size - 1}"), numbers
+        yield "the location where the program begins", ran.location, first
+    ran = run("copy.mix", script=["run 10000", "show unit 17"])
+    yield "the cards that are punched", ran.rows(17), [card.rstrip() for card in copier]
+    ran = run("copy.mix", deck=["%UNIT 16", *ran.rows(17)], script=["run 10000", "show unit 17"])
+    yield "the cards that the copy punches", ran.rows(17), [card.rstrip() for card in copier]
+    for size in (1, 6, 7, 8, 21, 40):
+        first, numbers = draw.randrange(100, 3900), [draw.randrange(1, 64**5) for _ in range(size)]
+        ran = run("answer.mix", N=size, TO=first, data=numbers, script=["run 100000", "show unit 17"])
+        yield f"{size} words, punched", (ran.end, ran.rows(17)), ("halt", [card.rstrip() for card in cards_of(first, numbers)])
+
+
+LESSONS = [Lesson("32_loader", loader, ("JBUS *(16)", "JRED *(16)"))]
