@@ -70,8 +70,7 @@ export class App extends Desk {
     this.show(view, reply, before);
   }
 
-  async act(command) {
-    const before = this.view;
+  async act(command, before = this.view) {
     this.acted(before, await this.session.act(command));
   }
 
@@ -110,7 +109,8 @@ export class App extends Desk {
         this.tell(`The program has halted. ${button} once more goes on behind the HLT, at location ${String(this.view.state.location).padStart(4, "0")}.`);
         return undefined;
       }
-      return move(name, session, listing.breakCells, (command) => this.act(command));
+      const before = this.view;
+      return move(name, session, listing.breakCells, (command) => this.act(command, before));
     });
   }
 

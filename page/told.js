@@ -38,7 +38,7 @@ export function toldOf({ reply, before, view, isBreak, lineOf, lines }) {
 }
 
 function haltedAt({ done, clock }, was, rows) {
-  const steps = done - was > 1 ? `, ${counted(done - was, "step")} done now` : "";
+  const steps = was > 0 && done - was > 1 ? `, the last ${(done - was).toLocaleString("en")} now` : "";
   return `Halted after ${counted(done, "change")}, clock ${Number(clock).toLocaleString("en")} u${steps}.${rows}`;
 }
 

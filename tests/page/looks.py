@@ -1,6 +1,7 @@
 """How the page looks, and that everyone can use it: a narrow window, keys alone, a name for every control, no request, and the pictures of it."""
 import json
 import pathlib
+import re
 import subprocess
 import time
 
@@ -19,6 +20,13 @@ def modules(count):
         ran = subprocess.run(["node", "--check", "--input-type=module"], input=path.read_bytes(), capture_output=True)
         count.row(f"node --check {path.name}", ran.returncode == 0, ran.stderr.decode())
         count.row(f"{path.name}: at most 250 lines", len(path.read_text().splitlines()) <= 250)
+
+
+def tables(count):
+    """The operations of the page against those of the program, its colours against the samples of the editors."""
+    ran = subprocess.run(["node", HERE / "tables.mjs"], capture_output=True, text=True)
+    passed = int((re.search(r"^(\d+) passed, 0 failed$", ran.stdout, re.M) or [0, 0])[1])
+    count.row("tables", ran.returncode == 0 and passed > 400, ran.stdout[-2000:] + ran.stderr[-2000:])
 
 
 def narrow(page, native, count):

@@ -6,14 +6,16 @@ import traceback
 
 import looks
 import repairs
+import seen
+import tasks
 import uses
 import walks
 from browser import Page
 from native import Count, Native
 from webkit import WebKit
 
-USES = (uses.examples, uses.breakpoints, uses.slider, uses.who, uses.faults, uses.cards, uses.share, looks.narrow, looks.keys, looks.names, looks.bounds, *repairs.REPAIRS)
-IN_CHROMIUM = (looks.names,)  # what asks Chromium itself
+USES = (uses.examples, uses.breakpoints, uses.slider, uses.who, uses.faults, uses.cards, uses.share, looks.narrow, looks.keys, looks.names, looks.bounds, *repairs.REPAIRS, *seen.SEEN, seen.contrast, tasks.tasks)
+IN_CHROMIUM = (looks.names, seen.contrast)  # what asks Chromium itself
 WALKS = range(1, 13)
 
 
@@ -53,6 +55,7 @@ def main(words):
                 looks.alone(page, native, count)
 
     row("modules", lambda: looks.modules(count))
+    row("tables", lambda: looks.tables(count))
     for test in USES:
         if browser is Page or test not in IN_CHROMIUM:
             row(test.__name__, lambda test=test: one(test))
