@@ -34,7 +34,7 @@ JRED 38 - 1 jump jumps to {line} if unit {F} is ready
 JMP 39 0 1 jump jumps to {line}; rJ becomes the location after the jump
 JSJ 39 1 1 jump jumps to {line}; rJ stays as it is
 JOV 39 2 1 jump jumps to {line} if overflow is on, which goes off
-JNOV 39 3 1 jump jumps to {line} if overflow is off; else it goes off
+JNOV 39 3 1 jump jumps to {line} if overflow is off; otherwise it goes off
 JL 39 4 1 jump jumps to {line} if the comparison is less
 JE 39 5 1 jump jumps to {line} if the comparison is equal
 JG 39 6 1 jump jumps to {line} if the comparison is greater
