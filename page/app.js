@@ -106,7 +106,7 @@ export class App extends Desk {
       if (session.isHalted && (name === "step" || name === "run") && this.agreed !== asked) {
         this.agreed = asked;
         const button = name === "run" ? "Run" : "Step";
-        this.tell(`The program has halted. ${button} once more goes on behind the HLT, at location ${String(this.view.state.location).padStart(4, "0")}.`);
+        this.tell(`The program has halted. ${button} once more goes on after the HLT, at location ${String(this.view.state.location).padStart(4, "0")}.`);
         return undefined;
       }
       const before = this.view;

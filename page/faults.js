@@ -49,7 +49,7 @@ function causeOf(what, line) {
   if (number === "A2" && isOperation(first)) return `${first} is at the first column, so it is read as a label: put a blank before it`;
   if (number === "A2" && operation) {
     const near = nearTo(operation);
-    return `${operation} is none${near ? `; perhaps ${near}?` : ""}`;
+    return near ? `Perhaps ${near} is meant, not ${operation}` : `${operation} is none`;
   }
   if (number === "A2") return "A line has an operation after its label";
   if (number === "A5" && /,\s/.test(address)) return "The address ends at the first blank, so no blank comes after a comma";

@@ -23,6 +23,7 @@ export class Keep {
     $("link-copy").addEventListener("click", () => this.copy());
     $("answer-open").addEventListener("click", () => this.openAnswer());
     $("help").addEventListener("click", () => $("help-box").showModal());
+    window.addEventListener("beforeprint", () => put($("on-paper"), this.heading));
     window.addEventListener("hashchange", () => this.openLink());
     window.addEventListener("beforeunload", (event) => {
       if (app.isEdited) event.preventDefault();
@@ -113,6 +114,13 @@ export class Keep {
     if (!this.lesson) await this.openLesson(this.lessons[0]);
     this.app.tell(reason, true);
     return true;
+  }
+
+  // What is printed above the listing: the lesson, the moment, the day.
+  get heading() {
+    const { session } = this.app;
+    const moment = session ? `, change ${session.done} of ${session.changes.total}` : "";
+    return `${this.lesson ? this.lesson.title : "A program"}${moment}, ${new Date().toISOString().slice(0, 10)}`;
   }
 
   get bundle() {

@@ -68,7 +68,7 @@ export class Listing {
 
   // Gives each row the height of its line, which may be wrapped, and the bands their places.
   place() {
-    const heights = this.source.shades.map(({ element }) => element.offsetHeight);
+    const heights = this.source.shades.map(({ element }) => element.getBoundingClientRect().height);
     heights.forEach((height, index) => {
       const parts = this.rows[index];
       if (!parts || parts.height === height || height === 0) return;

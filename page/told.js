@@ -33,7 +33,7 @@ export function toldOf({ reply, before, view, isBreak, lineOf, lines }) {
     const text = reply.replace(/^\?+ /, "").trim();
     return { last: did, did: `Refused: ${text}${MEANINGS[text] ? `, ${MEANINGS[text]}` : ""}.`, next, isFault: true };
   }
-  if (state.halted) return { last: did, did: haltedAt(state, was, printed(before, view)), next: "Step or Run, pressed twice, goes on behind the HLT. Back goes back.", isFault: false };
+  if (state.halted) return { last: did, did: haltedAt(state, was, printed(before, view)), next: "Step or Run, pressed twice, goes on after the HLT. Back goes back.", isFault: false };
   return { last: did, did: wayOf(reply, was, view, before, did, isBreak ? `Breakpoint at ${at}. ` : ""), next, isFault: false };
 }
 

@@ -24,6 +24,8 @@ OUT     JOV  BACK
         HLT
         END  START
 """
+APART = """const tops = (selector) => [...document.querySelectorAll(selector)].map(e => e.getBoundingClientRect().top);
+const [rows, lines] = [tops('.line'), tops('#colours > div')]; return Math.max(...rows.map((top, at) => Math.abs(top - lines[at])))"""
 # Each step of it: what it did, and what the next one will do, by the rules of the book.
 SENTENCES = [
     ("At the start.", "Next: 8 LDX KEY+1: rX becomes 50 (cell 1000)."),
@@ -67,6 +69,9 @@ def sentences(page, native, count):
     count.row("sentences: what a register was", row.text.endswith("was 0"), row.text)
     page.script("const t = document.getElementById('text'); t.focus(); const at = t.value.indexOf('INCA'); t.setSelectionRange(at, at)")
     page.press("\ue031")  # F1
+    title = page.script("""const at = document.querySelector('#colours > div:nth-child(6) .support').getBoundingClientRect(); const text = document.getElementById('text');
+        text.dispatchEvent(new MouseEvent('mousemove', { clientX: at.left + 3, clientY: at.top + 5, bubbles: true })); return text.title""")
+    count.same("sentences: at the pointer", title, "STA: field F of cell M becomes rA. C = 24, 2 u.")
     count.row("sentences: F1 at an operation", page.told().startswith("INCA: rA becomes rA + M."), page.told())
 
 
@@ -113,8 +118,13 @@ def lesson(page, native, count):
     wide = page.script("return [...document.querySelectorAll('#colours > div')].map(d => d.scrollWidth > d.clientWidth + 1).filter(Boolean).length")
     count.same("lesson: no line is cut", wide, 0)
     count.same("lesson: the colours say what the text says", page.script("return [...document.querySelectorAll('#colours > div')].map(d => d.textContent).join('\\n')"), page.value("text"))
-    heights = page.script("return [[...document.querySelectorAll('.line')].map(l => l.offsetHeight), [...document.querySelectorAll('#colours > div')].map(l => l.offsetHeight), document.getElementById('text').scrollHeight, document.getElementById('colours').offsetHeight]")
-    count.row("lesson: rows are as high as their lines", heights[0] == heights[1] and abs(heights[2] - heights[3]) <= 40, heights)
+    for width in (1280, 375, 641):
+        page.size(width, 720)
+        page.wait(lambda: page.script(APART) < 1)
+        count.row(f"lesson: rows beside their lines, {width} wide", page.script(APART) < 1, page.script(APART))
+        heights = page.script("return [document.getElementById('text').scrollHeight, document.getElementById('colours').offsetHeight]")
+        count.row(f"lesson: the text wraps as its colours do, {width} wide", abs(heights[0] - heights[1]) <= 40, heights)
+    page.size(1280, 720)
     page.lesson(0)
     page.put("text", SORT)
     page.script("document.querySelector('#symbols details').open = true")
