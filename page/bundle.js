@@ -1,10 +1,15 @@
-// The bundle: a source, then perhaps `%DEVICES` and a deck, then perhaps `%SCRIPT` and a script. And the cards, which the page shows apart from the
-// rest of the deck.
+// The bundle: a source, then perhaps `%DEVICES` and a deck, then perhaps `%SCRIPT` and a script. The cards, which the page shows apart from the
+// rest of the deck. And what the page keeps in a script beside the commands that were done, as remarks.
 
 const HEADER_OF_CARDS = /^%unit[ \t]+0?16(?![0-9])/i;
+const KEPT = "* Kept by the page, and no commands:";
+const LESSON = "* lesson: ";
+const BREAKS = "* breakpoints at lines: ";
+const LEFT = "* still to do: ";
 
-const linesOf = (text) => text.replace(/\r\n?/g, "\n").split("\n");
+export const linesOf = (text) => text.replace(/\r\n?/g, "\n").split("\n");
 const whole = (text) => (text === "" || text.endsWith("\n") ? text : `${text}\n`);
+const linesIn = (text) => (text === "" ? [] : text.replace(/\n$/, "").split("\n"));
 
 // The parts of a bundle.
 export function partsOf(text) {
@@ -35,7 +40,31 @@ export function isBundle(text) {
   return linesOf(text).some((line) => line === "%DEVICES" || line === "%SCRIPT");
 }
 
-// Where the cards stand in the lines of a deck: after the header of unit 16, up to the next header.
+// A script of the commands that were done, and behind them, as remarks, what else the page holds.
+export function scriptOf({ done, left, breaks, lesson }) {
+  const kept = [];
+  if (lesson) kept.push(LESSON + lesson);
+  if (breaks.length > 0) kept.push(BREAKS + breaks.join(" "));
+  kept.push(...left.map((line) => LEFT + line));
+  if (kept.length > 0) kept.unshift(KEPT);
+  return [...done, ...kept].map((line) => `${line}\n`).join("");
+}
+
+// What a script holds: the lines that are to be done at once, and what the page kept in it. Of another script all lines are to be done.
+export function keptIn(script) {
+  const lines = linesIn(script);
+  const at = lines.lastIndexOf(KEPT);
+  const kept = at < 0 ? [] : lines.slice(at + 1);
+  const after = (name) => kept.filter((line) => line.startsWith(name)).map((line) => line.slice(name.length));
+  return {
+    done: at < 0 ? lines : lines.slice(0, at),
+    left: after(LEFT),
+    breaks: after(BREAKS).join(" ").split(" ").map(Number).filter((line) => line > 0),
+    lesson: after(LESSON)[0] || "",
+  };
+}
+
+// Where the cards are in the lines of a deck: after the header of unit 16, up to the next header.
 function placeOfCards(lines) {
   const header = lines.findIndex((line) => HEADER_OF_CARDS.test(line));
   if (header < 0) return null;

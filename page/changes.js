@@ -1,6 +1,6 @@
-// The list of changes, those that stand and those ahead, as the fewest commands that do them again.
+// The list of changes, those that are done and those ahead, as the fewest commands that do them again.
 
-const MOST = 1000000; // steps of one command
+export const STEPS = 1000000; // the most steps of one command
 
 export class Changes {
   constructor() {
@@ -50,8 +50,8 @@ export class Changes {
     for (const { command, count } of this.parts) {
       if (n <= 0) break;
       if (command) commands.push(command);
-      for (let left = command ? 0 : Math.min(n, count); left > 0; left -= MOST) {
-        commands.push(`step ${Math.min(left, MOST)}`);
+      for (let left = command ? 0 : Math.min(n, count); left > 0; left -= STEPS) {
+        commands.push(`step ${Math.min(left, STEPS)}`);
       }
       n -= count;
     }

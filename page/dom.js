@@ -2,7 +2,7 @@
 
 export const $ = (id) => document.getElementById(id);
 
-// A new element with attributes and children; a child that is a text stands as such.
+// A new element with attributes and children; a child that is a text stays a text.
 export function make(name, given = {}, ...children) {
   const element = document.createElement(name);
   for (const [key, value] of Object.entries(given)) {
@@ -18,4 +18,37 @@ export function put(element, text) {
   if (element.textContent !== text) element.textContent = text;
 }
 
+// Sets an attribute if it has another value.
+export function mark(element, name, value) {
+  if (element.getAttribute(name) !== String(value)) element.setAttribute(name, value);
+}
+
+// The rows of a list by their keys. A row whose key is still there keeps its element, and so the focus and the selection in it; `create` makes the
+// element of a new one, and `update` shows what it holds now. Where the focus was in a row that is gone, it goes to the box.
+export function keepRows(box, items, keyOf, create, update) {
+  const keys = new Set(items.map((item) => String(keyOf(item))));
+  const rows = new Map();
+  let isLost = false;
+  for (const row of [...box.children]) {
+    if (keys.has(row.dataset.key)) rows.set(row.dataset.key, row);
+    else {
+      isLost ||= row.contains(document.activeElement);
+      row.remove();
+    }
+  }
+  let at = box.firstElementChild;
+  for (const item of items) {
+    const key = String(keyOf(item));
+    const row = rows.get(key) || create(item);
+    row.dataset.key = key;
+    if (row === at) at = at.nextElementSibling;
+    else box.insertBefore(row, at);
+    update(row, item);
+  }
+  if (isLost) (box.querySelector("button[tabindex='0']") || box.closest("[tabindex]") || box).focus();
+}
+
 export const fourDigits = (cell) => String(cell).padStart(4, "0");
+
+// "1 row", "2 rows", "12,000 rows".
+export const counted = (count, thing) => `${count.toLocaleString("en")} ${thing}${count === 1 ? "" : "s"}`;

@@ -1,93 +1,148 @@
-// Opening, saving and sharing.
+// Lessons, opening, saving and sharing.
 
 import { $, put } from "./dom.js";
-import { bundleOf, partsOf } from "./bundle.js";
-import { fragmentOf, openedFrom } from "./share.js";
+import { bundleOf, keptIn, partsOf } from "./bundle.js";
+import { bundleIn, fragmentOf } from "./share.js";
+import { tooLarge } from "./source.js";
 import { fillMenu, showNotes } from "./notes.js";
 
-const linesIn = (script) => (script === "" ? 0 : script.replace(/\n$/, "").split("\n").length);
+const LONG_LINK = 2000; // letters; mail and chats may cut what is longer
 
 export class Keep {
   constructor(app, lessons) {
     this.app = app;
     this.lessons = lessons;
+    this.lesson = null;
     fillMenu(lessons);
     $("lessons").addEventListener("change", () => this.choose());
     $("open").addEventListener("click", () => $("file").click());
     $("file").addEventListener("change", () => this.openFile());
     $("save").addEventListener("click", () => this.save());
     $("share").addEventListener("click", () => this.share());
+    $("new").addEventListener("click", () => this.openNew());
     $("link-copy").addEventListener("click", () => this.copy());
+    $("answer-open").addEventListener("click", () => this.openAnswer());
     $("help").addEventListener("click", () => $("help-box").showModal());
+    window.addEventListener("beforeprint", () => put($("on-paper"), this.heading));
     window.addEventListener("hashchange", () => this.openLink());
     window.addEventListener("beforeunload", (event) => {
       if (app.isEdited) event.preventDefault();
     });
   }
 
-  // Whether what stands here may be left.
+  // Whether what is here may be left: the page asks, if something was done.
   isFree() {
-    return !this.app.isEdited || window.confirm("Leave this program and what was done with it?");
+    if (!this.app.isEdited) return Promise.resolve(true);
+    const box = $("leave");
+    box.returnValue = "";
+    box.showModal();
+    return new Promise((resolve) => {
+      box.addEventListener("close", () => resolve(box.returnValue === "leave"), { once: true });
+    });
+  }
+
+  // The lesson that is here is the one that the menu shows.
+  setLesson(lesson) {
+    this.lesson = lesson;
+    $("lessons").value = lesson ? String(this.lessons.indexOf(lesson)) : "";
+    showNotes(lesson || undefined);
   }
 
   async choose() {
     const lesson = this.lessons[$("lessons").value];
-    if (!lesson) return;
-    if (!this.isFree()) {
-      $("lessons").value = "";
-      return;
-    }
-    await this.openLesson(lesson);
+    if (lesson && (await this.isFree())) await this.openLesson(lesson);
+    else this.setLessonAgain();
   }
 
-  async openLesson({ title, bundle, notes }) {
-    this.name = title;
-    showNotes(notes);
-    await this.app.open(partsOf(bundle));
+  setLessonAgain() {
+    $("lessons").value = this.lesson ? String(this.lessons.indexOf(this.lesson)) : "";
+  }
+
+  // Opens a lesson, or its solution; the script waits.
+  async openLesson(lesson, bundle = lesson.bundle) {
+    this.setLesson(lesson);
+    const parts = partsOf(bundle);
+    const { done, left } = keptIn(parts.script);
+    await this.app.open(parts, { done: [], left: [...done, ...left], breaks: [] });
+  }
+
+  async openAnswer() {
+    if (this.lesson && (await this.isFree())) await this.openLesson(this.lesson, this.lesson.solution);
+  }
+
+  async openNew() {
+    if (!(await this.isFree())) return;
+    this.setLesson(null);
+    const source = "* What the program does\n        ORIG 1000\nSTART   ENTA 5            put 5 into rA\n        HLT\n        END  START\n";
+    await this.app.open({ source, deck: "" }, { done: [], left: [], breaks: [] });
+  }
+
+  // Opens a bundle that was saved or shared: what was done is done, the rest waits.
+  async openBundle(bundle) {
+    const parts = partsOf(bundle);
+    const reason = tooLarge(parts.source);
+    if (reason) throw new RangeError(reason);
+    const kept = keptIn(parts.script);
+    this.setLesson(this.lessons.find(({ name }) => name === kept.lesson) || null);
+    await this.app.open(parts, kept);
   }
 
   async openFile() {
     const [file] = $("file").files;
     $("file").value = "";
-    if (!file || !this.isFree()) return;
-    const parts = partsOf(await file.text());
-    $("lessons").value = "";
-    showNotes("");
-    await this.app.open(parts, linesIn(parts.script));
+    if (!file || !(await this.isFree())) return;
+    try {
+      await this.openBundle(await file.text());
+    } catch (fault) {
+      if (!(fault instanceof RangeError)) throw fault;
+      this.app.tell(`${file.name} was not opened: ${fault.message}.`, true);
+    }
   }
 
-  // Opens what the link holds; whether it holds something of ours.
+  // Opens what the link holds; whether it is a link of the page.
   async openLink() {
+    let bundle = null;
+    let reason = "";
     try {
-      const opened = await openedFrom(window.location.hash);
-      if (!opened || !this.isFree()) return Boolean(opened);
-      $("lessons").value = "";
-      showNotes("");
-      await this.app.open(partsOf(opened.bundle), opened.commands, opened.breaks);
+      bundle = await bundleIn(window.location.hash);
+      if (bundle === null || !(await this.isFree())) return bundle !== null;
+      await this.openBundle(bundle);
       return true;
-    } catch {
-      await this.openLesson(this.lessons[0]);
-      this.app.tell("This link is cut or was changed: it holds no program.", true);
-      return true;
+    } catch (fault) {
+      reason = fault instanceof RangeError ? `This link is not opened: ${fault.message}.` : "This link is cut or was changed: it holds no program.";
     }
+    if (!this.lesson) await this.openLesson(this.lessons[0]);
+    this.app.tell(reason, true);
+    return true;
+  }
+
+  // What is printed above the listing: the lesson, the moment, the day.
+  get heading() {
+    const { session } = this.app;
+    const moment = session ? `, change ${session.done} of ${session.changes.total}` : "";
+    return `${this.lesson ? this.lesson.title : "A program"}${moment}, ${new Date().toISOString().slice(0, 10)}`;
+  }
+
+  get bundle() {
+    return bundleOf(this.app.partsFor(this.lesson ? this.lesson.name : ""));
   }
 
   save() {
     const link = document.createElement("a");
-    link.href = URL.createObjectURL(new Blob([bundleOf(this.app.parts)], { type: "text/plain" }));
-    link.download = "program.mix";
+    link.href = URL.createObjectURL(new Blob([this.bundle], { type: "text/plain" }));
+    link.download = `${this.lesson ? this.lesson.name.replace("/", "_") : "program"}.mix`;
     link.click();
     setTimeout(() => URL.revokeObjectURL(link.href), 60000);
     this.app.isEdited = false;
   }
 
   async share() {
-    const { app } = this;
-    const commands = app.session ? app.session.log.length : 0;
-    const breaks = [...app.listing.breaks].sort((a, b) => a - b);
-    const fragment = await fragmentOf(bundleOf(app.parts), commands, breaks);
-    $("link-text").value = window.location.href.split("#")[0] + fragment;
-    put($("link-note"), window.location.protocol === "file:" ? "This page is a file, so the link leads to this file. Behind another page’s address the same # and what follows do the same." : "");
+    const link = window.location.href.split("#")[0] + (await fragmentOf(this.bundle));
+    $("link-text").value = link;
+    const notes = [];
+    if (window.location.protocol === "file:") notes.push("This page is a file, so the link leads to this file. Behind another address of the page the # and what follows do the same.");
+    if (link.length > LONG_LINK) notes.push(`The link has ${link.length.toLocaleString("en")} letters: mail and chats may cut it, so try it or send the file.`);
+    put($("link-note"), notes.join(" "));
     $("link").showModal();
     $("link-text").select();
   }

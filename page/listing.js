@@ -1,77 +1,85 @@
-// The source, which can be edited, and beside each line its location, its word and how often it was executed.
+// Beside each line of the source its location, its word and how often it was executed; a band over the line that is next, and one at a fault.
 
-import { $, fourDigits, make, put } from "./dom.js";
+import { $, fourDigits, make, mark, put } from "./dom.js";
+import { Source } from "./source.js";
 
-const LINE = 24; // the height of a line, as --line has it in style.css, for letters of 16 pixels
+const NO_WORD = "+ 00 00 00 00 00";
 
 export class Listing {
-  // `edited` is called when the text was changed, `toggled` when a line's breakpoint is asked for.
-  constructor({ edited, toggled }) {
-    this.box = $("text");
-    this.edited = edited;
+  // `edited` is called when the text was changed, `toggled` when a line's breakpoint is asked for, `refused` when a text is too large.
+  constructor({ grammar, edited, toggled, refused }) {
     this.toggled = toggled;
     this.rows = [];
     this.breaks = new Set();
-    this.lines = [""];
-    this.program = null;
+    this.setProgram(null);
     this.focused = 0; // the one button that the tab key comes to
-    this.box.addEventListener("input", () => this.changed());
-    this.box.addEventListener("scroll", () => {
-      $("wrong").style.marginLeft = `${-this.box.scrollLeft}px`;
+    this.marked = 0; // the line that the band is over
+    this.wrong = 0; // the line of the fault
+    this.source = new Source({
+      grammar,
+      refused,
+      changed: (old, now) => {
+        this.breaks = moved(this.breaks, old, now);
+        this.fit();
+        edited();
+      },
+      resized: () => this.place(),
     });
     $("gutter").addEventListener("click", (event) => this.clicked(event));
     $("gutter").addEventListener("keydown", (event) => this.walked(event));
+    window.addEventListener("beforeprint", () => this.rows.forEach(({ source }, index) => put(source, this.lines[index])));
     this.fit();
   }
 
   get text() {
-    return this.box.value;
+    return this.source.text;
+  }
+
+  get lines() {
+    return this.source.lines;
   }
 
   // Another text, with no breakpoints.
   set text(text) {
-    this.box.value = text;
-    this.box.scrollLeft = 0;
-    $("listing").scrollTop = 0;
     this.breaks.clear();
-    this.lines = text.split("\n");
+    this.setProgram(null);
+    this.source.text = text;
     this.fit();
   }
 
-  // After an edit a breakpoint goes with its line.
-  changed() {
-    const [old, now] = [this.lines, this.box.value.split("\n")];
-    let same = 0;
-    while (same < Math.min(old.length, now.length) && old[same] === now[same]) same += 1;
-    const moved = now.length - old.length;
-    const isPushed = moved > 0 && now[same] === "";
-    const place = (line) => {
-      if (line <= same || (line === same + 1 && !isPushed)) return line;
-      return moved < 0 && line <= same - moved ? 0 : line + moved;
-    };
-    this.breaks = new Set([...this.breaks].map(place).filter((line) => line > 0));
-    this.lines = now;
-    this.fit();
-    this.edited();
-  }
-
-  // As many rows as lines, and room for all of the text.
+  // As many rows as lines, each as high as its line.
   fit() {
     const gutter = $("gutter");
     while (this.rows.length > this.lines.length) this.rows.pop().row.remove();
+    const fresh = [];
     while (this.rows.length < this.lines.length) {
       const line = this.rows.length + 1;
-      const parts = { button: make("button", { type: "button", tabindex: line === 1 ? "0" : "-1" }, String(line)) };
+      const parts = { button: make("button", { type: "button", tabindex: line === 1 ? "0" : "-1" }, String(line)), height: 0, label: "" };
       for (const name of ["loc", "word", "times", "source"]) parts[name] = make("span", { class: name });
       parts.row = make("div", { class: "line" }, parts.button, parts.loc, parts.word, parts.times, parts.source);
       this.rows.push(parts);
-      gutter.append(parts.row);
+      fresh.push(parts.row);
     }
-    this.box.style.height = `calc(${this.lines.length} * var(--line) + 1rem)`;
-    this.rows.forEach(({ source }, index) => put(source, this.lines[index])); // for print
+    gutter.append(...fresh);
+    if (this.focused >= this.rows.length) this.focus(this.rows.length - 1);
+    if (!this.program) this.blank();
+    this.place();
   }
 
-  // Where the words of the program stand; none while the text is refused.
+  // Gives each row the height of its line, which may be wrapped, and the bands their places.
+  place() {
+    const heights = this.source.shades.map(({ element }) => element.getBoundingClientRect().height);
+    heights.forEach((height, index) => {
+      const parts = this.rows[index];
+      if (!parts || parts.height === height || height === 0) return;
+      parts.height = height;
+      parts.row.style.height = `${height}px`;
+    });
+    this.band($("here"), this.marked);
+    this.band($("wrong"), this.wrong);
+  }
+
+  // Where the words of the program are; none while the text is refused.
   setProgram(program) {
     this.program = program;
     this.cellOf = new Map();
@@ -85,11 +93,8 @@ export class Listing {
 
   // No line has a word, for there is no program.
   blank() {
-    this.rows.forEach(({ row, loc, word, times }, index) => {
-      for (const part of [loc, word, times]) put(part, "");
-      row.classList.remove("at");
-      this.name(index);
-    });
+    this.rows.forEach((_, index) => this.showRow(index, "", "", "", false));
+    this.marked = 0;
     $("here").hidden = true;
   }
 
@@ -97,7 +102,7 @@ export class Listing {
   lineFrom(line) {
     if (!this.program) return line;
     const lines = [...this.cellOf.keys()].filter((other) => other >= line);
-    return lines.length > 0 ? Math.min(...lines) : 0;
+    return lines.length > 0 ? lines.reduce((least, other) => Math.min(least, other)) : 0;
   }
 
   // The cells of the breakpoints.
@@ -106,68 +111,66 @@ export class Listing {
     return [...new Set(lines.map((line) => this.cellOf.get(line)))].sort((a, b) => a - b);
   }
 
-  // Shows a moment of the machine.
-  show({ state, counts }) {
+  // Shows a moment of the machine; `at` is the location that is marked. The line that is marked.
+  show({ state, counts }, at) {
     const times = new Map(counts.map(({ cell, count }) => [cell, count]));
     const words = new Map(state.cells.map(({ cell, word }) => [cell, word]));
-    const here = this.lineOf.get(state.location) || 0;
-    this.rows.forEach((row, index) => {
+    const here = this.lineOf.get(at) || 0;
+    this.rows.forEach((_, index) => {
       const cell = this.cellOf.get(index + 1);
-      const isRow = cell !== undefined;
-      put(row.loc, isRow ? fourDigits(cell) : "");
-      put(row.word, isRow ? words.get(cell) || "+ 00 00 00 00 00" : "");
-      put(row.times, isRow && times.has(cell) ? times.get(cell) : "");
-      this.name(index);
-      row.row.classList.toggle("at", index + 1 === here);
+      if (cell === undefined) this.showRow(index, "", "", "", false);
+      else this.showRow(index, fourDigits(cell), words.get(cell) || NO_WORD, times.get(cell) || "", index + 1 === here);
     });
-    this.band($("here"), here, "");
+    this.marked = here;
+    $("listing").classList.toggle("halted", state.halted);
+    this.band($("here"), here);
     return here;
   }
 
-  // What a line's button is called, and whether it is pressed.
-  name(index) {
-    const { button, loc, word, times } = this.rows[index];
-    const line = index + 1;
-    const known = loc.textContent ? `, location ${loc.textContent}, ${word.textContent}, ${times.textContent || "0"} times` : "";
-    const name = `Line ${line}${known}: breakpoint`;
-    if (button.getAttribute("aria-label") !== name) button.setAttribute("aria-label", name);
-    const isSet = String(this.breaks.has(line));
-    if (button.getAttribute("aria-pressed") !== isSet) button.setAttribute("aria-pressed", isSet);
+  // One row, if something in it is another.
+  showRow(index, loc, word, times, isAt) {
+    const parts = this.rows[index];
+    const isSet = this.breaks.has(index + 1);
+    const label = `${loc} ${word} ${times} ${isAt} ${isSet}`;
+    if (parts.label === label) return;
+    parts.label = label;
+    put(parts.loc, loc);
+    put(parts.word, word);
+    put(parts.times, times);
+    parts.row.classList.toggle("at", isAt);
+    const known = loc ? `, location ${loc}, ${word}, ${times || "0"} times` : "";
+    mark(parts.button, "aria-label", `Line ${index + 1}${known}: breakpoint`);
+    mark(parts.button, "aria-pressed", isSet);
   }
 
+  // Shows the breakpoints anew.
   nameAll() {
-    this.rows.forEach((_, index) => this.name(index));
+    this.rows.forEach(({ loc, word, times, row }, index) => {
+      this.showRow(index, loc.textContent, word.textContent, times.textContent, row.classList.contains("at"));
+    });
   }
 
-  // A band over a line, with a text behind it.
-  band(band, line, text) {
-    band.hidden = line < 1 || line > this.lines.length;
-    if (band.hidden) return;
-    band.style.top = `calc(${line - 1} * var(--line))`;
-    band.style.paddingLeft = text ? `${this.lines[line - 1].length + 3}ch` : "0";
-    band.style.marginLeft = `${text ? -this.box.scrollLeft : 0}px`;
-    put(band, text);
+  // Puts a band over a line.
+  band(band, line) {
+    const shade = line > 0 && this.source && this.source.shades[line - 1];
+    band.hidden = !shade;
+    if (!shade) return;
+    band.style.top = `${shade.element.offsetTop}px`;
+    band.style.height = `${shade.element.offsetHeight}px`;
   }
 
   // Marks the line of a fault, or none.
   setFault(line, text) {
-    this.rows.forEach(({ row }, index) => row.classList.toggle("wrong", index + 1 === line));
-    this.band($("wrong"), line, text);
+    if (this.rows[this.wrong - 1]) this.rows[this.wrong - 1].row.classList.remove("wrong");
+    this.wrong = line;
+    if (this.rows[line - 1]) this.rows[line - 1].row.classList.add("wrong");
+    this.source.setFault(line > 0, text);
+    this.band($("wrong"), line);
   }
 
-  // Scrolls so that a line is seen.
+  // Scrolls so that a line is seen, in its box and in the window.
   reveal(line) {
-    if (line < 1 || line > this.rows.length) return;
-    const [row, box] = [this.rows[line - 1].row, $("listing")];
-    const [top, height] = [row.offsetTop, row.offsetHeight || LINE];
-    if (top < box.scrollTop || top + height > box.scrollTop + box.clientHeight) {
-      box.scrollTop = Math.max(0, top - box.clientHeight / 3);
-    }
-  }
-
-  // The line of the cursor.
-  get caretLine() {
-    return this.box.value.slice(0, this.box.selectionStart).split("\n").length;
+    if (line > 0 && line <= this.rows.length) this.rows[line - 1].row.scrollIntoView({ block: "nearest", inline: "nearest" });
   }
 
   clicked(event) {
@@ -192,4 +195,17 @@ export class Listing {
     this.focused = index;
     this.rows[index].button.setAttribute("tabindex", "0");
   }
+}
+
+// The breakpoints after an edit: each goes with its line.
+function moved(breaks, old, now) {
+  let same = 0;
+  while (same < Math.min(old.length, now.length) && old[same] === now[same]) same += 1;
+  const more = now.length - old.length;
+  const isPushed = more > 0 && now[same] === "";
+  const place = (line) => {
+    if (line <= same || (line === same + 1 && !isPushed)) return line;
+    return more < 0 && line <= same - more ? 0 : line + more;
+  };
+  return new Set([...breaks].map(place).filter((line) => line > 0));
 }

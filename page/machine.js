@@ -3,7 +3,13 @@
 import { answersOf, framesOf } from "./dap.js";
 
 // What makes a call fail that is no answer of the adapter: no memory, a trap, or that it was stopped.
-export class Broken extends Error {}
+export class Broken extends Error {
+  get isStopped() {
+    return this.message === STOPPED;
+  }
+}
+
+const STOPPED = "it was stopped";
 
 export class Machine {
   // The text of the worker's program, and the bytes of the module.
@@ -31,7 +37,7 @@ export class Machine {
     if (!this.worker) this.start();
     const worker = this.worker;
     const { status, bytes, errors, fault } = await new Promise((resolve) => {
-      this.drop = () => resolve({ fault: "it was stopped" });
+      this.drop = () => resolve({ fault: STOPPED });
       worker.onmessage = ({ data }) => resolve(data);
       worker.onerror = (event) => resolve({ fault: event.message || "the engine does not start" });
       const frames = framesOf(requests);

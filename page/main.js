@@ -1,21 +1,23 @@
-// The beginning: the engine and the lessons are in the page itself, in blocks that `assemble` has put there.
+// The beginning: the engine, the lessons and the grammar are in the page itself, in blocks that `assemble` has put there.
 
 import { App } from "./app.js";
+import { fillCard } from "./card.js";
+import { Grammar } from "./colours.js";
 import { Keep } from "./keep.js";
 import { Machine } from "./machine.js";
 import { bytesOfBlock, textOfBlock } from "./share.js";
 
 async function begin() {
-  const [worker, module, lessons] = await Promise.all([textOfBlock("worker-block"), bytesOfBlock("engine-block"), textOfBlock("lessons-block")]);
-  const app = new App(new Machine(worker, module));
-  window.addEventListener("unhandledrejection", ({ reason }) => app.tell(`The page itself has a fault: ${reason}`, true));
+  const [worker, module, lessons, grammar] = await Promise.all([textOfBlock("worker-block"), bytesOfBlock("engine-block"), textOfBlock("lessons-block"), textOfBlock("grammar-block")]);
+  const app = new App(new Machine(worker, module), new Grammar(JSON.parse(grammar)));
+  const told = (reason) => app.tell(`The page itself has a fault: ${reason}`, true);
+  window.addEventListener("unhandledrejection", ({ reason }) => told(reason));
+  window.addEventListener("error", ({ message }) => told(message));
+  fillCard();
   const keep = new Keep(app, JSON.parse(lessons));
-  if (!(await keep.openLink())) {
-    document.getElementById("lessons").value = "0";
-    await keep.openLesson(keep.lessons[0]);
-  }
+  if (!(await keep.openLink())) await keep.openLesson(keep.lessons[0]);
 }
 
 begin().catch((reason) => {
-  document.getElementById("status").textContent = `This browser can't show the page (${reason}). It has to be one of 2023 or later.`;
+  document.getElementById("did").textContent = `This browser can't show the page (${reason}). It has to be one of 2023 or later.`;
 });

@@ -1,14 +1,13 @@
 // How the buttons become commands of the script. Breakpoints are the page's: where one is met is found by trying, and what is kept are the steps.
 
-const STEPS = 1000000; // steps of one command
-
-const countOf = (reply) => Number((/^(?:ran|back|forth) (\d+) to /m.exec(reply) || [0, 0])[1]);
+import { STEPS } from "./changes.js";
 
 // The least number of changes that one of some commands would go over; 0 where none is accepted.
 async function nearest(session, commands) {
   if (commands.length === 0) return 0;
-  const counts = (await session.ponder(commands)).map(countOf).filter((count) => count > 0);
-  return counts.length > 0 ? Math.min(...counts) : 0;
+  const found = await session.ponder(commands);
+  const counts = found.filter(({ reply }) => !reply.startsWith("?")).map(({ done }) => Math.abs(done - session.done));
+  return counts.reduce((least, count) => (count > 0 && (least === 0 || count < least) ? count : least), 0);
 }
 
 async function run(session, cells, act) {
@@ -19,14 +18,21 @@ async function run(session, cells, act) {
     if (session.changes.halts) return undefined;
   }
   if (cells.length === 0) return act(`run ${STEPS}`);
-  const reply = await session.imagine([...cells.map((cell) => `break ${cell}`), `run ${STEPS}`]);
-  const tried = countOf(reply) + (/: fault /.test(reply) ? 1 : 0);
-  return act(`run ${tried}`);
+  const { reply, done } = await session.imagine([...cells.map((cell) => `break ${cell}`), `run ${STEPS}`]);
+  // The breakpoints are changes too. One step more meets the fault, so that it is told.
+  const steps = done - session.done - cells.length;
+  return act(`run ${steps + (faultOf(reply) ? 1 : 0)}`);
 }
 
 async function toBreak(session, cells, act) {
   const count = await nearest(session, cells.map((cell) => `back until loc ${cell}`));
   return act(count > 0 ? `back ${count}` : "back all");
+}
+
+// The fault that a reply tells.
+export function faultOf(reply) {
+  const found = /: fault (M\d+ .*)$/m.exec(reply);
+  return found ? found[1] : "";
 }
 
 // Does what a button asks for on a session with breakpoints at some cells; `act` does a command.
@@ -38,16 +44,4 @@ export async function move(name, session, cells, act) {
   if (name === "back") return act("back 1");
   if (name === "to-start") return act("back all");
   return toBreak(session, cells, act);
-}
-
-// A sentence on where one stands and why, and whether it is of a fault.
-export function told(reply, { state }, line, isBreak) {
-  const at = `${line ? `line ${line}, ` : ""}location ${String(state.location).padStart(4, "0")}, clock ${state.clock} u`;
-  const fault = /: fault (M\d+ .*)$/m.exec(reply);
-  if (fault) return [`Fault ${fault[1]}, at ${at}. The step was not done.`, true];
-  if (reply.startsWith("?")) return [`Refused: ${reply.replace(/^\?+ /, "").trim()}.`, true];
-  if (state.halted) return [`Halted. Next: ${at}.`, false];
-  if (isBreak) return [`Breakpoint: ${at}.`, false];
-  if (/^ran 1000000 to .*: limit$/m.test(reply)) return [`A million steps were done and no halt came: ${at}. Run goes on.`, false];
-  return [`${state.done === 0 ? "At the start" : "Next"}: ${at}.`, false];
 }

@@ -1,8 +1,7 @@
-// Registers, flags and clock. What the last change altered is marked; each name asks who wrote it.
+// Registers, flags and clock. What the last change altered is marked, with what it was before; each name asks who wrote it.
 
-import { $, fourDigits, make } from "./dom.js";
-
-const COMPARED = { L: "less", E: "equal", G: "greater" };
+import { $, fourDigits, keepRows, make, put } from "./dom.js";
+import { COMPARED, numberOf } from "./sentence.js";
 
 // What a part of the machine holds, for people.
 export function wordOf({ registers, cells, over, cmp }, part) {
@@ -12,40 +11,59 @@ export function wordOf({ registers, cells, over, cmp }, part) {
   return found ? `${found.word} = ${found.number} = “${found.characters}”` : "+ 00 00 00 00 00 = 0";
 }
 
+// What the parts of the machine held before the last change, by their names.
+export function beforeOf(change) {
+  return new Map((change ? change.items : []).map(({ part, before }) => [part, before]));
+}
+
+// The cells of a row of a word: sign and bytes, number, characters, what it was before.
+export const wordCells = () => [make("td", { class: "word" }), make("td", { class: "number" }), make("td", { class: "chars" }), make("td", { class: "was" })];
+
+// Shows a word in such a row, and whether it was altered.
+export function showWord(row, { word, number, characters }, isAltered, before, said) {
+  const [asWord, asNumber, asCharacters, was] = [...row.children].slice(-4);
+  put(asWord, word);
+  put(asNumber, number);
+  put(asCharacters, `“${characters}”`);
+  put(was, isAltered && before ? `was ${numberOf(before)}` : "");
+  row.classList.toggle("altered", isAltered);
+  put(row.querySelector(".unseen"), said);
+}
+
 export class Registers {
-  // `asked` is called with what stands after `until` in a command, and a name for people.
-  constructor(asked) {
-    this.asked = asked;
-    this.drawn = "";
+  // `ask` is called with what stands after `until` in a command, and a name for people.
+  constructor(ask) {
+    this.ask = ask;
   }
 
-  show({ state }) {
-    const drawn = JSON.stringify([state.registers, state.altered, state.location, state.clock, state.over, state.cmp]);
-    if (drawn === this.drawn) return;
-    this.drawn = drawn;
+  show({ state, change }) {
     const altered = new Set(state.altered);
-    $("register-rows").replaceChildren(...state.registers.map((register) => this.row(register, altered.has(register.name))));
-    $("flags").replaceChildren(
-      this.flag("overflow", state.over ? "on" : "off", altered.has("over"), "over"),
-      this.flag("comparison", COMPARED[state.cmp], altered.has("cmp"), "cmp"),
-      this.flag("location", fourDigits(state.location), false, null),
-      this.flag("clock", `${state.clock} u`, false, null),
-    );
+    const before = beforeOf(change);
+    const flags = [
+      { name: "overflow", part: "over", text: state.over ? "on" : "off" },
+      { name: "comparison", part: "cmp", text: COMPARED[state.cmp] },
+      { name: "location", part: "", text: fourDigits(state.location) },
+      { name: "clock", part: "", text: `${state.clock} u` },
+    ];
+    keepRows($("register-rows"), state.registers, ({ name }) => name, (register) => this.row(register), (row, register) => {
+      const isAltered = altered.has(register.name);
+      showWord(row, register, isAltered, before.get(register.name), isAltered ? "altered" : "");
+    });
+    keepRows($("flags"), flags, ({ name }) => name, (flag) => this.flag(flag), (row, { part, text }) => {
+      put(row.lastChild, text);
+      row.classList.toggle("altered", altered.has(part));
+    });
   }
 
-  row({ name, word, number, characters }, isAltered) {
+  row({ name }) {
     const label = `r${name}`;
     const button = make("button", { type: "button", "aria-label": `${label}: who wrote it?` }, label);
-    const cells = [make("td", { class: "word" }, word), make("td", { class: "number" }, number), make("td", { class: "chars" }, `“${characters}”`)];
-    const mark = isAltered ? make("span", { class: "unseen" }, "altered") : null;
-    const row = make("tr", { class: isAltered && "altered", click: () => this.asked(name, label) }, make("th", { scope: "row" }, button, mark), ...cells);
-    return row;
+    const head = make("th", { scope: "row" }, button, make("span", { class: "unseen" }));
+    return make("tr", { click: () => this.ask(name, label) }, head, ...wordCells());
   }
 
-  flag(name, text, isAltered, until) {
-    const label = until
-      ? make("button", { type: "button", "aria-label": `${name}: who wrote it?`, click: () => this.asked(until, name) }, name)
-      : name;
-    return make("div", { class: isAltered && "altered" }, make("dt", {}, label), make("dd", {}, text));
+  flag({ name, part }) {
+    const label = part ? make("button", { type: "button", "aria-label": `${name}: who wrote it?`, click: () => this.ask(part, name) }, name) : name;
+    return make("div", {}, make("dt", {}, label), make("dd"));
   }
 }

@@ -1,10 +1,32 @@
-// A bundle in the fragment of a link: compressed by the browser's own streams, and written in letters that a link may hold. Breakpoints go along.
+// A bundle in the fragment of a link: compressed by the browser's own streams, and written in letters that a link may hold.
 
-async function through(stream, bytes) {
-  return new Uint8Array(await new Response(new Blob([bytes]).stream().pipeThrough(stream)).arrayBuffer());
+const MOST = 4194304; // bytes of what a link holds
+
+// What a stream makes of some bytes, if it is not more than so many.
+async function through(stream, bytes, most = Infinity) {
+  const reader = new Blob([bytes]).stream().pipeThrough(stream).getReader();
+  const parts = [];
+  let length = 0;
+  for (;;) {
+    const { done, value } = await reader.read();
+    if (done) break;
+    length += value.length;
+    if (length > most) {
+      await reader.cancel();
+      throw new RangeError(`it holds more than ${most.toLocaleString("en")} bytes`);
+    }
+    parts.push(value);
+  }
+  const all = new Uint8Array(length);
+  let at = 0;
+  for (const part of parts) {
+    all.set(part, at);
+    at += part.length;
+  }
+  return all;
 }
 
-export const inflate = (bytes) => through(new DecompressionStream("deflate-raw"), bytes);
+export const inflate = (bytes, most) => through(new DecompressionStream("deflate-raw"), bytes, most);
 const deflate = (bytes) => through(new CompressionStream("deflate-raw"), bytes);
 
 export function bytesOf(base64) {
@@ -17,20 +39,16 @@ function lettersOf(bytes) {
   return btoa(text).replace(/\+/g, "-").replace(/\//g, "_").replace(/=+$/, "");
 }
 
-// The fragment of a bundle, of which the first commands of the script, so many, are to be done when it is opened.
-export async function fragmentOf(bundle, commands, breaks) {
-  const packed = lettersOf(await deflate(new TextEncoder().encode(bundle)));
-  const lines = breaks.length > 0 ? `&break=${breaks.join(",")}` : "";
-  return `#mix=${packed}&do=${commands}${lines}`;
+// The fragment of a bundle.
+export async function fragmentOf(bundle) {
+  return `#mix=${lettersOf(await deflate(new TextEncoder().encode(bundle)))}`;
 }
 
-// What a fragment holds; nothing where it is none of ours.
-export async function openedFrom(fragment) {
+// The bundle that a fragment holds; nothing where it is none of ours. A RangeError where it holds too much.
+export async function bundleIn(fragment) {
   const given = new URLSearchParams(fragment.replace(/^#/, ""));
   if (!given.has("mix")) return null;
-  const bundle = new TextDecoder().decode(await inflate(bytesOf(given.get("mix"))));
-  const breaks = (given.get("break") || "").split(",").map(Number).filter((line) => line > 0);
-  return { bundle, commands: Number(given.get("do")) || 0, breaks };
+  return new TextDecoder().decode(await inflate(bytesOf(given.get("mix")), MOST));
 }
 
 // The text of one of the page's own blocks of data.

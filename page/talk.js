@@ -1,8 +1,8 @@
 // The commands with their replies, the line for one more, and the script that came with a program.
 
-import { $, make } from "./dom.js";
+import { $, make, put } from "./dom.js";
 
-const SHOWN = 200000; // letters of a reply that are shown
+const LETTERS_SHOWN = 200000; // letters of a reply that are shown
 
 export class Talk {
   // `given` is called with a command that was typed, `script` where so many commands of the lesson's script are to be done.
@@ -15,9 +15,11 @@ export class Talk {
       event.preventDefault();
       const command = $("command").value;
       $("command").value = "";
+      this.answer("", "");
       if (command.trim() === "") return;
       this.typed.push(command);
       this.at = this.typed.length;
+      $("log").setAttribute("aria-live", "polite");
       given(command);
     });
     $("command").addEventListener("keydown", (event) => this.recall(event));
@@ -33,6 +35,13 @@ export class Talk {
     $("command").value = this.typed[this.at] || "";
   }
 
+  // Says why a command was not done, and gives it back to the line.
+  answer(command, text) {
+    if (command) $("command").value = command;
+    $("command-note").hidden = text === "";
+    put($("command-note"), text);
+  }
+
   // The first lines of the script that is still to be done, with so many commands; comments and blank lines are none.
   first(count) {
     let end = 0;
@@ -44,20 +53,16 @@ export class Talk {
 
   // So many of its lines were done.
   drop(lines) {
-    this.setScript(this.lines.slice(lines).join("\n"));
+    this.setScript(this.lines.slice(lines));
   }
 
-  get script() {
-    return this.lines.map((line) => `${line}\n`).join("");
+  setScript(lines) {
+    this.lines = lines;
+    $("script").hidden = lines.length === 0;
+    $("script-lines").replaceChildren(...lines.map((line) => make("li", {}, line || " ")));
   }
 
-  setScript(script) {
-    this.lines = script === "" ? [] : script.replace(/\n$/, "").split("\n");
-    $("script").hidden = this.lines.length === 0;
-    $("script-lines").replaceChildren(...this.lines.map((line) => make("li", {}, line || " ")));
-  }
-
-  // Shows the commands that were given, with their replies.
+  // Shows the commands that were given, with their replies. Only what was typed is read out from here; the rest is told by the status.
   show(log) {
     const box = $("log");
     const isSame = this.shown.length <= log.length && this.shown.every((entry, index) => entry === log[index]);
@@ -71,10 +76,11 @@ export class Talk {
     }
     this.shown = [...log];
     if (more.length > 0) box.scrollTop = box.scrollHeight;
+    setTimeout(() => box.setAttribute("aria-live", "off"));
   }
 }
 
 // A reply as it is shown: of a very long one the beginning.
 function shortened(reply) {
-  return reply.length > SHOWN ? `${reply.slice(0, SHOWN)} …\n(${reply.length} letters; the file that is saved gives them all)` : reply;
+  return reply.length > LETTERS_SHOWN ? `${reply.slice(0, LETTERS_SHOWN)} …\n(${reply.length} letters; the file that is saved gives them all)` : reply;
 }

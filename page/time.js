@@ -5,54 +5,49 @@ import { $, put } from "./dom.js";
 const KEYS = { F7: "back", F8: "step", "Shift+F7": "to-break", "Shift+F8": "run", "Control+F7": "to-start", "Control+F8": "to-end" };
 
 export class Time {
-  // `go` is called with the name of a button, `seen` with a moment while the slider is drawn, `gone` with the moment to go to.
-  constructor({ go, seen, gone, breakpoint, stop }) {
-    this.isDrawn = false;
+  // `go` is called with the name of a button, `preview` with a moment while the slider is dragged, `slide` with the one where it is let go, `goto`
+  // with one that was typed.
+  constructor({ go, preview, slide, goto, breakpoint, explain, stop }) {
+    this.isDragged = false;
     for (const id of Object.values(KEYS)) $(id).addEventListener("click", () => go(id));
     $("slider").addEventListener("input", () => {
-      this.isDrawn = true;
-      put($("moment"), "");
+      this.isDragged = true;
       $("moment").value = $("slider").value;
-      seen(Number($("slider").value));
+      preview(Number($("slider").value));
     });
     $("slider").addEventListener("change", () => {
-      this.isDrawn = false;
-      gone(Number($("slider").value));
+      this.isDragged = false;
+      slide(Number($("slider").value));
     });
     $("moment").addEventListener("change", () => {
       const n = $("moment").value.trim();
-      if (/^\d{1,10}$/.test(n)) gone(Number(n));
+      if (/^\d{1,10}$/.test(n)) goto(Number(n));
       else $("moment").value = $("slider").value;
     });
     $("stop").addEventListener("click", stop);
-    document.addEventListener("keydown", (event) => this.pressed(event, breakpoint));
+    document.addEventListener("keydown", (event) => this.pressed(event, breakpoint, explain));
   }
 
-  pressed(event, breakpoint) {
+  pressed(event, breakpoint, explain) {
     if (document.querySelector("dialog[open]") || event.altKey || event.metaKey) return;
     const key = `${event.ctrlKey ? "Control+" : ""}${event.shiftKey ? "Shift+" : ""}${event.key}`;
-    if (key === "F9") {
-      event.preventDefault();
-      breakpoint();
-    } else if (key === "Control+Enter") {
-      event.preventDefault();
-      $(document.activeElement === $("command") ? "text" : "command").focus();
-    } else if (KEYS[key]) {
-      event.preventDefault();
-      if (!$(KEYS[key]).disabled) $(KEYS[key]).click();
-    }
+    const other = { F9: breakpoint, F1: explain, "Control+Enter": () => $(document.activeElement === $("command") ? "text" : "command").focus() }[key];
+    if (!other && !KEYS[key]) return;
+    event.preventDefault();
+    if (other) other();
+    else if (!$(KEYS[key]).disabled) $(KEYS[key]).click();
   }
 
-  // Where one stands: so many changes done, of so many; what can't be done is disabled.
-  show(done, total, state) {
-    if (!this.isDrawn) {
+  // Where one is in a session: so many changes done, of so many; what can't be done is disabled.
+  show({ done, changes: { total } }, state) {
+    if (!this.isDragged) {
       $("slider").max = total;
       $("slider").value = done;
       $("moment").value = done;
     }
     $("moment").size = Math.max(4, String(total).length);
     put($("total"), String(total));
-    $("slider").setAttribute("aria-valuetext", `change ${done} of ${total}, location ${state.location}, clock ${state.clock}`);
+    $("slider").setAttribute("aria-valuetext", `change ${state.done} of ${total}, location ${state.location}, clock ${state.clock}`);
     for (const id of ["back", "to-break", "to-start"]) this.enable(id, done > 0);
     this.enable("to-end", done < total);
     for (const id of ["step", "run"]) this.enable(id, true);

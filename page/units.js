@@ -1,16 +1,19 @@
-// Units as what they are: paper with its rows and pages, cards still to be read, tapes and disks by block.
+// The units: which are busy, the cards and lines that are still to be read, tapes and disks by block.
 
-import { $, make } from "./dom.js";
+import { $, keepRows, make } from "./dom.js";
 
-const trimmed = (row) => row.trimEnd();
+const CARDS_SHOWN = 200; // cards
 
 export class Units {
-  // `opened` is called when a block is to be shown, so that its words are asked for.
-  constructor(opened) {
-    this.opened = opened;
+  // `look` is called when a block is to be shown, so that its words are asked for.
+  constructor(look) {
+    this.look = look;
     this.open = new Set(); // the blocks that are shown, as "8 0"
-    this.drawn = "";
-    this.rows = new Map(); // how many rows of a unit were shown
+    this.drawn = new Map(); // of each unit what is shown
+  }
+
+  forget() {
+    this.open.clear();
   }
 
   // The requests for the blocks that are shown.
@@ -22,36 +25,29 @@ export class Units {
   }
 
   show({ state, units, blocks }) {
-    const drawn = JSON.stringify([units, [...blocks], state.altered, state.clock]);
-    if (drawn === this.drawn) return;
-    this.drawn = drawn;
     const altered = new Set(state.altered);
-    const list = units.units.map((unit) => this.unit(unit, blocks, altered.has(`unit ${unit.unit}`), state.clock));
-    if (list.length === 0) list.push(make("p", {}, "All units are empty."));
-    const scrolled = new Map([...document.querySelectorAll("#unit-list .paper")].map((paper) => [paper.id, paper.scrollTop]));
-    $("unit-list").replaceChildren(...list);
-    for (const unit of units.units) this.rest(unit, scrolled);
+    const used = units.units.filter(({ unread, rows, delay, blocks: held }) => !rows || delay !== "0" || (unread && (held > 0 || unread.length > 0)));
+    $("no-units").hidden = used.length > 0;
+    keepRows($("unit-list"), used, ({ unit }) => unit, ({ unit }) => make("div", { class: "unit", "data-unit": unit }), (box, unit) => {
+      const isBusy = BigInt(unit.until) > BigInt(state.clock);
+      const { rows, pages, ...rest } = unit;
+      const drawn = JSON.stringify([rest, isBusy, [...blocks].filter(([key]) => key.startsWith(`${unit.unit} `))]);
+      box.classList.toggle("altered", altered.has(`unit ${unit.unit}`));
+      if (box.drawn === drawn) return;
+      box.drawn = drawn;
+      const focused = box.contains(document.activeElement) ? document.activeElement.getAttribute("aria-label") : null;
+      box.replaceChildren(...this.unit(unit, blocks, isBusy));
+      const again = focused && [...box.querySelectorAll("[aria-label]")].find((element) => element.getAttribute("aria-label") === focused);
+      if (again) again.focus();
+    });
   }
 
-  // Paper that grew shows its end, other paper stands where it stood.
-  rest({ unit, rows }, scrolled) {
-    const paper = rows && $(`paper-${unit}`);
-    if (!paper) return;
-    const before = this.rows.get(unit) || 0;
-    this.rows.set(unit, rows.length);
-    if (rows.length > before) paper.scrollTop = paper.scrollHeight;
-    else paper.scrollTop = scrolled.get(paper.id) || 0;
-  }
-
-  unit(unit, blocks, isAltered, clock) {
-    const waits = BigInt(unit.until) > BigInt(clock) ? `, busy until ${unit.until} u` : "";
+  unit(unit, blocks, isBusy) {
+    const waits = isBusy ? `, busy until ${unit.until} u` : "";
     const delay = unit.delay === "0" ? "" : `, delay ${unit.delay} u`;
     const title = make("h3", {}, make("b", {}, `${unit.kind[0].toUpperCase()}${unit.kind.slice(1)}`), ` unit ${unit.unit}${delay}${waits}`);
-    const parts = [];
-    if (unit.unread) parts.push(...this.unread(unit));
-    if (unit.rows && (unit.rows.length > 0 || unit.pages.length > 0 || !unit.unread)) parts.push(this.paper(unit, isAltered));
-    if (!unit.unread && !unit.rows) parts.push(...this.blocks(unit, blocks));
-    return make("div", { class: `unit${isAltered ? " altered" : ""}`, "data-unit": unit.unit }, title, ...parts);
+    if (unit.unread) return [title, ...this.unread(unit)];
+    return unit.rows ? [title] : [title, ...this.blocks(unit, blocks)];
   }
 
   // Cards or lines that are still to be read; the first is the next.
@@ -59,29 +55,10 @@ export class Units {
     if (blocks === 0 && unread.length === 0 && kind !== "card reader") return [];
     const thing = kind === "card reader" ? "cards" : "lines";
     const said = make("p", {}, `${place} of ${blocks} ${thing} read${unread.length === 0 ? "" : "; still to be read:"}`);
-    const cards = unread.slice(0, 200).map((row, index) => make("div", { class: `card mono${index === 0 ? " next" : ""}` }, trimmed(row) || " "));
-    if (unread.length > 200) cards.push(make("p", {}, `… and ${unread.length - 200} more`));
+    const cards = unread.slice(0, CARDS_SHOWN).map((row, index) => make("div", { class: `card mono${index === 0 ? " next" : ""}` }, row.trimEnd() || " "));
+    if (unread.length > CARDS_SHOWN) cards.push(make("p", {}, `… and ${unread.length - CARDS_SHOWN} more`));
     if (unread.length === 0) return [said];
     return [said, make("div", { class: "cards", role: "region", tabindex: "0", "aria-label": `Unit ${unit}: ${thing} still to be read` }, ...cards)];
-  }
-
-  // What was written, with the marks of new pages.
-  paper({ unit, kind, rows, pages }, isAltered) {
-    const sheet = make("div", { class: `paper ${kind === "printer" ? "printer" : ""}`, id: `paper-${unit}`, role: "region", tabindex: "0", "aria-label": `${kind}: what was written` });
-    const marks = [...pages];
-    const mark = (index) => {
-      while (marks.length > 0 && marks[0] === index) {
-        marks.shift();
-        sheet.append(make("div", { class: "page" }, "new page"));
-      }
-    };
-    rows.forEach((row, index) => {
-      mark(index);
-      const isNew = isAltered && index === rows.length - 1;
-      sheet.append(make("div", { class: isNew && "new" }, trimmed(row)));
-    });
-    mark(rows.length);
-    return sheet;
   }
 
   // The blocks of a tape or a disk; the words of one are asked for when it is opened.
@@ -92,7 +69,8 @@ export class Units {
       const words = found.get(key);
       const text = words ? words.map(({ word }, index) => word + (index % 5 === 4 ? "\n" : "   ")).join("") : "";
       const box = make("details", { class: `block${block === place ? " next" : ""}`, open: this.open.has(key) });
-      box.append(make("summary", {}, `block ${block}${block === place ? ", at which it stands" : ""}`), make("pre", { tabindex: "0", role: "region", "aria-label": `words of block ${block}` }, text));
+      const head = make("summary", { "aria-label": `block ${block}` }, `block ${block}${block === place ? ", the next" : ""}`);
+      box.append(head, make("pre", { tabindex: "0", role: "region", "aria-label": `words of block ${block}` }, text));
       box.addEventListener("toggle", () => this.toggled(key, box.open));
       list.push(box);
     }
@@ -103,6 +81,6 @@ export class Units {
     if (isOpen === this.open.has(key)) return;
     if (isOpen) this.open.add(key);
     else this.open.delete(key);
-    if (isOpen) this.opened();
+    if (isOpen) this.look();
   }
 }

@@ -60,11 +60,13 @@ class Page:
         self.idle()
 
     def leave(self):
-        """Says yes where the page asks whether it may be left."""
+        """Says yes where the browser or the page asks whether the program may be left."""
         try:
             self.driver.switch_to.alert.accept()
         except NoAlertPresentException:
             pass
+        if self.script("const box = document.getElementById('leave'); return Boolean(box && box.open)"):
+            self.one("leave-yes").click()
 
     def idle(self):
         end = time.monotonic() + SECONDS
@@ -72,6 +74,12 @@ class Page:
             if time.monotonic() > end:
                 raise TimeoutError("the page is still busy")
             time.sleep(0.01)
+
+    def wait(self, test, seconds=5):
+        """Waits until something holds, for some seconds at most."""
+        end = time.monotonic() + seconds
+        while not test() and time.monotonic() < end:
+            time.sleep(0.02)
 
     def one(self, name):
         return self.driver.find_element(By.ID, name)
@@ -88,6 +96,18 @@ class Page:
     def click(self, name):
         self.one(name).click()
         self.idle()
+
+    def tap(self, found):
+        """Clicks on an element, which is brought to the middle of the window."""
+        self.script("arguments[0].scrollIntoView({ block: 'center' })", found)
+        found.click()
+        self.idle()
+
+    def tab(self, name):
+        """Shows a part of the page, where the window is too narrow for all."""
+        tab = self.driver.find_element(By.CSS_SELECTOR, f"#tabs [data-tab={name}]")
+        if tab.is_displayed():
+            tab.click()
 
     def press_button(self, button):
         """Presses a button, wherever it stands."""
@@ -127,9 +147,18 @@ class Page:
         return [option.get_attribute("textContent") for option in self.all("#lessons optgroup option")]
 
     def say(self, command):
+        """Types a command, and once more where the page asks for that."""
+        self.tab("talk")
         self.one("command").clear()
         self.one("command").send_keys(command, Keys.ENTER)
         self.idle()
+        if self.text("command-note").startswith("This drops"):
+            self.one("command").send_keys(Keys.ENTER)
+            self.idle()
+
+    def told(self):
+        """What the status says was done."""
+        return self.text("did")
 
     def slide(self, moment, ends=True):
         self.script(SLIDE, moment, ends)
@@ -144,19 +173,29 @@ class Page:
 
     def state(self):
         """All that is shown of the machine."""
-        return self.script("""return ['register-rows', 'flags', 'unit-list', 'moment'].map(id => document.getElementById(id).innerText ||
+        return self.script("""return ['register-rows', 'flags', 'papers', 'unit-list', 'moment'].map(id => document.getElementById(id).innerText ||
             document.getElementById(id).value).concat([...document.querySelectorAll('.line .times')].map(t => t.textContent))""")
 
     def save(self):
         """The file that is saved."""
-        path = pathlib.Path(self.folder.name) / "program.mix"
-        path.unlink(missing_ok=True)
+        folder = pathlib.Path(self.folder.name)
+        for path in folder.glob("*.mix"):
+            path.unlink()
         self.click("save")
         end = time.monotonic() + SECONDS
-        while not path.exists() and time.monotonic() < end:
+        while not list(folder.glob("*.mix")) and time.monotonic() < end:
             time.sleep(0.02)
         time.sleep(0.1)
-        return path.read_bytes()
+        return next(folder.glob("*.mix")).read_bytes()
+
+    def open_file(self, data):
+        """Opens a file of these bytes."""
+        path = pathlib.Path(self.folder.name) / "opened"
+        path.write_bytes(data)
+        self.one("file").send_keys(str(path))
+        self.idle()
+        self.leave()
+        self.idle()
 
     def link(self):
         self.click("share")

@@ -1,6 +1,7 @@
 """How the page looks, and that everyone can use it: a narrow window, keys alone, a name for every control, no request, and the pictures of it."""
 import json
 import pathlib
+import re
 import subprocess
 import time
 
@@ -21,6 +22,13 @@ def modules(count):
         count.row(f"{path.name}: at most 250 lines", len(path.read_text().splitlines()) <= 250)
 
 
+def tables(count):
+    """The operations of the page against those of the program, its colours against the samples of the editors."""
+    ran = subprocess.run(["node", HERE / "tables.mjs"], capture_output=True, text=True)
+    passed = int((re.search(r"^(\d+) passed, 0 failed$", ran.stdout, re.M) or [0, 0])[1])
+    count.row("tables", ran.returncode == 0 and passed > 400, ran.stdout[-2000:] + ran.stderr[-2000:])
+
+
 def narrow(page, native, count):
     """320 pixels: nothing stands out of the page to the side."""
     page.size(320, 800)
@@ -30,13 +38,15 @@ def narrow(page, native, count):
         page.script("document.querySelectorAll('details').forEach(d => { d.open = !d.hidden; })")
         page.click("run")
         page.say("show code 0 20")
-        count.same(f"320 pixels: lesson {number + 1}", page.script(sideways), 0)
+        for tab in ("program", "machine", "output", "talk", "lesson"):
+            page.tab(tab)
+            count.same(f"320 pixels: lesson {number + 1}, {tab}", page.script(sideways), 0)
     for name in ("help", "share"):
         page.click(name)
         count.same(f"320 pixels: {name}", page.script("const d = document.querySelector('dialog[open]'); return [d.scrollWidth <= d.clientWidth, d.getBoundingClientRect().right <= innerWidth]"), [True, True])
         page.press(Keys.ESCAPE)
-    page.all("#register-rows td")[0].click()
-    page.idle()
+    page.tab("machine")
+    page.tap(page.all("#register-rows td")[0])
     count.same("320 pixels: who", page.script("const d = document.querySelector('dialog[open]'); return d.getBoundingClientRect().right <= innerWidth"), True)
     page.press(Keys.ESCAPE)
     small = page.script("""return [...document.querySelectorAll('#time button, header button')].filter(b => b.offsetParent && b.offsetHeight < 24).map(b => b.id)""")
@@ -48,7 +58,7 @@ def keys(page, native, count):
     page.lesson(0)
     page.script("document.body.focus(); document.activeElement.blur()")
     seen = []
-    for _ in range(60):
+    for _ in range(90):
         page.press(Keys.TAB)
         name = page.script("const e = document.activeElement; return e.id || e.getAttribute('aria-label') || e.textContent.trim().slice(0, 30)")
         if name in seen:
@@ -69,9 +79,7 @@ def keys(page, native, count):
     done = [command for command, _ in page.log()]
     count.same("keys: steps", done, ["step 1", "step 1", "back 1", "forth all", "run 1000000", "back all", "forth all", "back all"])
     natively("keys: steps", page, native, count)
-    page.script("document.getElementById('text').focus(); document.getElementById('text').setSelectionRange(0, 0)")
-    for _ in range(5):
-        page.press(Keys.ARROW_DOWN)
+    page.script("const t = document.getElementById('text'); t.focus(); const at = t.value.split('\\n').slice(0, 5).join('\\n').length + 1; t.setSelectionRange(at, at)")
     page.press(Keys.F9)
     pressed = [line for line, row in enumerate(page.all("#gutter .line button"), 1) if row.get_attribute("aria-pressed") == "true"]
     count.same("keys: a breakpoint at the cursor", pressed, [6])
@@ -87,11 +95,11 @@ def keys(page, native, count):
     page.script("document.getElementById('slider').focus()")
     page.press(Keys.END)
     page.press(Keys.ARROW_LEFT)
-    count.same("keys: the slider", [command for command, _ in page.log()][-2:], ["goto 4", "goto 3"])
+    count.same("keys: the slider, as one command", [command for command, _ in page.log()][-2:], ["show clock", "goto 3"])
     page.script("document.querySelector('#register-rows button').focus()")
     page.press(Keys.ENTER)
     page.press(Keys.ENTER)
-    count.same("keys: who wrote rA, and back there", page.log()[-1][0], "back until A")
+    count.same("keys: who wrote rA, and back there", page.log()[-1][0], "goto 2")
 
 
 def names(page, native, count):
@@ -101,8 +109,7 @@ def names(page, native, count):
     page.script("document.querySelectorAll('details').forEach(d => { d.open = true; })")
     for name in (None, "help", "share", "who"):
         if name == "who":
-            page.all("#register-rows td")[0].click()
-            page.idle()
+            page.tap(page.all("#register-rows td")[0])
         elif name:
             page.click(name)
         nodes = page.command("Accessibility.getFullAXTree")["nodes"]
@@ -181,10 +188,10 @@ def memory(page, native, count):
     while not page.one("stop").is_displayed() and time.monotonic() < end:
         time.sleep(0.02)
     page.click("stop")
-    count.row("stop: told", page.text("status").startswith("Not done: it was stopped."), page.text("status"))
+    count.row("stop: told", page.told().startswith("Stopped."), page.told())
     stands("stop")
     page.click("script-all")
-    count.row("memory: told", page.text("status").startswith("Not done: T1 out of memory."), page.text("status"))
+    count.row("memory: told", page.told().startswith("Not done: T1 out of memory."), page.told())
     stands("memory")
     page.click("back")
     page.click("run")

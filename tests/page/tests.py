@@ -5,14 +5,17 @@ import time
 import traceback
 
 import looks
+import repairs
+import seen
+import tasks
 import uses
 import walks
 from browser import Page
 from native import Count, Native
 from webkit import WebKit
 
-USES = (uses.examples, uses.breakpoints, uses.slider, uses.who, uses.faults, uses.cards, uses.share, looks.narrow, looks.keys, looks.names, looks.bounds)
-IN_CHROMIUM = (looks.names,)  # what asks Chromium itself
+USES = (uses.examples, uses.breakpoints, uses.slider, uses.who, uses.faults, uses.cards, uses.share, looks.narrow, looks.keys, looks.names, looks.bounds, *repairs.REPAIRS, *seen.SEEN, seen.contrast, tasks.tasks)
+IN_CHROMIUM = (looks.names, seen.contrast)  # what asks Chromium itself
 WALKS = range(1, 13)
 
 
@@ -52,6 +55,7 @@ def main(words):
                 looks.alone(page, native, count)
 
     row("modules", lambda: looks.modules(count))
+    row("tables", lambda: looks.tables(count))
     for test in USES:
         if browser is Page or test not in IN_CHROMIUM:
             row(test.__name__, lambda test=test: one(test))
@@ -61,7 +65,7 @@ def main(words):
         print("not run: memory, names, requests and pictures, which ask Chromium itself")
     else:
         row("memory", lambda: one(looks.memory))
-    row("lessons", lambda: one(uses.lessons, [12, 17, 25, 45]))
+    row("lessons", lambda: one(uses.lessons, ["01_degrees", "06_sieve", "20_insertion"]))
     row("walks", lambda: one(walks.walks, WALKS))
     if browser is Page:
         row("pictures", lambda: looks.pictures(open_page, count))

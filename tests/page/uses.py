@@ -11,12 +11,17 @@ EXAMPLES = sorted((TOP / "examples").glob("*.mix"))
 FIRST = EXAMPLES[0].read_text()
 
 
+def kept(saved, what="still to do"):
+    """What the page keeps in a saved file beside the commands."""
+    return re.findall(rf"^\* {what}: (.*)$", saved.split("* Kept by the page, and no commands:\n")[-1], re.M)
+
+
 def natively(name, page, native, count):
-    """What is saved gives natively the replies that the page has shown; what is still to be done of a lesson's script stands behind it."""
+    """What is saved gives natively the replies that the page has shown; what is still to be done of a lesson's script is kept in it as remarks."""
     saved = page.save().decode()
-    left = "".join(f"{line.text}\n" for line in page.all("#script-lines li"))
-    count.row(f"{name}: ends with the script that is left", saved.endswith(left), saved[-200:])
-    count.same(f"{name}, natively", native.bundle(saved.removesuffix(left) if left else saved), page.replies())
+    left = [line.get_attribute("textContent") for line in page.all("#script-lines li")]
+    count.same(f"{name}: the script that is left", kept(saved), left)
+    count.same(f"{name}, natively", native.bundle(saved), page.replies())
 
 
 def examples(page, native, count):
@@ -45,19 +50,20 @@ def examples(page, native, count):
         count.same(f"{path.name}: the machine then", page.log()[-1][1], ran.split("\n", 1)[1])
         saved = page.save()
         more = "" if ran.startswith("ran 1 ") else "forth all\n"
-        done = f"%SCRIPT\nrun 1000000\nback all\nforth 1\n{more}show all\n"
+        done = f"%SCRIPT\nrun 1000000\nback all\nforth 1\n{more}show all\n* Kept by the page, and no commands:\n* lesson: {path.stem}\n"
         count.same(f"{path.name}: saved, and run natively", native.bundle(saved), page.replies())
         count.row(f"{path.name}: saved with what was done", saved.decode().endswith(done), saved[-200:])
 
 
 def lessons(page, native, count, which):
     """Lessons of the course: the script of each."""
-    names = page.lessons()
-    for number in which:
+    titles = page.lessons()
+    for name in which:
+        number = max(at for at, title in enumerate(titles) if title.startswith(f"{int(name[:2])}. "))
         page.lesson(number)
-        bundle = page.save()
+        count.row(f"{name}: notes beside the listing", page.one("notes-text").is_displayed() and len(page.text("notes-text")) > 200, page.text("notes-text"))
         page.click("script-all")
-        count.same(f"{names[number]}: its script", page.replies(), native.bundle(bundle))
+        count.same(f"{name}: its script", page.replies(), native.bundle((TOP / "course" / name / "lesson.mix").read_text()))
 
 
 def breakpoints(page, native, count):
@@ -79,11 +85,11 @@ def breakpoints(page, native, count):
     count.same("breakpoint: runs to it and back", found, runs)
     page.click("run")
     count.row("breakpoint: forth to it", page.log()[-1][0].startswith("forth "), page.log()[-1])
-    count.row("breakpoint: said", page.text("status").startswith("Breakpoint: line"), page.text("status"))
+    count.row("breakpoint: said", re.match(r"Breakpoint at line \d+\. .* done\.", page.told()), page.told())
     count.row("breakpoint: not among the changes", all(not command.startswith("break") for command, _ in page.log()), page.log())
     rows[take - 1].click()
     page.click("run")
-    count.row("breakpoint: taken away", page.text("status").startswith("Halted"), page.text("status"))
+    count.row("breakpoint: taken away", page.told().startswith("Halted"), page.told())
     natively("breakpoint: the session", page, native, count)
     rows[0].click()
     page.idle()
@@ -120,23 +126,20 @@ def slider(page, native, count):
 def who(page, native, count):
     page.lesson(0)
     page.click("run")
-    page.all("#register-rows td")[0].click()
-    page.idle()
+    page.tap(page.all("#register-rows td")[0])
     count.row("who: of rA", page.text("who-text").startswith("Change 2: INCA 7 at location 0001, line 5"), page.text("who-text"))
     page.script("document.getElementById('who').close()")
     page.choose("cells-which", "filled")
-    page.driver.find_element(By.CSS_SELECTOR, "#cell-rows tr[data-cell='100'] button").click()
-    page.idle()
+    page.tap(page.driver.find_element(By.CSS_SELECTOR, "#cell-rows tr[data-cell='100'] button"))
     count.row("who: of cell 100", page.text("who-text").startswith("Change 3: STA 100 at location 0002, line 6"), page.text("who-text"))
-    wanted = native.bundle(with_script(FIRST, "run 1000000\nback until cell 100\nforth until cell 100\nset cell 100 -5\n"))
-    page.click("who-back")
+    wanted = native.bundle(with_script(FIRST, "run 1000000\ngoto 2\ngoto 3\nset cell 100 -5\n"))
+    page.click("who-before")
     page.choose("cells-which", "range")
     page.put("cells-from", "95")
     page.put("cells-to", "100")
     count.same("who: a range of cells", [row.get_attribute("data-cell") for row in page.all("#cell-rows tr")], [str(cell) for cell in range(95, 101)])
     for again in (False, True):
-        page.driver.find_element(By.CSS_SELECTOR, "#cell-rows tr[data-cell='100'] button").click()
-        page.idle()
+        page.tap(page.driver.find_element(By.CSS_SELECTOR, "#cell-rows tr[data-cell='100'] button"))
         if again:
             page.one("who-value").send_keys("-5", Keys.ENTER)
             page.idle()
@@ -154,15 +157,15 @@ def faults(page, native, count):
     page.script("document.getElementById('text').focus(); document.getElementById('text').setSelectionRange(0, 0)")
     page.press(" JUMP 0", Keys.ENTER)
     wanted = native.bundle(" JUMP 0\n" + good).strip()
-    count.same("fault: told", page.text("status"), wanted.capitalize().replace(" a", " A", 1))
-    count.row("fault: at its line", page.text("wrong").endswith(wanted.split(": ")[1]) and "wrong" in page.all("#gutter .line")[0].get_attribute("class"), page.text("wrong"))
+    count.same("fault: told", page.told(), wanted.capitalize().replace(" a", " A", 1) + ". JUMP is none.")
+    count.row("fault: at its line", page.text("wrong-text") == wanted.split(": ")[1] and "wrong" in page.all("#gutter .line")[0].get_attribute("class"), page.text("wrong-text"))
     count.same("fault: no step is offered", page.one("step").is_enabled(), False)
     page.put("text", good)
     count.same("fault: gone, and the session is back", page.log(), [("step 1", "ran 1 to 0001 clock 1: limit\n")])
     count.same("fault: steps are offered again", page.one("step").is_enabled(), True)
     page.lesson(1)
     page.click("run")
-    count.row("fault: of a step", page.text("status").startswith("Fault M5 no such cell"), page.text("status"))
+    count.row("fault: of a step", page.told().startswith("Fault M5 no such cell"), page.told())
     natively("fault: of a step", page, native, count)
     page.say("back 7")
     count.same("fault: a refused command", page.log()[-1][1], "? C4 fewer changes than asked\n")
@@ -207,15 +210,14 @@ def share(page, native, count):
     count.same("share: the breakpoint", page.all("#gutter .line button")[9].get_attribute("aria-pressed"), "true")
     count.same("share: the bundle", page.save(), saved)
     count.row("share: the script that was not done", page.one("script").is_displayed() and page.text("script-lines").startswith("break PUT"), page.text("script-lines"))
+    count.row("share: the lesson and its notes", page.one("lessons").get_attribute("value") == "8" and page.one("notes-text").is_displayed())
     page.click("script-all")
     natively("share: done to the end", page, native, count)
-    path = pathlib.Path(page.folder.name) / "kept.mix"
-    path.write_bytes(saved)
-    page.one("file").send_keys(str(path))
-    page.idle()
-    page.leave()
-    page.idle()
-    count.same("open: a file, done whole", page.replies(), native.bundle(saved))
+    page.open_file(saved)
+    count.same("open: a file of the page, what was done", page.replies(), native.bundle(saved))
+    count.same("open: the moment", page.state(), state)
     count.same("open: saved again", page.save(), saved)
-    page.go(page.address + "#mix=bm90aGluZw&do=1")
-    count.row("share: a link that is cut", page.text("status").startswith("This link is cut"), page.text("status"))
+    page.open_file(EXAMPLES[8].read_bytes())
+    count.same("open: another bundle, done whole", page.replies(), native.bundle(EXAMPLES[8].read_bytes()))
+    page.go(page.address + "#mix=bm90aGluZw")
+    count.row("share: a link that is cut", page.told().startswith("This link is cut"), page.told())

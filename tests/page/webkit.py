@@ -7,9 +7,8 @@ from browser import SECONDS, Page
 from selenium import webdriver
 from selenium.webdriver.webkitgtk.options import Options
 
-# It has no folder for what is saved and no answer for a question, so the page itself keeps the one and says yes to the other.
-KEPT = """window.confirm = () => true;
-const make = URL.createObjectURL;
+# It has no folder for what is saved, so the page itself keeps it.
+KEPT = """const make = URL.createObjectURL;
 URL.createObjectURL = (blob) => {
   blob.arrayBuffer().then((bytes) => { window.saved = [...new Uint8Array(bytes)]; });
   return make.call(URL, blob);

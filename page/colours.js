@@ -1,0 +1,100 @@
+// Colours of the source, by the grammar of the editors: rules that match, that begin and end, and groups that have rules of their own.
+
+const KINDS = /^(comment|entity|keyword\.control|keyword\.operator|keyword\.other|support|string|constant|variable\.language|variable|punctuation|invalid)\b/;
+
+export class Grammar {
+  constructor({ patterns, repository }) {
+    this.repository = repository;
+    this.patterns = patterns;
+    this.made = new Map();
+    this.lists = new Map();
+  }
+
+  // A pattern in JavaScript's signs, for the first match from a place on.
+  regex(pattern) {
+    if (!this.made.has(pattern)) {
+      this.made.set(pattern, new RegExp(pattern.replace("(?i)", ""), `dg${pattern.includes("(?i)") ? "i" : ""}`));
+    }
+    return this.made.get(pattern);
+  }
+
+  // The rules of a list, with those that it includes in their places.
+  flat(patterns) {
+    if (!this.lists.has(patterns)) {
+      const rules = patterns.flatMap((rule) => {
+        if (rule.include) return this.flat([this.repository[rule.include.slice(1)]]);
+        return rule.match || rule.begin ? [rule] : this.flat(rule.patterns);
+      });
+      this.lists.set(patterns, rules);
+    }
+    return this.lists.get(patterns);
+  }
+
+  find(pattern, text, at) {
+    const regex = this.regex(pattern);
+    regex.lastIndex = at;
+    return regex.exec(text);
+  }
+
+  // The match that begins first, of the rule that stands first.
+  first(text, at, patterns) {
+    let best = null;
+    for (const rule of this.flat(patterns)) {
+      const found = this.find(rule.match || rule.begin, text, at);
+      if (found && (!best || found.index < best.found.index)) best = { found, rule };
+    }
+    return best;
+  }
+
+  // Names the letters of a match and of its groups; the innermost name stands.
+  take(line, { found, rule }, names) {
+    const name = (first, last, given) => given && names.fill(given, first, last);
+    name(found.index, found.index + found[0].length, rule.name);
+    for (const [number, group] of Object.entries(rule.captures || rule.beginCaptures || {})) {
+      const [first, last] = found.indices[number] || [0, 0];
+      if (first === last) continue;
+      name(first, last, group.name);
+      if (group.patterns) this.inside(line.slice(0, last), first, group.patterns, names);
+    }
+  }
+
+  inside(text, at, patterns, names) {
+    while (at < text.length) {
+      const best = this.first(text, at, patterns);
+      if (!best || best.found[0] === "") return;
+      this.take(text, best, names);
+      at = best.found.index + best.found[0].length;
+    }
+  }
+
+  // The name of each letter of a line, and the rule that is open behind it; `open` is the one that is open before it.
+  line(line, open) {
+    const names = new Array(line.length).fill((open && open.contentName) || "");
+    for (let at = 0; ; ) {
+      const best = this.first(line, at, open ? open.patterns || [] : this.patterns);
+      const end = open && this.find(open.end, line, at);
+      if (end && (!best || end.index <= best.found.index)) {
+        names.fill("", end.index);
+        open = null;
+        at = end.index + end[0].length;
+        continue;
+      }
+      if (!best) return { names, open };
+      this.take(line, best, names);
+      if (best.rule.begin) open = best.rule;
+      else if (best.found[0] === "") return { names, open };
+      at = best.found.index + best.found[0].length;
+    }
+  }
+}
+
+// The pieces of a line that have a colour each: a text and a class.
+export function piecesOf(line, names) {
+  const pieces = [];
+  for (let from = 0, to = 0; from < line.length; from = to) {
+    while (to < line.length && names[to] === names[from]) to += 1;
+    const kind = KINDS.exec(names[from]);
+    pieces.push([line.slice(from, to), kind ? kind[1].replace(".", "-") : ""]);
+  }
+  return pieces;
+}

@@ -1,0 +1,265 @@
+"""What once went wrong in use, one thing after another."""
+import base64
+import re
+import zlib
+
+from native import with_script
+from selenium.webdriver.common.by import By
+from selenium.webdriver.common.keys import Keys
+from uses import EXAMPLES, FIRST, kept, natively
+
+ENDLESS = "LOOP INCA 1\n STA 100\n JMP LOOP\n END LOOP\n"
+ACTIVE = "const e = document.activeElement; return e.id || e.getAttribute('aria-label') || e.tagName"
+MARKED = "return [...document.querySelectorAll('.line.at button')].map(b => Number(b.textContent))"
+
+
+def commands(page):
+    return [command for command, _ in page.log()]
+
+
+def halts(page, native, count):
+    """After a HLT, Step and Run say so, and go on when they are asked again."""
+    for name, command in (("run", "run 1000000"), ("step", "step 1")):
+        page.lesson(1)
+        page.lesson(0)
+        page.click("run")
+        count.same(f"halts: {name}: the HLT is marked, not what is behind it", page.script(MARKED), [7])
+        page.click(name)
+        count.same(f"halts: {name}: nothing is done", commands(page), ["run 1000000"])
+        count.row(f"halts: {name}: told", page.told().startswith("The program has halted.") and "0004" in page.told(), page.told())
+        page.click("back")
+        page.click("run")
+        page.click(name)
+        page.click(name)
+        count.same(f"halts: {name}: asked again, it goes on", commands(page), ["run 1000000", "back 1", "forth all", command])
+        natively(f"halts: {name}", page, native, count)
+    page.lesson(4)
+    page.click("run")
+    page.click("run")
+    count.row("halts: data is no next line", page.told().startswith("The program has halted."), page.told())
+
+
+def kept_apart(page, native, count):
+    """A saved file has what was done, and apart from it what is still to be done."""
+    bundle = EXAMPLES[8].read_text()
+    script = bundle.split("%SCRIPT\n")[1].splitlines()
+    page.lesson(8)
+    for _ in range(3):
+        page.click("script-next")
+    page.press_button(page.all("#gutter .line button")[9])
+    state, log, left = page.state(), page.log(), page.text("script-lines")
+    saved = page.save()
+    count.same("kept: what is left", kept(saved.decode()), script[len(log):])
+    count.same("kept: the breakpoint", kept(saved.decode(), "breakpoints at lines"), ["10"])
+    count.same("kept: natively, what was done", native.bundle(saved), native.bundle(with_script(bundle, "\n".join(script[:len(log)]) + "\n")))
+    page.lesson(0)
+    page.open_file(saved)
+    count.same("kept: opened, the moment", (page.state(), page.log()), (state, log))
+    count.same("kept: opened, what is left", page.text("script-lines"), left)
+    count.same("kept: opened, the breakpoint", page.all("#gutter .line button")[9].get_attribute("aria-pressed"), "true")
+    count.same("kept: opened, the lesson", page.value("lessons"), "8")
+    page.click("script-all")
+    count.same("kept: opened, and done to the end", page.replies(), native.bundle(bundle))
+
+
+def own_faults(page, native, count):
+    """What the page itself does wrong is told, and all else is as it was."""
+    page.lesson(0)
+    page.script("document.getElementById('flags').remove()")
+    page.click("step")
+    count.row("own faults: told", page.told().startswith("The page itself has a fault: "), page.told())
+    count.same("own faults: the slider", [page.value("slider"), page.text("total")], ["1", "1"])
+    count.same("own faults: the log", commands(page), ["step 1"])
+    count.row("own faults: the console", len(page.errors()) > 0)
+    page.go(page.address)
+    page.lesson(0)
+    page.click("step")
+    count.row("own faults: gone with a page that is whole", page.told().startswith("Did 4 ENTA 5"), page.told())
+
+
+def chosen_meanwhile(page, native, count):
+    """Another lesson is chosen while a moment is asked for."""
+    page.lesson(0)
+    page.put("text", ENDLESS)
+    for _ in range(2):
+        page.click("run")
+    page.script("""const s = document.getElementById('slider'); s.value = 1900000; s.dispatchEvent(new Event('input', {bubbles: true}));
+        const l = document.getElementById('lessons'); l.value = '1'; l.dispatchEvent(new Event('change', {bubbles: true}));""")
+    page.leave()
+    page.idle()
+    count.same("chosen: the moment", [page.value("moment"), page.text("total")], ["0", "0"])
+    count.row("chosen: told", page.told().startswith("At the start."), page.told())
+    page.click("run")
+    natively("chosen", page, native, count)
+    page.lesson(0)
+    page.put("text", ENDLESS)
+    page.one("run").click()
+    page.script("const l = document.getElementById('lessons'); l.value = '0'; l.dispatchEvent(new Event('change', {bubbles: true}));")
+    page.leave()
+    page.idle()
+    count.same("chosen: during a run", [page.value("text"), page.text("total"), page.log()], [FIRST.split("%SCRIPT")[0], "0", []])
+
+
+def edit_undone(page, native, count):
+    """The last sessions of other texts come back with their texts, also over work on the text between."""
+    page.lesson(0)
+    page.click("step")
+    page.click("step")
+    good, log = page.value("text"), page.log()
+    page.put("text", good.replace("ENTA 5", "ENTA 6"))
+    page.click("step")
+    page.put("text", good)
+    count.same("undone: what was done is back", page.log(), log)
+    count.same("undone: the moment", [page.value("moment"), page.text("total")], ["2", "2"])
+    natively("undone", page, native, count)
+    page.put("text", good.replace("ENTA 5", "ENTA 6"))
+    count.same("undone: that of the other text too", commands(page), ["step 1"])
+
+
+def focus(page, native, count):
+    """The focus stays where it was at each step."""
+    page.lesson(8)
+    page.click("run")
+    page.click("to-start")
+    places = {"a register": "#register-rows button", "a flag": "#flags button", "a cell": "#cell-rows button[tabindex='0']", "a line": "#gutter button", "the log": "#log"}
+    for name, selector in places.items():
+        page.script("document.querySelector(arguments[0]).focus()", selector)
+        before = page.script(ACTIVE)
+        for key in (Keys.F8, Keys.F8, Keys.F7):
+            page.press(key)
+            after = page.script(ACTIVE)
+            same = after == before if name != "a cell" else after.startswith(("cell ", "Cells"))
+            count.row(f"focus: on {name}", same, f"{after!r} after {before!r}")
+    page.click("to-end")
+    page.script("document.querySelector('.paper').focus()")
+    page.press(Keys.F7)
+    page.press(Keys.F8)
+    count.same("focus: on the paper", page.script(ACTIVE), "paper-18")
+    page.script("document.querySelector('#register-rows button').focus()")
+    page.press(Keys.ENTER)
+    page.press(Keys.ENTER)
+    count.same("focus: back from who wrote it", page.script(ACTIVE), "rA: who wrote it?")
+    stops = page.script("return document.querySelectorAll('#cell-rows button[tabindex=\"0\"]').length")
+    count.same("focus: one cell is a stop of the tab key", stops, 1)
+
+
+def link_of(page, bundle):
+    press = zlib.compressobj(9, zlib.DEFLATED, -15)
+    packed = press.compress(bundle) + press.flush()
+    return f"{page.address}#mix={base64.urlsafe_b64encode(packed).decode().rstrip('=')}"
+
+
+def too_large(page, native, count):
+    """What is over the limits of a source is refused before a row is made of it."""
+    limits = {"lines": (b" NOP\n" * 200_000, "200,000 lines"), "bytes": (b"*" * 1_100_000, "1,100,000 bytes"), "a bomb": (b" NOP\n" * 12_000_000, "more than 4,194,304 bytes")}
+    for name, (bundle, said) in limits.items():
+        page.go(link_of(page, bundle))
+        count.row(f"too large: a link of {name}", said in page.told(), page.told())
+        count.row(f"too large: a link of {name} makes no row", len(page.all("#gutter .line")) < 30)
+    page.lesson(0)
+    good = page.value("text")
+    page.put("text", " NOP\n" * 30_000)
+    count.row("too large: pasted", "30,000 lines" in page.told() and page.value("text") == good, page.told())
+    page.open_file(b" NOP\n" * 30_000)
+    count.row("too large: a file", "30,000 lines" in page.told() and page.value("text") == good, page.told())
+    page.go(link_of(page, b" NOP\n" * 19_999 + b" END 0\n"))
+    count.same("too large: 20,000 lines are not", page.script("return document.querySelectorAll('#gutter .line').length"), 20_001)
+
+
+def setting(page, native, count):
+    """A value that is refused is told beside its field; one in the past asks before it drops what is ahead."""
+    page.lesson(0)
+    page.click("run")
+    page.click("back")
+    page.click("back")
+    page.tap(page.all("#register-rows td")[0])
+    count.same("set: what it drops", page.text("who-ahead"), "To change it here drops the 2 changes ahead.")
+    page.one("who-value").send_keys("12345678901", Keys.ENTER)
+    page.idle()
+    count.row("set: refused beside the field", page.one("who-fault").is_displayed() and page.text("who-fault").startswith("Refused: C2 bad argument."), page.text("who-fault"))
+    count.same("set: refused, nothing is done", commands(page), ["run 1000000", "back 1", "back 1"])
+    for typed, command in (('"HELLO"', "set A 135582544"), ("+ 00 00 00 00 12", "set A 12"), ("-0", "set A -0")):
+        if not page.one("who").is_displayed():
+            page.tap(page.all("#register-rows td")[0])
+        page.one("who-value").clear()
+        page.one("who-value").send_keys(typed, Keys.ENTER)
+        page.idle()
+        count.same(f"set: {typed}", commands(page)[-1], command)
+    page.click("back")
+    page.one("command").send_keys("set A 7", Keys.ENTER)
+    page.idle()
+    count.row("set: a command asks first", page.text("command-note").startswith("This drops 1 change ahead.") and commands(page)[-1] == "back 1", page.text("command-note"))
+    page.one("command").send_keys(Keys.ENTER)
+    page.idle()
+    count.same("set: asked again, it is done", commands(page)[-1], "set A 7")
+    natively("set", page, native, count)
+
+
+def refused_text(page, native, count):
+    """While the text is refused: what is stale looks so, and a command is answered."""
+    page.lesson(0)
+    page.click("step")
+    good = page.value("text")
+    page.put("text", " JUMP 0\n" + good)
+    count.row("refused: registers are told to be old", page.script("return getComputedStyle(document.querySelector('#registers .of-old')).display") == "block")
+    page.one("command").send_keys("step 5", Keys.ENTER)
+    page.idle()
+    count.row("refused: a command is answered", page.text("command-note").startswith("Not done, since the text is refused. Line 1: A2"), page.text("command-note"))
+    count.same("refused: the command is not lost", page.value("command"), "step 5")
+    page.tap(page.all("#register-rows td")[0])
+    count.row("refused: a register is answered", page.told().endswith("Nothing was done."), page.told())
+    page.put("text", good)
+    count.row("refused: mended, nothing is old", page.script("return getComputedStyle(document.querySelector('#registers .of-old')).display") == "none")
+    causes = {"ENT1 10\n END 0\n": "ENT1 is at the first column", "; remark\n END 0\n": "A remark line begins with *", "X: NOP\n END 0\n": "A label has no colon", " DEK1 1\n END 0\n": "Perhaps DEC1 is meant, not DEK1", " INCA 0, 1\n END 0\n": "no blank comes after a comma", " NOP\n": "The last line of a program is END"}
+    for text, cause in causes.items():
+        page.put("text", text)
+        count.row(f"refused: {text.splitlines()[0]}", cause in page.told(), page.told())
+    page.put("text", " J1P LOP\n HLT\n END 0\n")
+    count.row("refused: an undefined symbol is told", page.told().startswith("Warning: LOP is not defined"), page.told())
+
+
+def ranges(page, native, count):
+    """A range of cells: expressions of the program, and why it is refused."""
+    number = next(at for at, title in enumerate(page.lessons()) if title.startswith("20. "))
+    page.lesson(number)
+    page.choose("cells-which", "range")
+    for start, end, said in (("KEY+1", "KEY+N", ""), ("NOSUCH", "10", "“NOSUCH” has no value"), ("0", "4000", "“4000” is 4000, and cells are 0 to 3999"), ("20", "10", "the range ends at 10")):
+        page.put("cells-from", start)
+        page.put("cells-to", end)
+        count.row(f"range: {start} to {end}", said in page.text("cells-fault") and page.one("cells-fault").is_displayed() == bool(said), page.text("cells-fault"))
+        found = [row.get_attribute("data-cell") for row in page.all("#cell-rows tr")]
+        count.same(f"range: {start} to {end}: cells", found, [str(cell) for cell in range(1000, 1010)])
+
+
+def policy(page, native, count):
+    """No script and no style but the page's own."""
+    said = page.one("lessons") and page.script("return document.querySelector('meta[http-equiv]').content")
+    count.row("policy: nothing inline but by its sum", "unsafe-inline" not in said and re.search(r"script-src 'sha256-[^']+' 'wasm-unsafe-eval' blob:;", said) and re.search(r"style-src 'sha256-[^']+';", said), said)
+    page.script("""window.ran = 0; const box = document.createElement('div'); box.innerHTML = '<img src="data:," onerror="window.ran = 1">'; document.body.append(box);
+        const script = document.createElement('script'); script.textContent = 'window.ran = 2'; document.body.append(script);""")
+    page.wait(lambda: page.script("return window.ran") != 0, 0.5)
+    count.same("policy: what is injected does not run", page.script("return window.ran"), 0)
+    page.errors()
+    hostile = '<img src=x onerror="window.ran=3"><b>'
+    page.lesson(0)
+    page.put("text", f"* {hostile}\n" + page.value("text"))
+    page.say(hostile)
+    count.same("policy: text makes no element", [len(page.all("#colours img, #log img, #colours b, #log b")), page.script("return window.ran")], [0, 0])
+
+
+def asked(page, native, count):
+    """The page asks before a program is left, by a box of its own, which works in a frame without rights too."""
+    page.lesson(0)
+    page.click("step")
+    page.script("const l = document.getElementById('lessons'); l.value = '1'; l.dispatchEvent(new Event('change', {bubbles: true}));")
+    count.row("asked: the box", page.one("leave").is_displayed())
+    page.driver.find_element(By.CSS_SELECTOR, "#leave button[value=stay]").click()
+    page.idle()
+    count.same("asked: stay", [page.value("lessons"), commands(page)], ["0", ["step 1"]])
+    page.script("const l = document.getElementById('lessons'); l.value = '1'; l.dispatchEvent(new Event('change', {bubbles: true}));")
+    page.leave()
+    page.idle()
+    count.same("asked: leave", [page.value("lessons"), commands(page)], ["1", []])
+
+
+REPAIRS = (halts, kept_apart, own_faults, chosen_meanwhile, edit_undone, focus, too_large, setting, refused_text, ranges, policy, asked)

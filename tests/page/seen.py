@@ -1,0 +1,197 @@
+"""What one sees without looking for it: what was printed, what a step did, the notes of a lesson, the line that is next in a small window."""
+import re
+
+from selenium.webdriver.common.by import By
+from uses import EXAMPLES, TOP
+
+SORT = """N       EQU  3
+KEY     EQU  999
+        ORIG KEY+1
+        CON  50
+        CON  20
+        CON  70
+        ORIG 3000
+START   LDX  KEY+1
+        STX  KEY+2
+        ENT2 3
+BACK    DEC2 1
+        CMPX KEY,2
+        JE   OUT
+        JMP  BACK
+OUT     JOV  BACK
+        LD3  KEY+3(4:5)
+        ENNA -5
+        HLT
+        END  START
+"""
+APART = """const tops = (selector) => [...document.querySelectorAll(selector)].map(e => e.getBoundingClientRect().top);
+const [rows, lines] = [tops('.line'), tops('#colours > div')]; return Math.max(...rows.map((top, at) => Math.abs(top - lines[at])))"""
+# Each step of it: what it did, and what the next one will do, by the rules of the book.
+SENTENCES = [
+    ("At the start.", "Next: 8 LDX KEY+1: rX becomes 50 (cell 1000)."),
+    ("Did 8 LDX KEY+1: rX from 0 to 50 (2 u).", "Next: 9 STX KEY+2: cell 1001 becomes rX."),
+    ("Did 9 STX KEY+2: cell 1001 from 20 to 50 (2 u).", "Next: 10 ENT2 3: rI2 becomes 3."),
+    ("Did 10 ENT2 3: rI2 from 0 to 3 (1 u).", "Next: 11 DEC2 1: rI2 becomes rI2 - 1."),
+    ("Did 11 DEC2 1: rI2 from 3 to 2 (1 u).", "Next: 12 CMPX KEY,2: compares rX with 50 (cell 1001)."),
+    ("Did 12 CMPX KEY,2: the comparison stays equal (2 u).", "Next: 13 JE OUT: jumps to line 15 if the comparison is equal."),
+    ("Did 13 JE OUT: jumps to line 15, rJ from 0 to 3006 (1 u).", "Next: 15 JOV BACK: jumps to line 11 if overflow is on, which goes off."),
+    ("Did 15 JOV BACK: does not jump (1 u).", "Next: 16 LD3 KEY+3(4:5): rI3 becomes 70 (cell 1002(4:5))."),
+    ("Did 16 LD3 KEY+3(4:5): rI3 from 0 to 70 (2 u).", "Next: 17 ENNA -5: rA becomes -(-5)."),
+    ("Did 17 ENNA -5: rA from 0 to 5 (1 u).", "Next: 18 HLT: halts."),
+]
+IN_VIEW = """const box = arguments[0].getBoundingClientRect(); const bar = document.getElementById('time').getBoundingClientRect();
+const inside = arguments[1] ? document.querySelector(arguments[1]).getBoundingClientRect() : { top: 0, bottom: innerHeight };
+return box.height > 0 && box.top >= Math.max(inside.top, bar.bottom) - 1 && box.bottom <= Math.min(inside.bottom, innerHeight) + 1"""
+
+
+def status(page):
+    return page.told(), page.text("next")
+
+
+def sentences(page, native, count):
+    page.lesson(0)
+    page.put("text", SORT)
+    for number, wanted in enumerate(SENTENCES):
+        if number > 0:
+            page.click("step")
+        found = status(page)
+        count.same(f"sentences: after {number} steps", (found[0] if number else "At the start.", found[1]), wanted)
+    page.click("back")
+    count.same("sentences: taken back", status(page), ("Taken back: 17 ENNA -5: rA from 0 to 5 (1 u).", SENTENCES[8][1]))
+    page.slide(3)
+    count.same("sentences: at a moment", status(page)[1], SENTENCES[3][1])
+    page.click("run")
+    count.same("sentences: a run to the end", page.told(), "Halted after 10 changes, clock 23 u, the last 7 now.")
+    page.lesson(1)
+    page.lesson(0)
+    page.click("step")
+    row = page.driver.find_element(By.CSS_SELECTOR, "#register-rows tr.altered")
+    count.row("sentences: what a register was", row.text.endswith("was 0"), row.text)
+    page.script("const t = document.getElementById('text'); t.focus(); const at = t.value.indexOf('INCA'); t.setSelectionRange(at, at)")
+    page.press("\ue031")  # F1
+    title = page.script("""const at = document.querySelector('#colours > div:nth-child(6) .support').getBoundingClientRect(); const text = document.getElementById('text');
+        text.dispatchEvent(new MouseEvent('mousemove', { clientX: at.left + 3, clientY: at.top + 5, bubbles: true })); return text.title""")
+    count.same("sentences: at the pointer", title, "STA: field F of cell M becomes rA. C = 24, 2 u.")
+    count.row("sentences: F1 at an operation", page.told().startswith("INCA: rA becomes rA + M."), page.told())
+
+
+def output(page, native, count):
+    """What is printed is in view beside the program, with its first new row, and the status counts the rows."""
+    page.size(1280, 720)
+    page.lesson(8)
+    count.same("output: none at the start", page.one("output").is_displayed(), False)
+    page.click("run")
+    rows = page.all("#papers .paper > div:not(.page)")
+    count.same("output: rows", len(rows), 4)
+    for row in rows:
+        count.row(f"output: in view: {row.text}", page.script(IN_VIEW, row, ".paper"))
+    count.row("output: told", "4 rows printed." in page.told(), page.told())
+    count.row("output: the listing is in view too", page.script(IN_VIEW, page.driver.find_element(By.CSS_SELECTOR, ".line.at"), "#listing"))
+    page.click("back")
+    page.click("back")
+    count.row("output: taken back", "1 row taken back." in page.told(), page.told())
+    page.click("to-start")
+    count.same("output: none again", page.one("output").is_displayed(), False)
+    page.put("text", " ENT1 12\nLOOP OUT 100(18)\n DEC1 1\n J1P LOOP\n OUT 100(19)\n HLT\n END 0\n")
+    page.click("run")
+    first = page.driver.find_element(By.CSS_SELECTOR, "#paper-18 > div")
+    count.row("output: the first row of a long run is in view", page.script(IN_VIEW, first, "#paper-18"))
+    count.row("output: both papers", page.one("paper-18").is_displayed() and page.one("paper-19").is_displayed() and "13 rows printed." in page.told(), page.told())
+
+
+def lesson(page, native, count):
+    """Notes beside the listing, in groups with numbers; the answer only when it is asked for; symbols; colours; all of a line is seen."""
+    titles = page.lessons()
+    groups = [group.get_attribute("label") for group in page.all("#lessons optgroup")]
+    count.row("lesson: groups", groups[0] == "Examples" and len(groups) > 3 and all(re.match(r"Course: \d", group) for group in groups[1:]), groups)
+    count.row("lesson: each has its number", all(re.match(r"\d+\. ", title) for title in titles), titles)
+    count.row("lesson: no answers among them", not any("answer" in title for title in titles), titles)
+    page.size(1280, 720)
+    page.lesson(next(at for at, title in enumerate(titles) if title.startswith("20. ")))
+    count.row("lesson: notes and listing in view", page.script(IN_VIEW, page.one("notes-box"), None) and page.script(IN_VIEW, page.driver.find_element(By.CSS_SELECTOR, ".line.at"), "#listing"))
+    count.same("lesson: its answer is not shown", page.one("answer-text").is_displayed(), False)
+    page.script("document.querySelector('#answer summary').click()")
+    count.row("lesson: its answer, asked for", page.one("answer-text").is_displayed() and len(page.text("answer-text")) > 40, page.text("answer-text"))
+    page.press_button(page.one("answer-open"))
+    answer = next((TOP / "course").glob("20_*/answer.mix")).read_text()
+    count.same("lesson: the program of the answer", page.value("text"), answer.split("%DEVICES\n")[0].split("%SCRIPT\n")[0])
+    wide = page.script("return [...document.querySelectorAll('#colours > div')].map(d => d.scrollWidth > d.clientWidth + 1).filter(Boolean).length")
+    count.same("lesson: no line is cut", wide, 0)
+    count.same("lesson: the colours say what the text says", page.script("return [...document.querySelectorAll('#colours > div')].map(d => d.textContent).join('\\n')"), page.value("text"))
+    for width in (1280, 375, 641):
+        page.size(width, 720)
+        page.wait(lambda: page.script(APART) < 1)
+        count.row(f"lesson: rows beside their lines, {width} wide", page.script(APART) < 1, page.script(APART))
+        heights = page.script("return [document.getElementById('text').scrollHeight, document.getElementById('colours').offsetHeight]")
+        count.row(f"lesson: the text wraps as its colours do, {width} wide", abs(heights[0] - heights[1]) <= 40, heights)
+    page.size(1280, 720)
+    page.lesson(0)
+    page.put("text", SORT)
+    page.script("document.querySelector('#symbols details').open = true")
+    symbols = [[cell.text for cell in row.find_elements(By.CSS_SELECTOR, "th, td")][:3] for row in page.all("#symbol-rows tr")]
+    count.same("lesson: symbols, in decimal too", symbols[:3], [["N", "3", "+ 00 00 00 00 03"], ["KEY", "999", "+ 00 00 00 15 39"], ["START", "3000", "+ 00 00 00 46 56"]])
+    kinds = page.script("return [...document.querySelectorAll('#colours > div:nth-child(8) span')].map(s => [s.textContent, s.className])")
+    count.same("lesson: colours", kinds, [["START", "entity"], ["LDX", "support"], ["KEY", "variable"], ["+", "keyword-operator"], ["1", "constant"]])
+
+
+def memory_shown(page, native, count):
+    """Cells around M where the next step uses a cell; else what was shown stays."""
+    page.lesson(0)
+    page.put("text", SORT)
+    here = "return [...document.querySelectorAll('#cell-rows tr.here')].map(r => r.dataset.cell)"
+    first = "return document.querySelector('#cell-rows tr').dataset.cell"
+    found = []
+    for _ in range(4):
+        found.append((page.script(here), page.script(first)))
+        page.click("step")
+    count.same("memory: around M", found, [(["1000"], "992"), (["1001"], "993"), ([], "993"), ([], "993")])
+    page.choose("cells-which", "filled")
+    page.put("text", "".join(f" CON {n}\n" for n in range(1, 901)) + " END 0\n")
+    count.row("memory: a long list is cut, and says so", len(page.all("#cell-rows tr")) == 500 and page.text("cells-more").startswith("400 more"), page.text("cells-more"))
+
+
+def small(page, native, count):
+    """In small windows, and at 200 %, the line that is next is in view at each step, and tabs take the place of a long page."""
+    for width, height in ((375, 667), (320, 568), (640, 360), (640, 400), (768, 1024), (1280, 720)):
+        page.size(width, height)
+        page.script("scrollTo(0, 0)")
+        page.lesson(1)
+        page.lesson(6)
+        seen = []
+        for _ in range(20):
+            page.click("step")
+            seen.append(page.script(IN_VIEW, page.driver.find_element(By.CSS_SELECTOR, ".line.at"), "#listing"))
+        count.same(f"{width} x {height}: the line that is next is in view", seen.count(True), 20)
+        bar = page.script("return document.getElementById('time').offsetHeight / innerHeight")
+        count.row(f"{width} x {height}: the bar leaves room", bar < 0.34, bar)
+        if width < 960:
+            shown = {}
+            for tab, part in (("program", "source"), ("machine", "registers"), ("talk", "talk"), ("lesson", "notes"), ("output", "units")):
+                page.tab(tab)
+                shown[tab] = [name for name in ("source", "registers", "talk", "notes", "units") if page.one(name).is_displayed()]
+                count.same(f"{width} x {height}: the tab {tab}", shown[tab], [part])
+            page.tab("program")
+
+
+PAIRS = (("ink", "paper"), ("ink", "leaf"), ("soft", "paper"), ("soft", "leaf"), ("soft", "button"), ("ink", "button"), ("ink", "here"), ("ink", "altered"), ("red", "here"), ("red", "altered"),
+         ("blue", "altered"), ("blue", "here"), ("red", "paper"), ("red", "leaf"), ("blue", "paper"), ("blue", "leaf"), ("green", "leaf"), ("violet", "leaf"), ("green", "here"), ("violet", "here"),
+         ("soft", "here"), ("paper", "red"))
+
+
+def contrast(page, native, count):
+    """Letters against what is behind them at least 4.5, the edges of fields and buttons at least 3."""
+    def light(colour):
+        parts = [int(colour[at:at + 2], 16) / 255 for at in (1, 3, 5)]
+        parts = [part / 12.92 if part <= 0.03928 else ((part + 0.055) / 1.055) ** 2.4 for part in parts]
+        return 0.2126 * parts[0] + 0.7152 * parts[1] + 0.0722 * parts[2]
+
+    for shade in ("light", "dark"):
+        page.command("Emulation.setEmulatedMedia", features=[{"name": "prefers-color-scheme", "value": shade}])
+        colour = dict(page.script("const s = getComputedStyle(document.documentElement); return ['paper','leaf','ink','soft','edge','red','here','altered','blue','button','green','violet'].map(n => [n, s.getPropertyValue('--' + n).trim()])"))
+        for one, other in PAIRS + (("edge", "paper"), ("edge", "leaf"), ("edge", "button")):
+            high, low = sorted((light(colour[one]), light(colour[other])), reverse=True)
+            ratio = (high + 0.05) / (low + 0.05)
+            count.row(f"contrast, {shade}: {one} on {other}", ratio >= (3 if one == "edge" else 4.5), f"{ratio:.2f}")
+
+
+SEEN = (sentences, output, lesson, memory_shown, small)
