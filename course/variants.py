@@ -1,6 +1,6 @@
 """The exercises of the course as files: for a student the hand-out, the answer with the same data, and the cases of grade/."""
-import pathlib
 import re
+import textwrap
 
 import exercises_1
 import exercises_2
@@ -25,13 +25,17 @@ def cases_of(exercise, student, secret):
     return cases
 
 
+def wrapped(text):
+    return textwrap.fill(text, 100, break_on_hyphens=False)
+
+
 def handout(exercise, student, case):
     lesson = (COURSE / exercise.name / "README.md").read_text()
     title = lesson.partition("\n")[0].removeprefix("# ")
     asked = re.search(r"^\*\*Exercise\.?\*\*\.? *(.*?)\n\n", lesson, re.S | re.M)
-    parts = [f"# {title}: the exercise of {student}", asked[1] if asked else "", f"**What your program must keep to.** {exercise.contract}"]
+    parts = [f"# {title}: the exercise of {student}", asked[1] if asked else "", wrapped(f"**What your program must keep to.** {exercise.contract}")]
     if case.told:
-        parts.append(case.told)
+        parts.append(wrapped(case.told))
     elif case.given:
         parts.append("Keep these lines, labels and comments. Your program is also run with other values in them.")
         parts.append("```text\n" + "".join(f"{line}\n" for line in case.lines()) + "```")
