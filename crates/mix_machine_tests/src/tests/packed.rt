@@ -118,7 +118,9 @@ pub fn are_cells_packed(alloc: Global, row: &str) -> Option<bool> {
 fn packed(alloc: Global, first: u32, count: u32) -> Option<Vec<u32>> {
     let mut units = Vec::new(alloc);
     for number in 0..count {
-        units.reserve(3).ok()?;
+        if units.reserve(3).is_err() {
+            return None;
+        }
         cell(first, number)?.pack(&mut units);
     }
     Some(units)
@@ -165,7 +167,9 @@ fn are_taken(units: &mut Vec<u32>, first: u32, count: u32) -> Option<bool> {
 pub fn are_mixed_packed(alloc: Global, values: &str, back: &str, taken: usize) -> Option<bool> {
     let mut units = Vec::new(alloc);
     for text in values.split(' ') {
-        units.reserve(3).ok()?;
+        if units.reserve(3).is_err() {
+            return None;
+        }
         cell_or_location(text)?.pack(&mut units);
     }
     Some(units.len() == taken && are_mixed_taken(&mut units, back)? && units.is_empty())
