@@ -26,14 +26,14 @@ def cases_of(exercise, student, secret):
 
 
 def wrapped(text):
-    return textwrap.fill(text, 100, break_on_hyphens=False)
+    return textwrap.fill(" ".join(text.split()), 100, break_on_hyphens=False)
 
 
 def handout(exercise, student, case):
     lesson = (COURSE / exercise.name / "README.md").read_text()
     title = lesson.partition("\n")[0].removeprefix("# ")
     asked = re.search(r"^\*\*Exercise\.?\*\*\.? *(.*?)\n\n", lesson, re.S | re.M)
-    parts = [f"# {title}: the exercise of {student}", asked[1] if asked else "", wrapped(f"**What your program must keep to.** {exercise.contract}")]
+    parts = [f"# {title}: the exercise of {student}", wrapped(asked[1]) if asked else "", wrapped(f"**What your program must keep to.** {exercise.contract}")]
     if case.told:
         parts.append(wrapped(case.told))
     elif case.given:

@@ -10,9 +10,9 @@ def plain(name):
 
 
 def id_of(source):
-    """The name of a source without its folder and its ending."""
-    name = pathlib.PurePath(source).name
-    return name.removesuffix(".mix")
+    """The name of a source without its folder and its ending; a name that a spreadsheet could take for more than a name is as grade/case writes it."""
+    name = pathlib.PurePath(source).name.removesuffix(".mix")
+    return name if re.fullmatch(r"[A-Za-z0-9_][A-Za-z0-9_@.+-]*", name) else plain(name).lstrip("+-")
 
 
 def cases_of(cases, source):
