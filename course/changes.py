@@ -26,7 +26,7 @@ def changed(line, other):
 
 
 def changes(bundle):
-    """Each change: the line as it stands, the one in its place, and what makes the change in a bundle of the same source."""
+    """Each change: the old line, the new one, and a function that makes the change in a bundle of the same source."""
     for number, line in enumerate(bundle.source):
         name = instruction_of(line)[0] if line[:1] not in ("", "*") else "END"
         for other in others_of(name) if name not in PSEUDO else ():
@@ -44,5 +44,5 @@ def unseen(lesson, runner):
         except (LookupError, ValueError, StopIteration, TypeError):
             seen = True
         if not seen:
-            same.append(f"{' '.join(new.partition('[')[0].split())} in place of {instruction_of(line)[0]}")
+            same.append(f"{' '.join(new.partition('[')[0].split())} instead of {instruction_of(line)[0]}")
     return count, same

@@ -1,107 +1,76 @@
-"""The counts of a program for several values of its constants, side by side before its lines: from these an author finds the column "times"."""
+"""The counts of a program for several values of its constants, side by side before its lines: from these an author finds the times in square brackets."""
 import csv
 import io
-import pathlib
-import re
 
-from counting import times_of
 from lesson import RUN
-from running import Bundle, Outcome, replies_of
+from running import Bundle, Outcome, Refused, replies_of
 
-PARTS = re.compile(r"(\S+)?\s+(\S+)(?:\s+(\S+))?\s*(.*)")
-FLOOR = re.compile(r"(\w+|\([^()]*\))//(\w+)")
-BARE = ("HLT", "NUM", "CHAR")  # what follows them in a line is a remark, unless it is an asterisk
-SPECIAL = {"\\": r"\textbackslash{}", "~": r"\textasciitilde{}", "^": r"\textasciicircum{}", **{one: "\\" + one for one in "&%$#_{}"}}
+ESCAPED = {"\\": r"\textbackslash{}", "~": r"\textasciitilde{}", "^": r"\textasciicircum{}", **{one: "\\" + one for one in "&%$#_{}"}}
 
 
-def given(text, setting):
-    """The bundle with the values of a setting such as `N=4` or `N=4,data=FILE`, where a file has the lines of a block of data."""
+class NoColumns(Exception):
+    """Why there are none: a setting that is none, a source that is refused, a program that does not halt."""
+
+
+def constants_of(setting):
+    """The names and values of a setting, such as `N=4` or `N=4,M=2`."""
+    pairs = [pair.partition("=") for pair in setting.split(",")]
+    if not all(name and sign and value for name, sign, value in pairs):
+        raise NoColumns(f"{setting} is no setting: write NAME=VALUE, or NAME=VALUE,NAME=VALUE")
+    return {name: value for name, _, value in pairs}
+
+
+def counted(program, text, setting):
+    """The run of a program with the constants of a setting: of each line its count, and the steps and the clock at the halt."""
     bundle = Bundle(text)
-    for pair in filter(None, setting.split(",")):
-        name, equals, value = pair.partition("=")
-        if not equals or not name or not value:
-            raise ValueError(f"{pair} is not such as N=4")
-        if f"* {name}" in bundle.source and f"* end of {name}" in bundle.source:
-            lines = pathlib.Path(value).read_text().splitlines()
-            bundle.set_data([line if line[:1].isspace() else f"        CON  {line}" for line in lines if line.strip()], name)
-        elif any(re.match(rf"{re.escape(name)} +EQU ", line) for line in bundle.source):
+    for name, value in constants_of(setting).items():
+        try:
             bundle.set_constants({name: value})
-        else:
-            raise ValueError(f"the source has no line {name} EQU, and no block of data of this name")
+        except ValueError:
+            raise NoColumns(f"{setting}: the source has not one line {name} EQU") from None
     bundle.script = RUN
-    return bundle
+    try:
+        ran = Outcome(bundle, replies_of(program, bundle))
+    except Refused as refusal:
+        raise NoColumns(f"{setting}: {refusal}") from None
+    if ran.end != "halt":
+        raise NoColumns(f"{setting}: the program does not halt: {ran.end} after {ran.steps} steps, at location {ran.location:04d}")
+    return {number: count for number, (count, _) in ran.counts().items()}, ran.steps, ran.clock
 
 
-def counted(program, text, settings):
-    """The run of each setting."""
-    return [Outcome(bundle, replies_of(program, bundle)) for bundle in (given(text, setting) for setting in settings)]
-
-
-def code(runs):
-    """Of each line with an instruction its number, its text as it is in the bundle, and its counts."""
-    counts = [[count for count, _ in run.counts().values()] for run in runs]
-    numbers = runs[0].counts()
-    lines = [(number, line) for number, line in enumerate(runs[0].source, 1) if number in numbers]
-    return [(number, line, list(of)) for (number, line), *of in zip(lines, *counts)]
-
-
-def of_lines(settings, runs):
-    widths = [max(6, len(setting)) for setting in settings]
-    yield " ".join(f"{setting or 'count':>{width}}" for setting, width in zip(settings, widths))
-    for _, line, counts in code(runs):
-        yield f"{' '.join(f'{count:>{width}}' for count, width in zip(counts, widths))}  {line}".rstrip()
-
-
-def table(settings, runs):
-    """The lines of the source behind their counts, and two sums."""
-    widths = [max(6, len(setting)) for setting in settings]
-    yield from of_lines(settings, runs)
-    for name, sums in (("steps", [run.steps for run in runs]), ("clock", [run.clock for run in runs])):
-        yield f"{' '.join(f'{one:>{width}}' for one, width in zip(sums, widths))}  {name}"
-
-
-def parts_of(line):
-    """Label, operation, address and remark of a line, the column of times left out."""
-    label, name, address, remark = (part or "" for part in PARTS.fullmatch(line).groups())
-    if name in BARE and address != "*":
-        address, remark = "", f"{address} {remark}"
-    return label, name, address, re.sub(r"\[[^]]*\]\s*", "", remark).strip()
-
-
-def as_csv(settings, runs):
-    written = io.StringIO()
-    rows = csv.writer(written, lineterminator="\n")
-    rows.writerow(["line", "label", "operation", "address", *(setting or "count" for setting in settings)])
-    for number, line, counts in code(runs):
-        rows.writerow([number, *parts_of(line)[:3], *counts])
-    rows.writerow(["steps", "", "", "", *(run.steps for run in runs)])
-    rows.writerow(["clock", "", "", "", *(run.clock for run in runs)])
-    return written.getvalue().splitlines()
-
-
-def escaped(text):
-    return "".join(SPECIAL.get(one, one) for one in text)
-
-
-def as_latex(settings, runs):
-    """A tabular in the form of the book: number, label, operation, address, times, and remark; the counts are at its right."""
-    yield rf"\begin{{tabular}}{{rlllcl{'r' * len(settings)}}}"
-    heads = ["", *("LOC OP ADDRESS".split()), "Times", "Remarks", *(f"${escaped(setting)}$" if setting else "Count" for setting in settings)]
-    yield " & ".join(heads) + r" \\"
-    yield r"\hline"
-    for at, (_, line, counts) in enumerate(code(runs), 1):
-        words = [rf"\texttt{{{escaped(word)}}}" if word else "" for word in parts_of(line)[:3]]
-        times = FLOOR.sub(r"\\lfloor \1/\2\\rfloor ", times_of(line) or "").replace("*", "")
-        yield " & ".join([f"{at:02}", *words, f"${times}$" if times else "", escaped(parts_of(line)[3]), *map(str, counts)]) + r" \\"
-    yield r"\hline"
-    yield rf"\multicolumn{{6}}{{r}}{{Steps}} & {' & '.join(str(run.steps) for run in runs)} \\"
-    yield rf"\multicolumn{{6}}{{r}}{{Time in $u$}} & {' & '.join(str(run.clock) for run in runs)} \\"
-    yield r"\end{tabular}"
-
-
-FORMS = {"": table, "--csv": as_csv, "--latex": as_latex}
+def rows_of(program, text, settings):
+    """The line, and a count for each setting; and at last the steps and the clocks."""
+    runs = [counted(program, text, setting) for setting in settings]
+    for number, line in enumerate(Bundle(text).source, 1):
+        if number in runs[0][0]:
+            yield line, [counts[number] for counts, _, _ in runs]
+    yield "steps", [steps for _, steps, _ in runs]
+    yield "clock", [clock for _, _, clock in runs]
 
 
 def columns(program, text, settings):
-    """The lines of the table without the sums, as a lesson shows them."""
-    return list(of_lines(settings, counted(program, text, settings)))
+    """The lines of the table."""
+    rows = list(rows_of(program, text, settings))
+    widths = [max(6, len(setting)) for setting in settings]
+    table = [" ".join(f"{setting:>{width}}" for setting, width in zip(settings, widths))]
+    return table + [f"{' '.join(f'{count:>{width}}' for count, width in zip(counts, widths))}  {line}".rstrip() for line, counts in rows]
+
+
+def as_csv(program, text, settings):
+    """The same as comma-separated values, the line last."""
+    out = io.StringIO()
+    writer = csv.writer(out, lineterminator="\n")
+    writer.writerow([*settings, "line"])
+    writer.writerows([*counts, line] for line, counts in rows_of(program, text, settings))
+    return out.getvalue().splitlines()
+
+
+def as_latex(program, text, settings):
+    """The same as a tabular of LaTeX, the line first; blanks in it are kept."""
+
+    def typeset(line):
+        return "".join("~" if one == " " else ESCAPED.get(one, one) for one in line)
+
+    rows = [f"\\texttt{{{typeset(line)}}} & {' & '.join(map(str, counts))} \\\\" for line, counts in rows_of(program, text, settings)]
+    head = f" & {' & '.join(map(typeset, settings))} \\\\ \\hline"
+    return [f"\\begin{{tabular}}{{l{'r' * len(settings)}}}", head, *rows[:-2], r"\hline", *rows[-2:], r"\end{tabular}"]

@@ -1,4 +1,4 @@
-"""The column "times" of a program, which stands in its remarks in square brackets, against what `show counts` says."""
+"""The times in square brackets in the remarks of a program, against what `show counts` says."""
 import ast
 import operator
 
@@ -28,7 +28,7 @@ def value_of(text, quantities):
 
 
 def times_of(line):
-    """The expression in a line's square brackets, where it has them."""
+    """The expression in a line's square brackets, if it has them."""
     return line.partition("[")[2].partition("]")[0] if line[:1] != "*" and "[" in line else None
 
 

@@ -93,7 +93,7 @@ class Outcome:
         return {int(line[:4]): (-1 if line[5] == "-" else 1, [int(byte) for byte in line[7:].split()]) for line in self.lines(command)}
 
     def register(self, name):
-        """The number of a register that `show values` told."""
+        """The number of a register in the reply to `show values`."""
         return next(int(line[19:31]) for line in self.lines("show values") if line.startswith(name))
 
     def rows(self, unit):
@@ -107,7 +107,7 @@ class Outcome:
 
 
 class Runner:
-    """Runs the bundles of a lesson; where a change is given, it is made in the bundle of `lesson.mix` before each run."""
+    """Runs the bundles of a lesson. A change, if one is given, is made in the bundle of `lesson.mix` before each run."""
 
     def __init__(self, program, folder, change=lambda bundle: None):
         self.program, self.folder, self.change = program, COURSE / folder, change

@@ -1,10 +1,9 @@
-"""The talks and the counts that a lesson's README.md shows, run and compared line by line.
+"""The sessions and the counts that a lesson's README.md shows, run and compared line by line.
 
-A talk is a block that begins with "```text NAME.mix". Its lines that begin with the prompt `(mixrev) ` are the commands of the bundle,
-all of them and in their order. Below each command is its reply, in which a line `..` stands for lines that are left
-out, and ` ..` at the end of a line for its rest. A block that
-begins with "```text after NAME.mix" has commands that follow those of the bundle. A block that begins with "```text times NAME.mix N=4 N=7"
-is what `course/times` writes of these values."""
+A session is a block that begins with "```text NAME.mix". Its lines that begin with the prompt `(mixrev) ` are the commands of the bundle, all
+of them and in their order. Below each command is its reply, in which a line `..` stands for lines that are left out, and ` ..` at the end of a
+line for what follows there. A block that begins with "```text after NAME.mix" has commands that follow those of the bundle. A block that begins
+with "```text times NAME.mix N=4 N=7" is what `course/times` writes of these values."""
 import re
 
 from columns import columns
