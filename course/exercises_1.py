@@ -123,7 +123,7 @@ EXERCISES = [
     Exercise("10_entrances_exits", "For k from 1 to N, REMS+k gets the remainder of ABOVE+k divided by BELOW+k, or 0 if BELOW+k is 0. At the halt rI4 "
              "says how many divisors are 0, and rI5 how many divisions leave no remainder.", three_exits, (1, 5, 20), ("JXZ  1,3", "JXZ  2,3")),
     Exercise("11_coroutines", "The text of one card is printed as the lesson says, but each two of its characters are exchanged.",
-             swapped_text, (0, 1, 2, 9, 22), ("STA  PAIR(5:5)", "STA  PAIR(4:5)")),
+             swapped_text, (0, 1, 2, 9, 22), ("STA  LINE,2(2:2)", "STA  LINE,2(3:3)")),
     Exercise("12_interpreter", "The squares of N, N-1 and so on to 1 are printed, ten digits on a line.", squares, (1, 4), ("NOP  0(TIMES)", "NOP  0(PLUS)")),
     Exercise("13_buffers", "SUM gets the sum of the numbers in columns 1 to 10 of N cards. Each card needs WORK rounds of 2u of other work.",
              two_buffers, (1, 2, 6, 12), ("ENN3 -16,3", "ENN3 0,3")),

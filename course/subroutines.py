@@ -98,7 +98,7 @@ def buffers(run):
 
 LESSONS = [
     Lesson("10_entrances_exits", entrances_exits, ("JXZ  0,3", "JXZ  1,3")),
-    Lesson("11_coroutines", coroutines, ("STA  PAIR(5:5)", "STA  PAIR(4:5)")),
+    Lesson("11_coroutines", coroutines, ("STA  LINE,2(2:2)", "STA  LINE,2(3:3)")),
     Lesson("12_interpreter", interpreter, ("JANZ STEP", "JAZ  STEP")),
     Lesson("13_buffers", buffers, ("JBUS *(READER)", "JRED *(READER)")),
 ]
