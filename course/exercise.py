@@ -62,7 +62,7 @@ class Case(typing.NamedTuple):
         """The files of the case, as grade/README.md describes them."""
         found = {"wanted": self.wanted, "data": self.lines() if put and self.given else (), "cells": self.cells, "deck": self.deck, "cards": self.cards}
         found["unit"] = () if self.cells else (self.unit,)
-        found["limits"], found["steps"] = self.limits if limited else (), (100000,)
+        found["limits"], found["steps"] = self.limits if limited else (), (20000,)
         return {name: "".join(f"{line}\n" for line in lines) for name, lines in found.items() if lines}
 
 
