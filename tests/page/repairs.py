@@ -223,7 +223,7 @@ def ranges(page, native, count):
     number = next(at for at, title in enumerate(page.lessons()) if title.startswith("20. "))
     page.lesson(number)
     page.choose("cells-which", "range")
-    for start, end, said in (("KEY+1", "KEY+N", ""), ("NOSUCH", "10", "“NOSUCH” has no value"), ("0", "4000", "“4000” is 4000, and cells are 0 to 3999"), ("20", "10", "the range ends at 10")):
+    for start, end, said in (("KEY+1", "KEY+N", ""), ("NOSUCH", "10", "“NOSUCH” has no value"), ("NOSUCH", "4000", "“NOSUCH” has no value"), ("0", "4000", "“4000” is 4000, and cells are 0 to 3999"), ("20", "10", "the range ends at 10")):
         page.put("cells-from", start)
         page.put("cells-to", end)
         count.row(f"range: {start} to {end}", said in page.text("cells-fault") and page.one("cells-fault").is_displayed() == bool(said), page.text("cells-fault"))
