@@ -42,7 +42,7 @@ def machine_facts(program):
     shown, *told = replies_of(program, bundle)
     clock = 0
     for (code, name, f, time), line, (ran,) in zip(names, shown, told[1::2]):
-        yield f"F and C of {name}", line[16:21], f"{f:02d} {code:02d}"
+        yield f"F and C of {name}", line.split()[5:7], [f"{f:02d}", f"{code:02d}"]
         now = int(re.search(r"clock (\d+)", ran)[1])
         yield f"the time of {name}", now - clock, 3 if name == "MOVE" else time
         clock = now

@@ -55,7 +55,7 @@ def primes(page, me, native, count):
     rows = page.all("#papers .paper > div:not(.page)")
     me.look(rows[0], ".paper")
     me.look(rows[5], ".paper")
-    count.row("tasks: primes: its title is read", rows[0].text.startswith("FIRST FIVE HUNDRED PRIMES"), rows[0].text)
+    count.row("tasks: primes: its title is read", rows[0].text.startswith("PRIMES FROM 2 TO 3571"), rows[0].text)
     count.row("tasks: primes: rows are told", "51 rows printed." in page.told(), page.told())
 
 
