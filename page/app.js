@@ -31,6 +31,7 @@ export class App extends Desk {
       goto: (moment) => this.enqueue(() => this.act(`goto ${moment}`)),
       breakpoint: () => this.toggle(this.listing.source.caretLine),
       explain: () => this.tell(this.listing.source.caretExplained || "The cursor is at no operation."),
+      swap: () => this.swap(),
       stop: () => this.machine.stop(),
     });
     this.who = new Who({
@@ -41,6 +42,13 @@ export class App extends Desk {
     });
     for (const id of ["cards", "deck"]) $(id).addEventListener("input", () => this.edited());
     $("anew").addEventListener("click", () => this.queue.add(() => this.begin()));
+  }
+
+  // From the source to the line for commands, and back.
+  swap() {
+    const isCommand = document.activeElement === $("command");
+    this.views.choose(isCommand ? "program" : "talk");
+    $(isCommand ? "text" : "command").focus();
   }
 
   // The texts were changed: they are assembled when no key is pressed for a moment, or before the next thing is done.
@@ -161,6 +169,7 @@ export class App extends Desk {
       $("deck").value = others;
       $("given").open = deck !== "";
       this.views.forget();
+      this.views.choose("program");
       for (const line of breaks) this.listing.breaks.add(line);
       this.talk.setScript([...done, ...left]);
       this.talk.show([]);

@@ -6,8 +6,9 @@ const KEYS = { F7: "back", F8: "step", "Shift+F7": "to-break", "Shift+F8": "run"
 
 export class Time {
   // `go` is called with the name of a button, `preview` with a moment while the slider is dragged, `slide` with the one where it is let go, `goto`
-  // with one that was typed.
-  constructor({ go, preview, slide, goto, breakpoint, explain, stop }) {
+  // with one that was typed; the others by keys of their own.
+  constructor({ go, preview, slide, goto, breakpoint, explain, swap, stop }) {
+    this.others = { F9: breakpoint, F1: explain, "Control+Enter": swap };
     this.isDragged = false;
     for (const id of Object.values(KEYS)) $(id).addEventListener("click", () => go(id));
     $("slider").addEventListener("input", () => {
@@ -25,13 +26,13 @@ export class Time {
       else $("moment").value = $("slider").value;
     });
     $("stop").addEventListener("click", stop);
-    document.addEventListener("keydown", (event) => this.pressed(event, breakpoint, explain));
+    document.addEventListener("keydown", (event) => this.pressed(event));
   }
 
-  pressed(event, breakpoint, explain) {
+  pressed(event) {
     if (document.querySelector("dialog[open]") || event.altKey || event.metaKey) return;
     const key = `${event.ctrlKey ? "Control+" : ""}${event.shiftKey ? "Shift+" : ""}${event.key}`;
-    const other = { F9: breakpoint, F1: explain, "Control+Enter": () => $(document.activeElement === $("command") ? "text" : "command").focus() }[key];
+    const other = this.others[key];
     if (!other && !KEYS[key]) return;
     event.preventDefault();
     if (other) other();
