@@ -1,0 +1,92 @@
+//! A kind of rows: what a run prints, its end, and the location, the clock and the line of the source then.
+use crate::reader::{bytes, number};
+use mix_run::{PrintAnswer, PrintOptions, RanTo, RunEnd, ToolFault, UnitSet, run_printed};
+use mix_stream::fake::{Chunks, Sink};
+use std::alloc::Global;
+use std::fmt::Write;
+
+/// All bytes in one call.
+const ALL: usize = 4096;
+
+/// The printer alone.
+const PRINTER: UnitSet = UnitSet {
+    card_punch: false,
+    printer: true,
+    typewriter: false,
+    paper_tape: false,
+};
+
+/// Runs a source and a deck for so many steps at most, with the rows of some units, and with cards where a field gives them; the readers
+/// and the writer take all bytes, one, or seven at a call.
+pub fn printed(alloc: Global, fields: &[&str]) -> Option<String> {
+    let whole = printed_by(alloc, fields, ALL)?;
+    for size in [1, 7] {
+        let other = printed_by(alloc, fields, size)?;
+        if other.as_str() != whole.as_str() {
+            return format!(in alloc; "{whole}, but by {size}: {other}").ok();
+        }
+    }
+    Some(whole)
+}
+
+fn printed_by(alloc: Global, fields: &[&str], size: usize) -> Option<String> {
+    let [source, deck, steps, units, cards @ ..] = fields else {
+        return None
+    };
+    let (source, deck) = (bytes(alloc, source)?, bytes(alloc, deck)?);
+    let (text, is_given) = match cards {
+        [] => (Vec::new(alloc), false),
+        [cards] => (bytes(alloc, cards)?, true),
+        _ => return None,
+    };
+    let options = PrintOptions {
+        steps: number(steps)?,
+        units: units_of(units)?,
+        cards: is_given,
+    };
+    let mut out = Sink::of(size, 0);
+    let answer = run_printed(
+        alloc,
+        "f",
+        &mut Chunks::of(&source, size, 0),
+        &mut Chunks::of(&deck, size, 0),
+        &mut Chunks::of(&text, size, 0),
+        options,
+        &mut out,
+        &mut Sink::of(ALL, 0),
+    );
+    let text = String::from_utf8_lossy(alloc, out.bytes()).ok()?;
+    let mut told = format!(in alloc; "{text:?}, ").ok()?;
+    push_answer(&mut told, answer)?;
+    Some(told)
+}
+
+fn units_of(field: &str) -> Option<UnitSet> {
+    match field {
+        "all" => Some(UnitSet::ALL),
+        "printer" => Some(PRINTER),
+        "none" => Some(UnitSet::NONE),
+        _ => None,
+    }
+}
+
+fn push_answer(told: &mut String, answer: Result<PrintAnswer, ToolFault>) -> Option<()> {
+    match answer {
+        Ok(PrintAnswer::Ran(ran)) => push_end(told, ran),
+        Ok(PrintAnswer::Refused(fault)) => write!(told, "refused: {fault}").ok(),
+        Err(fault) => write!(told, "failed: {fault}").ok(),
+    }
+}
+
+fn push_end(told: &mut String, ran: RanTo) -> Option<()> {
+    match ran.end {
+        RunEnd::Halted => write!(told, "halted").ok()?,
+        RunEnd::Faulted(fault) => write!(told, "faulted {fault}").ok()?,
+        RunEnd::UsedUp => write!(told, "used up").ok()?,
+    }
+    let (loc, clock) = (ran.loc, ran.clock);
+    match ran.line {
+        Some(line) => write!(told, " at {loc}, clock {clock}, line {line}").ok(),
+        None => write!(told, " at {loc}, clock {clock}, no line").ok(),
+    }
+}
