@@ -152,39 +152,47 @@ fn a_copy_is_the_same(rt: HostRuntime) -> Result<(), Fail> {
     Ok(())
 }
 
-// Whether a part has these marks before what is kept and after it, and whether they are told to be the same where they are.
-fn has_marks(
-    world: &World,
-    kept: &Values<'_, Old>,
-    part: &Part,
-    before: Mark,
-    after: Mark,
-) -> bool {
-    let found = mark_before(kept, *part, world.mark(*part));
-    found == before && world.mark(*part) == after && found.is_same(after) == (before == after)
+// The mark of a part before what is kept and the one after, and whether they are told to be the same.
+fn marks_of(world: &World, kept: &Values<'_, Old>, part: &Part) -> (Mark, Mark, bool) {
+    let before = mark_before(kept, *part, world.mark(*part));
+    (before, world.mark(*part), is_kept(world, kept, part))
 }
 
-// Of rA, which is set twice, the toggle, which is set, and the location.
-#[test]
-fn marks_before_and_after(rt: HostRuntime) -> Result<(), Fail> {
-    let mut world = machine(rt.alloc(), "", "at=7").ok_or("no machine")?;
-    let mut kept = Kept::new(rt.alloc());
-    let minus = Word::of(Sign::Minus, 0);
-    for change in [
+fn is_kept(world: &World, kept: &Values<'_, Old>, part: &Part) -> bool {
+    mark_before(kept, *part, world.mark(*part)).is_same(world.mark(*part))
+}
+
+// The marks of rA, the toggle and the location before two changes of rA and one of the toggle, and after them.
+fn marks(alloc: Global) -> Option<[(Mark, Mark, bool); 3]> {
+    let mut world = machine(alloc, "", "at=7")?;
+    let mut kept = Kept::new(alloc);
+    let changes = [
         Change::SetReg(Reg::A, Word::of(Sign::Minus, 1)),
-        Change::SetReg(Reg::A, minus),
+        Change::SetReg(Reg::A, Word::of(Sign::Minus, 0)),
         Change::SetOver(true),
-    ] {
-        assert_eq!(rt; number_of(world.apply(&change, &mut kept)), 0);
+    ];
+    for change in &changes {
+        world.apply(change, &mut kept).ok()?;
     }
-    let values = kept.values();
-    let (zero, minus) = (Mark::Word(Word::ZERO), Mark::Word(minus));
-    assert!(rt; has_marks(&world, &values, &Part::Register(Reg::A), zero, minus));
-    let (off, on) = (Mark::Toggle(false), Mark::Toggle(true));
-    assert!(rt; has_marks(&world, &values, &Part::Over, off, on));
-    let seven = Mark::Location(7);
-    assert!(rt; has_marks(&world, &values, &Part::Loc, seven, seven));
-    Ok(())
+    Some([
+        marks_of(&world, &kept.values(), &Part::Register(Reg::A)),
+        marks_of(&world, &kept.values(), &Part::Over),
+        marks_of(&world, &kept.values(), &Part::Loc),
+    ])
+}
+
+#[test]
+fn marks_before_and_after(rt: HostRuntime) {
+    let expected = [
+        (
+            Mark::Word(Word::of(Sign::Plus, 0)),
+            Mark::Word(Word::of(Sign::Minus, 0)),
+            false,
+        ),
+        (Mark::Toggle(false), Mark::Toggle(true), false),
+        (Mark::Location(7), Mark::Location(7), true),
+    ];
+    assert!(rt; marks(rt.alloc()) == Some(expected));
 }
 
 #[test]
