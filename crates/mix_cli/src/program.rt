@@ -14,10 +14,10 @@ const MOST_STEPS: u64 = 1_000_000_000_000_000_000;
 const ABOUT: &str = "Knuth's MIX computer, its assembler MIXAL, and a debugger that runs backwards";
 
 const MORE: &str = "\
-A source is a program in the language MIXAL. A deck has what stands on tapes, disks and cards before the program runs.
+A source is a program in the language MIXAL. A deck says what tapes, disks and cards hold before the program runs.
 A script is a text file of commands, one a line, such as: step 4, back 2, forth 1, set A 7, break LOOP, run 1000, show regs.
 
-Without any word, mixrev reads a bundle from standard input: the source; after a line %DEVICES a deck; after a line
+Without any words, mixrev reads a bundle from standard input: the source; after a line %DEVICES a deck; after a line
 %SCRIPT a script. The deck and the script may be left out.
 
 Examples:
@@ -26,41 +26,41 @@ Examples:
   mixrev debug primes.mix session.txt --devices tapes.deck
   mixrev list primes.mix
 
-The status is 0 where all is accepted, 1 where the source is refused, and 3 where a command is refused, a step meets a fault or
-the steps of a run are used up. It is 2 where nothing could be run to its end: a mistake in the words, a file that cannot be
+The status is 0 if all is accepted, 1 if the source is refused, and 3 if a command is refused, a step meets a fault or
+the steps of a run are used up. It is 2 if nothing could be run to its end: a mistake in the words, a file that cannot be
 opened or read, a deck that is refused, a text that is too long, an output that takes no more, or no memory.";
 
 const MORE_ON_RUN: &str = "\
-The program runs to its halt, and what it prints is written as it is printed: the rows of the card punch, the printer, the
-typewriter and the paper tape in the order of their writing, without the blanks at their ends, and a page mark as a form feed.
-Where a step meets a fault, or the steps are used up, one line on standard error says where. Nothing is kept to go back.
+The program runs to its halt, and what it prints is written at once: the rows of the card punch, the printer, the typewriter
+and the paper tape in the order in which they are printed, without the blanks at their ends, and a page mark as a form feed.
+If a step meets a fault, or the steps are used up, one line on standard error says where. It cannot go back.
 
 Example:
   mixrev run primes.mix --unit 18";
 
 const MORE_ON_LIST: &str = "\
-A source is a text file with a program in the language MIXAL, which ends in a line END. The listing has each line with its
-location and its word, and after them the program's symbols. Of a source that is refused it has the first fault alone.
+A source is a text file with a program in the language MIXAL, which ends with a line END. The listing has each line with its
+location and its word, and then the program's symbols. If the source is refused, it has only the first fault.
 
 Example:
   mixrev list primes.mix";
 
 const MORE_ON_DEBUG: &str = "\
-Without a script it is a talk: each line of standard input is a command, which is done and answered before the next is read. At
-a terminal, help tells of the commands, and quit ends the talk, as the end of the input does.
+Without a script it is interactive: each line of standard input is a command, which is done and answered before the next is
+read. At a terminal, help lists the commands, and quit ends the session, as the end of the input does.
 
-A script is a text file of commands, one a line: step N and run N go on, trace N tells each step, back N takes changes back,
-forth N does them again, goto N goes to the state after the first N, set, break and clear change the machine, and show tells
+A script is a text file of commands, one a line: step N and run N go on, trace N shows each step, back N takes changes back,
+forth N does them again, goto N goes to the state after the first N, set, break and clear change the machine, and show shows
 its state, the last changes, what differs and how often each instruction was executed. With until A, until cell 100 and the
-like run N, back and forth stop where that is altered. A deck is a text file with what stands on tapes, disks and cards before
-the program runs: a line %UNIT 0, say, and its blocks after it.
+like, run N, back and forth stop when that is altered. A deck is a text file that says what tapes, disks and cards hold before
+the program runs: a line such as %UNIT 0, and its blocks after it.
 
 Example: with the two lines `run 1000` and `show regs` in the file session.txt,
   mixrev debug primes.mix session.txt
 runs the program up to its halt and shows the registers.";
 
 const MORE_ON_DAP: &str = "\
-It speaks the Debug Adapter Protocol on standard input and output, for an editor that starts it: breakpoints in the source,
+It speaks the Debug Adapter Protocol on standard input and output, for the editor that starts it: breakpoints in the source,
 steps forth and back, registers, cells and units.";
 
 const SOURCE: &str = "The file with the program, in the language MIXAL";
@@ -92,7 +92,7 @@ fn devices_option<'a>(alloc: Global) -> Arg<'a>
         alloc,
         "devices",
         "FILE",
-        "The deck: what stands on tapes, disks and cards; without it all are empty",
+        "The deck: what tapes, disks and cards hold; without it all are empty",
     )
 }
 
@@ -104,7 +104,7 @@ fn cards_option<'a>(alloc: Global) -> Arg<'a>
         alloc,
         "cards",
         "FILE",
-        "The cards of the reader, a line each, in place of those of the deck",
+        "The cards of the reader, one a line, instead of those of the deck",
     )
 }
 
@@ -116,7 +116,7 @@ fn steps_option<'a>(alloc: Global) -> Arg<'a>
         alloc,
         "steps",
         "N",
-        "The most steps that are done, 1000000000 where it is left out",
+        "The most steps that are done, 1000000000 if it is left out",
     )
     .value_parser(ValueParser::Unsigned(1, MOST_STEPS))
 }
@@ -129,7 +129,7 @@ fn unit_option<'a>(alloc: Global) -> Arg<'a>
         alloc,
         "unit",
         "N",
-        "Writes the rows of this unit, 17 to 20, and of no other that is not named too",
+        "Writes only the rows of this unit, 17 to 20; may be given several times",
     )
     .action(ArgAction::Append)
     .value_parser(ValueParser::Unsigned(17, 20))

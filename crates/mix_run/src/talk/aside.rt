@@ -17,7 +17,7 @@ pub enum Talker {
 }
 
 const GREETING: &str =
-    "Type a command, such as step, back 1 or show regs; help tells of them all, quit ends.\n";
+    "Type a command, such as step, back 1 or show regs; help lists them all, quit ends.\n";
 
 const PROMPT: &str = "(mixrev) ";
 

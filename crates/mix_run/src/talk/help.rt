@@ -1,40 +1,40 @@
 //! What the word `help` tells a person of the commands.
 
 const ALL: &str = "\
-step, run, trace     go on, step by step; run stops at breakpoints, trace tells each step
+step, run, trace     go on, step by step; run stops at breakpoints, trace shows each step
 back, forth, goto    take changes back, do them again, go to a numbered state
 set, break, clear    change the machine, set a breakpoint, take one away
 show                 shows the machine, its code, its past, counts
-quit                 ends the talk
-help COMMAND tells more, as help back. A blank line and a line that begins with * do nothing.
+quit                 ends the session
+help COMMAND explains one, as help back. A blank line and a line that begins with * do nothing.
 ";
 
 const STEP: &str = "\
 step             does one step
-step N           does N steps, 1 to 1000000, fewer where a halt or a fault comes
+step N           does N steps, 1 to 1000000, fewer if a halt or a fault comes
 ";
 
 const RUN: &str = "\
-run N            does N steps, 1 to 1000000, fewer where a halt, a fault or a breakpoint comes
-run N until COND stops too where a step reaches COND, and tells that step
+run N            does N steps, 1 to 1000000, fewer if a halt, a fault or a breakpoint comes
+run N until COND also stops when a step reaches COND, and shows that step
 ";
 
 const TRACE: &str = "\
-trace            does one step and tells what it altered
-trace N          does N steps as step N, and tells each
+trace            does one step and shows what it altered
+trace N          does N steps as step N, and shows each
 ";
 
 const BACK: &str = "\
 back N           takes the last N changes back
 back all         takes every change back
 back break       takes changes back up to a breakpoint
-back until COND  takes changes back until COND is reached, and tells the last: who wrote this?
+back until COND  takes changes back until COND is reached, and shows the last: who wrote this?
 ";
 
 const FORTH: &str = "\
 forth N          does the next N changes again that were taken back
 forth all        does all of them again
-forth until COND does them again until COND is reached, and tells the last
+forth until COND does them again until COND is reached, and shows the last
 ";
 
 const GOTO: &str = "\
@@ -57,12 +57,12 @@ break line N     the same for the first line of the source, from line N on, that
 
 const SHOW: &str = "\
 show regs        the registers, toggle, indicator, location and clock
-show all         all that is not as it was at first: registers, cells, breakpoints, units
+show all         everything in use: registers, cells, breakpoints, units
 show cells E E   the cells from the first to the second
 show unit N      a unit, 0 to 20, and what it holds
 show code [E E]  the cell at the location, or cells: word, instruction, line of the source
 show value W     a word as bytes, as a number and in characters
-show values [E E]  the registers, or cells, in the same manner
+show values [E E]  the registers, or cells, in the same way
 show last N      what the last N changes altered
 show diff N      what differs between the state after N changes and now
 show counts      how often each instruction was executed, and the time that it took
@@ -70,12 +70,12 @@ show clock, show breaks, show changes, show symbols
 ";
 
 const QUIT: &str = "\
-quit             ends the talk, as the end of the input does
+quit             ends the session, as the end of the input does
 ";
 
 const UNTIL: &str = "\
-COND is a register, over, cmp, cell E, unit N or loc E: it is reached where a change alters what it names,
-or, of loc E, leads there. As: run 1000 until A, back until cell 100.
+COND is a register, over, cmp, cell E, unit N or loc E: a change reaches it by altering what it names,
+or by leading to location E. As: run 1000 until A, back until cell 100.
 ";
 
 const NONE: &str = "There is no help on that; help alone names the commands.\n";
