@@ -144,7 +144,8 @@ class Page:
         self.idle()
 
     def lessons(self):
-        return [option.get_attribute("textContent") for option in self.all("#lessons optgroup option")]
+        """Their titles, in the order of their numbers; the menu has them in groups."""
+        return self.script("return [...document.querySelectorAll('#lessons optgroup option')].sort((a, b) => a.value - b.value).map(o => o.textContent)")
 
     def say(self, command):
         """Types a command, and once more where the page asks for that."""
