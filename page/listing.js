@@ -27,7 +27,7 @@ export class Listing {
     });
     $("gutter").addEventListener("click", (event) => this.clicked(event));
     $("gutter").addEventListener("keydown", (event) => this.walked(event));
-    window.addEventListener("beforeprint", () => this.rows.forEach(({ source }, index) => put(source, this.lines[index])));
+    window.addEventListener("beforeprint", () => this.rows.forEach((parts, index) => putPart(parts, "source", this.lines[index])));
     this.fit();
   }
 
@@ -54,9 +54,8 @@ export class Listing {
     const fresh = [];
     while (this.rows.length < this.lines.length) {
       const line = this.rows.length + 1;
-      const parts = { button: make("button", { type: "button", tabindex: line === 1 ? "0" : "-1" }, String(line)), height: 0, label: "" };
-      for (const name of ["loc", "word", "times", "source"]) parts[name] = make("span", { class: name });
-      parts.row = make("div", { class: "line" }, parts.button, parts.loc, parts.word, parts.times, parts.source);
+      const parts = { button: make("button", { type: "button", tabindex: line === 1 ? "0" : "-1" }, String(line)), height: "", label: "" };
+      parts.row = make("div", { class: "line" }, parts.button);
       this.rows.push(parts);
       fresh.push(parts.row);
     }
@@ -66,14 +65,16 @@ export class Listing {
     this.place();
   }
 
-  // Gives each row the height of its line, which may be wrapped, and the bands their places.
+  // Gives the rows of lines that are wrapped the height of their lines, and the bands their places.
   place() {
+    const one = parseFloat(getComputedStyle($("colours")).lineHeight);
     const heights = this.source.shades.map(({ element }) => element.getBoundingClientRect().height);
     heights.forEach((height, index) => {
       const parts = this.rows[index];
-      if (!parts || parts.height === height || height === 0) return;
-      parts.height = height;
-      parts.row.style.height = `${height}px`;
+      const wanted = Math.abs(height - one) < 0.1 || height === 0 ? "" : `${height}px`;
+      if (!parts || parts.height === wanted) return;
+      parts.height = wanted;
+      parts.row.style.height = wanted;
     });
     this.band($("here"), this.marked);
     this.band($("wrong"), this.wrong);
@@ -134,9 +135,9 @@ export class Listing {
     const label = `${loc} ${word} ${times} ${isAt} ${isSet}`;
     if (parts.label === label) return;
     parts.label = label;
-    put(parts.loc, loc);
-    put(parts.word, word);
-    put(parts.times, times);
+    putPart(parts, "loc", loc);
+    putPart(parts, "word", word);
+    putPart(parts, "times", times);
     parts.row.classList.toggle("at", isAt);
     const known = loc ? `, location ${loc}, ${word}, ${times || "0"} times` : "";
     mark(parts.button, "aria-label", `Line ${index + 1}${known}: breakpoint`);
@@ -145,8 +146,9 @@ export class Listing {
 
   // Shows the breakpoints anew.
   nameAll() {
-    this.rows.forEach(({ loc, word, times, row }, index) => {
-      this.showRow(index, loc.textContent, word.textContent, times.textContent, row.classList.contains("at"));
+    this.rows.forEach((parts, index) => {
+      const [loc, word, times] = ["loc", "word", "times"].map((name) => (parts[name] ? parts[name].textContent : ""));
+      this.showRow(index, loc, word, times, parts.row.classList.contains("at"));
     });
   }
 
@@ -195,6 +197,15 @@ export class Listing {
     this.focused = index;
     this.rows[index].button.setAttribute("tabindex", "0");
   }
+}
+
+// Puts a text beside a line; what is empty has no element until then.
+function putPart(parts, name, text) {
+  if (!parts[name] && text !== "") {
+    parts[name] = make("span", { class: name });
+    parts.row.append(parts[name]);
+  }
+  if (parts[name]) put(parts[name], text);
 }
 
 // The breakpoints after an edit: each goes with its line.
