@@ -10,6 +10,7 @@ export class Listing {
   constructor({ grammar, edited, toggled, refused }) {
     this.toggled = toggled;
     this.rows = [];
+    this.boxes = []; // of each line where it begins, and its height
     this.breaks = new Set();
     this.setProgram(null);
     this.focused = 0; // the one button that the tab key comes to
@@ -68,8 +69,12 @@ export class Listing {
   // Gives the rows of lines that are wrapped the height of their lines, and the bands their places.
   place() {
     const one = parseFloat(getComputedStyle($("colours")).lineHeight);
-    const heights = this.source.shades.map(({ element }) => element.getBoundingClientRect().height);
-    heights.forEach((height, index) => {
+    const { top: begin } = $("colours").getBoundingClientRect();
+    this.boxes = this.source.shades.map(({ element }) => {
+      const { top, height } = element.getBoundingClientRect();
+      return { top: top - begin, height };
+    });
+    this.boxes.forEach(({ height }, index) => {
       const parts = this.rows[index];
       const wanted = Math.abs(height - one) < 0.1 || height === 0 ? "" : `${height}px`;
       if (!parts || parts.height === wanted) return;
@@ -154,11 +159,11 @@ export class Listing {
 
   // Puts a band over a line.
   band(band, line) {
-    const shade = line > 0 && this.source && this.source.shades[line - 1];
-    band.hidden = !shade;
-    if (!shade) return;
-    band.style.top = `${shade.element.offsetTop}px`;
-    band.style.height = `${shade.element.offsetHeight}px`;
+    const box = this.boxes[line - 1];
+    band.hidden = !box;
+    if (!box) return;
+    band.style.top = `${box.top}px`;
+    band.style.height = `${box.height}px`;
   }
 
   // Marks the line of a fault, or none.
