@@ -175,7 +175,7 @@ class Page:
     def state(self):
         """All that is shown of the machine."""
         return self.script("""return ['register-rows', 'flags', 'papers', 'unit-list', 'moment'].map(id => document.getElementById(id).innerText ||
-            document.getElementById(id).value).concat([...document.querySelectorAll('.line .times')].map(t => t.textContent))""")
+            document.getElementById(id).value).concat([...document.querySelectorAll('.line')].map(line => (line.querySelector('.times') || { textContent: '' }).textContent))""")
 
     def save(self):
         """The file that is saved."""
