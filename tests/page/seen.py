@@ -2,7 +2,7 @@
 import re
 
 from selenium.webdriver.common.by import By
-from uses import EXAMPLES, TOP
+from uses import TOP
 
 SORT = """N       EQU  3
 KEY     EQU  999

@@ -2,7 +2,6 @@
 before its status, its output and its notes were beside the program."""
 import re
 
-from native import with_script
 from selenium.webdriver.common.by import By
 from selenium.webdriver.common.keys import Keys
 from seen import IN_VIEW

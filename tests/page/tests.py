@@ -4,6 +4,7 @@ import sys
 import time
 import traceback
 
+import guards
 import looks
 import repairs
 import seen
@@ -14,7 +15,7 @@ from browser import Page
 from native import Count, Native
 from webkit import WebKit
 
-USES = (uses.examples, uses.breakpoints, uses.slider, uses.who, uses.faults, uses.cards, uses.share, looks.narrow, looks.keys, looks.names, looks.bounds, *repairs.REPAIRS, *seen.SEEN, seen.contrast, tasks.tasks)
+USES = (uses.examples, uses.breakpoints, uses.slider, uses.who, uses.faults, uses.cards, uses.share, looks.narrow, looks.keys, looks.names, looks.bounds, *repairs.REPAIRS, *guards.GUARDS, *seen.SEEN, seen.contrast, tasks.tasks)
 IN_CHROMIUM = (looks.names, seen.contrast)  # what asks Chromium itself
 WALKS = range(1, 13)
 
