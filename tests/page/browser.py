@@ -29,6 +29,7 @@ class Page:
         options.set_capability("goog:loggingPrefs", {"browser": "ALL", "performance": "ALL"})
         options.set_capability("unhandledPromptBehavior", "ignore")
         self.driver = webdriver.Chrome(service=Service("/usr/bin/chromedriver"), options=options)
+        self.driver.set_script_timeout(SECONDS)
         self.folder = tempfile.TemporaryDirectory()
         self.command("Browser.setDownloadBehavior", behavior="allow", downloadPath=self.folder.name)
         self.size(width, height)
