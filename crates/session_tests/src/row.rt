@@ -44,7 +44,6 @@ fn wanted_and_answer(alloc: Global, row: &str) -> Option<(&str, String)> {
 
 fn answer(alloc: Global, kind: &str, fields: &[&str]) -> Option<String> {
     match kind {
-        "session request" => session::request(alloc, fields),
         "session set" => session::set(alloc, fields),
         "run printed" => print::printed(alloc, fields),
         _ => None,
