@@ -15,7 +15,7 @@ import sys
 
 sys.dont_write_bytecode = True
 HERE = os.path.dirname(os.path.abspath(__file__))
-sys.path[:0] = [HERE, os.path.join(os.path.dirname(os.path.dirname(HERE)), "model")]
+sys.path[:0] = [HERE, os.path.join(os.path.dirname(HERE), "model")]
 
 import schema
 from client import Count

@@ -118,7 +118,7 @@ def names(page, native, count):
         count.row(f"names: {name or 'the page'}, {found} controls", found > (5 if name is None else 0) and not [role for role in without if role not in ("table", "group")], without)
         page.script("document.querySelectorAll('dialog[open]').forEach(d => d.close())")
     count.same("names: what happens is told", page.one("status").get_attribute("role"), "status")
-    count.row("names: the slider tells the moment", page.one("slider").get_attribute("aria-valuetext").startswith("change 81 of 81, location "), page.one("slider").get_attribute("aria-valuetext"))
+    count.row("names: the slider tells the moment", page.one("slider").get_attribute("aria-valuetext").startswith("change 85 of 85, location "), page.one("slider").get_attribute("aria-valuetext"))
 
 
 def alone(page, native, count):
