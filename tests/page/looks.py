@@ -144,8 +144,10 @@ def pictures(open_page, count):
                 page.say("back until cell 2009")
                 page.shot(OUT / f"primes-{width}-{shade}.png")
                 page.lesson(8)
+                page.tab("talk")
                 page.click("script-next")
                 page.click("script-next")
+                page.tab("program")
                 page.shot(OUT / f"bill-{width}-{shade}.png", whole=True)
                 ink, ground = page.script("const s = getComputedStyle(document.documentElement); return [s.color, s.backgroundColor]")
                 light = [sum(int(part) for part in colour.split("(")[1].split(")")[0].split(",")[:3]) for colour in (ink, ground)]
