@@ -104,6 +104,8 @@ function turn() {
 numbers();
 for (const size of [1n << 40n, (1n << 40n) + 1n, 1n << 63n, (1n << 64n) - 1n]) assert.equal(c.room(BigInt.asIntN(64, size)), 0n, `${size} bytes`);
 for (let k = 0; k < 20000; k += 1, calls += 1) turn();
+// Whatever the draws have left, small blocks fill the memory up to its most.
+for (let block = c.room(1000n); block !== 0n; block = c.room(1000n), calls += 1) taken(block, 1000);
 for (const one of live.splice(0)) c.leave(one.block);
 assert.ok(seen.refused && seen.moved && seen.stayed);
 assert.equal(c.memory.buffer.byteLength, MOST);
