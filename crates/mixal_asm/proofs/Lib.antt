@@ -1,6 +1,7 @@
 pub mod TableLemmas
 pub mod ChainLemmas
 pub mod DraftLemmas
+pub mod IndexLemmas
 pub mod InsertLemmas
 pub mod KeepLemmas
 pub mod LineLemmas

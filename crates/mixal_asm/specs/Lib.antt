@@ -10,3 +10,4 @@ pub mod Draft
 pub mod Fed
 pub mod Listing
 pub mod Source
+pub mod Index

@@ -8,6 +8,7 @@ ghost use Rattle.mixal_asm.specs.Assembly.{is_unmet, is_label, program_at, end_v
 
 use crate::draft::Draft;
 use crate::fault::AsmKind;
+use crate::index::Index;
 use crate::key::Key;
 use crate::names::NameTable;
 use crate::program::Program;
@@ -133,12 +134,14 @@ impl<'s> Draft<'s> {
     {
         let words = self.words.placed(alloc)?;
         let patches = self.words.references();
+        let index = Index::of(alloc, &words, &self.rows)?;
         Ok(Program {
             words,
             start,
             names: self.names,
             rows: self.rows,
             patches,
+            index,
         })
     }
 }

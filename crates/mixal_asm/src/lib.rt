@@ -7,6 +7,7 @@ mod draft;
 mod end;
 mod fault;
 mod fed;
+mod index;
 mod inserted;
 mod key;
 mod lines;

@@ -4,11 +4,12 @@ ghost use Rattle.mixal_asm.specs.declared.key.Key.TheVariants.{Name};
 ghost use Rattle.std.specs.Option.{option_map};
 ghost use Rattle.mixal_asm.specs.PassOne.{value_of, names_at};
 ghost use Rattle.mixal_asm.specs.Row.{source_value, row_value};
-ghost use Rattle.mixal_asm.specs.Source.{place_of, stands_at, source_at, word_in, word_at, place_in, cell_from, symbols_of};
+ghost use Rattle.mixal_asm.specs.Source.{source_at, word_at, cell_from, line_defining, symbols_of};
 
+use crate::index::{Index, first_from};
 use crate::key::Key;
 use crate::names::NameTable;
-use crate::row::{Row, Shows, Source};
+use crate::row::{Row, Source};
 use crate::symbols::Symbols;
 use mix_word::{Place, Word};
 use mixal_text::{Names, Symbol};
@@ -21,6 +22,7 @@ pub struct Program<'s> {
     pub(crate) names: NameTable,
     pub(crate) rows: Vec<Row<'s>>,
     pub(crate) patches: usize,
+    pub(crate) index: Index,
 }
 
 // Written out, so that the proof of what drops a program has one call to read, and not those of its fields.
@@ -32,6 +34,7 @@ impl Drop for Program<'_> {
             names: _,
             rows: _,
             patches: _,
+            index: _,
         } = self;
     }
 }
@@ -51,6 +54,10 @@ impl<'s> Model for Program<'s> {
       rows = map row_value p.rows.items;
       patches = p.patches;
     } };
+
+    ghost use Rattle.mixal_asm.specs.Index.{IsIndexed};
+
+    ghost invariant = { λ p. IsIndexed p.words.items (map row_value p.rows.items) p.index };
 }
 
 impl<'s> Program<'s> {
@@ -80,26 +87,16 @@ impl<'s> Program<'s> {
     pub fn source_at(&self, place: Place) -> Option<&Source<'s>>
         ensures { option_map (λ source. source_value source.now) result ≡ source_at self.now place }
     {
-        let mut found = None;
-        for row in self.rows.iter() {
-            if self.stands_at(place, row.shows) {
-                found = Some(&row.source);
-            }
-        }
-        found
+        let number = self.index.rows[usize::from(place.number())];
+        self.rows.get(number).map(|row| &row.source)
     }
 
     /// The last word that was put at a place (1.3.2), which the machine is loaded with; none where no word was put. It takes no memory.
     pub fn word_at(&self, place: Place) -> Option<Word>
         ensures { result ≡ word_at self.now place }
     {
-        let mut found = None;
-        for word in self.words.iter() {
-            if word.0 == place {
-                found = Some(word.1);
-            }
-        }
-        found
+        let number = self.index.words[usize::from(place.number())];
+        self.words.get(number).map(|word| word.1)
     }
 
     /// The place of the first word that the lines of the source from this number on emit, if they emit any: no inserted line
@@ -107,12 +104,15 @@ impl<'s> Program<'s> {
     pub fn cell_from(&self, number: u64) -> Option<Place>
         ensures { result ≡ cell_from self.now number }
     {
-        for row in self.rows.iter() {
-            if let Some(place) = self.place_in(number, row) {
-                return Some(place);
-            }
-        }
-        None
+        first_from(&self.index.cells, number)
+    }
+
+    /// The number of the line of the source whose LOC a symbol is, END among them (1.3.2); none for a symbol that the assembler
+    /// defines, since no LOC does, and for one that the source has not. It takes no memory.
+    pub fn line_of(&self, symbol: &Symbol) -> Option<u32>
+        ensures { result ≡ line_defining self.now symbol.now }
+    {
+        self.index.lines.get(symbol).copied()
     }
 
     /// The symbols with their values, in the order in which they got them, as the listing ends with them. It takes no memory.
@@ -120,36 +120,6 @@ impl<'s> Program<'s> {
         ensures { result ≡ symbols_of self.now.names }
     {
         Symbols::of(&self.names)
-    }
-
-    // Whether the word that a row shows stands at this place.
-    fn stands_at(&self, place: Place, shows: Shows) -> bool
-        ensures { result ≡ stands_at self.now place shows }
-    {
-        match self.place_of(shows) {
-            Some(other) => other == place,
-            None => false,
-        }
-    }
-
-    // The place of the word of a row, if it is of a line of the source from this number on.
-    fn place_in(&self, number: u64, row: &Row<'s>) -> Option<Place>
-        ensures { result ≡ place_in self.now number (row_value row.now) }
-    {
-        match row.source {
-            Source::Line(n, _) if number <= u64::from(n) => self.place_of(row.shows),
-            Source::Line(..) | Source::Literal(_) | Source::Name(_) => None,
-        }
-    }
-
-    // The place of the word that a row shows.
-    fn place_of(&self, shows: Shows) -> Option<Place>
-        ensures { result ≡ place_of self.now shows }
-    {
-        match shows {
-            Shows::Word(i) => self.words.get(i).map(|word| word.0),
-            Shows::Nothing | Shows::Value(_) | Shows::Start => None,
-        }
     }
 
     /// How many future references the source has (1.3.2): those of undefined symbols are among them, literals are not. It

@@ -35,6 +35,7 @@ fn of_each(alloc: Global, kind: &str, (source, asked): (&str, &str)) -> Option<S
             "instructions" => push_instruction(&mut answer, &program, Place::of(number(asked)?)?)?,
             "words" => push_word(&mut answer, program.word_at(Place::of(number(asked)?)?))?,
             "cells" => push_cell(&mut answer, &program, number(asked)?)?,
+            "definitions" => push_definition(&mut answer, &program, asked)?,
             "values" => push_symbol(&mut answer, &program, &Symbol::of(asked.as_bytes())?)?,
             "backs" => push_word(&mut answer, program.back(number(asked)?))?,
             _ => return None,
@@ -149,6 +150,13 @@ fn push_word(answer: &mut String, word: Option<Word>) -> Option<()> {
 fn push_cell(answer: &mut String, program: &Program<'_>, line: u64) -> Option<()> {
     match program.cell_from(line) {
         Some(place) => push_value(answer, place.number()),
+        None => push(answer, "none "),
+    }
+}
+
+fn push_definition(answer: &mut String, program: &Program<'_>, symbol: &str) -> Option<()> {
+    match program.line_of(&Symbol::of(symbol.as_bytes())?) {
+        Some(line) => push_value(answer, line),
         None => push(answer, "none "),
     }
 }
