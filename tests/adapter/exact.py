@@ -77,6 +77,10 @@ VIEWS = [
     ("evaluate", {"expression": "stop", "context": "repl"}, '"format":"C1 no such command","id":201,'),
     ("evaluate", {"expression": "set A", "context": "repl"}, '"format":"C2 bad argument","id":202,'),
     ("evaluate", {"expression": "step 0", "context": "repl"}, '"format":"C3 number out of range","id":203,'),
+    # a name that another scope has, or none; a unit, which is not set; the clock, which never is
+    ("setVariable", {"variablesReference": 1, "name": "cell", "value": "100 5"}, '"id":306'), ("setVariable", {"variablesReference": 1, "name": "loc", "value": "5"}, '"id":306'),
+    ("setVariable", {"variablesReference": 2, "name": "A", "value": "5"}, '"id":306'), ("setVariable", {"variablesReference": 1000, "name": "0100", "value": "5"}, '"id":306'),
+    ("setVariable", {"variablesReference": 3, "name": "16", "value": "5"}, '"id":306'), ("setVariable", {"variablesReference": 2, "name": "clock", "value": "5"}, '"id":202'),
     # a text where a number is due, a number where a text is, and each as it is to be
     ("setVariable", {"variablesReference": "1", "name": "A", "value": "1"}, '"id":302'), ("setVariable", {"variablesReference": 1, "name": 1, "value": "1"}, '"id":302'),
     ("setVariable", {"variablesReference": 1, "name": "A", "value": "1"}, '"success":true')]

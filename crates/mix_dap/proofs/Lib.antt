@@ -1,2 +1,1 @@
-mod EffectLemmas
-mod RunLemmas
+mod WrittenLemmas

@@ -5,8 +5,22 @@ use Rattle.mix_dap.specs.declared.kind.Kind.{Kind}
 use Rattle.mix_dap.specs.declared.kind.Kind.TheVariants as kind
 use Rattle.mix_dap.specs.declared.kind.Act.TheVariants as act
 
--- those that are not named only look
 abbrev pub kind_of : Command → Kind
+kind_of command.Initialize = kind.Look
+kind_of command.Threads = kind.Look
+kind_of command.StackTrace = kind.Look
+kind_of command.Scopes = kind.Look
+kind_of command.Variables = kind.Look
+kind_of command.ExceptionInfo = kind.Look
+kind_of command.ReadMemory = kind.Look
+kind_of command.Disassemble = kind.Look
+kind_of command.GotoTargets = kind.Look
+kind_of command.DataBreakpointInfo = kind.Look
+kind_of command.ViewProgram = kind.Look
+kind_of command.ViewCounts = kind.Look
+kind_of command.ViewState = kind.Look
+kind_of command.ViewUnits = kind.Look
+kind_of command.ViewChange = kind.Look
 kind_of command.SetBreakpoints = kind.Points
 kind_of command.SetInstructionBreakpoints = kind.Points
 kind_of command.SetDataBreakpoints = kind.Points
@@ -27,6 +41,5 @@ kind_of command.ReverseContinue = kind.Act act.ReverseContinue
 kind_of command.ConfigurationDone = kind.Act act.Begin
 kind_of command.Goto = kind.Act act.Goto
 kind_of command.SetVariable = kind.Act act.SetVariable
-kind_of command.WriteMemory = kind.Act act.WriteMemory
+kind_of command.WriteMemory = kind.Write
 kind_of command.Evaluate = kind.Act act.Evaluate
-kind_of other = kind.Look

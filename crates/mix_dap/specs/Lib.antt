@@ -1,4 +1,9 @@
-pub mod Effect
+pub mod Deed
 pub mod Fault
 pub mod Kind
+pub mod Launch
+pub mod Launched
+pub mod Leaves
 pub mod Runs
+pub mod Scope
+pub mod Written

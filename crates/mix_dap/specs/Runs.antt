@@ -1,32 +1,49 @@
--- Runs: what their pieces leave.
-use Rattle.std.specs.Prelude.{◌≡◌, ◌≤◌, ◌⊎◌, ℕ, zero, suc, Option, None, Some}
+-- Runs of a client: what stops them, and what a piece of one leaves.
+use Rattle.std.specs.Prelude.{◌≡◌, ◌⊎◌, ℕ, Bool, true, false, List, Option, None, Some}
+use Rattle.mix_session.specs.Command.{Effect, after, effect_of_run, Begun}
+use Rattle.mix_session.specs.Stops.{StopsState}
 use Rattle.mix_session.specs.Timeline.{Timeline}
-use Rattle.mix_session.specs.Command.{after, effect_of, Begun}
-use Rattle.mix_session.specs.Face.{step_request}
+use Rattle.mix_session.specs.declared.answer.Answer.{Answer}
+use Rattle.mix_session.specs.declared.answer.Answer.TheVariants as answers
+use Rattle.mix_session.specs.declared.command.stops.Way.TheVariants as session
+use Rattle.mix_session.specs.declared.reply.End.{End}
+use Rattle.mix_session.specs.declared.reply.End.TheVariants as ends
 use Rattle.mix_dap.specs.declared.adapter.Way.{Way}
 use Rattle.mix_dap.specs.declared.adapter.Way.TheVariants as way
-use Rattle.mix_session.specs.declared.request.Request.TheVariants as ask
+use Rattle.mix_dap.specs.declared.points.Points.{Points}
 
--- so many steps more, each as `next` does it; a step that is a fault changes nothing
-abbrev pub stepped : Timeline → ℕ → Timeline
-stepped t zero = t
-stepped t (suc k) = after (effect_of (stepped t k) (step_request (stepped t k)))
+-- what stops a run of the client: its breakpoints, and a location that is waited for; the breakpoints of the machine don't
+abbrev pub stops_of : Points → Option ℕ → StopsState
+stops_of points location =
+    record { breaks = false; cells = points.cells.items; watched = points.data.items; location = location }
 
--- so many changes taken back, each as `stepBack` does it
-abbrev pub unstepped : Timeline → ℕ → Timeline
-unstepped t zero = t
-unstepped t (suc k) = after (effect_of (unstepped t k) (ask.Back 1))
+-- the most changes of a piece of a run
+abbrev pub piece : ℕ
+piece = 100000
 
--- a run forwards has come so far: at most n steps, or for want of memory a stage of one more
-abbrev pub RanForth : ℕ → Timeline → Timeline → Type 0
-RanForth n t new = (k : ℕ) × (k ≤ n) × ((new ≡ stepped t k) ⊎ Begun (effect_of (stepped t k) (step_request (stepped t k))) new)
+-- the next piece of a run: steps, those that stand ahead done again; or changes taken back
+abbrev pub effect_of_piece : Way → Points → Timeline → Effect
+effect_of_piece (way.Forth location) points t = effect_of_run session.Again (stops_of points location) t piece
+effect_of_piece way.Back points t = effect_of_run session.Back (stops_of points None) t piece
 
--- a run backwards has come so far
-abbrev pub RanBack : ℕ → Timeline → Timeline → Type 0
-RanBack n t new = (k : ℕ) × (k ≤ n) × ((new ≡ unstepped t k) ⊎ Begun (effect_of (unstepped t k) (ask.Back 1)) new)
+-- whether a run goes on after this answer to a piece of it: only its number of changes has ended it
+abbrev pub is_limit : End → Bool
+is_limit ends.Halt = false
+is_limit (ends.Until index) = false
+is_limit ends.Break = false
+is_limit ends.Arrived = false
+is_limit ends.Limit = true
+is_limit ends.Start = false
+is_limit (ends.Fault fault) = false
 
--- what the next piece of a run leaves, by the way that the program runs
-abbrev pub Advances : Option Way → Timeline → Timeline → Type 0
-Advances None t new = new ≡ t
-Advances (Some (way.Forth until)) t new = RanForth 100000 t new
-Advances (Some way.Back) t new = RanBack 100000 t new
+abbrev pub goes_on : Answer → Bool
+goes_on (answers.Ran count end) = is_limit end
+goes_on other = false
+
+-- What the next piece leaves, and whether the program still runs: the piece is done, and it runs on if nothing but its number of changes has ended it;
+-- or, for want of memory, a stage of it stands, and the program runs no more. Of a program that does not run nothing is done.
+abbrev pub Advances : Option Way → Points → Timeline → Timeline → Bool → Type 0
+Advances None points t new runs = (new ≡ t) × (runs ≡ false)
+Advances (Some way) points t new runs =
+    let effect = effect_of_piece way points t in
+    ((new ≡ after effect) × (runs ≡ goes_on effect.answer)) ⊎ (Begun effect new × (runs ≡ false))

@@ -1,30 +1,27 @@
 //! The adapter of a program that was launched.
 
-ghost use Rattle.std.specs.Prelude.{◌≡◌, ◌⊎◌, IfErr, IfOk, is_some};
+ghost use Rattle.std.specs.Prelude.{◌≡◌, ◌⊎◌, IfErr, IfOk, IfNone, IfSome, IsErr, OnOk, Ok, is_some, true, false};
 ghost use Rattle.mix_refused.specs.Refused.{IfFault, IfMemory};
 ghost use Rattle.dap_message.specs.Request.{command_of};
-ghost use Rattle.mix_dap.specs.Effect.{KindLeaves, KindBegins, Begins, FlowLeaves};
+ghost use Rattle.mix_dap.specs.Leaves.{flow_of, KindAnswered, KindRefused, KindBegun, Begins, FlowLeaves};
 ghost use Rattle.mix_dap.specs.Kind.{kind_of};
+ghost use Rattle.mix_dap.specs.Launched.{launched_of};
 
 mod act;
 mod run;
+mod show;
 
-use crate::capabilities::{Client, capabilities};
+use crate::capabilities::Client;
 use crate::fault::{Fault, refuse};
 use crate::kind::Kind;
-use crate::launch::Texts;
-use crate::look::{scopes, stack_trace, threads, variables};
-use crate::memory::{disassemble, read_memory};
-use crate::points::{Points, breakpoints, data_breakpoint_info};
+use crate::launch::{Texts, session_of};
+use crate::points::Points;
 use crate::printed::Printed;
-use crate::set::goto_targets;
-use crate::view::{change_view, counts_view, program_view, state_view, units_view};
 use crate::waiting::Waiting;
 use dap_message::{Command, Outbox, Request};
-use mix_machine::{MixFault, Units};
+use mix_machine::MixFault;
 use mix_refused::{Memory, Refused};
 use mix_session::Session;
-use mixal_asm::assemble;
 use serde_json::Value;
 use std::alloc::Global;
 
@@ -77,43 +74,38 @@ impl Drop for Adapter<'_> {
     }
 }
 
-// The session of a source and a deck.
-fn session_of<'s>(alloc: Global, texts: &'s Texts) -> Result<Session<'s>, Refused<Fault>> {
-    let program = match assemble(alloc, texts.source.as_slice()) {
-        Ok(program) => program,
-        Err(Refused::Fault(fault)) => return Err(Refused::Fault(Fault::Source(fault))),
-        Err(Refused::Memory) => return Err(Refused::Memory),
-    };
-    let units = units_of(alloc, texts)?;
-    Ok(Session::open(alloc, program, units)?)
-}
-
-// The units of a deck, with the cards of a text where there is one.
-fn units_of(alloc: Global, texts: &Texts) -> Result<Units, Refused<Fault>> {
-    let units = match Units::read(alloc, texts.deck.as_slice()) {
-        Ok(units) => units,
-        Err(Refused::Fault(fault)) => return Err(Refused::Fault(Fault::Deck(fault))),
-        Err(Refused::Memory) => return Err(Refused::Memory),
-    };
-    let Some(cards) = &texts.cards else {
-        return Ok(units);
-    };
-    match units.with_cards(alloc, cards.as_slice()) {
-        Ok(units) => Ok(units),
-        Err(Refused::Fault(fault)) => Err(Refused::Fault(Fault::Cards(fault))),
-        Err(Refused::Memory) => Err(Refused::Memory),
+// Whether the client has more to ask after a request of a kind that was answered.
+fn flow_of(kind: Kind) -> Flow
+    ensures { result ≡ flow_of kind }
+{
+    match kind {
+        Kind::Disconnect => Flow::Over,
+        Kind::Look
+        | Kind::Points
+        | Kind::Pause
+        | Kind::Terminate
+        | Kind::Restart
+        | Kind::Cancel
+        | Kind::Launch
+        | Kind::Write
+        | Kind::Act(_) => Flow::On,
     }
 }
 
 impl<'s> Adapter<'s> {
-    /// Launches a program, and answers the request that asked for it; no adapter where the source or the deck is refused.
+    /// Launches a program, and answers the request that asked for it: the machine is that of the texts, with no change, and it does not run yet. No
+    /// adapter exactly where one of the texts is refused.
     pub fn open(
         alloc: Global,
         waiting: &Waiting,
         texts: &'s Texts,
         request: &Request,
         out: &mut Outbox,
-    ) -> Result<Option<Adapter<'s>>, Memory> {
+    ) -> Result<Option<Adapter<'s>>, Memory>
+        ensures opened { IfOk result (λ o. IfSome o (λ a. launched_of texts.now ≡ Ok a.session)) }
+        ensures refused { IfOk result (λ o. IfNone o (IsErr (launched_of texts.now))) }
+        ensures rests { IfOk result (λ o. IfSome o (λ a. is_some a.way ≡ false)) }
+    {
         let session = match session_of(alloc, texts) {
             Ok(session) => session,
             Err(Refused::Fault(fault)) => {
@@ -151,8 +143,9 @@ impl<'s> Adapter<'s> {
         self.way.is_some()
     }
 
-    /// Answers a request. What it does to the timeline of the session is what the session's own request does that it stands for; a request that is refused
-    /// changes nothing, nor does one that only looks. Out of memory, nothing is done, or a stage of that effect stands.
+    /// Answers a request. What it does to the timeline of the session is what the session's own request does that it stands for; a request that is
+    /// refused changes nothing, nor does one that only looks. One that moves or changes the machine is refused while the program runs, and else exactly
+    /// where it asks for nothing that is there, or the session refuses it. Out of memory, nothing is done, or a stage of that effect stands.
     pub fn receive(&mut self, request: &Request, out: &mut Outbox) -> Result<Flow, Memory>
         ensures program { self.new.session.program ≡ self.old.session.program }
         ensures first { self.new.session.timeline.first ≡ self.old.session.timeline.first }
@@ -160,20 +153,13 @@ impl<'s> Adapter<'s> {
         ensures begun { IfErr result (λ _. (self.new.session.timeline ≡ self.old.session.timeline)
             ⊎ Begins (is_some self.old.way) (command_of request.now) request.now self.old.session self.new.session.timeline) }
     {
-        let Some(command) = request.command() else {
-            return self.refuse(request, Fault::NoSuchRequest, out);
-        };
-        match command {
-            Command::Disconnect => {
-                out.reply(request, Value::Null)?;
-                return Ok(Flow::Over);
-            }
-            _ => {}
-        }
-        match self.answer(command, request, out) {
-            Ok(()) => Ok(Flow::On),
-            Err(Refused::Fault(fault)) => self.refuse(request, fault, out),
-            Err(Refused::Memory) => Err(Memory),
+        match request.command() {
+            None => self.refuse(request, Fault::NoSuchRequest, out),
+            Some(command) => match self.answer(command, request, out) {
+                Ok(()) => Ok(flow_of(Kind::of(command))),
+                Err(Refused::Fault(fault)) => self.refuse(request, fault, out),
+                Err(Refused::Memory) => Err(Memory),
+            },
         }
     }
 
@@ -182,6 +168,18 @@ impl<'s> Adapter<'s> {
     {
         refuse(self.alloc, request, fault, out)?;
         Ok(Flow::Refused(fault))
+    }
+
+    // The machine is moved and changed at rest alone.
+    fn at_rest(&self) -> Result<(), Refused<Fault>>
+        ensures rests { OnOk result (is_some self.now.way ≡ false) }
+        ensures runs { IfErr result (λ e. (is_some self.now.way ≡ true) × (e ≡ Refused.Fault Fault.Running)) }
+    {
+        if self.is_running() {
+            Err(Refused::Fault(Fault::Running))
+        } else {
+            Ok(())
+        }
     }
 
     // What a request asks for, by what it is about.
@@ -193,10 +191,11 @@ impl<'s> Adapter<'s> {
     ) -> Result<(), Refused<Fault>>
         ensures program { self.new.session.program ≡ self.old.session.program }
         ensures first { self.new.session.timeline.first ≡ self.old.session.timeline.first }
-        ensures done { IfOk result (λ _. KindLeaves (is_some self.old.way) (kind_of command) request.now self.old.session self.new.session.timeline) }
-        ensures refused { IfFault result (λ _. self.new.session.timeline ≡ self.old.session.timeline) }
+        ensures done { IfOk result (λ _. KindAnswered (is_some self.old.way) (kind_of command) request.now self.old.session self.new.session.timeline) }
+        ensures refused { IfFault result (λ why. (self.new.session.timeline ≡ self.old.session.timeline)
+            × KindRefused (is_some self.old.way) (kind_of command) request.now self.old.session why) }
         ensures begun { IfMemory result ((self.new.session.timeline ≡ self.old.session.timeline)
-            ⊎ KindBegins (is_some self.old.way) (kind_of command) request.now self.old.session self.new.session.timeline) }
+            ⊎ KindBegun (is_some self.old.way) (kind_of command) request.now self.old.session self.new.session.timeline) }
     {
         match Kind::of(command) {
             Kind::Look => {
@@ -213,58 +212,17 @@ impl<'s> Adapter<'s> {
                 out.reply(request, Value::Null)?;
                 Ok(out.event("terminated", Value::Null)?)
             }
-            Kind::Restart => self.restart(request, out),
-            Kind::Cancel => Ok(out.reply(request, Value::Null)?),
+            Kind::Restart => Ok(self.restart(request, out)?),
+            Kind::Cancel | Kind::Disconnect => Ok(out.reply(request, Value::Null)?),
             Kind::Launch => Err(Refused::Fault(Fault::Launched)),
-            Kind::Disconnect => Ok(()),
+            Kind::Write => {
+                self.at_rest()?;
+                self.write(request, out)
+            }
             Kind::Act(act) => {
-                if self.is_running() {
-                    return Err(Refused::Fault(Fault::Running));
-                }
+                self.at_rest()?;
                 self.act(act, request, out)
             }
-        }
-    }
-
-    // What changes nothing.
-    fn show(&self, command: Command, request: &Request) -> Result<Value, Refused<Fault>> {
-        let alloc = self.alloc;
-        let first = self.client.first;
-        let session = &self.session;
-        match command {
-            Command::Initialize => Ok(capabilities(alloc)?),
-            Command::Threads => Ok(threads(alloc)?),
-            Command::StackTrace => Ok(stack_trace(alloc, session, self.name, first, request)?),
-            Command::Scopes => Ok(scopes(alloc)?),
-            Command::Variables => variables(alloc, session.world(), request),
-            Command::ReadMemory => read_memory(alloc, session.world(), request),
-            Command::Disassemble => disassemble(alloc, session, self.name, first, request),
-            Command::GotoTargets => goto_targets(alloc, session, first, request),
-            Command::DataBreakpointInfo => data_breakpoint_info(alloc, session, request),
-            Command::ExceptionInfo => self.exception_info(),
-            Command::ViewProgram => Ok(program_view(alloc, session.program())?),
-            Command::ViewCounts => Ok(counts_view(alloc, session)?),
-            Command::ViewState => state_view(alloc, session, request),
-            Command::ViewUnits => units_view(alloc, session.world(), request),
-            Command::ViewChange => change_view(alloc, session, request),
-            _ => Ok(Value::Null),
-        }
-    }
-
-    // Breakpoints in place of those that stand.
-    fn set_points(&mut self, command: Command, request: &Request) -> Result<Value, Refused<Fault>>
-        ensures { self.new.session ≡ self.old.session }
-    {
-        let alloc = self.alloc;
-        match command {
-            Command::SetBreakpoints => {
-                let program = self.session.program();
-                self.points
-                    .set_lines(alloc, program, self.name, request, self.client.first)
-            }
-            Command::SetInstructionBreakpoints => self.points.set_instructions(alloc, request),
-            Command::SetDataBreakpoints => self.points.set_data(alloc, &self.session, request),
-            _ => breakpoints(alloc, Vec::new(alloc)),
         }
     }
 }

@@ -24,6 +24,8 @@ pub(crate) enum Kind {
     Launch,
     /// The end of the talk.
     Disconnect,
+    /// Cells, which get bytes; the machine has to be at rest.
+    Write,
     /// The machine, which has to be at rest.
     Act(Act),
 }
@@ -47,8 +49,6 @@ pub(crate) enum Act {
     Goto,
     /// A register, a flag or a cell is set.
     SetVariable,
-    /// Cells are set.
-    WriteMemory,
     /// An expression is looked at, or a line of the script is executed.
     Evaluate,
 }
@@ -93,7 +93,7 @@ impl Kind {
             Command::ConfigurationDone => Kind::Act(Act::Begin),
             Command::Goto => Kind::Act(Act::Goto),
             Command::SetVariable => Kind::Act(Act::SetVariable),
-            Command::WriteMemory => Kind::Act(Act::WriteMemory),
+            Command::WriteMemory => Kind::Write,
             Command::Evaluate => Kind::Act(Act::Evaluate),
         }
     }

@@ -1,11 +1,19 @@
 //! The texts that a launch asks for: given in the request, or read by their names.
 
+ghost use Rattle.std.specs.Prelude.{◌≡◌, IfOk, Ok, Err};
+ghost use Rattle.std.specs.Option.{option_map};
+ghost use Rattle.mix_refused.specs.Refused.{IfFault};
+ghost use Rattle.mix_dap.specs.Launch.{launched, or_source, units_launched, cards_launched};
+ghost use Rattle.mix_dap.specs.Launched.{launched_of};
+ghost use Rattle.mixal_asm.specs.Assembly.{assembly};
+
 use crate::fault::Fault;
 use dap_message::Request;
-use mix_machine::MAX_DECK_BYTES;
+use mix_machine::{MAX_DECK_BYTES, Units};
 use mix_refused::Refused;
+use mix_session::Session;
 use mix_stream::{Counted, read_up_to};
-use mixal_asm::MAX_SOURCE_BYTES;
+use mixal_asm::{MAX_SOURCE_BYTES, Program, assemble};
 use std::alloc::Global;
 use std::fs;
 use std::rt::Files;
@@ -114,5 +122,54 @@ fn text_of<L: Library>(
         (Some(text), _) => Ok(Vec::from_slice(alloc, text.as_bytes())?),
         (None, Some(name)) => library.text(alloc, name, most),
         (None, None) => Ok(Vec::new(alloc)),
+    }
+}
+
+/// The session of the texts of a launch.
+#[tactic(auto, unfolding(crate::specs::Launch::launched))]
+pub(crate) fn session_of<'s>(alloc: Global, texts: &'s Texts) -> Result<Session<'s>, Refused<Fault>>
+    ensures ok { IfOk result (λ s. launched_of texts.now ≡ Ok s) }
+    ensures fault { IfFault result (λ f. launched_of texts.now ≡ Err f) }
+{
+    let program = program_of(alloc, texts.source.as_slice())?;
+    let units = units_of(alloc, texts.deck.as_slice(), texts.cards.as_deref())?;
+    Ok(Session::open(alloc, program, units)?)
+}
+
+fn program_of<'s>(alloc: Global, source: &'s [u8]) -> Result<Program<'s>, Refused<Fault>>
+    ensures ok { IfOk result (λ p. or_source (assembly source.now) ≡ Ok p) }
+    ensures fault { IfFault result (λ f. or_source (assembly source.now) ≡ Err f) }
+{
+    match assemble(alloc, source) {
+        Ok(program) => Ok(program),
+        Err(Refused::Fault(fault)) => Err(Refused::Fault(Fault::Source(fault))),
+        Err(Refused::Memory) => Err(Refused::Memory),
+    }
+}
+
+// The units of a deck, with the cards of a text where there is one.
+#[tactic(auto, unfolding(crate::specs::Launch::units_launched))]
+fn units_of(alloc: Global, deck: &[u8], cards: Option<&[u8]>) -> Result<Units, Refused<Fault>>
+    ensures ok { IfOk result (λ us. units_launched deck.now (option_map (λ c. c.now) cards.entry) ≡ Ok us) }
+    ensures fault { IfFault result (λ f. units_launched deck.now (option_map (λ c. c.now) cards.entry) ≡ Err f) }
+{
+    match Units::read(alloc, deck) {
+        Ok(units) => with_cards(alloc, units, cards),
+        Err(Refused::Fault(fault)) => Err(Refused::Fault(Fault::Deck(fault))),
+        Err(Refused::Memory) => Err(Refused::Memory),
+    }
+}
+
+fn with_cards(alloc: Global, units: Units, cards: Option<&[u8]>) -> Result<Units, Refused<Fault>>
+    ensures ok { IfOk result (λ us. cards_launched units (option_map (λ c. c.now) cards.entry) ≡ Ok us) }
+    ensures fault { IfFault result (λ f. cards_launched units (option_map (λ c. c.now) cards.entry) ≡ Err f) }
+{
+    let Some(cards) = cards else {
+        return Ok(units);
+    };
+    match units.with_cards(alloc, cards) {
+        Ok(units) => Ok(units),
+        Err(Refused::Fault(fault)) => Err(Refused::Fault(Fault::Cards(fault))),
+        Err(Refused::Memory) => Err(Refused::Memory),
     }
 }

@@ -2,8 +2,9 @@
 #![tactic(auto)]
 
 mod adapter;
+mod broken;
 mod capabilities;
-mod evaluate;
+mod deed;
 mod fault;
 mod hear;
 mod kind;
@@ -11,14 +12,16 @@ mod launch;
 mod layout;
 mod look;
 mod memory;
-mod motion;
 mod points;
 mod printed;
+mod scope;
 mod set;
 mod stream;
 mod value;
+mod variables;
 mod view;
 mod waiting;
+mod watch;
 
 pub use adapter::{Adapter, Flow};
 pub use dap_frame::{Next, frame, next_frame};

@@ -3,72 +3,55 @@
 ghost use Rattle.std.specs.Prelude.{◌≡◌};
 ghost use Rattle.std.specs.Option.{option_map};
 ghost use Rattle.mixal_asm.specs.Source.{cell_from};
+ghost use Rattle.mix_dap.specs.Runs.{stops_of};
 
 use crate::fault::Fault;
 use crate::layout::{cell_of_reference, reference_of};
-use crate::look::{Scope, scope_of};
-use crate::motion::Stop;
+use crate::watch::part_named;
 use dap_message::{Fields, Request};
-use mix_machine::{Mark, Part, Place, World};
+use mix_machine::Place;
 use mix_refused::{Memory, Refused};
-use mix_session::Session;
+use mix_session::{Condition, Session, Stops};
 use mixal_asm::{Program, Source};
 use serde_json::Value;
 use std::alloc::Global;
 
-/// The cells of lines and of instructions where runs stop, and the parts of the machine whose change stops them.
+/// The cells of lines and of instructions where runs stop, and what is watched.
 #[derive(Drop)]
 pub(crate) struct Points {
-    lines: Vec<Place>,
-    instructions: Vec<Place>,
-    data: Vec<Part>,
+    // Those of lines first.
+    cells: Vec<Place>,
+    lines: usize,
+    data: Vec<Condition>,
 }
 
 impl Points {
     pub(crate) fn new(alloc: Global) -> Points {
         Points {
-            lines: Vec::new(alloc),
-            instructions: Vec::new(alloc),
+            cells: Vec::new(alloc),
+            lines: 0,
             data: Vec::new(alloc),
         }
     }
 
-    /// The marks of the parts that are watched, by which it is seen that a change alters one.
-    pub(crate) fn marks(&self, alloc: Global, world: &World) -> Result<Vec<Mark>, Memory> {
-        let mut marks = Vec::new(alloc);
-        for part in self.data.iter() {
-            marks.push(world.mark(*part))?;
-        }
-        Ok(marks)
-    }
-
-    /// Why a run stops here, if it does; the marks are made those of the machine as it is.
-    pub(crate) fn stop_at(&self, marks: &mut [Mark], world: &World) -> Option<Stop> {
-        match self.altered(marks, world) {
-            Some(index) => Some(Stop::Data(index)),
-            None => self.stop_at_cell(world.loc()),
+    /// What stops a run, with a location that is waited for.
+    pub(crate) fn stops(&self, location: Option<u16>) -> Stops<'_>
+        ensures { result ≡ stops_of self.now location }
+    {
+        Stops {
+            breaks: false,
+            cells: self.cells.as_slice(),
+            watched: self.data.as_slice(),
+            location,
         }
     }
 
-    // The first part that is watched and differs from its mark.
-    fn altered(&self, marks: &mut [Mark], world: &World) -> Option<usize> {
-        let mut found = None;
-        let count = marks.len().min(self.data.len());
-        for index in 0..count {
-            let is_same = marks[index].is_same(world.mark(self.data[index]));
-            marks[index] = world.mark(self.data[index]);
-            found = first_altered(found, is_same, index);
-        }
-        found
-    }
-
-    fn stop_at_cell(&self, loc: u16) -> Option<Stop> {
-        if has_cell(self.lines.as_slice(), loc) {
-            Some(Stop::Line)
-        } else if has_cell(self.instructions.as_slice(), loc) {
-            Some(Stop::Instruction)
-        } else {
-            None
+    /// Why a run stops at a cell where it does, in the protocol's words.
+    pub(crate) fn reason_at(&self, loc: u16) -> &'static str {
+        let at = self.cells.iter().position(|cell| cell.number() == loc);
+        match at {
+            Some(at) if at >= self.lines => "instruction breakpoint",
+            _ => "breakpoint",
         }
     }
 
@@ -101,7 +84,10 @@ impl Points {
                 None => told.push(unverified(alloc, "no word from this line on")?)?,
             }
         }
-        self.lines = cells;
+        let lines = cells.len();
+        add_cells(&mut cells, self.cells.as_slice(), self.lines)?;
+        self.cells = cells;
+        self.lines = lines;
         breakpoints(alloc, told)
     }
 
@@ -111,7 +97,7 @@ impl Points {
         alloc: Global,
         request: &Request,
     ) -> Result<Value, Refused<Fault>> {
-        let mut cells = Vec::new(alloc);
+        let mut cells = lines_of(alloc, self.cells.as_slice(), self.lines)?;
         let mut told = Vec::new(alloc);
         for asked in request.list("breakpoints").unwrap_or(&[]) {
             match cell_asked(asked) {
@@ -122,7 +108,7 @@ impl Points {
                 None => told.push(unverified(alloc, "no such cell")?)?,
             }
         }
-        self.instructions = cells;
+        self.cells = cells;
         breakpoints(alloc, told)
     }
 
@@ -133,13 +119,13 @@ impl Points {
         session: &Session,
         request: &Request,
     ) -> Result<Value, Refused<Fault>> {
-        let mut parts = Vec::new(alloc);
+        let mut data = Vec::new(alloc);
         let mut told = Vec::new(alloc);
         for asked in request.list("breakpoints").unwrap_or(&[]) {
             let name = asked.get("dataId").and_then(Value::as_str).unwrap_or("");
-            match part_named(alloc, session, name)? {
+            match part_named(session, name) {
                 Some(part) => {
-                    parts.push(part)?;
+                    data.push(Condition::Alters(part))?;
                     let mut fields = Fields::new(alloc);
                     fields.flag("verified", true)?;
                     told.push(fields.done())?;
@@ -147,17 +133,26 @@ impl Points {
                 None => told.push(unverified(alloc, "no such part of the machine")?)?,
             }
         }
-        self.data = parts;
+        self.data = data;
         breakpoints(alloc, told)
     }
 }
 
-// The first of those that differ, of which `found` is the first before this one.
-fn first_altered(found: Option<usize>, is_same: bool, index: usize) -> Option<usize> {
-    match found {
-        None if !is_same => Some(index),
-        found => found,
+// The cells from one on, after others.
+fn add_cells(cells: &mut Vec<Place>, others: &[Place], from: usize) -> Result<(), Memory> {
+    for cell in others.iter().skip(from) {
+        cells.push(*cell)?;
     }
+    Ok(())
+}
+
+// The first so many cells.
+fn lines_of(alloc: Global, cells: &[Place], count: usize) -> Result<Vec<Place>, Memory> {
+    let mut lines = Vec::new(alloc);
+    for cell in cells.iter().take(count) {
+        lines.push(*cell)?;
+    }
+    Ok(lines)
 }
 
 // Whether a request is about the source of this name, which may be the end of its path; where it says no path, it is.
@@ -181,10 +176,6 @@ fn of_another_source(alloc: Global, request: &Request) -> Result<Value, Refused<
         told.push(unverified(alloc, "another source")?)?;
     }
     breakpoints(alloc, told)
-}
-
-fn has_cell(places: &[Place], loc: u16) -> bool {
-    places.iter().any(|place| place.number() == loc)
 }
 
 /// The cell of the first word that the lines from a number on give, and the line that put a word there.
@@ -212,16 +203,6 @@ fn cell_asked(asked: &Value) -> Option<Place> {
     cell_of_reference(reference, offset)
 }
 
-/// The part of the machine that a name stands for, as after `until` in a command.
-pub(crate) fn part_named(
-    alloc: Global,
-    session: &Session,
-    name: &str,
-) -> Result<Option<Part>, Memory> {
-    let line = format!(in alloc; "run 1 until {name}")?;
-    Ok(session.part_in(line.as_bytes()))
-}
-
 fn verified(alloc: Global, place: Place, line: Option<u64>) -> Result<Value, Memory> {
     let mut fields = Fields::new(alloc);
     fields.flag("verified", true)?;
@@ -246,37 +227,5 @@ fn unverified(alloc: Global, message: &str) -> Result<Value, Memory> {
 pub(crate) fn breakpoints(alloc: Global, told: Vec<Value>) -> Result<Value, Refused<Fault>> {
     let mut body = Fields::new(alloc);
     body.list("breakpoints", told)?;
-    Ok(body.done())
-}
-
-/// What a data breakpoint on a variable would watch.
-pub(crate) fn data_breakpoint_info(
-    alloc: Global,
-    session: &Session,
-    request: &Request,
-) -> Result<Value, Refused<Fault>> {
-    let Some(name) = request.text("name") else {
-        return Err(Refused::Fault(Fault::BadArgument));
-    };
-    let id = match request.number("variablesReference").and_then(scope_of) {
-        Some(Scope::Page(_)) => format!(in alloc; "cell {name}")?,
-        Some(Scope::Units) => format!(in alloc; "unit {name}")?,
-        _ => format!(in alloc; "{name}")?,
-    };
-    let mut body = Fields::new(alloc);
-    match part_named(alloc, session, id.as_str())? {
-        Some(_) => {
-            body.text("dataId", id.as_str())?;
-            body.text("description", id.as_str())?;
-            let mut types = Vec::new(alloc);
-            types.push(Value::try_from_str(alloc, "write")?)?;
-            body.list("accessTypes", types)?;
-            body.flag("canPersist", true)?;
-        }
-        None => {
-            body.put("dataId", Value::Null)?;
-            body.text("description", "no part of the machine")?;
-        }
-    }
     Ok(body.done())
 }

@@ -1,6 +1,6 @@
 //! What the units 17 to 20 have written, told as it comes.
 
-use crate::look::row_text;
+use crate::variables::row_text;
 use dap_message::Outbox;
 use mix_machine::{UnitNo, World};
 use mix_refused::Memory;

@@ -5,65 +5,20 @@ ghost use Rattle.std.specs.Io.KnownBytes.{Appends};
 ghost use Rattle.dap_frame.specs.Frame.{frame_of};
 
 use crate::adapter::{Adapter, Flow};
+use crate::broken::{Broken, tell};
 use crate::hear::{Ear, Heard};
 use crate::launch::{FileLibrary, Library, Texts};
 use crate::waiting::{Asked, Waiting};
 use dap_frame::frame;
 use dap_message::{MessageFault, Outbox, Request};
 use mix_refused::Memory;
-use mix_stream::{Failed, Out, write_all};
-use std::alloc::{AllocError, Global};
-use std::fmt;
+use mix_stream::{Out, write_all};
+use std::alloc::Global;
 use std::io::Read;
 use std::rt::Files;
 
 // How many pieces a run has at most: 1,000,000 changes.
 const PIECES: u32 = 10;
-
-/// What ends a talk before the client is done.
-#[derive(Clone, Copy)]
-enum Broken {
-    /// T1.
-    Memory,
-    /// T2.
-    Read,
-    /// T3.
-    Write,
-    /// T6: a frame is longer than it may be.
-    TooLong,
-    /// T7: the input ends within a frame.
-    Cut,
-}
-
-impl fmt::Display for Broken {
-    fn fmt<W: fmt::Write>(&self, f: &mut fmt::Formatter<W>) -> fmt::Result {
-        match self {
-            Broken::Memory => write!(f, "T1 out of memory"),
-            Broken::Read => write!(f, "T2 read failed"),
-            Broken::Write => write!(f, "T3 write failed"),
-            Broken::TooLong => write!(f, "T6 input too long"),
-            Broken::Cut => write!(f, "T7 input cut"),
-        }
-    }
-}
-
-impl From<Memory> for Broken {
-    fn from(_refused: Memory) -> Broken {
-        Broken::Memory
-    }
-}
-
-impl From<AllocError> for Broken {
-    fn from(_refused: AllocError) -> Broken {
-        Broken::Memory
-    }
-}
-
-impl From<Failed> for Broken {
-    fn from(_failed: Failed) -> Broken {
-        Broken::Write
-    }
-}
 
 /// Answers a client until it disconnects or its input ends at the end of a frame, status 0. The status is 2 where the input ends within a frame or
 /// has one that is too long, a read or a write fails, or memory is refused; then a line on the error output says so.
@@ -106,19 +61,6 @@ pub fn serve_from<L: Library, R: Read, W: Out, E: Out>(
             tell(alloc, broken, errors);
             2
         }
-    }
-}
-
-fn tell<E: Out>(alloc: Global, broken: Broken, errors: &mut E)
-    requires { E.failed errors.old < 2 ^ 64 - 1 }
-{
-    let line: Result<String, AllocError> = format!(in alloc; "mixrev: {broken}\n");
-    let told = match line {
-        Ok(line) => write_all(errors, line.as_bytes()),
-        Err(_) => write_all(errors, b"mixrev: T1 out of memory\n"),
-    };
-    match told {
-        Ok(()) | Err(_) => {}
     }
 }
 

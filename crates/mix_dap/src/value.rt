@@ -2,8 +2,12 @@
 
 ghost use Rattle.std.specs.Prelude.{◌≤◌};
 
-use mix_machine::{Cmp, Place, Reg, Word, World};
+use crate::deed::{Worth, worth_of};
+use crate::scope::{part_of, scope_of};
+use dap_message::Request;
+use mix_machine::{Cmp, Part, Place, Reg, Word, World};
 use mix_refused::Memory;
+use mix_session::Session;
 use mix_word::{Number, Short, char_of};
 use std::alloc::Global;
 
@@ -115,4 +119,52 @@ pub(crate) fn characters(alloc: Global, words: &[Word]) -> Result<String, Memory
 /// The cell at the location, if there is one.
 pub(crate) fn cell_at(world: &World) -> Option<Place> {
     Place::of(world.loc())
+}
+
+/// The value of the variable that a request names, or nothing if there is none.
+pub(crate) fn value_asked(
+    alloc: Global,
+    world: &World,
+    request: &Request,
+) -> Result<String, Memory> {
+    let name = request.text("name").unwrap_or("");
+    let part = request
+        .number("variablesReference")
+        .and_then(scope_of)
+        .and_then(|scope| part_of(scope, name));
+    match part {
+        Some(part) => part_value(alloc, world, part),
+        None => Ok(String::new(alloc)),
+    }
+}
+
+// What a part of the machine holds, as its variable shows it.
+fn part_value(alloc: Global, world: &World, part: Part) -> Result<String, Memory> {
+    match part {
+        Part::Register(register) => register_value(alloc, world, register),
+        Part::Over => Ok(String::from_str(alloc, toggle(world.over()))?),
+        Part::Cmp => Ok(String::from_str(alloc, indicator(world.cmp()))?),
+        Part::Cell(place) => word_value(alloc, world.cell(place)),
+        Part::Loc | Part::Clock => cell_name(alloc, world.loc()),
+        Part::Unit(_) => Ok(String::new(alloc)),
+    }
+}
+
+/// What the expression of a request is worth, or nothing if it is worth nothing.
+pub(crate) fn worth_asked(
+    alloc: Global,
+    session: &Session,
+    request: &Request,
+) -> Result<String, Memory> {
+    match worth_of(session, request.text("expression").unwrap_or("")) {
+        Some(worth) => worth_text(alloc, session.world(), &worth),
+        None => Ok(String::new(alloc)),
+    }
+}
+
+fn worth_text(alloc: Global, world: &World, worth: &Worth) -> Result<String, Memory> {
+    match worth {
+        Worth::Word(word) => word_value(alloc, *word),
+        Worth::Register(register) => register_value(alloc, world, *register),
+    }
 }

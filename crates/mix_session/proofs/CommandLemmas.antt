@@ -1,20 +1,23 @@
 -- Facts of the definitions of commands, over plain variables.
-use Rattle.std.proofs.Common.{◌≡◌, ℕ, zero, suc, ◌+◌, ◌<◌, ◌≤◌, length, Bool, true, false, None, Some, Ok, refl, ap, sym, ◌∙◌, arith, add-one, eqb, ltb, below_more, is_some, Err}
+use Rattle.std.proofs.Common.{◌≡◌, ℕ, zero, suc, ◌+◌, ◌<◌, ◌≤◌, length, Bool, true, false, Option, None, Some, Result, Ok, Err, refl, ap, subst, ◌∙◌, arith, add-one, eqb, below_more, is_some, position, if◌then◌else◌}
+use Rattle.std.specs.Option.{option_map, option_or}
+use Rattle.std.specs.Result.{IfErr}
 use Rattle.std.proofs.lemmas.Bool.Decides.{nat_tests}
-use Rattle.undo_core.specs.Replay.{replay}
 use Rattle.mix_machine.specs.World.{WorldState}
-use Rattle.mix_machine.specs.Do.{does, is_halt_next}
+use Rattle.mix_machine.specs.Do.{does}
 use Rattle.mix_machine.specs.declared.old.Change.{Change}
 use Rattle.mix_machine.specs.declared.old.Change.TheVariants.{Step}
 use Rattle.mix_machine.specs.declared.fault.MixFault.{MixFault}
-use Rattle.mix_session.specs.Timeline.{Timeline, world_of, with_steps, back_by, is_at_break}
-use Rattle.mix_session.specs.Command.{effect_of_steps, effect_of_change, effect_of_result, refusal_effect, change_stage, count_of_steps, least_below, end_of_step, end_of_last, end_at, fault_end, is_break_after, count_to_break, Begun}
+use Rattle.mix_session.specs.Timeline.{Timeline, world_of, begins_with_step, with_change, back_by, forth_by, moved_once, moved}
+use Rattle.mix_session.specs.Command.{effect_of_run, effect_of_change, effect_of_result, refusal_effect, change_stage, count_of_run, least_below, is_met_by, is_halt_done, is_at_stop, is_awaited, end_there, end_of_move, end_of_last, end_of_more, end_at, fault_end, after, Begun}
+use Rattle.mix_session.specs.Stops.{StopsState}
 use Rattle.mix_session.specs.declared.fault.Refusal.TheVariants.{RefusedByMachine}
 use Rattle.mix_session.specs.declared.answer.Answer.TheVariants.{Ran, Done}
-use Rattle.mix_session.specs.declared.command.Stops.{Stops}
+use Rattle.mix_session.specs.declared.command.stops.Way.{Way}
+use Rattle.mix_session.specs.declared.command.stops.Way.TheVariants.{New, Again, Back}
 use Rattle.mix_session.specs.declared.reply.End.{End}
-use Rattle.mix_session.specs.declared.reply.End.TheVariants.{Limit}
-use Rattle.mix_session.proofs.TimelineLemmas.{world_of-is}
+use Rattle.mix_session.specs.declared.reply.End.TheVariants.{Halt, Until, Break, Arrived, Limit, Start}
+use Rattle.mix_session.proofs.TimelineLemmas.{back_by-none, back_by-next, back_by-all}
 
 -- the least number below n that passes is the one that passes with none below it; n, where none does
 pub least_below-is : (n k : ℕ) (p : ℕ → Bool) → k ≤ n → (k < n → p k ≡ true) → ((j : ℕ) → j < k → p j ≡ false) → least_below n p ≡ k
@@ -31,48 +34,136 @@ least_below-beyond (suc n) (suc k) p within below =
     let more : k ≤ least_below n (λ j. p (suc j)) = least_below-beyond n k (λ j. p (suc j)) (omega arith) (λ j h. below (suc j) (omega arith)) in
     rw (below 0 (omega arith)) (omega arith)
 
--- how one step more ends a command
-pub end_of_last-next : (stops : Stops) (halts : Bool) (t : Timeline) (k : ℕ) (before now : WorldState) → world_of (with_steps t k) ≡ before →
-    world_of (with_steps t (k + 1)) ≡ now → halts ≡ is_halt_next before → end_of_last stops t (k + 1) ≡ end_of_step halts stops before now
-end_of_last-next stops halts t k before now e f g =
-    let next : world_of (with_steps t (suc k)) ≡ now = rw add-one at f in
-    rw (add-one, e, next, g) refl
+-- one change more is made
+pub moved-next : (way : Way) (t now next : Timeline) (k : ℕ) → now ≡ moved way t k → next ≡ moved_once way now → next ≡ moved way t (k + 1)
+moved-next way t now next k same more = rw (add-one, ← same) more
 
-pub end_at-last : (stops : Stops) (t : Timeline) (n k : ℕ) (end : End) → end_of_last stops t k ≡ Some end → end_at stops t n k ≡ Some end
+-- the first state stays
+pub moved_once-first : (way : Way) (t : Timeline) → (moved_once way t).first ≡ t.first
+moved_once-first New t = refl
+moved_once-first Again t =
+    elim (begins_with_step t.ahead) as (λ (b : Bool). (if b then forth_by t 1 else with_change t Step).first ≡ t.first) [ true ↦ refl | false ↦ refl ]
+moved_once-first Back t = refl
+
+-- so many changes taken back one at a time are taken back at once
+pub moved-back : (t : Timeline) (k : ℕ) → k ≤ length t.changes → moved Back t k ≡ back_by t k
+moved-back t zero within = back_by-none t
+moved-back t (suc k) within =
+    let before = moved-back t k (omega arith) in
+    let one = back_by-next t (back_by t k) (back_by (back_by t k) 1) k (omega arith) refl refl refl (back_by-all (back_by t k) 1) in
+    ap (λ s. back_by s 1) before ∙ rw add-one at one
+
+-- how one change more ends a run
+pub end_of_last-next : (way : Way) (stops : StopsState) (t : Timeline) (k : ℕ) (old now : WorldState) → world_of (moved way t k) ≡ old →
+    world_of (moved way t (k + 1)) ≡ now → end_of_last way stops t (k + 1) ≡ end_of_move way stops old now
+end_of_last-next way stops t k old now e f = let next : world_of (moved way t (suc k)) ≡ now = rw add-one at f in rw (add-one, e, next) refl
+
+pub end_at-last : (way : Way) (stops : StopsState) (t : Timeline) (n k : ℕ) (end : End) → end_of_last way stops t k ≡ Some end → end_at way stops t n k ≡ Some end
 unfolding end_at
-end_at-last stops t n k end e = rw e refl
+end_at-last way stops t n k end e = rw e refl
 
-pub end_at-limit : (stops : Stops) (t : Timeline) (n : ℕ) → end_of_last stops t n ≡ None → end_at stops t n n ≡ Some Limit
+pub end_at-limit : (way : Way) (stops : StopsState) (t : Timeline) (n : ℕ) → end_of_last way stops t n ≡ None → end_at way stops t n n ≡ Some Limit
 unfolding end_at
-end_at-limit stops t n e = let same : eqb n n ≡ true = grind (arith, nat_tests) in rw (e, same) refl
+end_at-limit way stops t n e = let same : eqb n n ≡ true = grind (arith, nat_tests) in rw (e, same) refl
 
-pub end_at-more : (stops : Stops) (t : Timeline) (n k : ℕ) (world : WorldState) → end_of_last stops t k ≡ None → k < n →
-    world_of (with_steps t k) ≡ world → end_at stops t n k ≡ fault_end (does world Step)
+pub end_at-more : (way : Way) (stops : StopsState) (t now : Timeline) (n k : ℕ) → end_of_last way stops t k ≡ None → k < n → now ≡ moved way t k →
+    end_at way stops t n k ≡ end_of_more way now
 unfolding end_at
-end_at-more stops t n k world e below here = let other : eqb k n ≡ false = grind (arith, nat_tests) in rw (e, other, here) refl
+end_at-more way stops t now n k e below here = let other : eqb k n ≡ false = grind (arith, nat_tests) in rw (e, other, ← here) refl
 
--- one more step was done, so no end held before it
-pub none_before-next : (stops : Stops) (t : Timeline) (n k : ℕ) (world next : WorldState) → end_of_last stops t k ≡ None → k < n →
-    world_of (with_steps t k) ≡ world → does world Step ≡ Ok next → ((j : ℕ) → j < k → end_at stops t n j ≡ None) →
-    (j : ℕ) → j < k + 1 → end_at stops t n j ≡ None
-none_before-next stops t n k world next e below here given before =
-    below_more (λ j. end_at stops t n j ≡ None) k before (end_at-more stops t n k world e below here ∙ ap fault_end given)
+-- one change more is made, so no end held before it
+pub none_before-next : (way : Way) (stops : StopsState) (t now : Timeline) (n k : ℕ) → end_of_last way stops t k ≡ None → k < n → now ≡ moved way t k →
+    end_of_more way now ≡ None → ((j : ℕ) → j < k → end_at way stops t n j ≡ None) → (j : ℕ) → j < k + 1 → end_at way stops t n j ≡ None
+none_before-next way stops t now n k e below here more before =
+    below_more (λ j. end_at way stops t n j ≡ None) k before (end_at-more way stops t now n k e below here ∙ more)
 
--- so many steps are done and this end holds, with none before it: that is what `step` or `run` does
-pub effect_of_steps-is : (stops : Stops) (t : Timeline) (n k : ℕ) (end : End) → k ≤ n → end_at stops t n k ≡ Some end →
-    ((j : ℕ) → j < k → end_at stops t n j ≡ None) → effect_of_steps stops t n ≡ record { stage = with_steps t; last = k; answer = Ran k end }
-unfolding effect_of_steps count_of_steps
-effect_of_steps-is stops t n k end within holds before =
-    let count : least_below n (λ j. is_some (end_at stops t n j)) ≡ k =
-    least_below-is n k (λ j. is_some (end_at stops t n j)) within (λ _. ap is_some holds) (λ j below. ap is_some (before j below)) in
-    rw (count, holds) refl
+-- so many changes are made and this end holds, with none before it: that is the run
+pub count_of_run-is : (way : Way) (stops : StopsState) (t : Timeline) (n k : ℕ) (end : End) → k ≤ n → end_at way stops t n k ≡ Some end →
+    ((j : ℕ) → j < k → end_at way stops t n j ≡ None) → count_of_run way stops t n ≡ k
+unfolding count_of_run
+count_of_run-is way stops t n k end within holds before =
+    least_below-is n k (λ j. is_some (end_at way stops t n j)) within (λ _. ap is_some holds) (λ j below. ap is_some (before j below))
 
--- k of the steps, with no end before them
-pub Begun-steps : (stops : Stops) (t now : Timeline) (n k : ℕ) → now ≡ with_steps t k → k ≤ n → ((j : ℕ) → j < k → end_at stops t n j ≡ None) →
-    Begun (effect_of_steps stops t n) now
-unfolding effect_of_steps count_of_steps
-Begun-steps stops t now n k e within before =
-    (k, least_below-beyond n k (λ j. is_some (end_at stops t n j)) within (λ j below. ap is_some (before j below)), e)
+pub effect_of_run-is : (way : Way) (stops : StopsState) (t : Timeline) (n k : ℕ) (end : End) → k ≤ n → end_at way stops t n k ≡ Some end →
+    ((j : ℕ) → j < k → end_at way stops t n j ≡ None) → effect_of_run way stops t n ≡ record { stage = moved way t; last = k; answer = Ran k end }
+unfolding effect_of_run
+effect_of_run-is way stops t n k end within holds before = rw (count_of_run-is way stops t n k end within holds before, holds) refl
+
+-- k of the changes, with no end before them
+pub Begun-run : (way : Way) (stops : StopsState) (t now : Timeline) (n k : ℕ) → now ≡ moved way t k → k ≤ n → ((j : ℕ) → j < k → end_at way stops t n j ≡ None) →
+    Begun (effect_of_run way stops t n) now
+unfolding effect_of_run count_of_run
+Begun-run way stops t now n k e within before =
+    (k, least_below-beyond n k (λ j. is_some (end_at way stops t n j)) within (λ j below. ap is_some (before j below)), e)
+
+-- a fact that holds, holds of a refusal
+pub if_err : {A E : Type 0} (r : Result A E) (P : Type 0) → P → IfErr r (λ _. P)
+if_err (Ok x) P holds = tt
+if_err (Err e) P holds = holds
+
+-- where none is made, the run is begun
+pub Begun-none : (way : Way) (stops : StopsState) (t : Timeline) (n : ℕ) → Begun (effect_of_run way stops t n) t
+Begun-none way stops t n = Begun-run way stops t t n 0 refl (omega arith) (λ j below. absurd (omega (arith, below)))
+
+-- the effect of a run, by the timeline after it, the number of its changes and its end
+pub run-effect : (way : Way) (stops : StopsState) (t began now : Timeline) (n k : ℕ) (end : End) → began ≡ t → now ≡ moved way began k → k ≤ n →
+    end_at way stops began n k ≡ Some end → ((j : ℕ) → j < k → end_at way stops began n j ≡ None) →
+    (now ≡ after (effect_of_run way stops t n)) × ((effect_of_run way stops t n).answer ≡ Ran k end)
+run-effect way stops t began now n k end same led within holds before =
+    rw (← same, effect_of_run-is way stops began n k end within holds before) (led, refl)
+
+-- nothing but the number of changes ends a run by Limit
+abbrev NotLimit : Option End → Type 0
+NotLimit None = Unit {0}
+NotLimit (Some Limit) = ⊥
+NotLimit (Some end) = Unit {0}
+
+not_limit-or : (o p : Option End) → NotLimit o → NotLimit p → NotLimit (option_or o p)
+not_limit-or None p first second = second
+not_limit-or (Some end) p first second = first
+
+not_limit-if : (b : Bool) (o p : Option End) → NotLimit o → NotLimit p → NotLimit (if b then o else p)
+not_limit-if true o p first second = first
+not_limit-if false o p first second = second
+
+not_limit-until : (o : Option ℕ) → NotLimit (option_map Until o)
+not_limit-until None = tt
+not_limit-until (Some index) = tt
+
+not_limit-there : (stops : StopsState) (w : WorldState) → NotLimit (end_there stops w)
+not_limit-there stops w =
+    not_limit-if (is_at_stop stops w) (Some Break) (if is_awaited stops.location w then Some Arrived else None) tt
+    (not_limit-if (is_awaited stops.location w) (Some Arrived) None tt tt)
+
+not_limit-move : (way : Way) (stops : StopsState) (old now : WorldState) → NotLimit (end_of_move way stops old now)
+not_limit-move way stops old now =
+    let met = option_map Until (position (is_met_by way old now) stops.watched) in
+    not_limit-if (is_halt_done way old) (Some Halt) (option_or met (end_there stops now)) tt
+    (not_limit-or met (end_there stops now) (not_limit-until (position (is_met_by way old now) stops.watched)) (not_limit-there stops now))
+
+not_limit-last : (way : Way) (stops : StopsState) (t : Timeline) (k : ℕ) → NotLimit (end_of_last way stops t k)
+not_limit-last way stops t zero = tt
+not_limit-last way stops t (suc k) = not_limit-move way stops (world_of (moved way t k)) (world_of (moved way t (suc k)))
+
+not_limit-fault : (r : Result WorldState MixFault) → NotLimit (fault_end r)
+not_limit-fault (Ok world) = tt
+not_limit-fault (Err fault) = tt
+
+not_limit-more : (way : Way) (t : Timeline) → NotLimit (end_of_more way t)
+not_limit-more New t = not_limit-fault (does (world_of t) Step)
+not_limit-more Again t = not_limit-fault (does (world_of t) Step)
+not_limit-more Back t = not_limit-if (eqb (length t.changes) 0) (Some Start) None tt tt
+
+limit_at : (b : Bool) (k n : ℕ) (last more : Option End) → eqb k n ≡ b → NotLimit last → NotLimit more →
+    option_or last (if b then Some Limit else more) ≡ Some Limit → k ≡ n
+limit_at true k n last more same no_last no_more holds = grind (arith, nat_tests)
+limit_at false k n last more other no_last no_more holds = absurd (subst NotLimit holds (not_limit-or last more no_last no_more))
+
+-- a run that ends by its number of changes has made so many
+pub limit-is : (way : Way) (stops : StopsState) (t : Timeline) (n k : ℕ) → end_at way stops t n k ≡ Some Limit → k ≡ n
+unfolding end_at
+limit-is way stops t n k holds =
+    limit_at (eqb k n) k n (end_of_last way stops t k) (end_of_more way (moved way t k)) refl (not_limit-last way stops t k) (not_limit-more way (moved way t k)) holds
 
 -- a change that is not done
 pub Begun-unchanged : (t : Timeline) (change : Change) → Begun (effect_of_change t change) t
@@ -91,22 +182,3 @@ pub effect_of_change-refused : (t : Timeline) (change : Change) (fault : MixFaul
     effect_of_change t change ≡ refusal_effect t (RefusedByMachine fault)
 unfolding effect_of_change
 effect_of_change-refused t change fault given = rw given refl
-
--- whether taking one change more back comes to a breakpoint
-pub is_break_after-next : (t now : Timeline) (k : ℕ) (world : WorldState) → now ≡ back_by t (k + 1) → replay does now.first now.changes ≡ Some world →
-    is_break_after t (k + 1) ≡ is_at_break world
-is_break_after-next t now k world e stands =
-    let here : world_of (back_by t (k + 1)) ≡ world = world_of-is (back_by t (k + 1)) now world e stands in
-    let some : ltb 0 (k + 1) ≡ true = grind (arith, nat_tests) in
-    rw (some, here) refl
-
--- taking none back comes to no breakpoint
-pub is_break_after-none : (t : Timeline) (j : ℕ) → j < 1 → is_break_after t j ≡ false
-is_break_after-none t zero below = refl
-is_break_after-none t (suc j) below = absurd (omega arith)
-
--- so many changes come to a breakpoint, and fewer don't; or all do not
-pub count_to_break-is : (t : Timeline) (k : ℕ) → k ≤ length t.changes → (k < length t.changes → is_break_after t k ≡ true) →
-    ((j : ℕ) → j < k → is_break_after t j ≡ false) → k ≡ count_to_break t
-unfolding count_to_break
-count_to_break-is t k within here below = sym (least_below-is (length t.changes) k (is_break_after t) within here below)

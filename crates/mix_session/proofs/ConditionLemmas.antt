@@ -9,7 +9,7 @@ use Rattle.mix_refused.specs.declared.refused.Memory.{Memory}
 use Rattle.mix_session.specs.declared.answer.Answer.{Answer}
 use Rattle.undo_core.specs.Replay.{replay, put_back, TakesBack}
 use Rattle.mix_machine.specs.World.{WorldState, IsWorld}
-use Rattle.mix_machine.specs.Do.{does, is_halt_next}
+use Rattle.mix_machine.specs.Do.{does}
 use Rattle.mix_machine.specs.Part.{IsPart, is_altered, is_same_mark, mark_of, mark_before}
 use Rattle.mix_machine.specs.Write.{put_value}
 use Rattle.mix_machine.specs.declared.old.Old.{Old}
@@ -17,18 +17,15 @@ use Rattle.mix_machine.specs.declared.old.Change.{Change}
 use Rattle.mix_machine.specs.declared.old.Change.TheVariants.{Step}
 use Rattle.mix_machine.specs.declared.part.Part.{Part}
 use Rattle.mix_machine.specs.declared.part.Mark.{Mark}
-use Rattle.mix_session.specs.Command.{is_until, end_of_step, end_of_last, is_reached_back, is_reached_forth, count_back, count_forth, effect_of_back_until, effect_of_forth_until, least_below, refusal_effect, at_once, sought, Effect, Begun, HasEffect}
+use Rattle.mix_session.specs.Command.{is_reached_back, is_reached_forth, count_back, count_forth, effect_of_back_until, effect_of_forth_until, least_below, refusal_effect, at_once, sought, Effect, Begun, HasEffect}
 use Rattle.mix_session.specs.Condition.{is_reached, watched, is_met}
-use Rattle.mix_session.specs.Marks.{watched_by, is_stop, end_by_marks}
-use Rattle.mix_session.specs.Timeline.{Timeline, world_of, with_steps, back_by, forth_by}
+use Rattle.mix_session.specs.Timeline.{Timeline, world_of, back_by, forth_by}
 use Rattle.mix_session.specs.declared.fault.Refusal.TheVariants.{NoSuchChange}
 use Rattle.mix_session.specs.declared.answer.Answer.TheVariants.{BackUntil, ForthUntil, Refused}
 use Rattle.mix_session.proofs.TimelineLemmas.{timeline-is, world_of-is, forth_by-none, forth_by-next}
-use Rattle.mix_session.specs.declared.command.Stops.{Stops}
-use Rattle.mix_session.specs.declared.command.Stops.TheVariants as stops
 use Rattle.mix_session.specs.declared.condition.Condition.{Condition}
 use Rattle.mix_session.specs.declared.condition.Condition.TheVariants.{Alters, At}
-use Rattle.mix_session.proofs.CommandLemmas.{end_of_last-next, least_below-is, least_below-beyond}
+use Rattle.mix_session.proofs.CommandLemmas.{least_below-is, least_below-beyond}
 
 -- a change alters a part exactly where it alters its mark
 abbrev pub AlteredLaw : Type 0
@@ -52,21 +49,6 @@ pub reached_by_marks : AlteredLaw → (condition : Condition) (before after now 
 reached_by_marks law (Alters part) before after now c real world given = law before after c part world real given
 reached_by_marks law (At place) before after now c real world given = refl
 
-until_by_marks : AlteredLaw → (s : Stops) (before after : WorldState) → IsPart (watched_by s) → IsWorld before → does before Step ≡ Ok after →
-    is_until s before after ≡ is_stop s (mark_of before (watched_by s)) after
-until_by_marks law stops.Nothing before after real world given = refl
-until_by_marks law stops.Breaks before after real world given = refl
-until_by_marks law (stops.Until condition) before after real world given = reached_by_marks law condition before after after Step real world given
-
--- what ends steps, by the marks
-pub ended_by_marks : AlteredLaw → (halts : Bool) (s : Stops) (before after : WorldState) → IsPart (watched_by s) → IsWorld before → does before Step ≡ Ok after →
-    end_of_step halts s before after ≡ end_by_marks halts s (mark_of before (watched_by s)) after
-ended_by_marks law halts s before after real world given = rw (until_by_marks law s before after real world given) refl
-
--- two names of one state
-pub same_state : {o : Option WorldState} {v w : WorldState} → o ≡ Some v → o ≡ Some w → v ≡ w
-same_state e f = cc
-
 -- what was done once more was given by the state before
 pub replay-given : {o p : Option WorldState} (v w : WorldState) (P : WorldState → WorldState → Type 0)
     → ((s : WorldState) → o ≡ Some s → (t : WorldState) × P s t × (p ≡ Some t)) → o ≡ Some v → p ≡ Some w → P v w
@@ -74,16 +56,6 @@ replay-given v w P given e f =
     let done = given v e in
     let same : done.0 ≡ w = cc in
     subst (λ t. P v t) same done.1
-
--- how one step more ends a command, by the mark before it
-pub last_by_marks : AlteredLaw → (s : Stops) (t : Timeline) (k : ℕ) (before marked after : WorldState) (halts : Bool) (m : Mark) →
-    world_of (with_steps t k) ≡ before → world_of (with_steps t (k + 1)) ≡ after → halts ≡ is_halt_next before → before ≡ marked →
-    m ≡ mark_of marked (watched_by s) → IsPart (watched_by s) → IsWorld marked → does before Step ≡ Ok after →
-    end_of_last s t (k + 1) ≡ end_by_marks halts s m after
-last_by_marks law s t k before marked after halts m here there halted same is real world given =
-    end_of_last-next s halts t k before after here there halted
-    ∙ ended_by_marks law halts s before after real (rw same world) given
-    ∙ ap (λ (n : Mark). end_by_marks halts s n after) (ap (λ (v : WorldState). mark_of v (watched_by s)) same ∙ sym is)
 
 -- a change after others, which lead to v and with it to w, leads from v to w
 pub replay-one : (s : WorldState) (cs : List Change) (c : Change) (v w : WorldState) → replay does s cs ≡ Some v → replay does s (cs ++ c ∷ []) ≡ Some w → does v c ≡ Ok w

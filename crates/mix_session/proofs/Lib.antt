@@ -2,8 +2,9 @@ mod AlteredLemmas
 mod ChangeLemmas
 mod CommandLemmas
 mod ConditionLemmas
-mod DifferenceLemmas
+mod MoveLemmas
 mod RefusalLemmas
+mod RunLemmas
 mod SameWorld
 mod ShowLemmas
 mod SumLemmas

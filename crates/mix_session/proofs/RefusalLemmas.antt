@@ -1,5 +1,5 @@
 -- A request that is refused leaves the timeline as it was, whichever it is.
-use Rattle.std.proofs.Common.{◌≡◌, ◌+◌, ◌-◌, Bool, true, false, length, ltb, Option, Some, None, Result, Ok, Err, sym, ap, ◌∙◌, refl}
+use Rattle.std.proofs.Common.{◌≡◌, ◌+◌, ◌-◌, Bool, true, false, length, ltb, Some, None, Result, Ok, Err, sym, ◌∙◌, refl}
 use Rattle.std.specs.Prelude.{IfOk, IfSome, if◌then◌else◌}
 use Rattle.mix_refused.specs.declared.refused.Memory.{Memory}
 use Rattle.mix_machine.specs.Do.{does}
@@ -8,8 +8,8 @@ use Rattle.mix_machine.specs.declared.fault.MixFault.{MixFault}
 use Rattle.mix_machine.specs.declared.old.Change.{Change}
 use Rattle.mix_session.specs.Timeline.{Timeline, world_of, back_by, forth_by}
 use Rattle.mix_session.specs.Change.{all_changes}
-use Rattle.mix_session.specs.Command.{Effect, after, at_once, refusal_effect, sought, count_back, count_forth, effect_of, effect_of_steps, effect_of_back, effect_of_forth, effect_of_forth_within, effect_of_back_until, effect_of_forth_until, effect_of_change, effect_of_result, effect_of_show, HasEffect}
-use Rattle.mix_session.specs.Face.{refusal_of}
+use Rattle.mix_session.specs.Command.{Effect, after, at_once, refusal_effect, sought, count_back, count_forth, effect_of, effect_of_run, effect_of_back, effect_of_forth, effect_of_forth_within, effect_of_back_until, effect_of_forth_until, effect_of_change, effect_of_result, effect_of_show, HasEffect}
+use Rattle.mix_session.specs.Answer.{refusal_of}
 use Rattle.mix_session.specs.declared.answer.Answer.{Answer}
 use Rattle.mix_session.specs.declared.answer.Answer.TheVariants as answers
 use Rattle.mix_session.specs.declared.fault.Refusal.TheVariants.{TooFewChanges, NoSuchChange}
@@ -48,7 +48,7 @@ of_show t (topic.Diff n) = either (ltb (length (all_changes t)) n) t (refusal_ef
 of_show t topic.Counts = tt
 
 pub spares : (t : Timeline) (r : Request) → Spares t (effect_of t r)
-unfolding effect_of effect_of_steps effect_of_back_until effect_of_forth_until effect_of_change
+unfolding effect_of effect_of_run effect_of_back_until effect_of_forth_until effect_of_change
 spares t ask.Nothing = tt
 spares t (ask.Step n) = tt
 spares t (ask.Trace n) = tt

@@ -1,16 +1,14 @@
 -- Nothing differs exactly where two states of the machine are the same.
 use Rattle.std.specs.Prelude.{IsTrue, ◌↔◌}
-use Rattle.std.proofs.Common.{◌≡◌, ℕ, zero, suc, ◌+◌, ◌-◌, ◌<◌, ◌≤◌, List, [], ◌∷◌, ◌++◌, length, flat_map, Bool, true, false, not, ◌&&◌, ◌==◌, refl, sym, ap, subst, ◌∙◌, arith, if◌then◌else◌}
+use Rattle.std.proofs.Common.{◌≡◌, ℕ, zero, suc, ◌+◌, ◌<◌, ◌≤◌, List, [], ◌∷◌, ◌++◌, codes, length, get_or, map, Bool, true, false, not, ◌&&◌, ◌==◌, refl, sym, ap, subst, ◌∙◌, arith}
 use Rattle.std.proofs.lemmas.Bool.{and_parts}
 use Rattle.std.proofs.lemmas.Bool.Decides.{nat_tests}
 use Rattle.std.proofs.lemmas.List.{ext_get_or, length-map}
-use Rattle.std.specs.Bool.{Decides, beq}
+use Rattle.std.proofs.lemmas.List.Elements.{filter-append}
+use Rattle.std.specs.Bool.{Decides}
 use Rattle.std.specs.Cmp.{booleans_Decides, unsigned_Decides}
 use Rattle.std.specs.List.{filter, range_with_len}
 use Rattle.mix_word.specs.Word.{WordValue, word, zero_word, is_same_sign, is_same_word}
-use Rattle.mix_word.specs.Register.{all_registers}
-use Rattle.mix_word.specs.declared.register.Reg.{Reg}
-use Rattle.mix_word.specs.declared.register.Reg.TheVariants as reg
 use Rattle.mix_word.specs.declared.word.Cmp.{Cmp}
 use Rattle.mix_word.specs.declared.word.Cmp.TheVariants.{Less, Equal, Greater}
 use Rattle.mix_word.specs.declared.word.Sign.{Sign}
@@ -21,10 +19,12 @@ use Rattle.mix_machine.specs.World.{WorldState, IsWorld, register_of, cell_of, h
 use Rattle.mix_machine.specs.units.Unit.{UnitState, empty_unit}
 use Rattle.mix_machine.specs.units.Units.{UnitsState, AreUnits}
 use Rattle.mix_machine.specs.declared.units.kind.UnitKind.TheVariants.{Tape}
-use Rattle.mix_session.specs.Differences.{item, register_item, register_items, position_items, is_other_cell, other_cells, cell_item, cell_lines, cell_columns, cell_items, break_item, unit_item, place_items, differences}
-use Rattle.mix_session.specs.Each.{texts}
-use Rattle.mix_session.specs.declared.show.differences.Layout.{Layout}
-use Rattle.mix_session.specs.declared.show.differences.Layout.TheVariants.{Lines, Columns}
+use Rattle.mix_session.specs.Altered.{unnumbered, count_of, part_of, numbered, with_numbered, is_altered, alterations}
+use Rattle.mix_session.specs.Differences.{lines_text, cells_in, column_text, columns_text}
+use Rattle.mix_session.specs.declared.altered.Altered.{Altered}
+use Rattle.mix_session.specs.declared.altered.Altered.TheVariants as part
+use Rattle.mix_session.specs.declared.altered.Kind.{Kind}
+use Rattle.mix_session.specs.declared.altered.Kind.TheVariants.{Cells, Breaks, Units}
 
 -- Two words are the same exactly where they are equal, and two indicators.
 and-true : (a b : Bool) → a ≡ true → b ≡ true → (a && b) ≡ true
@@ -53,171 +53,92 @@ same-indicator Equal Equal = ((λ e. refl), (λ e. refl))
 same-indicator Greater Greater = ((λ e. refl), (λ e. refl))
 same-indicator _ _ = ((λ e. absurd (cc)), (λ e. absurd (cc)))
 
--- What is nothing: two texts joined, an item, the items of numbers.
-joined-none : (xs ys : List ℕ) → xs ++ ys ≡ [] → (xs ≡ []) × (ys ≡ [])
+-- two units are the same exactly where they are equal, as `mark_law` has it
+abbrev pub SameUnits : Type 0
+SameUnits = (u x : UnitState) → IsTrue (is_same_unit u x) ↔ (u ≡ x)
+
+-- A part does not differ exactly where it holds the same.
+abbrev IsSame : WorldState → WorldState → Altered → Type 0
+IsSame v w (part.Register r) = register_of v r ≡ register_of w r
+IsSame v w part.Over = v.over ≡ w.over
+IsSame v w part.Cmp = v.cmp ≡ w.cmp
+IsSame v w part.Loc = v.loc ≡ w.loc
+IsSame v w part.Clock = v.clock ≡ w.clock
+IsSame v w (part.Cell p) = cell_of v p ≡ cell_of w p
+IsSame v w (part.Break p) = has_break v p ≡ has_break w p
+IsSame v w (part.Unit n) = unit_at v n ≡ unit_at w n
+
+not-decides : {P : Type 0} (b : Bool) → Decides b P → (not b ≡ false) ↔ P
+not-decides true d = ((λ e. d.0 refl), (λ p. refl))
+not-decides false d = ((λ e. absurd (cc)), (λ p. let f = d.1 p in absurd (cc)))
+
+unaltered : (v w : WorldState) → SameUnits → (p : Altered) → (is_altered v w p ≡ false) ↔ IsSame v w p
+unaltered v w units (part.Register r) = not-decides _ (same-word (register_of v r) (register_of w r))
+unaltered v w units part.Over = not-decides _ (booleans_Decides v.over w.over)
+unaltered v w units part.Cmp = not-decides _ (same-indicator v.cmp w.cmp)
+unaltered v w units part.Loc = not-decides _ (unsigned_Decides v.loc w.loc)
+unaltered v w units part.Clock = not-decides _ (unsigned_Decides v.clock w.clock)
+unaltered v w units (part.Cell p) = not-decides _ (same-word (cell_of v p) (cell_of w p))
+unaltered v w units (part.Break p) = not-decides _ (booleans_Decides (has_break v p) (has_break w p))
+unaltered v w units (part.Unit n) = not-decides _ (units (unit_at v n) (unit_at w n))
+
+same-parts : (v : WorldState) (p : Altered) → IsSame v v p
+same-parts v (part.Register r) = refl
+same-parts v part.Over = refl
+same-parts v part.Cmp = refl
+same-parts v part.Loc = refl
+same-parts v part.Clock = refl
+same-parts v (part.Cell p) = refl
+same-parts v (part.Break p) = refl
+same-parts v (part.Unit n) = refl
+
+-- Where nothing passes a test.
+joined-none : {X : Type 0} (xs ys : List X) → xs ++ ys ≡ [] → (xs ≡ []) × (ys ≡ [])
 joined-none [] ys e = (refl, e)
 joined-none (x ∷ xs) ys e = absurd (cc)
 
-both-none : {P Q : Type 0} (xs ys : List ℕ) → (xs ≡ []) ↔ P → (ys ≡ []) ↔ Q → (xs ++ ys ≡ []) ↔ (P × Q)
-both-none xs ys p q = (
-  (λ e. let parts = joined-none xs ys e in (p.0 parts.0, q.0 parts.1)),
-  (λ pq. let front : xs ≡ [] = p.1 pq.0 in let rest : ys ≡ [] = q.1 pq.1 in rw (front, rest) refl),
-)
+split-none : {X : Type 0} (p : X → Bool) (xs ys : List X) → filter p (xs ++ ys) ≡ [] → (filter p xs ≡ []) × (filter p ys ≡ [])
+split-none p xs ys e = joined-none (filter p xs) (filter p ys) (sym (filter-append p xs ys) ∙ e)
 
-item-some : {P : Type 0} (layout : Layout) (text : List ℕ) → item layout text ≡ [] → P
-item-some Lines text e = let end = (joined-none text (10 ∷ []) e).1 in absurd (cc)
-item-some Columns text e = absurd (cc)
+none-passes : {X : Type 0} (p : X → Bool) (xs : List X) → ((x : X) → p x ≡ false) → filter p xs ≡ []
+none-passes p [] fails = refl
+none-passes p (x ∷ xs) fails = rw (fails x) (none-passes p xs fails)
 
-item-none : {P : Type 0} (same : Bool) (layout : Layout) (text : List ℕ) → Decides same P → ((if same then [] else item layout text) ≡ []) ↔ P
-item-none true layout text d = ((λ e. d.0 refl), (λ p. refl))
-item-none false layout text d = ((λ e. item-some layout text e), (λ p. let f = d.1 p in absurd (cc)))
-
-first-or-rest : (P : ℕ → Type 0) (a n : ℕ) → P a → ((i : ℕ) → a + 1 ≤ i → i < a + 1 + n → P i) → (i : ℕ) → a ≤ i → i < a + suc n → P i
-first-or-rest P a n first rest i from below =
-    elim (i == a) as (λ b. (i == a) ≡ b → P i) [
-      | true ↦ λ e. subst P (sym ((unsigned_Decides i a).0 e)) first
-      | false ↦ λ e. rest i (grind (arith, nat_tests)) (omega arith)
+first-fails : {X : Type 0} (p : X → Bool) (x : X) (xs : List X) → filter p (x ∷ xs) ≡ [] → (p x ≡ false) × (filter p xs ≡ [])
+first-fails p x xs e =
+    elim (p x) as (λ b. p x ≡ b → (p x ≡ false) × (filter p xs ≡ [])) [
+      | true ↦ λ at. let some : x ∷ filter p xs ≡ [] = rw at at e in absurd (cc)
+      | false ↦ λ at. (at, rw at at e)
     ] refl
 
-numbers-none : (P : ℕ → Type 0) (f : ℕ → List ℕ) (n a : ℕ) → ((i : ℕ) → (f i ≡ []) ↔ P i) →
-    (flat_map f (range_with_len a n) ≡ []) ↔ ((i : ℕ) → a ≤ i → i < a + n → P i)
-numbers-none P f zero a each = ((λ e i from below. absurd (omega arith)), (λ h. refl))
-numbers-none P f (suc n) a each =
-    let rest = numbers-none P f n (a + 1) each in
-    let parts = both-none (f a) (flat_map f (range_with_len (a + 1) n)) (each a) rest in (
-      (λ e. let both = parts.0 e in first-or-rest P a n both.0 both.1),
-      (λ h. parts.1 (h a (omega arith) (omega arith), (λ i from below. h i (omega arith) (omega arith)))),
-    )
+none-at : {X : Type 0} (p : X → Bool) (xs : List X) (i : ℕ) (d : X) → filter p xs ≡ [] → i < length xs → p (get_or xs i d) ≡ false
+none-at p [] i d e below = absurd (omega arith)
+none-at p (x ∷ xs) zero d e below = (first-fails p x xs e).0
+none-at p (x ∷ xs) (suc i) d e below = none-at p xs i d (first-fails p x xs e).1 (omega arith)
 
-texts-none : (P : ℕ → Type 0) (f : ℕ → List ℕ) (n : ℕ) → ((i : ℕ) → (f i ≡ []) ↔ P i) → (texts f 0 n ≡ []) ↔ ((i : ℕ) → i < n → P i)
-unfolding texts
-texts-none P f n each =
-    let all = numbers-none P f n 0 each in
-    let whole : n - 0 ≡ n = omega arith in
-    let same : texts f 0 n ≡ flat_map f (range_with_len 0 n) = ap (λ (k : ℕ). flat_map f (range_with_len 0 k)) whole in (
-      (λ e i below. all.0 (sym same ∙ e) i (omega arith) (omega arith)),
-      (λ h. same ∙ all.1 (λ i from below. h i (omega arith))),
-    )
+each-fails : {X : Type 0} (p : X → Bool) (of : ℕ → X) (n a : ℕ) → filter p (map of (range_with_len a n)) ≡ [] → (i : ℕ) → a ≤ i → i < a + n → p (of i) ≡ false
+each-fails p of zero a e i from below = absurd (omega arith)
+each-fails p of (suc n) a e i from below =
+    let fails = first-fails p (of a) (map of (range_with_len (a + 1) n)) e in
+    elim (i == a) as (λ b. (i == a) ≡ b → p (of i) ≡ false) [
+      | true ↦ λ at. subst (λ (k : ℕ). p (of k) ≡ false) (sym ((unsigned_Decides i a).0 at)) fails.0
+      | false ↦ λ at. each-fails p of n (a + 1) fails.1 i (grind (arith, nat_tests)) (omega arith)
+    ] refl
 
--- no number that passes a test
-filter-none : (p : ℕ → Bool) (n a : ℕ) → (filter p (range_with_len a n) ≡ []) ↔ ((i : ℕ) → a ≤ i → i < a + n → p i ≡ false)
-filter-none p zero a = ((λ e i from below. absurd (omega arith)), (λ h. refl))
-filter-none p (suc n) a =
-    let rest = filter-none p n (a + 1) in (
-      (elim (p a) as (λ b. p a ≡ b → (filter p (range_with_len a (suc n)) ≡ []) → (i : ℕ) → a ≤ i → i < a + suc n → p i ≡ false) [
-        | true ↦ λ at e. let some : a ∷ filter p (range_with_len (a + 1) n) ≡ [] = rw at at e in absurd (cc)
-        | false ↦ λ at e. let more : filter p (range_with_len (a + 1) n) ≡ [] = rw at at e in first-or-rest (λ i. p i ≡ false) a n at (rest.0 more)
-      ] refl),
-      (λ h. rw (h a (omega arith) (omega arith)) (rest.1 (λ i from below. h i (omega arith) (omega arith)))),
-    )
+-- Two states with the same parts.
+joined-registers : (r s : RegistersState) → r.a ≡ s.a → r.x ≡ s.x → r.i1 ≡ s.i1 → r.i2 ≡ s.i2 → r.i3 ≡ s.i3 → r.i4 ≡ s.i4 → r.i5 ≡ s.i5 →
+    r.i6 ≡ s.i6 → r.j ≡ s.j → r ≡ s
+joined-registers r s a x i1 i2 i3 i4 i5 i6 j =
+    ap (λ (v : WordValue). record r { a = v }) a
+    ∙ ap (λ (v : WordValue). record r { a = s.a; x = v }) x
+    ∙ ap (λ (v : WordValue). record r { a = s.a; x = s.x; i1 = v }) i1
+    ∙ ap (λ (v : WordValue). record r { a = s.a; x = s.x; i1 = s.i1; i2 = v }) i2
+    ∙ ap (λ (v : WordValue). record r { a = s.a; x = s.x; i1 = s.i1; i2 = s.i2; i3 = v }) i3
+    ∙ ap (λ (v : WordValue). record s { i4 = v; i5 = r.i5; i6 = r.i6; j = r.j }) i4
+    ∙ ap (λ (v : WordValue). record s { i5 = v; i6 = r.i6; j = r.j }) i5
+    ∙ ap (λ (v : WordValue). record s { i6 = v; j = r.j }) i6
+    ∙ ap (λ (v : WordValue). record s { j = v }) j
 
--- The cells.
-lines-none : (v w : WorldState) (cells : List ℕ) → (cell_lines v w cells ≡ []) ↔ (cells ≡ [])
-lines-none v w [] = ((λ e. refl), (λ e. refl))
-lines-none v w (p ∷ ps) =
-    ((λ e. item-some Lines _ (joined-none (cell_item Lines v w p) (cell_lines v w ps) e).0), (λ e. absurd (cc)))
-
-columns-none : (v w : WorldState) (cells : List ℕ) → (cell_columns v w cells ≡ []) ↔ (cells ≡ [])
-columns-none v w [] = ((λ e. refl), (λ e. refl))
-columns-none v w (p ∷ []) = ((λ e. item-some Columns _ e), (λ e. absurd (cc)))
-columns-none v w (p ∷ q ∷ more) = ((λ e. item-some Columns _ e), (λ e. absurd (cc)))
-
-cells-none : (layout : Layout) (v w : WorldState) → (cell_items layout v w ≡ []) ↔ (other_cells v w ≡ [])
-cells-none Lines v w = lines-none v w (other_cells v w)
-cells-none Columns v w = columns-none v w (other_cells v w)
-
-not-false : (b : Bool) → not b ≡ false → b ≡ true
-not-false true e = refl
-not-false false e = absurd (cc)
-
-others-none : (v w : WorldState) → (other_cells v w ≡ []) ↔ ((p : ℕ) → p < 4000 → cell_of v p ≡ cell_of w p)
-unfolding other_cells
-others-none v w =
-    let all = filter-none (is_other_cell v w) 4000 0 in (
-      (λ e p below. (same-word (cell_of v p) (cell_of w p)).0 (not-false (is_same_word (cell_of v p) (cell_of w p)) (all.0 e p (omega arith) (omega arith)))),
-      (λ h. all.1 (λ p from below. ap not ((same-word (cell_of v p) (cell_of w p)).1 (h p (omega arith))))),
-    )
-
--- The registers, the overflow toggle and the comparison indicator.
-abbrev SameRegisters : RegistersState → RegistersState → Type 0
-SameRegisters r s =
-    (r.a ≡ s.a) × ((r.x ≡ s.x) × ((r.i1 ≡ s.i1) × ((r.i2 ≡ s.i2) × ((r.i3 ≡ s.i3) × ((r.i4 ≡ s.i4) × ((r.i5 ≡ s.i5) × ((r.i6 ≡ s.i6) × ((r.j ≡ s.j) × Unit {0}))))))))
-
-joined-registers : (r s : RegistersState) → SameRegisters r s → r ≡ s
-joined-registers r s p =
-    ap (λ (v : WordValue). record r { a = v }) p.0
-    ∙ ap (λ (v : WordValue). record r { a = s.a; x = v }) p.1.0
-    ∙ ap (λ (v : WordValue). record r { a = s.a; x = s.x; i1 = v }) p.1.1.0
-    ∙ ap (λ (v : WordValue). record r { a = s.a; x = s.x; i1 = s.i1; i2 = v }) p.1.1.1.0
-    ∙ ap (λ (v : WordValue). record r { a = s.a; x = s.x; i1 = s.i1; i2 = s.i2; i3 = v }) p.1.1.1.1.0
-    ∙ ap (λ (v : WordValue). record s { i4 = v; i5 = r.i5; i6 = r.i6; j = r.j }) p.1.1.1.1.1.0
-    ∙ ap (λ (v : WordValue). record s { i5 = v; i6 = r.i6; j = r.j }) p.1.1.1.1.1.1.0
-    ∙ ap (λ (v : WordValue). record s { i6 = v; j = r.j }) p.1.1.1.1.1.1.1.0
-    ∙ ap (λ (v : WordValue). record s { j = v }) p.1.1.1.1.1.1.1.1.0
-
-register-none : (layout : Layout) (v w : WorldState) (r : Reg) → (register_item layout v w r ≡ []) ↔ (register_of v r ≡ register_of w r)
-register-none layout v w r = item-none (is_same_word (register_of v r) (register_of w r)) layout _ (same-word (register_of v r) (register_of w r))
-
-all-registers-none : (layout : Layout) (v w : WorldState) → (flat_map (register_item layout v w) all_registers ≡ []) ↔ SameRegisters v.registers w.registers
-all-registers-none layout v w =
-    let one = register-none layout v w in
-    let f = register_item layout v w in
-    both-none (f reg.A) _ (one reg.A)
-    (both-none (f reg.X) _ (one reg.X)
-    (both-none (f reg.I1) _ (one reg.I1)
-    (both-none (f reg.I2) _ (one reg.I2)
-    (both-none (f reg.I3) _ (one reg.I3)
-    (both-none (f reg.I4) _ (one reg.I4)
-    (both-none (f reg.I5) _ (one reg.I5)
-    (both-none (f reg.I6) _ (one reg.I6)
-    (both-none (f reg.J) [] (one reg.J) ((λ e. tt), (λ u. refl))))))))))
-
-registers-none : (layout : Layout) (v w : WorldState) →
-    (register_items layout v w ≡ []) ↔ ((SameRegisters v.registers w.registers × (v.over ≡ w.over)) × (v.cmp ≡ w.cmp))
-unfolding register_items
-registers-none layout v w =
-    both-none _ _ (both-none _ _ (all-registers-none layout v w) (item-none _ layout _ (booleans_Decides v.over w.over)))
-    (item-none _ layout _ (same-indicator v.cmp w.cmp))
-
--- the location and the clock
-position-none : (layout : Layout) (v w : WorldState) → (position_items layout v w ≡ []) ↔ ((v.loc ≡ w.loc) × (v.clock ≡ w.clock))
-unfolding position_items
-position-none layout v w =
-    both-none _ _ (item-none _ layout _ (unsigned_Decides v.loc w.loc)) (item-none _ layout _ (unsigned_Decides v.clock w.clock))
-
--- The cells, the breakpoints and the units.
-abbrev SamePlaces : WorldState → WorldState → Type 0
-SamePlaces v w =
-    (((p : ℕ) → p < 4000 → cell_of v p ≡ cell_of w p) × ((p : ℕ) → p < 4000 → has_break v p ≡ has_break w p))
-    × ((n : ℕ) → n < 21 → unit_at v n ≡ unit_at w n)
-
-breaks-none : (layout : Layout) (v w : WorldState) (n : ℕ) →
-    (texts (break_item layout v w) 0 n ≡ []) ↔ ((p : ℕ) → p < n → has_break v p ≡ has_break w p)
-breaks-none layout v w n =
-    texts-none (λ p. has_break v p ≡ has_break w p) (break_item layout v w) n
-    (λ p. item-none (beq (has_break v p) (has_break w p)) layout _ (booleans_Decides (has_break v p) (has_break w p)))
-
-units-none : (layout : Layout) (v w : WorldState) (n : ℕ) → ((u x : UnitState) → IsTrue (is_same_unit u x) ↔ (u ≡ x)) →
-    (texts (unit_item layout v w) 0 n ≡ []) ↔ ((i : ℕ) → i < n → unit_at v i ≡ unit_at w i)
-units-none layout v w n same-unit =
-    texts-none (λ i. unit_at v i ≡ unit_at w i) (unit_item layout v w) n
-    (λ i. item-none (is_same_unit (unit_at v i) (unit_at w i)) layout _ (same-unit (unit_at v i) (unit_at w i)))
-
-places-none : (layout : Layout) (v w : WorldState) → ((u x : UnitState) → IsTrue (is_same_unit u x) ↔ (u ≡ x)) →
-    (place_items layout v w ≡ []) ↔ SamePlaces v w
-unfolding place_items
-places-none layout v w same-unit =
-    let cells = cells-none layout v w in
-    let others = others-none v w in
-    both-none (cell_items layout v w ++ texts (break_item layout v w) 0 4000) (texts (unit_item layout v w) 0 21)
-    (both-none (cell_items layout v w) (texts (break_item layout v w) 0 4000)
-    ((λ e. others.0 (cells.0 e)), (λ h. cells.1 (others.1 h))) (breaks-none layout v w 4000))
-    (units-none layout v w 21 same-unit)
-
-count-units : (us : UnitsState) → AreUnits us → length us ≡ 21
-count-units us h = sym (length-map us (λ (u : UnitState). u.kind)) ∙ ap length h.kinds
-
--- two states with the same parts
 joined : (v w : WorldState) → v.registers ≡ w.registers → v.over ≡ w.over → v.cmp ≡ w.cmp → v.cells ≡ w.cells → v.loc ≡ w.loc → v.clock ≡ w.clock →
     v.units ≡ w.units → v.breaks ≡ w.breaks → v ≡ w
 joined v w registers over cmp cells loc clock units breaks =
@@ -236,34 +157,80 @@ cells-same v w h k each = ext_get_or zero_word v.cells w.cells (h.cells ∙ sym 
 breaks-same : (v w : WorldState) → IsWorld v → IsWorld w → ((p : ℕ) → p < 4000 → has_break v p ≡ has_break w p) → v.breaks ≡ w.breaks
 breaks-same v w h k each = ext_get_or false v.breaks w.breaks (h.breaks ∙ sym k.breaks) (λ i below. each i (subst (λ (n : ℕ). i < n) h.breaks below))
 
+count-units : (us : UnitsState) → AreUnits us → length us ≡ 21
+count-units us h = sym (length-map us (λ (u : UnitState). u.kind)) ∙ ap length h.kinds
+
 units-same : (v w : WorldState) → IsWorld v → IsWorld w → ((n : ℕ) → n < 21 → unit_at v n ≡ unit_at w n) → v.units ≡ w.units
 units-same v w h k each =
     let own = count-units v.units h.units in
     let other = count-units w.units k.units in
     ext_get_or (empty_unit Tape) v.units w.units (own ∙ sym other) (λ i below. each i (subst (λ (n : ℕ). i < n) own below))
 
-same-registers : (r s : RegistersState) → r ≡ s → SameRegisters r s
-same-registers r s e = subst (λ (t : RegistersState). SameRegisters r t) e (refl, (refl, (refl, (refl, (refl, (refl, (refl, (refl, (refl, tt)))))))))
+-- of the parts that have no number none differs
+few-same : (v w : WorldState) → SameUnits → filter (is_altered v w) unnumbered ≡ [] → (i : ℕ) → i < 13 → IsSame v w (get_or unnumbered i part.Over)
+few-same v w units e i below = (unaltered v w units (get_or unnumbered i part.Over)).0 (none-at (is_altered v w) unnumbered i part.Over e below)
 
--- nothing differs exactly where two states of the machine are the same
-pub differences-none : (layout : Layout) (v w : WorldState) → ((u x : UnitState) → IsTrue (is_same_unit u x) ↔ (u ≡ x)) → IsWorld v → IsWorld w →
-    (differences layout v w ≡ []) ↔ (v ≡ w)
-differences-none layout v w same-unit h k =
-    let all =
-    both-none (register_items layout v w ++ position_items layout v w) (place_items layout v w)
-    (both-none (register_items layout v w) (position_items layout v w) (registers-none layout v w) (position-none layout v w))
-    (places-none layout v w same-unit) in (
-      (λ e. let p = all.0 e in
-          joined v w (joined-registers v.registers w.registers p.0.0.0.0) p.0.0.0.1 p.0.0.1 (cells-same v w h k p.1.0.0) p.0.1.0 p.0.1.1
-          (units-same v w h k p.1.1) (breaks-same v w h k p.1.0.1)),
-      (λ e. all.1 (
-        (
-          ((same-registers v.registers w.registers (ap (λ (u : WorldState). u.registers) e), ap (λ (u : WorldState). u.over) e), ap (λ (u : WorldState). u.cmp) e),
-          (ap (λ (u : WorldState). u.loc) e, ap (λ (u : WorldState). u.clock) e),
-        ),
-        (
-          ((λ p below. ap (λ (u : WorldState). cell_of u p) e), (λ p below. ap (λ (u : WorldState). has_break u p) e)),
-          (λ n below. ap (λ (u : WorldState). unit_at u n) e),
-        ),
-      )),
+registers-same : (v w : WorldState) → SameUnits → filter (is_altered v w) unnumbered ≡ [] → v.registers ≡ w.registers
+registers-same v w units e =
+    let same = few-same v w units e in
+    joined-registers v.registers w.registers (same 0 (omega arith)) (same 1 (omega arith)) (same 2 (omega arith)) (same 3 (omega arith)) (same 4 (omega arith))
+    (same 5 (omega arith)) (same 6 (omega arith)) (same 7 (omega arith)) (same 8 (omega arith))
+
+-- of a kind none differs
+kind-same : (v w : WorldState) → SameUnits → (kind : Kind) → filter (is_altered v w) (numbered kind) ≡ [] → (i : ℕ) → i < count_of kind → IsSame v w (part_of kind i)
+unfolding numbered
+kind-same v w units kind e i below =
+    (unaltered v w units (part_of kind i)).0 (each-fails (is_altered v w) (part_of kind) (count_of kind) 0 e i (omega arith) (omega arith))
+
+-- no part differs exactly where two states of the machine are the same
+pub alterations-none : (v w : WorldState) → SameUnits → IsWorld v → IsWorld w →
+    (alterations v w ≡ []) ↔ (v ≡ w)
+unfolding with_numbered
+alterations-none v w units h k =
+    let f = is_altered v w in (
+      (λ e.
+          let devices = split-none f (unnumbered ++ numbered Cells ++ numbered Breaks) (numbered Units) e in
+          let breaks = split-none f (unnumbered ++ numbered Cells) (numbered Breaks) devices.0 in
+          let cells = split-none f unnumbered (numbered Cells) breaks.0 in
+          let same = few-same v w units cells.0 in
+          joined v w (registers-same v w units cells.0) (same 9 (omega arith)) (same 10 (omega arith)) (cells-same v w h k (kind-same v w units Cells cells.1))
+          (same 11 (omega arith)) (same 12 (omega arith))
+          (units-same v w h k (kind-same v w units Units devices.1)) (breaks-same v w h k (kind-same v w units Breaks breaks.1))),
+      (λ e. none-passes f (with_numbered unnumbered) (λ p. (unaltered v w units p).1 (subst (λ (u : WorldState). IsSame v u p) e (same-parts v p)))),
     )
+
+-- the text of no item is the only one that is empty
+lines-none : (v w : WorldState) (parts : List Altered) → (lines_text v w parts ≡ []) ↔ (parts ≡ [])
+lines-none v w [] = ((λ e. refl), (λ e. refl))
+lines-none v w (p ∷ ps) =
+    ((λ e. let line = (joined-none _ (lines_text v w ps) e).0 in let end = (joined-none _ (10 ∷ []) line).1 in absurd (cc)), (λ e. absurd (cc)))
+
+spaced-some : {P : Type 0} (text : List ℕ) → codes "  " ++ text ≡ [] → P
+spaced-some text e = absurd (cc)
+
+cell-some : {P : Type 0} (v w : WorldState) (c : ℕ) (cells : List ℕ) → column_text v w (part.Cell c) (c ∷ cells) ≡ [] → P
+cell-some v w c [] e = spaced-some _ e
+cell-some v w c (q ∷ more) e = spaced-some _ (rw ((unsigned_Decides c c).1 refl) at e)
+
+column-some : {P : Type 0} (v w : WorldState) (p : Altered) (ps : List Altered) → column_text v w p (cells_in (p ∷ ps)) ≡ [] → P
+column-some v w (part.Register r) ps e = spaced-some _ e
+column-some v w part.Over ps e = spaced-some _ e
+column-some v w part.Cmp ps e = spaced-some _ e
+column-some v w part.Loc ps e = spaced-some _ e
+column-some v w part.Clock ps e = spaced-some _ e
+column-some v w (part.Cell c) ps e = cell-some v w c (cells_in ps) e
+column-some v w (part.Break c) ps e = spaced-some _ e
+column-some v w (part.Unit n) ps e = spaced-some _ e
+
+columns-none : (v w : WorldState) (parts : List Altered) → (columns_text v w parts ≡ []) ↔ (parts ≡ [])
+columns-none v w [] = ((λ e. refl), (λ e. refl))
+columns-none v w (p ∷ ps) = ((λ e. column-some v w p ps (joined-none _ _ e).0), (λ e. absurd (cc)))
+
+-- no item is told exactly where they are the same
+pub differences-none : (v w : WorldState) → SameUnits → IsWorld v → IsWorld w →
+    ((lines_text v w (alterations v w) ≡ []) ↔ (v ≡ w)) × ((columns_text v w (alterations v w) ≡ []) ↔ (v ≡ w))
+differences-none v w units h k =
+    let none = alterations-none v w units h k in
+    let lines = lines-none v w (alterations v w) in
+    let columns = columns-none v w (alterations v w) in
+    (((λ e. none.0 (lines.0 e)), (λ e. lines.1 (none.1 e))), ((λ e. none.0 (columns.0 e)), (λ e. columns.1 (none.1 e))))

@@ -32,8 +32,8 @@ pub register_line-is : (w : WorldState) (r : Reg) (spec : _) (name : List ℕ) (
     name ≡ name_of_register r → word ≡ register_of w r → styled_text spec name ++ 32 ∷ (value_text r word ++ 10 ∷ []) ≡ register_line w r
 register_line-is w r spec name word e f g = rw (e, f, g, name-padded r) (simp append_assoc)
 
--- the texts of one more of a list of things
-pub flat_map-next : {X : Type 0} (f : X → List ℕ) (xs : List X) (i : ℕ) (d : X) → i < length xs →
+-- what one more of a list of things gives
+pub flat_map-next : {X Y : Type 0} (f : X → List Y) (xs : List X) (i : ℕ) (d : X) → i < length xs →
     flat_map f (take i xs) ++ f (get_or xs i d) ≡ flat_map f (take (i + 1) xs)
 flat_map-next f xs i d below =
     rw (take_more xs i d below) (rw flat_map-append (ap (λ t. flat_map f (take i xs) ++ t) (sym (append-nil (f (get_or xs i d))))))
@@ -63,6 +63,6 @@ texts-indexed f d xs n e =
     ap (λ (k : ℕ). flat_map (λ i. f (get_or xs i d)) (range_with_len 0 k)) whole
     ∙ sym (ap (flat_map f) (fill_by_all (λ i. get_or xs i d) xs (length xs) d refl (λ i below. refl)) ∙ flat_map-map f (λ i. get_or xs i d) (range_with_len 0 (length xs)))
 
--- one text more after those that a text was continued with
-pub appended : (front now next all line more : List ℕ) → now ≡ front ++ all → next ≡ now ++ line → all ++ line ≡ more → next ≡ front ++ more
+-- one more after those that a list was continued with
+pub appended : {Y : Type 0} (front now next all line more : List Y) → now ≡ front ++ all → next ≡ now ++ line → all ++ line ≡ more → next ≡ front ++ more
 appended front now next all line more so_far added one_more = added ∙ ap (λ t. t ++ line) so_far ∙ append_assoc front all line ∙ ap (λ t. front ++ t) one_more

@@ -1,5 +1,5 @@
 -- Facts of the timeline, over plain variables: one change more done, taken back, or done again.
-use Rattle.std.proofs.Common.{◌≡◌, ℕ, ◌+◌, ◌-◌, ◌<◌, ◌≤◌, List, [], ◌∷◌, ◌++◌, length, take, drop, None, Some, refl, ap, sym, ◌∙◌, arith, append_assoc, add-one, IsSome, unwrap_or}
+use Rattle.std.proofs.Common.{◌≡◌, ℕ, ◌+◌, ◌-◌, ◌<◌, ◌≤◌, List, ◌++◌, length, take, drop, None, Some, refl, ap, sym, ◌∙◌, arith, append_assoc, IsSome, unwrap_or}
 use Rattle.std.proofs.lemmas.List.{append-nil, take-take, take-append-drop, drop-drop, drop-append-le, length-take-le, length-drop}
 use Rattle.std.proofs.Math.Seq.{take-add, take-length, drop-length, drop-append_seam, take-append_seam}
 use Rattle.undo_core.specs.History.{HoldsOfState}
@@ -7,8 +7,7 @@ use Rattle.undo_core.specs.Replay.{replay}
 use Rattle.mix_machine.specs.World.{WorldState}
 use Rattle.mix_machine.specs.Do.{does}
 use Rattle.mix_machine.specs.declared.old.Change.{Change}
-use Rattle.mix_machine.specs.declared.old.Change.TheVariants.{Step}
-use Rattle.mix_session.specs.Timeline.{Timeline, world_of, with_steps, back_by, forth_by}
+use Rattle.mix_session.specs.Timeline.{Timeline, world_of, back_by, forth_by}
 
 -- a timeline by its parts
 pub timeline-is : (t : Timeline) (first : WorldState) (changes ahead : List Change) → t.first ≡ first → t.changes ≡ changes → t.ahead ≡ ahead →
@@ -28,12 +27,6 @@ holds_now {P} t stands holds =
       | None ↦ λ e some. absurd (cc)
       | Some world ↦ λ e some. holds world e
     ] refl stands
-
--- one step more is done
-pub with_steps-next : (t now next : Timeline) (k : ℕ) → now ≡ with_steps t k → next.first ≡ now.first → next.changes ≡ now.changes ++ Step ∷ [] →
-    next.ahead ≡ [] → next ≡ with_steps t (k + 1)
-with_steps-next t now next k same first changes ahead =
-    rw (add-one, ← same) (timeline-is next now.first (now.changes ++ Step ∷ []) [] first changes ahead)
 
 -- what is taken back stands ahead of what stood there
 ahead_of : (cs xs front ahead : List Change) (m : ℕ) → m ≤ length cs → front ≡ take m cs → front ++ ahead ≡ cs ++ xs → ahead ≡ drop m cs ++ xs

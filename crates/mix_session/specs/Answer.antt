@@ -1,14 +1,15 @@
 -- What a request answers: whether it is accepted, and its text, which is read from the program and from the timeline that it led to.
-use Rattle.std.specs.Prelude.{ℕ, ◌+◌, List, [], ◌++◌, codes, length}
+use Rattle.std.specs.Prelude.{ℕ, ◌+◌, List, [], ◌++◌, Option, None, Some, codes, length}
 use Rattle.mix_machine.specs.World.{WorldState}
 use Rattle.mix_session.specs.Reply.{ran_text, moved_text, ok_text, refused_text, told_of_end}
 use Rattle.mixal_asm.specs.Program.{ProgramValue}
 use Rattle.mix_session.specs.Timeline.{Timeline, world_of}
 use Rattle.mix_session.specs.Topic.{topic_text}
+use Rattle.mix_session.specs.declared.fault.Refusal.{Refusal}
 use Rattle.mix_session.specs.declared.reply.End.{End}
 use Rattle.mix_session.specs.declared.answer.Answer.{Answer}
 use Rattle.mix_session.specs.declared.answer.Answer.TheVariants.{Nothing, Ran, Traced, Back, BackUntil, Forth, ForthUntil, Done, Shows, Refused}
-use Rattle.mix_session.specs.declared.reply.End.TheVariants.{Halt, Until, Break, Limit, Fault}
+use Rattle.mix_session.specs.declared.reply.End.TheVariants.{Halt, Until, Break, Arrived, Limit, Start, Fault}
 use Rattle.mix_session.specs.Change.{change_line_at, last_lines}
 use Rattle.mix_session.specs.declared.reply.Told.{Told}
 use Rattle.mix_session.specs.declared.reply.Told.TheVariants as told
@@ -26,6 +27,19 @@ told_of Done = told.Accepted
 told_of (Shows topic) = told.Accepted
 told_of (Refused refusal) = told.Refused
 
+-- why the request was refused, if it was
+abbrev pub refusal_of : Answer → Option Refusal
+refusal_of Nothing = None
+refusal_of (Ran done end) = None
+refusal_of (Traced done end) = None
+refusal_of (Back count) = None
+refusal_of (BackUntil count) = None
+refusal_of (Forth count) = None
+refusal_of (ForthUntil count) = None
+refusal_of Done = None
+refusal_of (Shows topic) = None
+refusal_of (Refused refusal) = Some refusal
+
 -- the line of `back` and of `forth`, by its first word
 abbrev pub moved_to : List ℕ → ℕ → WorldState → List ℕ
 moved_to way count w = moved_text way count w.loc w.clock
@@ -37,9 +51,11 @@ ran_to done end w = ran_text done w.loc w.clock end
 -- how many changes are told before the line of steps: the one that met what was waited for
 abbrev pub told_before : End → ℕ
 told_before Halt = 0
-told_before Until = 1
+told_before (Until index) = 1
 told_before Break = 0
+told_before Arrived = 0
 told_before Limit = 0
+told_before Start = 0
 told_before (Fault f) = 0
 
 -- the text of an answer

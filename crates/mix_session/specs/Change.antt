@@ -8,12 +8,12 @@ use Rattle.mix_machine.specs.World.{WorldState, cell_of}
 use Rattle.mix_machine.specs.Do.{does}
 use Rattle.mix_machine.specs.declared.old.Change.{Change}
 use Rattle.mix_machine.specs.declared.old.Change.TheVariants.{Step, SetReg, SetCell, SetLoc, SetOver, SetCmp, Break, Clear}
+use Rattle.mix_session.specs.Altered.{altered_by}
 use Rattle.mix_session.specs.Columns.{left_in, right_in}
-use Rattle.mix_session.specs.Differences.{register_items, place_items, differences}
+use Rattle.mix_session.specs.Differences.{columns_text, differences}
 use Rattle.mix_session.specs.Each.{texts}
 use Rattle.mix_session.specs.Reply.{location_text}
 use Rattle.mix_session.specs.Timeline.{Timeline, world_of}
-use Rattle.mix_session.specs.declared.show.differences.Layout.TheVariants.{Lines, Columns}
 
 -- all changes, those done and those ahead
 abbrev pub all_changes : Timeline → List Change
@@ -38,10 +38,9 @@ change_text w (SetCmp c) = codes "set cmp"
 change_text w (Break p) = codes "break " ++ location_text p
 change_text w (Clear p) = codes "clear " ++ location_text p
 
--- what was altered; of a step but for the location and the clock, which each step alters
+-- what was altered
 abbrev pub altered_text : Change → WorldState → WorldState → List ℕ
-altered_text Step v w = register_items Columns v w ++ place_items Columns v w
-altered_text other v w = differences Columns v w
+altered_text change v w = columns_text v w (altered_by change v w)
 
 -- the columns of a line before what was altered
 unfoldable pub change_columns : ℕ → Change → WorldState → ℕ → List ℕ
@@ -63,4 +62,4 @@ last_lines t n = texts (change_line_at t) (length t.changes - n + 1) (length t.c
 -- the reply of `show diff`: what differs between the state after the first n changes and now
 unfoldable pub diff_text : Timeline → ℕ → List ℕ
 diff_text t n =
-    codes "diff " ++ decimal n ++ codes " to " ++ decimal (length t.changes) ++ 10 ∷ [] ++ differences Lines (world_at t n) (world_of t)
+    codes "diff " ++ decimal n ++ codes " to " ++ decimal (length t.changes) ++ 10 ∷ [] ++ differences (world_at t n) (world_of t)

@@ -1,7 +1,8 @@
 -- What a request does to the timeline of a session, and what it answers. The machine is run anew, from its first state on the changes
 -- done, wherever something of it is asked; no value from before a `back` is left to be shown.
-use Rattle.std.specs.Prelude.{◌≡◌, ◌≤◌, ◌+◌, ◌-◌, ◌==◌, ◌&&◌, ℕ, zero, suc, List, length, Bool, true, false, Option, None, Some, Result, Ok, Err, is_some, unwrap_or, nat_lt, if◌then◌else◌}
-use Rattle.std.specs.Option.{option_or}
+use Rattle.std.specs.Prelude.{◌≡◌, ◌≤◌, ◌+◌, ◌-◌, ◌==◌, ◌&&◌, ◌||◌, ℕ, zero, suc, List, [], ◌∷◌, length, position, Bool, true, false, Option, None, Some, Result, Ok, Err, is_some, unwrap_or, nat_lt, if◌then◌else◌}
+use Rattle.std.specs.List.{list_any}
+use Rattle.std.specs.Option.{option_map, option_or}
 use Rattle.mix_refused.specs.declared.refused.Memory.{Memory}
 use Rattle.mix_word.specs.Word.{plus}
 use Rattle.mixal_asm.specs.Program.{ProgramValue}
@@ -10,7 +11,8 @@ use Rattle.mix_machine.specs.Do.{does, is_halt_next}
 use Rattle.mix_machine.specs.declared.old.Change.{Change}
 use Rattle.mix_machine.specs.declared.old.Change.TheVariants.{Step}
 use Rattle.mix_machine.specs.declared.fault.MixFault.{MixFault}
-use Rattle.mix_session.specs.Timeline.{Timeline, world_of, with_change, with_steps, back_by, forth_by, is_at_break}
+use Rattle.mix_session.specs.Timeline.{Timeline, world_of, with_change, back_by, forth_by, moved, is_at_break}
+use Rattle.mix_session.specs.Stops.{StopsState}
 use Rattle.mix_session.specs.Change.{all_changes}
 use Rattle.mix_session.specs.Condition.{is_reached}
 use Rattle.mix_session.specs.Request.{request_of}
@@ -18,8 +20,8 @@ use Rattle.mix_session.specs.Answer.{text_of}
 use Rattle.mix_session.specs.declared.fault.Refusal.{Refusal}
 use Rattle.mix_session.specs.declared.fault.Refusal.TheVariants.{TooFewChanges, RefusedByMachine, NoSuchChange}
 use Rattle.mix_session.specs.declared.condition.Condition.{Condition}
-use Rattle.mix_session.specs.declared.command.Stops.{Stops}
-use Rattle.mix_session.specs.declared.command.Stops.TheVariants as stops
+use Rattle.mix_session.specs.declared.command.stops.Way.{Way}
+use Rattle.mix_session.specs.declared.command.stops.Way.TheVariants as way
 use Rattle.mix_session.specs.declared.request.Topic.{Topic}
 use Rattle.mix_session.specs.declared.request.Topic.TheVariants as topic
 use Rattle.mix_session.specs.declared.request.Request.{Request}
@@ -27,7 +29,7 @@ use Rattle.mix_session.specs.declared.request.Request.TheVariants as ask
 use Rattle.mix_session.specs.declared.answer.Answer.{Answer}
 use Rattle.mix_session.specs.declared.answer.Answer.TheVariants as answers
 use Rattle.mix_session.specs.declared.reply.End.{End}
-use Rattle.mix_session.specs.declared.reply.End.TheVariants.{Halt, Until, Break, Limit, Fault}
+use Rattle.mix_session.specs.declared.reply.End.TheVariants.{Halt, Until, Break, Arrived, Limit, Start, Fault}
 
 -- The effect of a request: the stages by which it is done, numbered from 0 to the last one, and its answer. Of a request that is done at
 -- once, stage 0 is the last. Only where memory is refused may the timeline stand at another stage than the last.
@@ -49,50 +51,74 @@ abbrev pub least_below : ℕ → (ℕ → Bool) → ℕ
 least_below zero passes = 0
 least_below (suc n) passes = if passes 0 then 0 else suc (least_below n (λ k. passes (suc k)))
 
--- the fault of one more step, if it is one
+-- what stops the runs of a script: nothing; breakpoints; breakpoints and a condition
+abbrev pub no_stops : StopsState
+no_stops = record { breaks = false; cells = []; watched = []; location = None }
+
+abbrev pub at_breaks : StopsState
+at_breaks = record no_stops { breaks = true }
+
+abbrev pub at_breaks_or : Condition → StopsState
+at_breaks_or condition = record at_breaks { watched = condition ∷ [] }
+
+-- whether the change by which a run went from one state to another meets a condition: it leads from the one to the other, or is taken back
+abbrev pub is_met_by : Way → WorldState → WorldState → Condition → Bool
+is_met_by way.Back old now condition = is_reached condition now old now
+is_met_by other old now condition = is_reached condition old now now
+
+-- whether that change is a halt that is done
+abbrev pub is_halt_done : Way → WorldState → Bool
+is_halt_done way.Back old = false
+is_halt_done other old = is_halt_next old
+
+-- whether the machine is at a cell where the run stops: one that has a breakpoint, where those stop it, or one of the client's
+abbrev pub is_at_stop : StopsState → WorldState → Bool
+is_at_stop stops w = stops.breaks && is_at_break w || list_any (λ p. p == w.loc) stops.cells
+
+-- whether the location is the one that is waited for
+abbrev pub is_awaited : Option ℕ → WorldState → Bool
+is_awaited None w = false
+is_awaited (Some location) w = w.loc == location
+
+-- why a run ends at a state, whichever change led there
+abbrev pub end_there : StopsState → WorldState → Option End
+end_there stops w = if is_at_stop stops w then Some Break else if is_awaited stops.location w then Some Arrived else None
+
+-- Why a run ends after a change by which it went from one state to another, if it does: the change was a halt; or it met what is watched, of which
+-- the first is told; or it came to a cell where the run stops; or to the location that is waited for.
+abbrev pub end_of_move : Way → StopsState → WorldState → WorldState → Option End
+end_of_move way stops old now =
+    if is_halt_done way old then Some Halt else
+    option_or (option_map Until (position (is_met_by way old now) stops.watched)) (end_there stops now)
+
+-- why a run ends after k changes, by the last of them
+abbrev pub end_of_last : Way → StopsState → Timeline → ℕ → Option End
+end_of_last way stops t zero = None
+end_of_last way stops t (suc k) = end_of_move way stops (world_of (moved way t k)) (world_of (moved way t (suc k)))
+
+-- the fault of a step, if it is one
 abbrev pub fault_end : Result WorldState MixFault → Option End
 fault_end (Ok world) = None
 fault_end (Err fault) = Some (Fault fault)
 
--- whether a step from one state to another meets what is waited for
-abbrev pub is_until : Stops → WorldState → WorldState → Bool
-is_until stops.Nothing before now = false
-is_until stops.Breaks before now = false
-is_until (stops.Until condition) before now = is_reached condition before now now
+-- why one change more cannot be made, if it cannot: none is left to be taken back; or the step is a fault
+abbrev pub end_of_more : Way → Timeline → Option End
+end_of_more way.Back t = if length t.changes == 0 then Some Start else None
+end_of_more other t = fault_end (does (world_of t) Step)
 
--- whether breakpoints stop the steps
-abbrev pub at_breaks : Stops → Bool
-at_breaks stops.Nothing = false
-at_breaks stops.Breaks = true
-at_breaks (stops.Until condition) = true
+-- what ends a run of n changes after k of them, if anything does: the last of them; or k is n; or one more cannot be made
+unfoldable pub end_at : Way → StopsState → Timeline → ℕ → ℕ → Option End
+end_at way stops t n k = option_or (end_of_last way stops t k) (if k == n then Some Limit else end_of_more way (moved way t k))
 
--- what ends a command once a step is done, if that does: the step was a halt; or it met what is waited for; or, where breakpoints stop, it came
--- to one
-abbrev pub end_of_step : Bool → Stops → WorldState → WorldState → Option End
-end_of_step halts stops before now =
-    if halts then Some Halt else if is_until stops before now then Some Until else
-    if at_breaks stops && is_at_break now then Some Break else None
+-- how many of n changes a run makes: the least number at which an end holds
+unfoldable pub count_of_run : Way → StopsState → Timeline → ℕ → ℕ
+count_of_run way stops t n = least_below n (λ k. is_some (end_at way stops t n k))
 
--- what ends a command after k steps, by the last of them
-abbrev pub end_of_last : Stops → Timeline → ℕ → Option End
-end_of_last stops t zero = None
-end_of_last stops t (suc k) =
-    end_of_step (is_halt_next (world_of (with_steps t k))) stops (world_of (with_steps t k)) (world_of (with_steps t (suc k)))
-
--- what ends n steps after k of them, if anything does: the last of them, or k is n, or one more is a fault
-unfoldable pub end_at : Stops → Timeline → ℕ → ℕ → Option End
-end_at stops t n k =
-    option_or (end_of_last stops t k) (if k == n then Some Limit else fault_end (does (world_of (with_steps t k)) Step))
-
--- how many of n steps are done: the least number at which an end holds
-unfoldable pub count_of_steps : Stops → Timeline → ℕ → ℕ
-count_of_steps stops t n = least_below n (λ k. is_some (end_at stops t n k))
-
--- `step N`, which nothing stops but a halt, and `run N`: a stage is a step
-unfoldable pub effect_of_steps : Stops → Timeline → ℕ → Effect
-effect_of_steps stops t n =
-    let k = count_of_steps stops t n in
-    record { stage = with_steps t; last = k; answer = answers.Ran k (unwrap_or (end_at stops t n k) Limit) }
+-- a run of at most n changes: a stage is a change
+unfoldable pub effect_of_run : Way → StopsState → Timeline → ℕ → Effect
+effect_of_run way stops t n =
+    let k = count_of_run way stops t n in
+    record { stage = moved way t; last = k; answer = answers.Ran k (unwrap_or (end_at way stops t n k) Limit) }
 
 -- an answer whose steps are told one by one
 abbrev pub traced : Answer → Answer
@@ -101,7 +127,7 @@ traced answer = answer
 
 -- `trace N`, which does what `step N` does
 abbrev pub effect_of_trace : Timeline → ℕ → Effect
-effect_of_trace t n = let effect = effect_of_steps stops.Nothing t n in record effect { answer = traced effect.answer }
+effect_of_trace t n = let effect = effect_of_run way.New no_stops t n in record effect { answer = traced effect.answer }
 
 -- what is done at once
 abbrev pub at_once : Timeline → Answer → Effect
@@ -119,18 +145,13 @@ effect_of_back t n = at_once (back_by t n) (answers.Back n)
 abbrev pub effect_of_back_within : Timeline → ℕ → Effect
 effect_of_back_within t n = if nat_lt (length t.changes) n then refusal_effect t TooFewChanges else effect_of_back t n
 
--- whether taking k changes back, at least one, comes to a breakpoint
-abbrev pub is_break_after : Timeline → ℕ → Bool
-is_break_after t k = nat_lt 0 k && is_at_break (world_of (back_by t k))
-
--- how many changes `back break` takes back: the least number that comes to a breakpoint, or all where none does
-unfoldable pub count_to_break : Timeline → ℕ
-count_to_break t = least_below (length t.changes) (is_break_after t)
+-- `back break` takes back as many changes as a run backwards that breakpoints stop, or all
+abbrev pub effect_of_back_break : Timeline → Effect
+effect_of_back_break t = effect_of_back t (count_of_run way.Back at_breaks t (length t.changes))
 
 -- whether taking back one change more than k meets a condition
 abbrev pub is_reached_back : Condition → Timeline → ℕ → Bool
-is_reached_back condition t k =
-    let after = world_of (back_by t k) in let before = world_of (back_by t (k + 1)) in is_reached condition before after before
+is_reached_back condition t k = is_met_by way.Back (world_of (back_by t k)) (world_of (back_by t (k + 1))) condition
 
 -- how many changes `back until` takes back but one: the least number at which one more meets the condition
 unfoldable pub count_back : Condition → Timeline → ℕ
@@ -144,8 +165,7 @@ effect_of_back_until condition t =
 
 -- whether doing again one change more than k meets a condition
 abbrev pub is_reached_forth : Condition → Timeline → ℕ → Bool
-is_reached_forth condition t k =
-    let before = world_of (forth_by t k) in let after = world_of (forth_by t (k + 1)) in is_reached condition before after after
+is_reached_forth condition t k = is_met_by way.Again (world_of (forth_by t k)) (world_of (forth_by t (k + 1))) condition
 
 -- how many changes `forth until` does again but one
 unfoldable pub count_forth : Condition → Timeline → ℕ
@@ -202,13 +222,13 @@ effect_of_show t other = at_once t (answers.Shows other)
 -- what a request does; each request has an effect, whoever makes it
 unfoldable pub effect_of : Timeline → Request → Effect
 effect_of t ask.Nothing = at_once t answers.Nothing
-effect_of t (ask.Step n) = effect_of_steps stops.Nothing t n
+effect_of t (ask.Step n) = effect_of_run way.New no_stops t n
 effect_of t (ask.Trace n) = effect_of_trace t n
-effect_of t (ask.Run n) = effect_of_steps stops.Breaks t n
-effect_of t (ask.RunUntil n condition) = effect_of_steps (stops.Until condition) t n
+effect_of t (ask.Run n) = effect_of_run way.New at_breaks t n
+effect_of t (ask.RunUntil n condition) = effect_of_run way.New (at_breaks_or condition) t n
 effect_of t (ask.Back n) = effect_of_back_within t n
 effect_of t ask.BackAll = effect_of_back t (length t.changes)
-effect_of t ask.BackBreak = effect_of_back t (count_to_break t)
+effect_of t ask.BackBreak = effect_of_back_break t
 effect_of t (ask.BackUntil condition) = effect_of_back_until condition t
 effect_of t (ask.Forth n) = effect_of_forth_within t n
 effect_of t ask.ForthAll = effect_of_forth t (length t.ahead)

@@ -1,111 +1,89 @@
--- What differs between two states of the machine: an item for each part that is another, in the order of `show all`. It knows two states and
--- no operation.
-use Rattle.std.specs.Prelude.{ℕ, ◌+◌, min, not, Bool, ◌==◌, List, [], ◌∷◌, ◌++◌, codes, length, get_or, flat_map, if◌then◌else◌}
-use Rattle.std.specs.Bool.{beq}
-use Rattle.std.specs.Cmp.Lexicographic.{pointwise}
+-- The text of what differs between two states of the machine: an item for each part that does.
+use Rattle.std.specs.Prelude.{ℕ, ◌+◌, ◌==◌, List, [], ◌∷◌, ◌++◌, codes, length, get_or, flat_map, if◌then◌else◌}
 use Rattle.std.specs.Fmt.{decimal}
-use Rattle.std.specs.List.{filter, range_with_len}
-use Rattle.mix_word.specs.Word.{is_same_word}
 use Rattle.mix_word.specs.Text.{word_text}
-use Rattle.mix_word.specs.Register.{all_registers, name_of_register}
-use Rattle.mix_word.specs.declared.register.Reg.{Reg}
+use Rattle.mix_word.specs.Register.{name_of_register}
 use Rattle.mix_machine.specs.World.{WorldState, register_of, cell_of, has_break, unit_at}
-use Rattle.mix_machine.specs.Part.{is_same_indicator, is_same_unit}
-use Rattle.mix_machine.specs.units.Unit.{UnitState, block_of}
-use Rattle.mix_session.specs.Each.{texts}
+use Rattle.mix_session.specs.Altered.{alterations, unit_differences}
 use Rattle.mix_session.specs.Keyword.{toggle_name, indicator_name}
 use Rattle.mix_session.specs.Reply.{location_text}
 use Rattle.mix_session.specs.Show.{value_text}
-use Rattle.mix_session.specs.declared.show.differences.Layout.{Layout}
-use Rattle.mix_session.specs.declared.show.differences.Layout.TheVariants.{Lines, Columns}
+use Rattle.mix_session.specs.declared.altered.Altered.{Altered}
+use Rattle.mix_session.specs.declared.altered.Altered.TheVariants as part
+use Rattle.mix_session.specs.declared.altered.unit.UnitNumber.{UnitNumber}
+use Rattle.mix_session.specs.declared.altered.unit.UnitNumber.TheVariants.{Place, Blocks, Output, Until}
+use Rattle.mix_session.specs.declared.altered.unit.UnitDifference.{UnitDifference}
+use Rattle.mix_session.specs.declared.altered.unit.UnitDifference.TheVariants.{Block, Number}
 
--- an item on a line of its own, or on the line of a change, after two blanks
-abbrev pub item : Layout → List ℕ → List ℕ
-item Lines text = text ++ 10 ∷ []
-item Columns text = codes "  " ++ text
+-- a part by its name
+abbrev pub part_text : Altered → List ℕ
+part_text (part.Register r) = name_of_register r
+part_text part.Over = codes "over"
+part_text part.Cmp = codes "cmp"
+part_text part.Loc = codes "loc"
+part_text part.Clock = codes "clock"
+part_text (part.Cell p) = location_text p
+part_text (part.Break p) = codes "break " ++ location_text p
+part_text (part.Unit n) = codes "unit " ++ decimal n
 
--- a part with the text of its value before and after, unless that is the same value
-abbrev pub item_unless : Bool → Layout → List ℕ → List ℕ → List ℕ → List ℕ
-item_unless same layout name before after = if same then [] else item layout (name ++ codes " " ++ before ++ codes " -> " ++ after)
+-- what a part holds; nothing of a unit, of which is told what of it differs
+abbrev pub held_text : WorldState → Altered → List ℕ
+held_text w (part.Register r) = value_text r (register_of w r)
+held_text w part.Over = toggle_name w.over
+held_text w part.Cmp = indicator_name w.cmp
+held_text w part.Loc = location_text w.loc
+held_text w part.Clock = decimal w.clock
+held_text w (part.Cell p) = word_text (cell_of w p)
+held_text w (part.Break p) = toggle_name (has_break w p)
+held_text w (part.Unit n) = []
 
-abbrev pub register_item : Layout → WorldState → WorldState → Reg → List ℕ
-register_item layout v w r =
-    item_unless (is_same_word (register_of v r) (register_of w r)) layout (name_of_register r) (value_text r (register_of v r)) (value_text r (register_of w r))
+abbrev pub number_name : UnitNumber → List ℕ
+number_name Place = codes "place"
+number_name Blocks = codes "blocks"
+number_name Output = codes "output"
+number_name Until = codes "until"
 
--- the registers, the overflow toggle and the comparison indicator
-unfoldable pub register_items : Layout → WorldState → WorldState → List ℕ
-register_items layout v w =
-    flat_map (register_item layout v w) all_registers
-    ++ item_unless (beq v.over w.over) layout (codes "over") (toggle_name v.over) (toggle_name w.over)
-    ++ item_unless (is_same_indicator v.cmp w.cmp) layout (codes "cmp") (indicator_name v.cmp) (indicator_name w.cmp)
+-- what differs of a unit, each after a blank
+abbrev pub unit_difference_text : UnitDifference → List ℕ
+unit_difference_text (Block i) = codes " block " ++ decimal i
+unit_difference_text (Number number before after) =
+    codes " " ++ number_name number ++ codes " " ++ decimal before ++ codes " -> " ++ decimal after
 
--- the location and the clock
-unfoldable pub position_items : Layout → WorldState → WorldState → List ℕ
-position_items layout v w =
-    item_unless (v.loc == w.loc) layout (codes "loc") (location_text v.loc) (location_text w.loc)
-    ++ item_unless (v.clock == w.clock) layout (codes "clock") (decimal v.clock) (decimal w.clock)
+-- what is told of a part: what it holds before and after; of a unit, what of it differs
+abbrev pub difference_text : WorldState → WorldState → Altered → List ℕ
+difference_text v w (part.Unit n) = flat_map unit_difference_text (unit_differences (unit_at v n) (unit_at w n))
+difference_text v w other = codes " " ++ held_text v other ++ codes " -> " ++ held_text w other
 
--- the cells that hold another word, in rising order
-abbrev pub is_other_cell : WorldState → WorldState → ℕ → Bool
-is_other_cell v w p = not (is_same_word (cell_of v p) (cell_of w p))
+-- an item
+abbrev pub item_text : WorldState → WorldState → Altered → List ℕ
+item_text v w p = part_text p ++ difference_text v w p
 
-unfoldable pub other_cells : WorldState → WorldState → List ℕ
-other_cells v w = filter (is_other_cell v w) (range_with_len 0 4000)
+-- items, each on a line
+abbrev pub lines_text : WorldState → WorldState → List Altered → List ℕ
+lines_text v w parts = flat_map (λ p. item_text v w p ++ 10 ∷ []) parts
 
-abbrev pub cell_item : Layout → WorldState → WorldState → ℕ → List ℕ
-cell_item layout v w p =
-    item layout (location_text p ++ codes " " ++ word_text (cell_of v p) ++ codes " -> " ++ word_text (cell_of w p))
+-- the cells of a list of parts
+abbrev pub cell_in : Altered → List ℕ
+cell_in (part.Cell p) = p ∷ []
+cell_in other = []
 
--- two cells or more on the line of a change: how many, the first and the last
+abbrev pub cells_in : List Altered → List ℕ
+cells_in parts = flat_map cell_in parts
+
+-- two cells or more by one item: how many, the first and the last
 abbrev pub span_text : ℕ → ℕ → ℕ → List ℕ
 span_text count first last = decimal count ++ codes " cells " ++ location_text first ++ codes " to " ++ location_text last
 
--- the cells, each on a line
-abbrev pub cell_lines : WorldState → WorldState → List ℕ → List ℕ
-cell_lines v w cells = flat_map (cell_item Lines v w) cells
+-- an item on the line of a change, after two blanks; where there are two cells or more, they are told where the first of them stands
+abbrev pub column_text : WorldState → WorldState → Altered → List ℕ → List ℕ
+column_text v w (part.Cell c) (p ∷ q ∷ more) =
+    if c == p then codes "  " ++ span_text (length more + 2) p (get_or (q ∷ more) (length more) p) else []
+column_text v w other cells = codes "  " ++ item_text v w other
 
--- the cells on the line of a change
-abbrev pub cell_columns : WorldState → WorldState → List ℕ → List ℕ
-cell_columns v w [] = []
-cell_columns v w (p ∷ []) = cell_item Columns v w p
-cell_columns v w (p ∷ q ∷ more) = item Columns (span_text (length more + 2) p (get_or (q ∷ more) (length more) p))
+-- items on the line of a change
+abbrev pub columns_text : WorldState → WorldState → List Altered → List ℕ
+columns_text v w parts = flat_map (λ p. column_text v w p (cells_in parts)) parts
 
-abbrev pub cell_items : Layout → WorldState → WorldState → List ℕ
-cell_items Lines v w = cell_lines v w (other_cells v w)
-cell_items Columns v w = cell_columns v w (other_cells v w)
-
--- a breakpoint
-abbrev pub break_item : Layout → WorldState → WorldState → ℕ → List ℕ
-break_item layout v w p =
-    item_unless (beq (has_break v p) (has_break w p)) layout (codes "break " ++ location_text p) (toggle_name (has_break v p)) (toggle_name (has_break w p))
-
--- a block of a unit that is there before and after and has another word
-abbrev pub block_text : UnitState → UnitState → ℕ → List ℕ
-block_text u x i = if pointwise is_same_word (block_of u i) (block_of x i) then [] else codes " block " ++ decimal i
-
--- a number of a unit that is another
-abbrev pub number_text : List ℕ → ℕ → ℕ → List ℕ
-number_text name before after =
-    if before == after then [] else codes " " ++ name ++ codes " " ++ decimal before ++ codes " -> " ++ decimal after
-
-abbrev pub numbers_text : UnitState → UnitState → List ℕ
-numbers_text u x =
-    number_text (codes "place") u.place x.place ++ number_text (codes "blocks") (length u.blocks) (length x.blocks)
-    ++ number_text (codes "output") (length u.rows) (length x.rows) ++ number_text (codes "until") u.until x.until
-
-unfoldable pub unit_changes : ℕ → UnitState → UnitState → List ℕ
-unit_changes n u x =
-    codes "unit " ++ decimal n ++ texts (block_text u x) 0 (min (length u.blocks) (length x.blocks)) ++ numbers_text u x
-
--- a unit
-abbrev pub unit_item : Layout → WorldState → WorldState → ℕ → List ℕ
-unit_item layout v w n =
-    if is_same_unit (unit_at v n) (unit_at w n) then [] else item layout (unit_changes n (unit_at v n) (unit_at w n))
-
--- the cells, the breakpoints and the units
-unfoldable pub place_items : Layout → WorldState → WorldState → List ℕ
-place_items layout v w = cell_items layout v w ++ texts (break_item layout v w) 0 4000 ++ texts (unit_item layout v w) 0 21
-
--- all items
-abbrev pub differences : Layout → WorldState → WorldState → List ℕ
-differences layout v w = register_items layout v w ++ position_items layout v w ++ place_items layout v w
+-- all that differs, each item on a line
+abbrev pub differences : WorldState → WorldState → List ℕ
+differences v w = lines_text v w (alterations v w)

@@ -1,13 +1,13 @@
 pub mod Altered
 pub mod Answer
 pub mod Change
+pub mod Client
 pub mod Columns
 pub mod Command
 pub mod Condition
 pub mod Counts
 pub mod Differences
 pub mod Each
-pub mod Face
 pub mod Fault
 pub mod Keyword
 pub mod Marks
@@ -19,6 +19,7 @@ pub mod Show
 pub mod ShowCode
 pub mod ShowUnit
 pub mod ShowValue
+pub mod Stops
 pub mod Sums
 pub mod Tally
 pub mod Timeline

@@ -5,16 +5,18 @@ use Rattle.mix_machine.specs.Fault.{fault_line}
 use Rattle.mix_session.specs.Fault.{refusal_text}
 use Rattle.mix_session.specs.declared.fault.Refusal.{Refusal}
 use Rattle.mix_session.specs.declared.reply.End.{End}
-use Rattle.mix_session.specs.declared.reply.End.TheVariants.{Halt, Until, Break, Limit, Fault}
+use Rattle.mix_session.specs.declared.reply.End.TheVariants.{Halt, Until, Break, Arrived, Limit, Start, Fault}
 use Rattle.mix_session.specs.declared.reply.Told.{Told}
 use Rattle.mix_session.specs.declared.reply.Told.TheVariants.{Accepted, Refused}
 
 -- whether `step` or `run` is accepted: only a fault refuses
 abbrev pub told_of_end : End → Told
 told_of_end Halt = Accepted
-told_of_end Until = Accepted
+told_of_end (Until index) = Accepted
 told_of_end Break = Accepted
+told_of_end Arrived = Accepted
 told_of_end Limit = Accepted
+told_of_end Start = Accepted
 told_of_end (Fault f) = Refused
 
 -- of two commands: accepted where both are
@@ -30,12 +32,14 @@ location_text n = decimal (n / 1000) ++ decimal (n / 100 % 10) ++ decimal (n / 1
 unfoldable pub position_text : ℕ → ℕ → List ℕ
 position_text loc clock = location_text loc ++ codes " clock " ++ decimal clock
 
--- why no more steps were done
+-- why no more steps were done, or why no more changes were taken back
 abbrev pub end_text : End → List ℕ
 end_text Halt = codes "halt"
-end_text Until = codes "until"
+end_text (Until index) = codes "until"
 end_text Break = codes "break"
+end_text Arrived = codes "arrived"
 end_text Limit = codes "limit"
+end_text Start = codes "start"
 end_text (Fault f) = codes "fault " ++ fault_line f
 
 -- the reply of `step` and `run`

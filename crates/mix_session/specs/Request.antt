@@ -31,6 +31,7 @@ use Rattle.mix_session.specs.declared.condition.Condition.{Condition}
 use Rattle.mix_session.specs.declared.condition.Condition.TheVariants.{Alters, At}
 use Rattle.mix_session.specs.declared.request.Request.{Request}
 use Rattle.mix_session.specs.declared.request.Request.TheVariants as ask
+use Rattle.mix_machine.specs.declared.part.Part.{Part}
 use Rattle.mix_machine.specs.declared.part.Part.TheVariants as part
 use Rattle.mix_machine.specs.declared.old.Change.{Change}
 use Rattle.mix_machine.specs.declared.old.Change.TheVariants.{SetReg, SetCell, SetLoc, SetOver, SetCmp, Break, Clear}
@@ -245,29 +246,46 @@ goto_request words = do
   n ← number_in word
   Ok (ask.Goto n)
 
+-- the W-value that the only word is
+abbrev pub one_value : NamesValue → WordValue → List (List ℕ) → Result WordValue Refusal
+one_value names here words = do
+  word ← one_word words
+  word_in names here word
+
+-- what a part is set to, by the only word left: a W-value, an expression, or a keyword; a unit and the clock are not set
+abbrev pub setting_of : NamesValue → WordValue → Part → List (List ℕ) → Result Change Refusal
+setting_of names here (part.Register r) words = do
+  value ← one_value names here words
+  Ok (SetReg r value)
+setting_of names here (part.Cell place) words = do
+  value ← one_value names here words
+  Ok (SetCell place value)
+setting_of names here part.Loc words = do
+  place ← one_place names here words
+  Ok (SetLoc place)
+setting_of names here part.Over words = do
+  word ← one_word words
+  over ← keyword_in toggle_name all_toggles word
+  Ok (SetOver over)
+setting_of names here part.Cmp words = do
+  word ← one_word words
+  cmp ← keyword_in indicator_name all_indicators word
+  Ok (SetCmp cmp)
+setting_of names here (part.Unit n) words = Err BadArgument
+setting_of names here part.Clock words = Err BadArgument
+
 -- what `set` changes
 abbrev pub change_of : NamesValue → WordValue → SetWord → List (List ℕ) → Result Change Refusal
-change_of names here (set.Register r) words = do
-  word ← one_word words
-  value ← word_in names here word
-  Ok (SetReg r value)
+change_of names here (set.Register r) words = setting_of names here (part.Register r) words
 change_of names here set.Cell words = do
   pair ← two_words words
   at ← expression_in names here pair.0
   value ← word_in names here pair.1
   place ← place_of at
   Ok (SetCell place value)
-change_of names here set.Location words = do
-  place ← one_place names here words
-  Ok (SetLoc place)
-change_of names here set.Toggle words = do
-  word ← one_word words
-  over ← keyword_in toggle_name all_toggles word
-  Ok (SetOver over)
-change_of names here set.Indicator words = do
-  word ← one_word words
-  cmp ← keyword_in indicator_name all_indicators word
-  Ok (SetCmp cmp)
+change_of names here set.Location words = setting_of names here part.Loc words
+change_of names here set.Toggle words = setting_of names here part.Over words
+change_of names here set.Indicator words = setting_of names here part.Cmp words
 
 -- `set REG W`, `set cell E W`, `set loc E`, `set over on`, `set cmp L`
 unfoldable pub change_in : NamesValue → WordValue → List (List ℕ) → Result Change Refusal

@@ -75,6 +75,10 @@ filled_cell_text w p = if is_plus_zero (cell_of w p) then [] else cell_line w p
 abbrev pub is_used : UnitState → Bool
 is_used u = nat_lt 0 u.place || nat_lt 0 (length u.blocks) || nat_lt 0 (length u.rows) || nat_lt 0 u.delay
 
+-- whether a unit was used or holds something: it has something to show, or a transfer has set its time
+abbrev pub was_used : UnitState → Bool
+was_used u = is_used u || nat_lt 0 u.until
+
 -- the lines of a unit that has something to show; nothing of another
 abbrev pub used_unit_text : WorldState → ℕ → List ℕ
 used_unit_text w n = if is_used (unit_at w n) then unit_text w n else []

@@ -1,7 +1,7 @@
 //! What a request answers, as a value; its text is made of it and of the machine.
 
 ghost use Rattle.std.specs.Prelude.{◌≡◌, ◌++◌, IfOk, string_bytes};
-ghost use Rattle.mix_session.specs.Answer.{told_of, told_before, text_of};
+ghost use Rattle.mix_session.specs.Answer.{refusal_of, told_of, told_before, text_of};
 
 use crate::fault::Refusal;
 use crate::reply::{End, Told, moved_line, ok_line, ran_line, refused_line};
@@ -45,6 +45,24 @@ impl Answer {
             | Answer::ForthUntil(_)
             | Answer::Done
             | Answer::Shows(_) => Told::Accepted,
+        }
+    }
+
+    /// Why the request was refused, if it was.
+    pub fn refusal(self) -> Option<Refusal>
+        ensures { result ≡ refusal_of self }
+    {
+        match self {
+            Answer::Refused(refusal) => Some(refusal),
+            Answer::Nothing
+            | Answer::Ran(..)
+            | Answer::Traced(..)
+            | Answer::Back(_)
+            | Answer::BackUntil(_)
+            | Answer::Forth(_)
+            | Answer::ForthUntil(_)
+            | Answer::Done
+            | Answer::Shows(_) => None,
         }
     }
 }
@@ -91,8 +109,8 @@ fn told_before(end: End) -> u64
     ensures { result ≡ told_before end }
 {
     match end {
-        End::Until => 1,
-        End::Halt | End::Break | End::Limit | End::Fault(_) => 0,
+        End::Until(_) => 1,
+        End::Halt | End::Break | End::Arrived | End::Limit | End::Start | End::Fault(_) => 0,
     }
 }
 

@@ -1,21 +1,22 @@
 //! What a request does to the journal, and what is answered.
 
-ghost use Rattle.std.specs.Prelude.{◌≡◌, ◌≤◌, ◌<◌, ℕ, IfErr, IfOk, length, true, false, Ok, Some, None};
-ghost use Rattle.mix_session.specs.Timeline.{with_steps, back_by, forth_by, is_at_break};
-ghost use Rattle.mix_session.specs.Command.{effect_of, effect_of_steps, effect_of_back, effect_of_back_within, effect_of_forth, effect_of_forth_within, effect_of_goto, effect_of_change};
-ghost use Rattle.mix_session.specs.Command.{effect_of_trace, effect_of_back_until, effect_of_forth_until, effect_of_diff, effect_of_show, end_at, count_to_break, count_back, is_reached_forth, at_breaks, Begun, HasEffect};
-ghost use Rattle.mix_session.specs.Marks.{watched_by, is_stop, end_by_marks};
-ghost use Rattle.mix_machine.specs.World.{IsWorld};
-ghost use Rattle.mix_machine.specs.Part.{IsPart, mark_of, mark_before};
+ghost use Rattle.std.specs.Prelude.{◌≡◌, ◌≤◌, ◌<◌, ℕ, IfErr, IfOk, Ok, length};
+ghost use Rattle.mix_session.specs.Timeline.{back_by, forth_by};
+ghost use Rattle.mix_session.specs.Command.{effect_of, effect_of_back, effect_of_back_within, effect_of_forth, effect_of_forth_within, effect_of_goto, effect_of_change};
+ghost use Rattle.mix_session.specs.Command.{effect_of_back_until, effect_of_forth_until, effect_of_show, count_back, is_reached_forth, HasEffect};
+ghost use Rattle.mix_machine.specs.Part.{mark_before};
 ghost use Rattle.mix_session.specs.Condition.{watched, is_met};
 
+pub(crate) mod runs;
+pub(crate) mod stops;
+
 use crate::answer::Answer;
+use crate::command::runs::{back_break, run, run_until, step, trace};
 use crate::condition::Condition;
 use crate::fault::Refusal;
-use crate::reply::End;
 use crate::request::{Request, Topic};
 use crate::timeline::earlier;
-use mix_machine::{Change, Mark, Old, Part, Place, World, mark_before, mark_law};
+use mix_machine::{Change, Mark, Old, World, mark_before, mark_law};
 use undo_core::{Journal, Memory, Refused, Values};
 
 /// Does what a request asks for.
@@ -25,16 +26,16 @@ pub(crate) fn execute(journal: &mut Journal<World>, request: Request) -> Result<
 {
     match request {
         Request::Nothing => Ok(Answer::Nothing),
-        Request::Step(count) => run(journal, count, Stops::Nothing),
+        Request::Step(count) => step(journal, count),
         Request::Trace(count) => trace(journal, count),
-        Request::Run(count) => run(journal, count, Stops::Breaks),
-        Request::RunUntil(count, condition) => run(journal, count, Stops::Until(condition)),
+        Request::Run(count) => run(journal, count),
+        Request::RunUntil(count, condition) => run_until(journal, count, condition),
         Request::Back(count) => Ok(back(journal, count)),
         Request::BackAll => {
             let count = journal.done();
             Ok(take_back(journal, count))
         }
-        Request::BackBreak => Ok(Answer::Back(go_back_to_break(journal))),
+        Request::BackBreak => Ok(back_break(journal)),
         Request::BackUntil(condition) => Ok(back_until(journal, &condition)),
         Request::Forth(count) => forth(journal, count),
         Request::ForthAll => {
@@ -45,115 +46,6 @@ pub(crate) fn execute(journal: &mut Journal<World>, request: Request) -> Result<
         Request::Goto(number) => go_to(journal, number),
         Request::Change(change) => change_by(journal, change),
         Request::Show(topic) => Ok(show(journal, topic)),
-    }
-}
-
-/// What stops steps beside a halt, a fault and their number: nothing, breakpoints, or a condition and breakpoints.
-#[derive(Clone, Copy)]
-pub(crate) enum Stops {
-    Nothing,
-    Breaks,
-    Until(Condition),
-}
-
-// So many steps, which something may stop.
-fn run(journal: &mut Journal<World>, count: u32, stops: Stops) -> Result<Answer, Memory>
-    ensures { HasEffect (effect_of_steps stops journal.old count) journal.old journal.new result }
-{
-    let (done, end) = run_steps(journal, count, stops)?;
-    Ok(Answer::Ran(done, end))
-}
-
-// So many steps, which are told one by one.
-fn trace(journal: &mut Journal<World>, count: u32) -> Result<Answer, Memory>
-    ensures { HasEffect (effect_of_trace journal.old count) journal.old journal.new result }
-{
-    let (done, end) = run_steps(journal, count, Stops::Nothing)?;
-    Ok(Answer::Traced(done, end))
-}
-
-// Steps until one of the ends holds, and how many were done.
-fn run_steps(journal: &mut Journal<World>, count: u32, stops: Stops) -> Result<(u32, End), Memory>
-    ensures first { journal.new.first ≡ journal.old.first }
-    ensures steps { IfOk result (λ r. journal.new ≡ with_steps journal.old r.0) }
-    ensures within { IfOk result (λ r. r.0 ≤ count) }
-    ensures end { IfOk result (λ r. end_at stops journal.old count r.0 ≡ Some r.1) }
-    ensures least { IfOk result (λ r. (k : ℕ) → k < r.0 → end_at stops journal.old count k ≡ None) }
-    ensures memory { IfErr result (λ _. Begun (effect_of_steps stops journal.old count) journal.new) }
-{
-    mark_law();
-    for done in 0..count {
-        let halts = journal.state().next_is_halt();
-        let mark = mark_of(&stops, journal.state());
-        match journal.go(Change::Step) {
-            Ok(()) => match end_of_step(halts, &stops, &mark, journal.state()) {
-                Some(end) => return Ok((done + 1, end)),
-                None => {}
-            },
-            Err(Refused::Fault(fault)) => return Ok((done, End::Fault(fault))),
-            Err(Refused::Memory) => return Err(Memory),
-        }
-    }
-    Ok((count, End::Limit))
-}
-
-// The mark by which it is seen whether steps meet what is waited for; where nothing is waited for, that of the location.
-fn mark_of(stops: &Stops, world: &World) -> Mark
-    ensures is { result ≡ mark_of world.now (watched_by stops.now) }
-    ensures world { IsWorld world.now }
-    ensures real { IsPart (watched_by stops.now) }
-{
-    match stops {
-        Stops::Nothing | Stops::Breaks => world.mark(Part::Loc),
-        Stops::Until(condition) => world.mark(condition.watched()),
-    }
-}
-
-// What ends a command once a step is done, if that does, by the mark before the step.
-fn end_of_step(halts: bool, stops: &Stops, mark: &Mark, world: &World) -> Option<End>
-    ensures { result ≡ end_by_marks halts stops.now mark.now world.now }
-{
-    if halts {
-        Some(End::Halt)
-    } else if is_stop(stops, mark, world) {
-        Some(End::Until)
-    } else if at_breaks(stops) && is_at_break(world) {
-        Some(End::Break)
-    } else {
-        None
-    }
-}
-
-// Whether a step met what is waited for, by the mark before it.
-fn is_stop(stops: &Stops, mark: &Mark, world: &World) -> bool
-    ensures { result ≡ is_stop stops.now mark.now world.now }
-{
-    match stops {
-        Stops::Nothing | Stops::Breaks => false,
-        Stops::Until(condition) => {
-            let after = world.mark(condition.watched());
-            condition.is_met(mark, &after, &after)
-        }
-    }
-}
-
-// Whether breakpoints stop the steps.
-fn at_breaks(stops: &Stops) -> bool
-    ensures { result ≡ at_breaks stops.now }
-{
-    match stops {
-        Stops::Nothing => false,
-        Stops::Breaks | Stops::Until(_) => true,
-    }
-}
-
-// Whether the location is a cell that has a breakpoint.
-fn is_at_break(world: &World) -> bool
-    ensures { result ≡ is_at_break world.now }
-{
-    match Place::of(world.loc()) {
-        Some(place) => world.is_break(place),
-        None => false,
     }
 }
 
@@ -182,21 +74,6 @@ fn go_back(journal: &mut Journal<World>, count: usize)
     for taken in 0..count {
         journal.back();
     }
-}
-
-// Takes changes back, one at a time, until the machine is at a breakpoint, and answers how many.
-fn go_back_to_break(journal: &mut Journal<World>) -> usize
-    ensures count { result ≡ count_to_break journal.old }
-    ensures back { journal.new ≡ back_by journal.old result }
-{
-    let all = journal.done();
-    for taken in 0..all {
-        journal.back();
-        if is_at_break(journal.state()) {
-            return taken + 1;
-        }
-    }
-    all
 }
 
 fn back_until(journal: &mut Journal<World>, condition: &Condition) -> Answer

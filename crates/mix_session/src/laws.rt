@@ -6,11 +6,11 @@ ghost use Rattle.mix_machine.specs.World.{WorldState, IsWorld};
 ghost use Rattle.mix_machine.specs.Do.{does};
 ghost use Rattle.mix_machine.specs.Loaded.{loaded};
 ghost use Rattle.mix_machine.specs.units.Units.{UnitsState};
+ghost use Rattle.mix_session.specs.Altered.{alterations};
 ghost use Rattle.mix_session.specs.Counts.{tally_at, tally_of_all};
-ghost use Rattle.mix_session.specs.Differences.{differences};
+ghost use Rattle.mix_session.specs.Differences.{lines_text, columns_text};
 ghost use Rattle.mix_session.specs.Sums.{sum_of_cells, steps_done, AreReal};
 ghost use Rattle.mix_session.specs.Timeline.{Timeline, back_by, forth_by, world_of};
-ghost use Rattle.mix_session.specs.declared.show.differences.Layout.{Layout};
 
 use mix_machine::{change_law, mark_law};
 
@@ -34,9 +34,12 @@ pub fn counts_law()
     change_law();
 }
 
-/// Two machines are the same exactly where no item tells a difference between them, on lines of their own or on the line of a change.
+/// Two machines are the same exactly where no part differs between them, and where no item tells a difference, on lines of their own or on the
+/// line of a change.
 pub fn differences_law()
-    ensures { (layout : Layout) (v w : WorldState) → IsWorld v → IsWorld w → (differences layout v w ≡ []) ↔ (v ≡ w) }
+    ensures parts { (v w : WorldState) → IsWorld v → IsWorld w → (alterations v w ≡ []) ↔ (v ≡ w) }
+    ensures lines { (v w : WorldState) → IsWorld v → IsWorld w → (lines_text v w (alterations v w) ≡ []) ↔ (v ≡ w) }
+    ensures columns { (v w : WorldState) → IsWorld v → IsWorld w → (columns_text v w (alterations v w) ≡ []) ↔ (v ≡ w) }
 {
     mark_law();
 }

@@ -1,28 +1,34 @@
 //! A session: a program, its machine, and the commands over it, whose changes can be taken back. No file, no command line.
 #![tactic(auto)]
 
+mod altered;
 mod answer;
+mod client;
 mod command;
 mod condition;
-mod face;
 mod fault;
 mod keyword;
 mod laws;
+mod past;
 mod reply;
 mod request;
 mod session;
 mod show;
 mod timeline;
 
+pub use altered::unit::{UnitDifference, UnitNumber, unit_differences};
+pub use altered::{Altered, alterations, altered_by};
 pub use answer::Answer;
+pub use command::stops::{Stops, Way};
 pub use condition::Condition;
-pub use face::altered::{Altered, alterations};
-pub use face::past::change_text;
 pub use fault::{Refusal, ToolFault};
 pub use laws::{back_and_forth_law, counts_law, differences_law};
 pub use mix_machine::{DeckFault, DeckKind};
 pub use mixal_asm::{AsmFault, AsmKind, Counted, Failed, In, Out};
+pub use past::change_text;
 pub use reply::{End, Told};
 pub use request::{Request, Topic};
 pub use session::Session;
+pub use show::all::was_used;
 pub use show::counts::{Tallies, Tally};
+pub use show::differences::Held;

@@ -27,13 +27,22 @@ impl Told {
     }
 }
 
-/// Why `step` or `run` did no more steps.
+/// Why a run made no more changes.
 #[derive(Clone, Copy)]
 pub enum End {
+    /// The last step was a halt.
     Halt,
-    Until,
+    /// The last change met what is watched: the first of it that it met, counted from 0.
+    Until(usize),
+    /// The location is a cell at which the run stops.
     Break,
+    /// The location is the one that was waited for.
+    Arrived,
+    /// As many changes were made as asked.
     Limit,
+    /// No change is left to be taken back.
+    Start,
+    /// One more step is this fault.
     Fault(MixFault),
 }
 
@@ -43,7 +52,8 @@ impl End {
         ensures { result ≡ told_of_end self }
     {
         match self {
-            End::Halt | End::Until | End::Break | End::Limit => Told::Accepted,
+            End::Halt | End::Until(_) | End::Break | End::Arrived | End::Limit | End::Start =>
+                Told::Accepted,
             End::Fault(_) => Told::Refused,
         }
     }
@@ -55,9 +65,11 @@ impl fmt::Display for End {
     fn fmt<W: fmt::Write>(&self, f: &mut fmt::Formatter<W>) -> fmt::Result {
         match self {
             End::Halt => write!(f, "halt"),
-            End::Until => write!(f, "until"),
+            End::Until(_) => write!(f, "until"),
             End::Break => write!(f, "break"),
+            End::Arrived => write!(f, "arrived"),
             End::Limit => write!(f, "limit"),
+            End::Start => write!(f, "start"),
             End::Fault(fault) => write!(f, "fault {fault}"),
         }
     }

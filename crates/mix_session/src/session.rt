@@ -3,16 +3,18 @@
 ghost use Rattle.std.specs.Prelude.{◌≡◌, ◌<◌, ◌-◌, ◌^◌, Err, IfErr, IfOk, IfSome, length};
 ghost use Rattle.std.specs.Io.KnownBytes.{Appends, Keeps};
 ghost use Rattle.mix_session.specs.Timeline.{world_of};
-ghost use Rattle.mix_session.specs.Answer.{told_of, text_of};
-ghost use Rattle.mix_session.specs.Command.{after, effect_of, reply_of, Begun, HasEffect};
-ghost use Rattle.mix_session.specs.Face.{refusal_of};
+ghost use Rattle.mix_word.specs.Word.{plus};
+ghost use Rattle.mix_session.specs.Answer.{refusal_of, told_of, text_of};
+ghost use Rattle.mix_session.specs.Command.{after, effect_of, effect_of_run, reply_of, Begun, HasEffect};
 ghost use Rattle.mix_session.specs.Session.{opened, request_in, effect_in, IsMemoryOrWrite};
 ghost use Rattle.mix_stream.specs.Stream.{AppendsFront, CountsFailure};
 
 use crate::answer::{Answer, answer_text};
 use crate::command::execute;
+use crate::command::runs::run_on;
+use crate::command::stops::{Stops, Way, marks_of};
 use crate::fault::{Refusal, ToolFault};
-use crate::reply::Told;
+use crate::reply::{End, Told};
 use crate::request::{Request, read_request};
 use crate::timeline::world_of;
 use mix_machine::{Change, Sign, Units, Word, World};
@@ -95,8 +97,14 @@ impl<'s> Session<'s> {
     pub fn read(&self, line: &[u8]) -> Result<Request, Refusal>
         ensures { result ≡ request_in self.now line.now }
     {
-        let here = Word::of(Sign::Plus, u32::from(self.world().loc()));
-        read_request(line, &self.program, here)
+        read_request(line, &self.program, self.here())
+    }
+
+    // The location, for which the asterisk stands.
+    pub(crate) fn here(&self) -> Word
+        ensures { result ≡ plus (world_of self.now.timeline).loc }
+    {
+        Word::of(Sign::Plus, u32::from(self.world().loc()))
     }
 
     /// Does what is asked for, whoever asks it: a number that no line may have is taken as it is. A refusal changes nothing. Out of memory:
@@ -108,6 +116,28 @@ impl<'s> Session<'s> {
         ensures refused { IfOk result (λ answer. IfSome (refusal_of answer) (λ _. self.new.timeline ≡ self.old.timeline)) }
     {
         execute(&mut self.journal, request)
+    }
+
+    /// Makes changes, at most so many, until one of the ends holds: how many it made, and the end. Out of memory: of steps those done stand, of
+    /// changes taken back none.
+    pub fn run(&mut self, way: Way, most: u32, stops: &Stops<'_>) -> Result<(u32, End), Memory>
+        ensures program { self.new.program ≡ self.old.program }
+        ensures first { self.new.timeline.first ≡ self.old.timeline.first }
+        ensures effect { let effect = effect_of_run way stops.now self.old.timeline most in
+            IfOk result (λ ran. (self.new.timeline ≡ after effect) × (effect.answer ≡ Answer.Ran ran.0 ran.1)) }
+        ensures begun { IfErr result (λ _. Begun (effect_of_run way stops.now self.old.timeline most) self.new.timeline) }
+        ensures back { way ≡ Way.Back → IfErr result (λ _. self.new.timeline ≡ self.old.timeline) }
+        ensures limit { IfOk result (λ ran. ran.1 ≡ End.Limit → ran.0 ≡ most) }
+    {
+        let mut marks = marks_of(self.alloc, stops.watched, self.world())?;
+        let (made, end) = run_on(
+            &mut self.journal,
+            way,
+            most as usize,
+            stops,
+            marks.as_mut_slice(),
+        )?;
+        Ok((made as u32, end))
     }
 
     /// The text of an answer, read from the program and the machine as it is now: bytes, since a line of a source may have any. Only out of memory

@@ -14,7 +14,7 @@ pub(crate) mod counts;
 pub(crate) mod differences;
 mod each;
 mod lines;
-mod unit;
+pub(crate) mod unit;
 mod values;
 mod words;
 

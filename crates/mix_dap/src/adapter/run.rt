@@ -1,15 +1,20 @@
 //! Runs, piece by piece, and what is told of the machine when it stops or is altered.
 
-ghost use Rattle.std.specs.Prelude.{◌≡◌, false, is_some};
-ghost use Rattle.mix_dap.specs.Runs.{Advances};
+ghost use Rattle.std.specs.Prelude.{◌≡◌, IfErr, IfOk, false, is_some};
+ghost use Rattle.mix_session.specs.Command.{after, Begun};
+ghost use Rattle.mix_dap.specs.Runs.{Advances, effect_of_piece, goes_on, is_limit};
 
 use crate::adapter::{Adapter, Way};
 use crate::fault::Fault;
 use crate::look::THREAD;
-use crate::motion::{Stop, back_piece, run_piece};
+use crate::points::Points;
 use dap_message::{Command, Fields, Outbox, Request};
 use mix_refused::{Memory, Refused};
+use mix_session::{End, Session};
 use serde_json::Value;
+
+/// The most changes of one piece of a run, after which the client is heard.
+const PIECE: u32 = 100_000;
 
 impl Adapter<'_> {
     // A run is begun; the pieces of it are done by `advance`.
@@ -49,19 +54,15 @@ impl Adapter<'_> {
     pub fn advance(&mut self, out: &mut Outbox) -> Result<(), Memory>
         ensures program { self.new.session.program ≡ self.old.session.program }
         ensures first { self.new.session.timeline.first ≡ self.old.session.timeline.first }
-        ensures runs { Advances self.old.way self.old.session.timeline self.new.session.timeline }
+        ensures runs { Advances self.old.way self.old.points self.old.session.timeline self.new.session.timeline (is_some self.new.way) }
     {
         let Some(way) = self.way else {
             return Ok(());
         };
-        let ended = match way {
-            Way::Forth(until) => run_piece(self.alloc, &mut self.session, &self.points, until),
-            Way::Back => back_piece(self.alloc, &mut self.session, &self.points),
-        };
-        match ended {
-            Ok(None) => self.printed.tell(self.alloc, self.session.world(), out),
-            Ok(Some(stop)) => self.stop(stop, out),
-            Err(Memory) => self.stop(Stop::Memory, out),
+        match run_piece(&mut self.session, &self.points, way) {
+            Ok(End::Limit) => self.printed.tell(self.alloc, self.session.world(), out),
+            Ok(end) => self.stop(end, out),
+            Err(Memory) => self.stop_for_memory(out),
         }
     }
 
@@ -86,26 +87,39 @@ impl Adapter<'_> {
     }
 
     // Tells what was written and why the program stops.
-    pub(crate) fn stop(&mut self, stop: Stop, out: &mut Outbox) -> Result<(), Memory>
-        ensures { self.new.session ≡ self.old.session }
+    pub(crate) fn stop(&mut self, end: End, out: &mut Outbox) -> Result<(), Memory>
+        ensures session { self.new.session ≡ self.old.session }
+        ensures rests { is_some self.new.way ≡ false }
     {
         self.way = None;
         self.fault = None;
         self.printed.tell(self.alloc, self.session.world(), out)?;
-        match stop {
-            Stop::Halt => self.stopped("halt", Some("HLT"), out),
-            Stop::Fault(fault) => {
+        match end {
+            End::Halt => self.stopped("halt", Some("HLT"), out),
+            End::Fault(fault) => {
                 self.fault = Some(fault);
                 let text = format!(in self.alloc; "{fault}")?;
                 self.stopped("exception", Some(text.as_str()), out)
             }
-            Stop::Data(_) => self.stopped("data breakpoint", None, out),
-            Stop::Line => self.stopped("breakpoint", None, out),
-            Stop::Instruction => self.stopped("instruction breakpoint", None, out),
-            Stop::Arrived => self.stopped("step", None, out),
-            Stop::Start => self.stopped("entry", None, out),
-            Stop::Memory => self.stopped("exception", Some("T1 out of memory"), out),
+            End::Until(_) => self.stopped("data breakpoint", None, out),
+            End::Break => {
+                let reason = self.points.reason_at(self.session.world().loc());
+                self.stopped(reason, None, out)
+            }
+            End::Arrived | End::Limit => self.stopped("step", None, out),
+            End::Start => self.stopped("entry", None, out),
         }
+    }
+
+    // Tells that memory was refused for a run.
+    fn stop_for_memory(&mut self, out: &mut Outbox) -> Result<(), Memory>
+        ensures session { self.new.session ≡ self.old.session }
+        ensures rests { is_some self.new.way ≡ false }
+    {
+        self.way = None;
+        self.fault = None;
+        self.printed.tell(self.alloc, self.session.world(), out)?;
+        self.stopped("exception", Some("T1 out of memory"), out)
     }
 
     pub(crate) fn stopped(
@@ -150,4 +164,20 @@ impl Adapter<'_> {
         body.text("breakMode", "always")?;
         Ok(body.done())
     }
+}
+
+// The next piece of a run, and how it has ended.
+fn run_piece(session: &mut Session, points: &Points, way: Way) -> Result<End, Memory>
+    ensures program { session.new.program ≡ session.old.program }
+    ensures first { session.new.timeline.first ≡ session.old.timeline.first }
+    ensures effect { let effect = effect_of_piece way points.now session.old.timeline in
+        IfOk result (λ end. (session.new.timeline ≡ after effect) × (goes_on effect.answer ≡ is_limit end)) }
+    ensures begun { IfErr result (λ _. Begun (effect_of_piece way points.now session.old.timeline) session.new.timeline) }
+{
+    let (way, location) = match way {
+        Way::Forth(location) => (mix_session::Way::Again, location),
+        Way::Back => (mix_session::Way::Back, None),
+    };
+    let (_, end) = session.run(way, PIECE, &points.stops(location))?;
+    Ok(end)
 }

@@ -1,12 +1,13 @@
 //! `mix/change`: a change by its number.
 
 use crate::fault::Fault;
-use crate::value::{cell_name, indicator, register_bytes, toggle, word_bytes};
 use crate::view::{part_name, put_digits};
 use dap_message::{Fields, Request};
-use mix_machine::{Change, Unit, UnitNo, World, are_same_words};
+use mix_machine::{Change, UnitNo, World};
 use mix_refused::{Memory, Refused};
-use mix_session::{Altered, Session, alterations, change_text};
+use mix_session::{
+    Altered, Held, Session, UnitDifference, altered_by, change_text, unit_differences,
+};
 use serde_json::Value;
 use std::alloc::Global;
 
@@ -53,13 +54,12 @@ fn body(alloc: Global, number: u64, change: Change, worlds: Worlds<'_>) -> Resul
 
 fn items(alloc: Global, change: Change, worlds: Worlds<'_>) -> Result<Vec<Value>, Memory> {
     let mut list = Vec::new(alloc);
-    for part in alterations(alloc, worlds.before, worlds.after)?.iter() {
+    for part in altered_by(alloc, &change, worlds.before, worlds.after)?.iter() {
         match *part {
-            Altered::Loc | Altered::Clock if is_step(change) => {}
             Altered::Unit(number) => add_unit(alloc, &mut list, number, worlds)?,
             part => {
-                let before = value_of(alloc, part, worlds.before)?;
-                let after = value_of(alloc, part, worlds.after)?;
+                let before = held_text(alloc, worlds.before, part)?;
+                let after = held_text(alloc, worlds.after, part)?;
                 let mut item = item_of(alloc, part)?;
                 item.text("before", before.as_str())?;
                 item.text("after", after.as_str())?;
@@ -70,81 +70,41 @@ fn items(alloc: Global, change: Change, worlds: Worlds<'_>) -> Result<Vec<Value>
     Ok(list)
 }
 
-fn is_step(change: Change) -> bool {
-    matches!(change, Change::Step)
-}
-
 fn item_of(alloc: Global, part: Altered) -> Result<Fields, Memory> {
     let mut item = Fields::new(alloc);
     item.text("part", part_name(alloc, part)?.as_str())?;
     Ok(item)
 }
 
-// What a part other than a unit holds.
-fn value_of(alloc: Global, part: Altered, world: &World) -> Result<String, Memory> {
-    match part {
-        Altered::Register(register) => { register_bytes(alloc, register, world.register(register)) }
-        Altered::Over => Ok(String::from_str(alloc, toggle(world.over()))?),
-        Altered::Cmp => Ok(String::from_str(alloc, indicator(world.cmp()))?),
-        Altered::Loc => cell_name(alloc, world.loc()),
-        Altered::Clock => {
-            let clock = world.clock();
-            let text = format!(in alloc; "{clock}")?;
-            Ok(text)
-        }
-        Altered::Cell(place) => word_bytes(alloc, world.cell(place)),
-        Altered::Break(place) => Ok(String::from_str(alloc, toggle(world.is_break(place)))?),
-        Altered::Unit(_) => Ok(String::new(alloc)),
-    }
+fn held_text(alloc: Global, world: &World, part: Altered) -> Result<String, Memory> {
+    let held = Held(world, part);
+    let text = format!(in alloc; "{held}")?;
+    Ok(text)
 }
 
-// The items of a unit: each block that has another word, and each number that is another.
+// An item for each block and each number of a unit that differs.
 fn add_unit(
     alloc: Global,
     list: &mut Vec<Value>,
-    number: UnitNo,
+    unit: UnitNo,
     worlds: Worlds<'_>,
 ) -> Result<(), Memory> {
-    let (before, after) = (worlds.before.unit(number), worlds.after.unit(number));
-    for i in 0..before.blocks().min(after.blocks()) {
-        if !is_same_block(before, after, i) {
-            let mut item = item_of(alloc, Altered::Unit(number))?;
-            item.number("block", u64::from(i))?;
-            list.push(item.done())?;
+    let (before, after) = (worlds.before.unit(unit), worlds.after.unit(unit));
+    for difference in unit_differences(alloc, before, after)?.iter() {
+        list.push(unit_item(alloc, unit, *difference)?)?;
+    }
+    Ok(())
+}
+
+fn unit_item(alloc: Global, unit: UnitNo, difference: UnitDifference) -> Result<Value, Memory> {
+    let mut item = item_of(alloc, Altered::Unit(unit))?;
+    match difference {
+        UnitDifference::Block(block) => item.number("block", u64::from(block))?,
+        UnitDifference::Number(number, before, after) => {
+            item.text("what", number.name())?;
+            put_digits(alloc, &mut item, "before", u128::from(before))?;
+            put_digits(alloc, &mut item, "after", u128::from(after))?;
         }
     }
-    let (from, to) = (u64::from(before.place()), u64::from(after.place()));
-    add_number(alloc, list, number, "place", from, to)?;
-    let (from, to) = (u64::from(before.blocks()), u64::from(after.blocks()));
-    add_number(alloc, list, number, "blocks", from, to)?;
-    let (from, to) = (u64::from(before.rows()), u64::from(after.rows()));
-    add_number(alloc, list, number, "output", from, to)?;
-    add_number(alloc, list, number, "until", before.until(), after.until())
-}
-
-fn is_same_block(before: &Unit, after: &Unit, i: u16) -> bool {
-    match (before.block(i), after.block(i)) {
-        (Some(words), Some(others)) => are_same_words(words, others),
-        _ => true,
-    }
-}
-
-// An item of a number of a unit, if it is another.
-fn add_number(
-    alloc: Global,
-    list: &mut Vec<Value>,
-    unit: UnitNo,
-    name: &str,
-    before: u64,
-    after: u64,
-) -> Result<(), Memory> {
-    if before == after {
-        return Ok(());
-    }
-    let mut item = item_of(alloc, Altered::Unit(unit))?;
-    item.text("what", name)?;
-    put_digits(alloc, &mut item, "before", u128::from(before))?;
-    put_digits(alloc, &mut item, "after", u128::from(after))?;
-    list.push(item.done())?;
-    Ok(())
+    Ok(item.done())
 }

@@ -6,6 +6,7 @@ use crate::view::{put_digits, put_word};
 use dap_message::{Fields, Request};
 use mix_machine::{Unit, UnitKind, UnitNo, Word, World};
 use mix_refused::{Memory, Refused};
+use mix_session::was_used;
 use serde_json::Value;
 use std::alloc::Global;
 
@@ -21,7 +22,7 @@ pub(crate) fn units_view(
     } else {
         for number in 0..21u8 {
             if let Some(unit) = UnitNo::of(number) {
-                if is_used(world.unit(unit)) {
+                if was_used(world.unit(unit)) {
                     units.push(unit_fields(alloc, world, unit)?.done())?;
                 }
             }
@@ -30,10 +31,6 @@ pub(crate) fn units_view(
     let mut body = Fields::new(alloc);
     body.list("units", units)?;
     Ok(body.done())
-}
-
-fn is_used(unit: &Unit) -> bool {
-    unit.place() > 0 || unit.blocks() > 0 || unit.rows() > 0 || unit.delay() > 0 || unit.until() > 0
 }
 
 // One unit, with the words of a block where that is asked for.

@@ -1,7 +1,7 @@
 //! What `show all` writes of the machine: its registers, the cells that are not +0, its breakpoints, and the units that hold something.
 
 ghost use Rattle.std.specs.Prelude.{◌≡◌, ◌<◌, IfOk, string_bytes};
-ghost use Rattle.mix_session.specs.Show.{is_used, used_unit_text, all_text};
+ghost use Rattle.mix_session.specs.Show.{is_used, was_used, used_unit_text, all_text};
 
 use crate::show::cells::{Breakpoints, CELLS, Cells, FilledCells};
 use crate::show::each::{Each, Numbered};
@@ -32,6 +32,13 @@ fn is_used(unit: &Unit) -> bool
     ensures { result ≡ is_used unit.now }
 {
     0 < unit.place() || 0 < unit.blocks() || 0 < unit.rows() || 0 < unit.delay()
+}
+
+/// Whether a unit was used or holds something: it has something to show, or a transfer has set its time.
+pub fn was_used(unit: &Unit) -> bool
+    ensures { result ≡ was_used unit.now }
+{
+    is_used(unit) || 0 < unit.until()
 }
 
 /// The lines of the units that have something to show, by their numbers.

@@ -5,11 +5,13 @@ ghost use Rattle.undo_core.specs.Replay.{replay, TakesBack};
 ghost use Rattle.mix_machine.specs.Do.{does};
 ghost use Rattle.mix_machine.specs.Write.{put_value};
 ghost use Rattle.mix_machine.specs.declared.old.Change.TheVariants.{Step};
-ghost use Rattle.mix_session.specs.Change.{world_at, change_at, change_text, altered_text, change_columns, change_line, change_line_at, last_lines, diff_text};
+ghost use Rattle.mix_session.specs.Change.{world_at, change_at, change_text, change_columns, change_line, change_line_at, last_lines, diff_text};
+ghost use Rattle.mix_session.specs.Differences.{differences};
 
+use crate::altered::{Worlds, alterations, altered_by};
 use crate::reply::Location;
 use crate::show::columns::{add_left, add_right};
-use crate::show::differences::{Layout, Worlds, add_differences, add_places, add_registers};
+use crate::show::differences::{add_item_columns, add_item_lines};
 use crate::timeline::{earlier, unwind, world_of};
 use mix_machine::{Change, Old, Place, World};
 use mix_word::Instruction;
@@ -92,7 +94,8 @@ pub(crate) fn next_line(alloc: Global, journal: &Journal<World>) -> Result<Vec<u
         after: &after,
     };
     let change = next_change(journal);
-    Ok(line_of(alloc, number, &change, worlds)?)
+    let line = line_of(alloc, number, &change, worlds)?;
+    Ok(line)
 }
 
 /// The next change ahead; a step where there is none.
@@ -124,13 +127,14 @@ fn line_of(
     number: usize,
     change: &Change,
     worlds: Worlds<'_>,
-) -> Result<Vec<u8>, AllocError>
+) -> Result<Vec<u8>, Memory>
     ensures { IfOk result (λ text. text.items ≡ change_line number change.now worlds.entry.before.now worlds.entry.after.now) }
 {
     let mut text = Vec::new(alloc);
     let time = worlds.after.clock().saturating_sub(worlds.before.clock());
     add_columns(alloc, &mut text, number, change, worlds.before, time)?;
-    add_altered(alloc, &mut text, change, worlds)?;
+    let parts = altered_by(alloc, change, worlds.before, worlds.after)?;
+    add_item_columns(alloc, &mut text, worlds, &parts)?;
     text.push(b'\n')?;
     Ok(text)
 }
@@ -206,30 +210,6 @@ fn instruction_at(alloc: Global, world: &World) -> Result<String, AllocError>
     }
 }
 
-// What was altered; of a step but for the location and the clock.
-fn add_altered(
-    alloc: Global,
-    text: &mut Vec<u8>,
-    change: &Change,
-    worlds: Worlds<'_>,
-) -> Result<(), AllocError>
-    ensures { OnOk result (text.new.items ≡ text.old.items ++ altered_text change.now worlds.entry.before.now worlds.entry.after.now) }
-{
-    match *change {
-        Change::Step => {
-            add_registers(alloc, text, Layout::Columns, worlds)?;
-            add_places(alloc, text, Layout::Columns, worlds)
-        }
-        Change::SetReg(..)
-        | Change::SetCell(..)
-        | Change::SetLoc(_)
-        | Change::SetOver(_)
-        | Change::SetCmp(_)
-        | Change::Break(_)
-        | Change::Clear(_) => add_differences(alloc, text, Layout::Columns, worlds),
-    }
-}
-
 /// What differs between the state after the first changes of all and the state now.
 #[tactic(auto, unfolding(crate::specs::Change::diff_text))]
 pub(super) fn diff_lines(
@@ -246,8 +226,16 @@ pub(super) fn diff_lines(
         before: &then,
         after: world_of(journal),
     };
-    add_differences(alloc, &mut text, Layout::Lines, worlds)?;
+    add_differences(alloc, &mut text, worlds)?;
     Ok(text)
+}
+
+// Appends all that differs, each item on a line.
+fn add_differences(alloc: Global, text: &mut Vec<u8>, worlds: Worlds<'_>) -> Result<(), Memory>
+    ensures { OnOk result (text.new.items ≡ text.old.items ++ differences worlds.entry.before.now worlds.entry.after.now) }
+{
+    let parts = alterations(alloc, worlds.before, worlds.after)?;
+    add_item_lines(alloc, text, worlds, &parts)
 }
 
 /// The machine after the first changes of all, those done and those ahead: a copy that is led there.

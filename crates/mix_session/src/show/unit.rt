@@ -183,7 +183,7 @@ impl fmt::Display for Contents<'_> {
     }
 }
 
-pub(super) fn block_at(unit: &Unit, number: u16) -> &[Word]
+pub(crate) fn block_at(unit: &Unit, number: u16) -> &[Word]
     requires { number < length unit.now.blocks }
     ensures { result.now ≡ slice_index_or unit.now.blocks number [] }
 {

@@ -1,6 +1,6 @@
 -- What a cell more sets is set after those before it.
 use Rattle.std.proofs.Common.{◌∙◌}
-use Rattle.mix_dap.proofs.EffectLemmas.{sets-more}
+use Rattle.mix_dap.proofs.WrittenLemmas.{sets-more}
 use Rattle.mix_dap.proofs.set.set_cells.Goals as goal
 
 pub returns-in_err-set_cell-clause-sets : goal.returns-in_err-set_cell-clause-sets

@@ -1,5 +1,5 @@
 use Rattle.std.proofs.Common.{◌≡◌}
-use Rattle.mix_dap.specs.Effect.{SetsCells}
+use Rattle.mix_dap.specs.Written.{SetsCells}
 use Rattle.mix_dap.proofs.set.set_cells.Given as goal
 
 abbrev pub invariant-loop-cell : goal.invariant-loop-cell

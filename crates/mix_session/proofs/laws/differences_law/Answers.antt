@@ -1,5 +1,9 @@
-use Rattle.mix_session.proofs.SameWorld.{differences-none}
+use Rattle.mix_session.proofs.SameWorld.{alterations-none, differences-none}
 use Rattle.mix_session.proofs.laws.differences_law.Goals as goal
 
 pub returns : goal.returns
-returns c = λ layout v w h k. differences-none layout v w c.mark_law.ensures.same h k
+returns c = record {
+  parts = λ v w h k. alterations-none v w c.mark_law.ensures.same h k;
+  lines = λ v w h k. (differences-none v w c.mark_law.ensures.same h k).0;
+  columns = λ v w h k. (differences-none v w c.mark_law.ensures.same h k).1;
+}

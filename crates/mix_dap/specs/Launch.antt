@@ -1,0 +1,40 @@
+-- What a launch loads: the machine of a source, with the units of a deck and the cards of a text, or the fault of the first text that is at fault.
+use Rattle.std.specs.Prelude.{ℕ, List, Option, None, Some, Result, Ok, Err}
+use Rattle.mixal_text.specs.Steps.{◌>>=◌}
+use Rattle.mixal_asm.specs.Assembly.{assembly}
+use Rattle.mixal_asm.specs.Program.{ProgramValue}
+use Rattle.mixal_asm.specs.declared.fault.AsmFault.{AsmFault}
+use Rattle.mix_machine.specs.units.Units.{UnitsState}
+use Rattle.mix_machine.specs.units.deck.Deck.{deck_of, cards_of}
+use Rattle.mix_machine.specs.declared.units.deck_fault.DeckFault.{DeckFault}
+use Rattle.mix_session.specs.Session.{SessionState, opened}
+use Rattle.mix_dap.specs.declared.fault.Fault.{Fault}
+use Rattle.mix_dap.specs.declared.fault.Fault.TheVariants as fault
+
+abbrev pub or_source : Result ProgramValue AsmFault → Result ProgramValue Fault
+or_source (Ok program) = Ok program
+or_source (Err at) = Err (fault.Source at)
+
+abbrev pub or_deck : Result UnitsState DeckFault → Result UnitsState Fault
+or_deck (Ok units) = Ok units
+or_deck (Err at) = Err (fault.Deck at)
+
+abbrev pub or_cards : Result UnitsState DeckFault → Result UnitsState Fault
+or_cards (Ok units) = Ok units
+or_cards (Err at) = Err (fault.Cards at)
+
+-- the cards of a text in place of those of the deck, where there is one
+abbrev pub cards_launched : UnitsState → Option (List ℕ) → Result UnitsState Fault
+cards_launched units None = Ok units
+cards_launched units (Some cards) = or_cards (cards_of units cards)
+
+unfoldable pub units_launched : List ℕ → Option (List ℕ) → Result UnitsState Fault
+units_launched deck cards = do
+  units ← or_deck (deck_of deck)
+  cards_launched units cards
+
+unfoldable pub launched : List ℕ → List ℕ → Option (List ℕ) → Result SessionState Fault
+launched source deck cards = do
+  program ← or_source (assembly source)
+  units ← units_launched deck cards
+  Ok (opened program units)

@@ -1,0 +1,170 @@
+//! What a request of the client asks of the machine, read into values.
+
+ghost use Rattle.std.specs.Prelude.{◌≡◌, codes};
+ghost use Rattle.dap_message.specs.Request.{text_of, number_of};
+ghost use Rattle.mix_dap.specs.Deed.{or_refusal, goto_cell, goto_deed, is_settable, scope_asked, settable_part, change_deed, set_deed, is_console_of, line_deed, register_worth, worth_by, worth_of, looked_at, evaluate_deed, deed_of};
+
+use crate::fault::Fault;
+use crate::kind::Act;
+use crate::scope::{Scope, part_of, scope_of};
+use dap_message::Request;
+use mix_machine::{Change, Part, Place, Reg, Sign, Word};
+use mix_session::{Refusal, Session};
+use mixal_text::w_value;
+
+/// What is asked of the machine.
+#[derive(Clone, Copy)]
+pub(crate) enum Deed {
+    /// Nothing: a run is only begun, or something is looked at.
+    Nothing,
+    /// One step, which nothing stops.
+    Step,
+    /// A request of the session.
+    Do(mix_session::Request),
+}
+
+/// What an expression is worth.
+#[derive(Clone, Copy)]
+pub(crate) enum Worth {
+    /// The word of a W-value.
+    Word(Word),
+    /// What a register holds.
+    Register(Reg),
+}
+
+/// What a request asks of the machine that moves or changes it, or why it is refused.
+pub(crate) fn deed_of(act: Act, request: &Request, session: &Session) -> Result<Deed, Fault>
+    ensures { result ≡ deed_of act request.now session.now }
+{
+    match act {
+        Act::Step => Ok(Deed::Step),
+        Act::StepBack => Ok(Deed::Do(mix_session::Request::Back(1))),
+        Act::Continue | Act::StepOut | Act::ReverseContinue | Act::Begin => Ok(Deed::Nothing),
+        Act::Goto => goto_deed(request.number("targetId")),
+        Act::SetVariable => set_deed(request, session),
+        Act::Evaluate => evaluate_deed(request, session),
+    }
+}
+
+// The location is set to the cell of a target.
+fn goto_deed(target: Option<u64>) -> Result<Deed, Fault>
+    ensures { result ≡ goto_deed target }
+{
+    match target {
+        Some(cell) => goto_cell(cell),
+        None => Err(Fault::NoSuchThing),
+    }
+}
+
+fn goto_cell(cell: u64) -> Result<Deed, Fault>
+    ensures { result ≡ goto_cell cell }
+{
+    match u16::try_from(cell).ok().and_then(Place::of) {
+        Some(place) => Ok(Deed::Do(mix_session::Request::Change(Change::SetLoc(place)))),
+        None => Err(Fault::NoSuchThing),
+    }
+}
+
+// A variable is set to what a text says.
+#[tactic(auto, unfolding(crate::specs::Deed::set_deed))]
+fn set_deed(request: &Request, session: &Session) -> Result<Deed, Fault>
+    ensures { result ≡ set_deed session.now request.now }
+{
+    let scope = scope_asked(request.number("variablesReference"))?;
+    let name = request.text("name").ok_or(Fault::BadArgument)?;
+    let value = request.text("value").ok_or(Fault::BadArgument)?;
+    let part = settable_part(scope, name)?;
+    change_deed(session, part, value)
+}
+
+fn change_deed(session: &Session, part: Part, value: &str) -> Result<Deed, Fault>
+    ensures { result ≡ change_deed session.now part value.now }
+{
+    match session.setting(part, value.as_bytes()) {
+        Ok(change) => Ok(Deed::Do(mix_session::Request::Change(change))),
+        Err(refusal) => Err(Fault::Session(refusal)),
+    }
+}
+
+fn scope_asked(reference: Option<u64>) -> Result<Scope, Fault>
+    ensures { result ≡ scope_asked reference }
+{
+    match reference {
+        Some(reference) => scope_of(reference).ok_or(Fault::BadArgument),
+        None => Err(Fault::BadArgument),
+    }
+}
+
+// Whether the variables of a scope can be set.
+fn is_settable(scope: &Scope) -> bool
+    ensures { result ≡ is_settable scope.now }
+{
+    match scope {
+        Scope::Registers | Scope::Flags | Scope::Page(_) => true,
+        Scope::Units | Scope::Memory | Scope::Unit(_) => false,
+    }
+}
+
+// The part that a variable is, where it can be set.
+fn settable_part(scope: Scope, name: &str) -> Result<Part, Fault>
+    ensures { result ≡ settable_part scope name.now }
+{
+    if is_settable(&scope) {
+        part_of(scope, name).ok_or(Fault::NoSuchThing)
+    } else {
+        Err(Fault::NoSuchThing)
+    }
+}
+
+// In the console a line of the script, elsewhere an expression.
+#[tactic(auto, unfolding(crate::specs::Deed::evaluate_deed))]
+fn evaluate_deed(request: &Request, session: &Session) -> Result<Deed, Fault>
+    ensures { result ≡ evaluate_deed session.now request.now }
+{
+    let text = request.text("expression").ok_or(Fault::BadArgument)?;
+    if is_console(request) {
+        line_deed(session, text)
+    } else {
+        looked_at(worth_of(session, text))
+    }
+}
+
+// A line of the script, as the session reads it.
+fn line_deed(session: &Session, line: &str) -> Result<Deed, Fault>
+    ensures { result ≡ line_deed session.now line.now }
+{
+    match session.read(line.as_bytes()) {
+        Ok(request) => Ok(Deed::Do(request)),
+        Err(refusal) => Err(Fault::Session(refusal)),
+    }
+}
+
+fn looked_at(worth: Option<Worth>) -> Result<Deed, Fault>
+    ensures { result ≡ looked_at worth }
+{
+    match worth {
+        Some(_) => Ok(Deed::Nothing),
+        None => Err(Fault::Session(Refusal::BadArgument)),
+    }
+}
+
+/// What an expression is worth, in which the asterisk stands for the location, if it is worth anything.
+pub(crate) fn worth_of(session: &Session, text: &str) -> Option<Worth>
+    ensures { result ≡ worth_of session.now text.now }
+{
+    let here = Word::of(Sign::Plus, u32::from(session.world().loc()));
+    match w_value(text.as_bytes(), session.program(), here) {
+        Ok(word) => Some(Worth::Word(word)),
+        Err(_) => Some(Worth::Register(Reg::named(text.as_bytes())?)),
+    }
+}
+
+/// Whether an expression is from the console.
+pub(crate) fn is_console(request: &Request) -> bool
+    ensures { result ≡ is_console_of request.now }
+{
+    match request.text("context") {
+        Some(context) => context == "repl",
+        None => false,
+    }
+}

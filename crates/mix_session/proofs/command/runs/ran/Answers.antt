@@ -1,0 +1,10 @@
+-- The answer is made of the steps that were done.
+use Rattle.std.proofs.Common.{refl}
+use Rattle.mix_session.specs.declared.command.stops.Way.TheVariants.{New}
+use Rattle.mix_session.proofs.CommandLemmas.{effect_of_run-is}
+use Rattle.mix_session.proofs.command.runs.ran.Goals as goal
+
+pub returns : goal.returns
+returns c =
+    let done = c.in_ok-done.ensures in
+    rw (effect_of_run-is New c.args.stops.now c.args.journal.now c.args.count _ _ done.within done.end done.least) (done.first, done.moved, refl)

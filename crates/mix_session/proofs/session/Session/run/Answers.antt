@@ -1,0 +1,21 @@
+-- The run is that of the journal, which is the timeline of the session.
+use Rattle.std.proofs.Common.{◌∙◌, ap, Some}
+use Rattle.mix_session.specs.Command.{effect_of_run, Begun}
+use Rattle.mix_session.specs.Session.{SessionState}
+use Rattle.mix_session.proofs.CommandLemmas.{if_err, Begun-none, run-effect, limit-is}
+use Rattle.mix_session.proofs.session.Session.run.Goals as goal
+
+pub returns-in_err-marks-clause-begun : goal.returns-in_err-marks-clause-begun
+returns-in_err-marks-clause-begun c =
+    if_err c.from_residual.result (Begun (effect_of_run c.args.way c.args.stops.now c.args.self.now.timeline c.args.most) c.args.self.now.timeline)
+    (Begun-none c.args.way c.args.stops.now c.args.self.now.timeline c.args.most)
+
+pub returns-clause-effect : goal.returns-clause-effect
+returns-clause-effect c =
+    let done = c.in_ok-made.ensures in
+    run-effect c.args.way c.args.stops.now c.args.self.now.timeline c.self.inside.journal c.run_on.new.journal c.args.most _ _
+    (ap (λ (s : SessionState). s.timeline) c.self.view_is) done.moved done.within done.end done.least
+
+pub returns-clause-limit : goal.returns-clause-limit
+returns-clause-limit c =
+    λ is. limit-is c.args.way c.args.stops.now c.self.inside.journal c.args.most _ (c.in_ok-made.ensures.end ∙ ap Some is)

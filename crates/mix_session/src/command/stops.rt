@@ -1,0 +1,156 @@
+//! What stops a run, and which way it goes.
+
+ghost use Rattle.std.specs.Prelude.{◌≡◌, ◌==◌, IfOk, Some, None, length, if◌then◌else◌};
+ghost use Rattle.std.specs.List.{list_any};
+ghost use Rattle.std.specs.Option.{option_or};
+ghost use Rattle.mix_session.specs.Timeline.{is_at_break};
+ghost use Rattle.mix_session.specs.Command.{end_there, is_at_stop, is_awaited};
+ghost use Rattle.mix_session.specs.Marks.{AreMarks, first_met, end_by_marks};
+
+use crate::condition::Condition;
+use crate::reply::End;
+use mix_machine::{Mark, Place, World};
+use std::alloc::Global;
+use std::marker::Model;
+use undo_core::Memory;
+
+/// Which way a run goes.
+#[derive(Clone, Copy)]
+pub enum Way {
+    /// New steps are done, of which the first drops what stands ahead.
+    New,
+    /// A step that stands ahead is done again; where none does, a new one is done.
+    Again,
+    /// Changes are taken back, the last one first.
+    Back,
+}
+
+/// What stops a run beside a halt, a fault, the start and its number of changes.
+#[derive(Drop)]
+pub struct Stops<'a> {
+    /// Whether the breakpoints of the machine stop it.
+    pub breaks: bool,
+    /// Further cells at which it stops.
+    pub cells: &'a [Place],
+    /// What is watched: a run ends with the change that meets one of these, and tells the first that it meets, counted from 0.
+    pub watched: &'a [Condition],
+    /// A location that is waited for.
+    pub location: Option<u16>,
+}
+
+impl<'a> Model for Stops<'a> {
+    ghost use Rattle.mix_session.specs.Stops.{StopsState};
+
+    ghost Value = { StopsState };
+
+    ghost view = { λ s. record { breaks = s.breaks; cells = s.cells.now; watched = s.watched.now; location = s.location } };
+}
+
+/// The marks of what is watched.
+pub(crate) fn marks_of(
+    alloc: Global,
+    watched: &[Condition],
+    world: &World,
+) -> Result<Vec<Mark>, Memory>
+    ensures { IfOk result (λ marks. AreMarks watched.now marks.items world.now) }
+{
+    let mut marks = Vec::new(alloc);
+    for condition in watched {
+        marks.push(world.mark(condition.watched()))?;
+    }
+    Ok(marks)
+}
+
+/// Why a run ends after a change, if it does, by the marks before it, which are made those after it.
+pub(crate) fn end_of_move(
+    halts: bool,
+    stops: &Stops<'_>,
+    marks: &mut [Mark],
+    world: &World,
+) -> Option<End>
+    requires { length stops.now.watched ≡ length marks.old }
+    ensures end { result ≡ end_by_marks halts stops.now marks.old world.now }
+    ensures marks { AreMarks stops.now.watched marks.new world.now }
+{
+    let met = first_met(stops.watched, marks, world);
+    if halts {
+        return Some(End::Halt);
+    }
+    match met {
+        Some(index) => Some(End::Until(index)),
+        None => end_there(stops, world),
+    }
+}
+
+// Why a run ends at a state, whichever change led there.
+fn end_there(stops: &Stops<'_>, world: &World) -> Option<End>
+    ensures { result ≡ end_there stops.now world.now }
+{
+    if is_at_stop(stops, world) {
+        Some(End::Break)
+    } else if is_awaited(stops.location, world) {
+        Some(End::Arrived)
+    } else {
+        None
+    }
+}
+
+// Whether the machine is at a cell where the run stops.
+fn is_at_stop(stops: &Stops<'_>, world: &World) -> bool
+    ensures { result ≡ is_at_stop stops.now world.now }
+{
+    stops.breaks && is_at_break(world) || has_cell(stops.cells, world.loc())
+}
+
+// Whether the location is a cell that has a breakpoint.
+fn is_at_break(world: &World) -> bool
+    ensures { result ≡ is_at_break world.now }
+{
+    match Place::of(world.loc()) {
+        Some(place) => world.is_break(place),
+        None => false,
+    }
+}
+
+// Whether a location is one of some cells.
+fn has_cell(cells: &[Place], loc: u16) -> bool
+    ensures { result ≡ list_any (λ p. p == loc) cells.now }
+{
+    cells.iter().any(|place| place.number() == loc)
+}
+
+// Whether the location is the one that is waited for.
+fn is_awaited(location: Option<u16>, world: &World) -> bool
+    ensures { result ≡ is_awaited location world.now }
+{
+    match location {
+        Some(location) => world.loc() == location,
+        None => false,
+    }
+}
+
+// The first of the conditions that a change meets, by the marks before it, which are made those after it.
+fn first_met(watched: &[Condition], marks: &mut [Mark], world: &World) -> Option<usize>
+    requires { length watched.now ≡ length marks.old }
+    ensures first { result ≡ first_met 0 watched.now marks.old world.now }
+    ensures marks { AreMarks watched.now marks.new world.now }
+{
+    let mut found = None;
+    for index in 0..watched.len() {
+        let condition = watched[index];
+        let now = world.mark(condition.watched());
+        found = first_of(found, condition.is_met(&marks[index], &now, &now), index);
+        marks[index] = now;
+    }
+    found
+}
+
+// The first index that is found, of which `found` is the first before this one.
+fn first_of(found: Option<usize>, is_met: bool, index: usize) -> Option<usize>
+    ensures { result ≡ option_or found (if is_met then Some index else None) }
+{
+    match found {
+        None if is_met => Some(index),
+        found => found,
+    }
+}

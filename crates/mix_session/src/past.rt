@@ -1,0 +1,50 @@
+//! What is asked of the changes: the machine after each of them, what each did, and how often each instruction was executed.
+
+ghost use Rattle.std.specs.Prelude.{◌≡◌, ◌<◌, ℕ, IfOk, string_bytes};
+ghost use Rattle.mix_session.specs.Change.{world_at, change_text};
+ghost use Rattle.mix_session.specs.Counts.{tally_at, tally_of_all};
+ghost use Rattle.mix_session.specs.Client.{change_numbered};
+ghost use Rattle.mix_session.specs.Tally.{tally_in};
+
+use crate::session::Session;
+use crate::show::changes;
+use crate::show::counts::{Tallies, tallies_of};
+use mix_machine::{Change, World};
+use std::alloc::Global;
+use undo_core::Memory;
+
+impl Session<'_> {
+    /// The machine after the first so many of all changes, those done and those that stand ahead; after all of them where there are fewer. Only
+    /// out of memory refuses it.
+    pub fn world_at(&self, alloc: Global, number: usize) -> Result<World, Memory>
+        ensures { IfOk result (λ w. w ≡ world_at self.now.timeline number) }
+    {
+        changes::world_at(alloc, self.journal(), number)
+    }
+
+    /// The change of a number, counted from 1, of those done and those that stand ahead; none where there is no such number.
+    pub fn change_at(&self, number: usize) -> Option<Change>
+        ensures { result ≡ change_numbered self.now.timeline number }
+    {
+        match number {
+            0 => None,
+            _ => self.journal().all().get(number - 1),
+        }
+    }
+
+    /// How often the instruction of each cell was executed by the changes done, and how long that took; and the same of all cells. Only out of
+    /// memory refuses it.
+    pub fn counts(&self, alloc: Global) -> Result<Tallies, Memory>
+        ensures cells { IfOk result (λ tallies. (p : ℕ) → p < 4000 → tally_in tallies.cells.items p ≡ tally_at self.now.timeline p) }
+        ensures all { IfOk result (λ tallies. tallies.all ≡ tally_of_all self.now.timeline) }
+    {
+        tallies_of(alloc, self.journal())
+    }
+}
+
+/// What a change does to a machine, as `show last` has it: of a step, the instruction at the location. Only out of memory refuses it.
+pub fn change_text(alloc: Global, change: &Change, before: &World) -> Result<String, Memory>
+    ensures { IfOk result (λ s. string_bytes s ≡ change_text before.now change.now) }
+{
+    Ok(changes::change_text(alloc, change, before)?)
+}

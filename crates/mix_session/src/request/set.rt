@@ -1,0 +1,104 @@
+//! What `set` sets, and what is waited for after `until`.
+
+ghost use Rattle.std.specs.Prelude.{◌≡◌, Ok, Err};
+ghost use Rattle.mix_session.specs.Request.{condition_alone, condition_in, change_of, change_in, one_value, setting_of};
+
+use crate::condition::Condition;
+use crate::fault::Refusal;
+use crate::keyword::{SetWord, UntilWord};
+use crate::request::operand::{
+    expression_in, first_keyword, keyword, no_word, one_place, one_unit, one_word, place_of,
+    two_words, word_in,
+};
+use mix_lines::Words;
+use mix_machine::{Change, Part, Word};
+use mixal_text::Names;
+
+// The change that `set` asks for.
+#[tactic(auto, unfolding(crate::specs::Request::change_in))]
+pub(crate) fn read_change<N: Names>(
+    words: &mut Words,
+    names: &N,
+    here: Word,
+) -> Result<Change, Refusal>
+    ensures { result ≡ change_in (N.names names.now) here words.old }
+{
+    let target: SetWord = first_keyword(words)?;
+    match target {
+        SetWord::Register(register) => read_setting(Part::Register(register), words, names, here),
+        SetWord::Cell => read_cell(words, names, here),
+        SetWord::Location => read_setting(Part::Loc, words, names, here),
+        SetWord::Toggle => read_setting(Part::Over, words, names, here),
+        SetWord::Indicator => read_setting(Part::Cmp, words, names, here),
+    }
+}
+
+/// The change that sets a part to what the only word left says: a W-value for a register or a
+/// cell, an expression for the location, a keyword for the toggle or the indicator.
+pub(crate) fn read_setting<N: Names>(
+    part: Part,
+    words: &mut Words,
+    names: &N,
+    here: Word,
+) -> Result<Change, Refusal>
+    ensures { result ≡ setting_of (N.names names.now) here part words.old }
+{
+    match part {
+        Part::Register(register) => Ok(Change::SetReg(register, one_value(words, names, here)?)),
+        Part::Cell(place) => Ok(Change::SetCell(place, one_value(words, names, here)?)),
+        Part::Loc => Ok(Change::SetLoc(one_place(words, names, here)?)),
+        Part::Over => Ok(Change::SetOver(keyword(one_word(words)?)?)),
+        Part::Cmp => Ok(Change::SetCmp(keyword(one_word(words)?)?)),
+        Part::Unit(_) | Part::Clock => Err(Refusal::BadArgument),
+    }
+}
+
+// The W-value that the only word left is.
+fn one_value<N: Names>(words: &mut Words, names: &N, here: Word) -> Result<Word, Refusal>
+    ensures { result ≡ one_value (N.names names.now) here words.old }
+{
+    word_in(one_word(words)?, names, here)
+}
+
+// A cell, and the word that it gets.
+fn read_cell<N: Names>(words: &mut Words, names: &N, here: Word) -> Result<Change, Refusal>
+    ensures { result ≡ change_of (N.names names.now) here SetWord.Cell words.old }
+{
+    let (at, value) = two_words(words)?;
+    let at = expression_in(at, names, here)?;
+    let value = word_in(value, names, here)?;
+    Ok(Change::SetCell(place_of(at)?, value))
+}
+
+/// What is waited for.
+#[tactic(auto, unfolding(crate::specs::Request::condition_in))]
+pub(crate) fn read_condition<N: Names>(
+    words: &mut Words,
+    names: &N,
+    here: Word,
+) -> Result<Condition, Refusal>
+    ensures { result ≡ condition_in (N.names names.now) here words.old }
+{
+    let word: UntilWord = first_keyword(words)?;
+    match word {
+        UntilWord::Set(SetWord::Register(register)) => {
+            condition_alone(Condition::Alters(Part::Register(register)), words)
+        }
+        UntilWord::Set(SetWord::Toggle) => condition_alone(Condition::Alters(Part::Over), words),
+        UntilWord::Set(SetWord::Indicator) => condition_alone(Condition::Alters(Part::Cmp), words),
+        UntilWord::Set(SetWord::Cell) => {
+            let place = one_place(words, names, here)?;
+            Ok(Condition::Alters(Part::Cell(place)))
+        }
+        UntilWord::Set(SetWord::Location) => Ok(Condition::At(one_place(words, names, here)?)),
+        UntilWord::Unit => Ok(Condition::Alters(Part::Unit(one_unit(words)?))),
+    }
+}
+
+// A condition after which no word is left.
+fn condition_alone(condition: Condition, words: &mut Words) -> Result<Condition, Refusal>
+    ensures { result ≡ condition_alone condition words.old }
+{
+    no_word(words)?;
+    Ok(condition)
+}

@@ -1,0 +1,115 @@
+//! What `show` is to show.
+
+ghost use Rattle.std.specs.Prelude.{◌≡◌, Ok, Err};
+ghost use Rattle.mix_session.specs.Request.{last_topic, diff_topic, alone, range_of, cells_of, code_of, values_of, value_of, unit_topic, topic_in};
+
+use crate::fault::Refusal;
+use crate::keyword::ShowWord;
+use crate::request::Topic;
+use crate::request::operand::{
+    expression_in, first_keyword, from_one, no_word, number_in, one_unit, one_word, place_of,
+    two_words, word_in,
+};
+use mix_lines::Words;
+use mix_machine::{Place, Word};
+use mixal_text::Names;
+
+#[tactic(auto, unfolding(crate::specs::Request::topic_in))]
+pub(crate) fn read_topic<N: Names>(
+    words: &mut Words,
+    names: &N,
+    here: Word,
+) -> Result<Topic, Refusal>
+    ensures { result ≡ topic_in (N.names names.now) here words.old }
+{
+    let topic: ShowWord = first_keyword(words)?;
+    match topic {
+        ShowWord::Registers => alone(Topic::Registers, words),
+        ShowWord::Cells => read_cells(words, names, here),
+        ShowWord::Clock => alone(Topic::Clock, words),
+        ShowWord::Breaks => alone(Topic::Breaks, words),
+        ShowWord::Changes => alone(Topic::Changes, words),
+        ShowWord::Unit => read_unit(words),
+        ShowWord::All => alone(Topic::All, words),
+        ShowWord::Code => read_code(words, names, here),
+        ShowWord::Value => Ok(Topic::Value(word_in(one_word(words)?, names, here)?)),
+        ShowWord::Values => read_values(words, names, here),
+        ShowWord::Symbols => alone(Topic::Symbols, words),
+        ShowWord::Last => read_last(words),
+        ShowWord::Diff => read_diff(words),
+        ShowWord::Counts => alone(Topic::Counts, words),
+    }
+}
+
+// A topic after which no word is left.
+fn alone(topic: Topic, words: &mut Words) -> Result<Topic, Refusal>
+    ensures { result ≡ alone topic words.old }
+{
+    no_word(words)?;
+    Ok(topic)
+}
+
+fn read_cells<N: Names>(words: &mut Words, names: &N, here: Word) -> Result<Topic, Refusal>
+    ensures { result ≡ cells_of (N.names names.now) here words.old }
+{
+    let (first, last) = read_range(words, names, here)?;
+    Ok(Topic::Cells(first, last))
+}
+
+fn read_code<N: Names>(words: &mut Words, names: &N, here: Word) -> Result<Topic, Refusal>
+    ensures { result ≡ code_of (N.names names.now) here words.old }
+{
+    if words.is_end() {
+        let place = place_of(here)?;
+        Ok(Topic::Code(place, place))
+    } else {
+        let (first, last) = read_range(words, names, here)?;
+        Ok(Topic::Code(first, last))
+    }
+}
+
+fn read_values<N: Names>(words: &mut Words, names: &N, here: Word) -> Result<Topic, Refusal>
+    ensures { result ≡ values_of (N.names names.now) here words.old }
+{
+    if words.is_end() {
+        Ok(Topic::Values)
+    } else {
+        let (first, last) = read_range(words, names, here)?;
+        Ok(Topic::CellValues(first, last))
+    }
+}
+
+// The cells from one to another.
+fn read_range<N: Names>(words: &mut Words, names: &N, here: Word) -> Result<(Place, Place), Refusal>
+    ensures { result ≡ range_of (N.names names.now) here words.old }
+{
+    let (from, to) = two_words(words)?;
+    let from = expression_in(from, names, here)?;
+    let to = expression_in(to, names, here)?;
+    let (from, to) = (place_of(from)?, place_of(to)?);
+    if to.number() < from.number() {
+        Err(Refusal::OutOfRange)
+    } else {
+        Ok((from, to))
+    }
+}
+
+fn read_unit(words: &mut Words) -> Result<Topic, Refusal>
+    ensures { result ≡ unit_topic words.old }
+{
+    Ok(Topic::Unit(one_unit(words)?))
+}
+
+fn read_last(words: &mut Words) -> Result<Topic, Refusal>
+    ensures { result ≡ last_topic words.old }
+{
+    let count = from_one(number_in(one_word(words)?)?)?;
+    Ok(Topic::Last(count))
+}
+
+fn read_diff(words: &mut Words) -> Result<Topic, Refusal>
+    ensures { result ≡ diff_topic words.old }
+{
+    let number = number_in(one_word(words)?)?;
+    Ok(Topic::Diff(number))
+}
