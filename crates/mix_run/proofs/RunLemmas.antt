@@ -7,12 +7,11 @@ use Rattle.mix_session.specs.Session.{SessionState, opened, effect_in}
 use Rattle.mix_session.specs.Command.{after, reply_of}
 use Rattle.mix_session.specs.Answer.{told_of}
 use Rattle.mix_lines.specs.Lines.{lines, lines-nil}
-use Rattle.mix_run.specs.Output.{IsDeckRefusal, Outcome, Meets, outcome_of, replies, outcome_of_script, bundle_output, output, list_output, list_outcome, status_of, TooLong, Ended}
+use Rattle.mix_run.specs.Output.{IsDeckRefusal, Outcome, Meets, outcome_of, replies, outcome_of_script, bundle_output, output, list_output, list_outcome, status_of, refusal_of, TooLong, Ended}
 use Rattle.mix_stream.specs.Stream.{AppendsFront, ConsumesAtMost}
 use Rattle.mix_run.specs.Bundle.{cut_of}
 use Rattle.mix_run.specs.UnitsRead.{GivesUnits}
 use Rattle.mixal_asm.specs.Assembly.{assembly}
-use Rattle.mixal_asm.specs.Fault.{asm_fault_line}
 use Rattle.mixal_asm.specs.Program.{ProgramValue}
 use Rattle.mixal_asm.specs.declared.fault.AsmFault.{AsmFault}
 use Rattle.mix_machine.specs.units.Units.{UnitsState}
@@ -177,7 +176,7 @@ Meets-listed source read made done old new e f met =
 
 -- a refused source
 pub Meets-refused : (source read deck script : List ℕ) (fault : AsmFault) (done : Result ℕ ToolFault) (old new : Option (List ℕ)) →
-    read ≡ take 1048577 source → assembly read ≡ Err fault → Meets (Ended (asm_fault_line fault ++ 10 ∷ []) 1) done old new →
+    read ≡ take 1048577 source → assembly read ≡ Err fault → Meets (refusal_of fault) done old new →
     Meets (output source deck script) done old new
 unfolding outcome_of
 Meets-refused source read deck script fault done old new e f met = Meets-source source read deck script (Err fault) done old new e f met

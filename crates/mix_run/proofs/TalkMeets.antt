@@ -4,7 +4,6 @@ use Rattle.std.proofs.lemmas.Bool.{le-ltb}
 use Rattle.std.specs.Io.KnownBytes.{Appends, Keeps}
 use Rattle.mix_lines.specs.Lines.{lines}
 use Rattle.mixal_asm.specs.Assembly.{assembly}
-use Rattle.mixal_asm.specs.Fault.{asm_fault_line}
 use Rattle.mixal_asm.specs.Program.{ProgramValue}
 use Rattle.mixal_asm.specs.declared.fault.AsmFault.{AsmFault}
 use Rattle.mix_machine.specs.units.Units.{UnitsState}
@@ -18,7 +17,7 @@ use Rattle.mix_session.specs.Wrapped.{fault_of_read}
 use Rattle.mix_session.specs.declared.reply.Told.{Told}
 use Rattle.mix_session.specs.declared.fault.ToolFault.{ToolFault}
 use Rattle.mix_session.specs.declared.fault.ToolFault.TheVariants as faults
-use Rattle.mix_run.specs.Output.{DeckRefused, Ended, Meets, TooLong, max_script_bytes, outcome_of, outcome_of_script, replies, status_of}
+use Rattle.mix_run.specs.Output.{DeckRefused, Ended, Meets, TooLong, max_script_bytes, outcome_of, outcome_of_script, refusal_of, replies, status_of}
 use Rattle.mix_run.specs.Talk.{AnswersRead, Talks, TalksWith, answers, asked, max_line_bytes, status_from}
 use Rattle.mix_run.specs.UnitsRead.{GivesUnits}
 use Rattle.mix_run.specs.declared.talk.aside.Talker.{Talker}
@@ -35,7 +34,7 @@ AnswersRead-nothing s talker t left told e = ([], [], t, e, refl, refl, refl, Ap
 -- nothing was written, and memory was refused or a read failed
 pub TalksWith-unread : (program : Result ProgramValue AsmFault) (units : Result UnitsState DeckFault) (talker : Talker) (t : List ℕ) (fault : Refusal Failed)
     (left told : Option (List ℕ)) → left ≡ Some t → TalksWith program units talker t (Err (fault_of_read fault)) left told told
-TalksWith-unread (Err f) units talker t fault left told e = Meets-unread (Ended (asm_fault_line f ++ 10 ∷ []) 1) fault told
+TalksWith-unread (Err f) units talker t fault left told e = Meets-unread (refusal_of f) fault told
 TalksWith-unread (Ok p) (Err f) talker t fault left told e = Meets-unread (DeckRefused f) fault told
 TalksWith-unread (Ok p) (Ok units) talker t reads.Memory left told e = (Err faults.Memory, refl, (0, omega arith, Appends-nothing told))
 TalksWith-unread (Ok p) (Ok units) talker t (reads.Fault failed) left told e =
@@ -73,7 +72,7 @@ TalksWith-source s read program units talker t result left old new e is talks =
 
 pub TalksWith-refused : (s read : List ℕ) (fault : AsmFault) (units : Result UnitsState DeckFault) (talker : Talker) (t : List ℕ)
     (result : Result ℕ ToolFault) (left old new : Option (List ℕ)) → read ≡ take 1048577 s → assembly read ≡ Err fault
-    → Meets (Ended (asm_fault_line fault ++ 10 ∷ []) 1) result old new → TalksWith (assembly s) units talker t result left old new
+    → Meets (refusal_of fault) result old new → TalksWith (assembly s) units talker t result left old new
 TalksWith-refused s read fault units talker t result left old new e is met =
     TalksWith-source s read (Err fault) units talker t result left old new e is met
 

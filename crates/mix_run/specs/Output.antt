@@ -57,6 +57,10 @@ status_of Refused = 3
 abbrev pub IsStatus : ℕ → Type 0
 IsStatus status = (status ≤ 3) × (status ≢ 2)
 
+-- a refused source: its first fault is all that is written
+abbrev pub refusal_of : AsmFault → Outcome
+refusal_of fault = Ended (asm_fault_line fault ++ 10 ∷ []) 1
+
 -- a script in a session
 unfoldable pub outcome_of_script : SessionState → List ℕ → Outcome
 outcome_of_script s script =
@@ -65,7 +69,7 @@ outcome_of_script s script =
 
 -- an assembled program, with its deck and its script
 unfoldable pub outcome_of : Result ProgramValue AsmFault → Result UnitsState DeckFault → List ℕ → Outcome
-outcome_of (Err fault) deck script = Ended (asm_fault_line fault ++ 10 ∷ []) 1
+outcome_of (Err fault) deck script = refusal_of fault
 outcome_of (Ok program) (Err fault) script = DeckRefused fault
 outcome_of (Ok program) (Ok units) script = outcome_of_script (opened program units) script
 
@@ -89,7 +93,7 @@ bundle_output input =
 
 -- a listing, or the first fault of its source
 abbrev pub list_outcome : Result ProgramValue AsmFault → Outcome
-list_outcome (Err fault) = Ended (asm_fault_line fault ++ 10 ∷ []) 1
+list_outcome (Err fault) = refusal_of fault
 list_outcome (Ok program) = Ended (listing program) 0
 
 unfoldable pub list_output : List ℕ → Outcome

@@ -4,7 +4,6 @@ use Rattle.std.specs.List.{list_any}
 use Rattle.std.specs.Str.{str_eq_ignore_ascii_case}
 use Rattle.std.specs.Io.KnownBytes.{Appends}
 use Rattle.mix_lines.specs.Lines.{is_line_feed, lines, words}
-use Rattle.mixal_asm.specs.Fault.{asm_fault_line}
 use Rattle.mixal_asm.specs.Program.{ProgramValue}
 use Rattle.mixal_asm.specs.declared.fault.AsmFault.{AsmFault}
 use Rattle.mix_machine.specs.units.Units.{UnitsState}
@@ -14,7 +13,7 @@ use Rattle.mix_session.specs.Command.{after}
 use Rattle.mix_session.specs.declared.fault.ToolFault.{ToolFault}
 use Rattle.mix_session.specs.declared.fault.ToolFault.TheVariants as faults
 use Rattle.mix_session.specs.declared.reply.Told.{Told}
-use Rattle.mix_run.specs.Output.{Ended, DeckRefused, Meets, Replies, replies, status_of}
+use Rattle.mix_run.specs.Output.{DeckRefused, Meets, Replies, refusal_of, replies, status_of}
 use Rattle.mix_stream.specs.Stream.{AppendsFront}
 use Rattle.mix_run.specs.declared.talk.aside.Talker.{Talker}
 use Rattle.mix_run.specs.declared.talk.aside.Talker.TheVariants.{Program, Person}
@@ -92,7 +91,7 @@ status_from (Err fault) = Err fault
 -- A talk with the program of a source and the units of a deck: where one of them is refused, that is answered, and no line is read.
 abbrev pub TalksWith : Result ProgramValue AsmFault → Result UnitsState DeckFault → Talker → List ℕ → Result ℕ ToolFault
     → Option (List ℕ) → Option (List ℕ) → Option (List ℕ) → Type 0
-TalksWith (Err fault) units talker text result left old new = Meets (Ended (asm_fault_line fault ++ 10 ∷ []) 1) result old new
+TalksWith (Err fault) units talker text result left old new = Meets (refusal_of fault) result old new
 TalksWith (Ok program) (Err fault) talker text result left old new = Meets (DeckRefused fault) result old new
 TalksWith (Ok program) (Ok units) talker text result left old new =
     (talk : Result Told ToolFault) × (result ≡ status_from talk) × Talks (opened program units) talker text talk left old new

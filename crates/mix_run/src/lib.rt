@@ -7,6 +7,7 @@ mod list;
 mod print;
 mod refusal;
 mod run;
+mod statuses;
 mod talk;
 mod units;
 
@@ -17,6 +18,7 @@ pub use mix_session::{
     ToolFault, back_and_forth_law,
 };
 pub use print::options::{PrintOptions, UnitSet};
-pub use print::{PrintAnswer, RanTo, RunEnd, run_printed};
+pub use print::{PrintAnswer, PrintTexts, RanTo, RunEnd, run_printed};
 pub use run::{run_bundle, run_debug};
-pub use talk::{Talker, run_talk};
+pub use statuses::{DONE, NOT_DONE, SOURCE_REFUSED};
+pub use talk::{Streams, Talker, run_talk};

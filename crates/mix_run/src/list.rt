@@ -9,6 +9,7 @@ ghost use Rattle.mix_session.specs.Session.{IsMemoryOrWrite};
 ghost use Rattle.mix_run.specs.Output.{Meets, Ended, IsStatus, list_output, list_outcome};
 
 use crate::run::refuse_source;
+use crate::statuses::DONE;
 use mix_refused::Refused;
 use mix_session::ToolFault;
 use mix_stream::{In, Out, read_up_to};
@@ -24,7 +25,7 @@ fn list<W: Out>(alloc: Global, program: &Program, out: &mut W) -> Result<u8, Too
     ensures ends { IfOk result IsStatus }
 {
     match program.write_listing(alloc, out) {
-        Ok(()) => Ok(0),
+        Ok(()) => Ok(DONE),
         Err(Refused::Memory) => Err(ToolFault::Memory),
         Err(Refused::Fault(_)) => Err(ToolFault::Write),
     }

@@ -27,6 +27,14 @@ use mixal_asm::{AsmFault, MAX_SOURCE_BYTES, Program, Source, assemble};
 use std::alloc::Global;
 pub use steps::RunEnd;
 
+/// The texts of a run: a source, a deck, and cards, which are read where they are asked for.
+#[derive(Drop)]
+pub struct PrintTexts<S, D, C> {
+    pub source: S,
+    pub deck: D,
+    pub cards: C,
+}
+
 /// Where a run came to: why it ended, the location and the clock in u then, and the line of the source that put the last word into the cell at
 /// that location, if one did. After a fault that is the line of the instruction at fault.
 #[derive(Clone, Copy)]
@@ -156,61 +164,62 @@ fn print_program<D: In, C: In, W: Out>(
 pub fn run_printed<S: In, D: In, C: In, W: Out, E: Out>(
     alloc: Global,
     name: &str,
-    source: &mut S,
-    deck: &mut D,
-    cards: &mut C,
+    texts: &mut PrintTexts<S, D, C>,
     options: PrintOptions,
     out: &mut W,
     errors: &mut E,
 ) -> Result<PrintAnswer, ToolFault>
-    requires source_count { S.failed source.old < 2 ^ 64 - 1 }
-    requires deck_count { D.failed deck.old < 2 ^ 64 - 1 }
-    requires cards_count { C.failed cards.old < 2 ^ 64 - 1 }
+    requires source_count { S.failed texts.old.source < 2 ^ 64 - 1 }
+    requires deck_count { D.failed texts.old.deck < 2 ^ 64 - 1 }
+    requires cards_count { C.failed texts.old.cards < 2 ^ 64 - 1 }
     requires out_count { W.failed out.old < 2 ^ 64 - 1 }
 
     // What is printed is what the loaded machine prints, run to its end, and the answer says where it came to.
-    ensures output { (s d c : List ℕ) → S.rest source.old ≡ Some s → D.rest deck.old ≡ Some d → C.rest cards.old ≡ Some c
+    ensures output { (s d c : List ℕ) → S.rest texts.old.source ≡ Some s → D.rest texts.old.deck ≡ Some d → C.rest texts.old.cards ≡ Some c
         → Prints (print_output options s d c) result (W.told out.old) (W.told out.new) }
 
     // A read or a write has failed exactly where that is answered.
-    ensures read { CountsFailure (result ≡ Err ToolFault.Read) (S.failed source.old + D.failed deck.old + C.failed cards.old)
-        (S.failed source.new + D.failed deck.new + C.failed cards.new) }
-    ensures reads { (S.failed source.old ≤ S.failed source.new) × (D.failed deck.old ≤ D.failed deck.new) × (C.failed cards.old ≤ C.failed cards.new) }
+    ensures read { CountsFailure (result ≡ Err ToolFault.Read) (S.failed texts.old.source + D.failed texts.old.deck + C.failed texts.old.cards)
+        (S.failed texts.new.source + D.failed texts.new.deck + C.failed texts.new.cards) }
+    ensures reads { (S.failed texts.old.source ≤ S.failed texts.new.source) × (D.failed texts.old.deck ≤ D.failed texts.new.deck) × (C.failed texts.old.cards ≤ C.failed texts.new.cards) }
     ensures write { CountsFailure (result ≡ Err ToolFault.Write) (W.failed out.old) (W.failed out.new) }
     ensures unread { result ≡ Err ToolFault.Read → Keeps (W.told out.old) (W.told out.new) }
 
     // Never more is read.
-    ensures source { ConsumesAtMost (S.rest source.old) (S.rest source.new) (max_source_bytes + 1) }
-    ensures deck { ConsumesAtMost (D.rest deck.old) (D.rest deck.new) (max_deck_bytes + 1) }
-    ensures cards { ConsumesAtMost (C.rest cards.old) (C.rest cards.new) (max_deck_bytes + 1) }
+    ensures source { ConsumesAtMost (S.rest texts.old.source) (S.rest texts.new.source) (max_source_bytes + 1) }
+    ensures deck { ConsumesAtMost (D.rest texts.old.deck) (D.rest texts.new.deck) (max_deck_bytes + 1) }
+    ensures cards { ConsumesAtMost (C.rest texts.old.cards) (C.rest texts.new.cards) (max_deck_bytes + 1) }
 
     // Cards that are not asked for are not read.
-    ensures no_cards { options.cards ≡ false → cards.new ≡ cards.old }
+    ensures no_cards { options.cards ≡ false → texts.new.cards ≡ texts.old.cards }
 
     // After a refusal nothing else is read.
-    ensures source_refused { (f : AsmFault) → result ≡ Ok (PrintAnswer.Refused f) → (deck.new ≡ deck.old) × (cards.new ≡ cards.old) }
+    ensures source_refused { (f : AsmFault) → result ≡ Ok (PrintAnswer.Refused f) → (texts.new.deck ≡ texts.old.deck) × (texts.new.cards ≡ texts.old.cards) }
 
     // Nor is it after a source or a deck that is to be refused, whatever the call answers.
-    ensures bad_source { (s : List ℕ) (f : AsmFault) → S.rest source.old ≡ Some s → assembly s ≡ Err f → (deck.new ≡ deck.old) × (cards.new ≡ cards.old) }
-    ensures bad_deck { (d : List ℕ) (f : DeckFault) → D.rest deck.old ≡ Some d → deck_of d ≡ Err f → cards.new ≡ cards.old }
+    ensures bad_source { (s : List ℕ) (f : AsmFault) → S.rest texts.old.source ≡ Some s → assembly s ≡ Err f → (texts.new.deck ≡ texts.old.deck) × (texts.new.cards ≡ texts.old.cards) }
+    ensures bad_deck { (d : List ℕ) (f : DeckFault) → D.rest texts.old.deck ≡ Some d → deck_of d ≡ Err f → texts.new.cards ≡ texts.old.cards }
 
     // Nor after a read that failed.
-    ensures source_failed { S.failed source.old < S.failed source.new → (deck.new ≡ deck.old) × (cards.new ≡ cards.old) }
-    ensures deck_failed { D.failed deck.old < D.failed deck.new → cards.new ≡ cards.old }
+    ensures source_failed { S.failed texts.old.source < S.failed texts.new.source → (texts.new.deck ≡ texts.old.deck) × (texts.new.cards ≡ texts.old.cards) }
+    ensures deck_failed { D.failed texts.old.deck < D.failed texts.new.deck → texts.new.cards ≡ texts.old.cards }
 
     // Each is read when the one before it has been read up to its end or its limit.
-    ensures in_turn { (s : List ℕ) → S.rest source.old ≡ Some s
-        → ((deck.new ≡ deck.old) × (cards.new ≡ cards.old)) ⊎ (S.rest source.new ≡ Some (drop (max_source_bytes + 1) s)) }
-    ensures cards_in_turn { (d : List ℕ) → D.rest deck.old ≡ Some d
-        → (cards.new ≡ cards.old) ⊎ (D.rest deck.new ≡ Some (drop (max_deck_bytes + 1) d)) }
+    ensures in_turn { (s : List ℕ) → S.rest texts.old.source ≡ Some s
+        → ((texts.new.deck ≡ texts.old.deck) × (texts.new.cards ≡ texts.old.cards)) ⊎ (S.rest texts.new.source ≡ Some (drop (max_source_bytes + 1) s)) }
+    ensures cards_in_turn { (d : List ℕ) → D.rest texts.old.deck ≡ Some d
+        → (texts.new.cards ≡ texts.old.cards) ⊎ (D.rest texts.new.deck ≡ Some (drop (max_deck_bytes + 1) d)) }
 {
-    let text = read_up_to(alloc, source, MAX_SOURCE_BYTES + 1)?;
+    let text = read_up_to(alloc, &mut texts.source, MAX_SOURCE_BYTES + 1)?;
     match assemble(alloc, &text) {
         Err(Refused::Memory) => Err(ToolFault::Memory),
         Err(Refused::Fault(fault)) => {
             tell_refusal(alloc, name, &text, &fault, errors);
             Ok(PrintAnswer::Refused(fault))
         }
-        Ok(program) => print_program(alloc, &program, deck, cards, options, out),
+        Ok(program) => {
+            let (deck, cards) = (&mut texts.deck, &mut texts.cards);
+            print_program(alloc, &program, deck, cards, options, out)
+        }
     }
 }

@@ -9,10 +9,11 @@ ghost use Rattle.mix_lines.specs.Lines.{lines};
 ghost use Rattle.mixal_asm.specs.Assembly.{assembly, max_source_bytes};
 ghost use Rattle.mix_machine.specs.units.deck.Deck.{deck_of, max_deck_bytes};
 ghost use Rattle.mix_session.specs.Session.{opened, IsMemoryOrWrite};
-ghost use Rattle.mix_run.specs.Output.{Meets, Ended, IsStatus, output, outcome_of, bundle_output, outcome_of_script, replies, status_of, max_script_bytes, max_bundle_bytes};
+ghost use Rattle.mix_run.specs.Output.{Meets, IsStatus, output, refusal_of, outcome_of, bundle_output, outcome_of_script, replies, status_of, max_script_bytes, max_bundle_bytes};
 ghost use Rattle.mix_stream.specs.Stream.{AppendsFront, ConsumesAtMost, CountsFailure};
 
 use crate::bundle::cut;
+use crate::statuses::{DONE, NOT_DONE, SOURCE_REFUSED};
 use crate::units::{read_units, units_of};
 use mix_lines::split_line;
 use mix_machine::Units;
@@ -28,12 +29,6 @@ const MAX_SCRIPT_BYTES: usize = 1_048_576;
 /// The most bytes that a bundle may have.
 const MAX_BUNDLE_BYTES: usize = 41_943_040;
 
-/// The status where the source is refused.
-const SOURCE_REFUSED: u8 = 1;
-
-/// The status where some command is refused.
-const COMMAND_REFUSED: u8 = 3;
-
 /// The first fault of a source is all that is written.
 pub(crate) fn refuse_source<W: Out>(
     alloc: Global,
@@ -41,7 +36,7 @@ pub(crate) fn refuse_source<W: Out>(
     out: &mut W,
 ) -> Result<u8, ToolFault>
     requires { W.failed out.old < 2 ^ 64 - 1 }
-    ensures output { Meets (Ended (asm_fault_line fault ++ 10 ∷ []) 1) result (W.told out.old) (W.told out.new) }
+    ensures output { Meets (refusal_of fault) result (W.told out.old) (W.told out.new) }
     ensures write { CountsFailure (result ≡ Err ToolFault.Write) (W.failed out.old) (W.failed out.new) }
     ensures only { IfErr result IsMemoryOrWrite }
     ensures ends { IfOk result IsStatus }
@@ -85,8 +80,8 @@ pub(crate) fn status(told: Told) -> u8
     ensures { result ≡ status_of told }
 {
     match told {
-        Told::Accepted => 0,
-        Told::Refused => COMMAND_REFUSED,
+        Told::Accepted => DONE,
+        Told::Refused => NOT_DONE,
     }
 }
 

@@ -1,11 +1,12 @@
 //! A talk with the program of a source: each line is a command, which is done and answered before the next is read.
 
-ghost use Rattle.std.specs.Prelude.{◌≡◌, ◌≢◌, ◌<◌, ◌≤◌, ◌+◌, ◌-◌, ◌^◌, ◌++◌, ◌∷◌, [], ℕ, List, Some, Ok, Err, IfErr, IfOk, length};
+ghost use Rattle.std.specs.Prelude.{◌≡◌, ◌≢◌, ◌⊎◌, ◌<◌, ◌≤◌, ◌+◌, ◌-◌, ◌^◌, ℕ, List, Some, Ok, Err, IfErr, IfOk, drop, length};
+ghost use Rattle.mixal_asm.specs.declared.fault.AsmFault.{AsmFault};
+ghost use Rattle.mix_machine.specs.declared.units.deck_fault.DeckFault.{DeckFault};
 ghost use Rattle.mixal_asm.specs.Assembly.{assembly, max_source_bytes};
 ghost use Rattle.mix_machine.specs.units.deck.Deck.{deck_of, max_deck_bytes};
-ghost use Rattle.mixal_asm.specs.Fault.{asm_fault_line};
 ghost use Rattle.mix_session.specs.Session.{IsMemoryOrWrite};
-ghost use Rattle.mix_run.specs.Output.{Ended, IsStatus, Meets, max_script_bytes, output};
+ghost use Rattle.mix_run.specs.Output.{IsStatus, Meets, max_script_bytes, output, refusal_of};
 ghost use Rattle.mix_run.specs.Talk.{TalksWith};
 ghost use Rattle.mix_stream.specs.Stream.{ConsumesAtMost, CountsFailure};
 
@@ -26,30 +27,47 @@ use mix_stream::{In, Out, read_up_to};
 use mixal_asm::{AsmFault, MAX_SOURCE_BYTES, Program, assemble};
 use std::alloc::Global;
 
+/// Where a talk goes on: who gives the lines, the input that has them, the output of the replies, and the error output, on which other things are
+/// told beside.
+#[derive(Drop)]
+pub struct Streams<R, W, E> {
+    pub talker: Talker,
+    pub input: R,
+    pub out: W,
+    pub errors: E,
+}
+
 // A talk on the machine that a program loads, with its units.
 fn talk_with<R: In, W: Out, E: Out>(
     alloc: Global,
     program: Program,
     units: Units,
-    talker: Talker,
-    input: &mut R,
-    out: &mut W,
-    errors: &mut E,
+    streams: &mut Streams<R, W, E>,
 ) -> Result<u8, ToolFault>
-    requires input_count { R.failed input.old < 2 ^ 64 - 1 }
-    requires out_count { W.failed out.old < 2 ^ 64 - 1 }
-    ensures talks { (t : List ℕ) → R.rest input.old ≡ Some t
-        → TalksWith (Ok program.entry) (Ok units) talker t result (R.rest input.new) (W.told out.old) (W.told out.new) }
-    ensures long { result ≡ Err ToolFault.Long → (t : List ℕ) → R.rest input.old ≡ Some t → max_script_bytes < length t }
-    ensures read { CountsFailure (result ≡ Err ToolFault.Read) (R.failed input.old) (R.failed input.new) }
-    ensures write { CountsFailure (result ≡ Err ToolFault.Write) (W.failed out.old) (W.failed out.new) }
-    ensures quiet { talker ≡ Talker.Program → errors.new ≡ errors.old }
+    requires input_count { R.failed streams.old.input < 2 ^ 64 - 1 }
+    requires out_count { W.failed streams.old.out < 2 ^ 64 - 1 }
+    ensures talks { (t : List ℕ) → R.rest streams.old.input ≡ Some t
+        → TalksWith (Ok program.entry) (Ok units) streams.old.talker t result (R.rest streams.new.input) (W.told streams.old.out) (W.told streams.new.out) }
+    ensures long { result ≡ Err ToolFault.Long → (t : List ℕ) → R.rest streams.old.input ≡ Some t → max_script_bytes < length t }
+    ensures read { CountsFailure (result ≡ Err ToolFault.Read) (R.failed streams.old.input) (R.failed streams.new.input) }
+    ensures write { CountsFailure (result ≡ Err ToolFault.Write) (W.failed streams.old.out) (W.failed streams.new.out) }
+    ensures status { result ≢ Ok 1 }
+    ensures deck { (f : DeckFault) → result ≢ Err (ToolFault.Deck f) }
+    ensures reads { R.failed streams.old.input ≤ R.failed streams.new.input }
+    ensures quiet { streams.old.talker ≡ Talker.Program → streams.new.errors ≡ streams.old.errors }
     ensures ends { IfOk result IsStatus }
 {
     let mut session = match Session::open(alloc, program, units) {
         Ok(session) => session,
         Err(Memory) => return Err(ToolFault::Memory),
     };
+    let Streams {
+        talker,
+        input,
+        out,
+        errors,
+    } = streams;
+    let talker = *talker;
     greet(talker, errors);
     match talk(alloc, &mut session, talker, input, out, errors) {
         Ok(told) => Ok(status(told)),
@@ -58,22 +76,22 @@ fn talk_with<R: In, W: Out, E: Out>(
 }
 
 // The first fault of a source is written, and told beside with its line and a mark.
-fn refuse_and_tell<W: Out, E: Out>(
+fn refuse_and_tell<R, W: Out, E: Out>(
     alloc: Global,
     name: &str,
     source: &[u8],
     fault: AsmFault,
-    out: &mut W,
-    errors: &mut E,
+    streams: &mut Streams<R, W, E>,
 ) -> Result<u8, ToolFault>
-    requires { W.failed out.old < 2 ^ 64 - 1 }
-    ensures output { Meets (Ended (asm_fault_line fault ++ 10 ∷ []) 1) result (W.told out.old) (W.told out.new) }
-    ensures write { CountsFailure (result ≡ Err ToolFault.Write) (W.failed out.old) (W.failed out.new) }
+    requires { W.failed streams.old.out < 2 ^ 64 - 1 }
+    ensures output { Meets (refusal_of fault) result (W.told streams.old.out) (W.told streams.new.out) }
+    ensures write { CountsFailure (result ≡ Err ToolFault.Write) (W.failed streams.old.out) (W.failed streams.new.out) }
     ensures only { IfErr result IsMemoryOrWrite }
+    ensures input { streams.new.input ≡ streams.old.input }
     ensures ends { IfOk result IsStatus }
 {
-    tell_refusal(alloc, name, source, &fault, errors);
-    refuse_source(alloc, fault, out)
+    tell_refusal(alloc, name, source, &fault, &mut streams.errors);
+    refuse_source(alloc, fault, &mut streams.out)
 }
 
 // A talk with the program of a source that is still to be read.
@@ -82,35 +100,45 @@ fn talk_of_source<S: In, D: In, R: In, W: Out, E: Out>(
     name: &str,
     source: &mut S,
     deck: &mut D,
-    talker: Talker,
-    input: &mut R,
-    out: &mut W,
-    errors: &mut E,
+    streams: &mut Streams<R, W, E>,
 ) -> Result<u8, ToolFault>
     requires source_count { S.failed source.old < 2 ^ 64 - 1 }
     requires deck_count { D.failed deck.old < 2 ^ 64 - 1 }
-    requires input_count { R.failed input.old < 2 ^ 64 - 1 }
-    requires out_count { W.failed out.old < 2 ^ 64 - 1 }
-    ensures talks { (s d t : List ℕ) → S.rest source.old ≡ Some s → D.rest deck.old ≡ Some d → R.rest input.old ≡ Some t
-        → TalksWith (assembly s) (deck_of d) talker t result (R.rest input.new) (W.told out.old) (W.told out.new) }
-    ensures long { result ≡ Err ToolFault.Long → (d t : List ℕ) → D.rest deck.old ≡ Some d → R.rest input.old ≡ Some t → max_script_bytes < length t }
-    ensures read { CountsFailure (result ≡ Err ToolFault.Read) (S.failed source.old + D.failed deck.old + R.failed input.old)
-        (S.failed source.new + D.failed deck.new + R.failed input.new) }
-    ensures write { CountsFailure (result ≡ Err ToolFault.Write) (W.failed out.old) (W.failed out.new) }
+    requires input_count { R.failed streams.old.input < 2 ^ 64 - 1 }
+    requires out_count { W.failed streams.old.out < 2 ^ 64 - 1 }
+    ensures talks { (s d t : List ℕ) → S.rest source.old ≡ Some s → D.rest deck.old ≡ Some d → R.rest streams.old.input ≡ Some t
+        → TalksWith (assembly s) (deck_of d) streams.old.talker t result (R.rest streams.new.input) (W.told streams.old.out) (W.told streams.new.out) }
+    ensures long { result ≡ Err ToolFault.Long → (d t : List ℕ) → D.rest deck.old ≡ Some d → R.rest streams.old.input ≡ Some t → max_script_bytes < length t }
+    ensures read { CountsFailure (result ≡ Err ToolFault.Read) (S.failed source.old + D.failed deck.old + R.failed streams.old.input)
+        (S.failed source.new + D.failed deck.new + R.failed streams.new.input) }
+    ensures reads { (S.failed source.old ≤ S.failed source.new) × (D.failed deck.old ≤ D.failed deck.new)
+        × (R.failed streams.old.input ≤ R.failed streams.new.input) }
+    ensures write { CountsFailure (result ≡ Err ToolFault.Write) (W.failed streams.old.out) (W.failed streams.new.out) }
     ensures source { ConsumesAtMost (S.rest source.old) (S.rest source.new) (max_source_bytes + 1) }
     ensures deck { ConsumesAtMost (D.rest deck.old) (D.rest deck.new) (max_deck_bytes + 1) }
+    ensures source_refused { result ≡ Ok 1 → (deck.new ≡ deck.old) × (streams.new.input ≡ streams.old.input) }
+    ensures deck_refused { (f : DeckFault) → result ≡ Err (ToolFault.Deck f) → streams.new.input ≡ streams.old.input }
+    ensures bad_source { (s : List ℕ) (f : AsmFault) → S.rest source.old ≡ Some s → assembly s ≡ Err f
+        → (deck.new ≡ deck.old) × (streams.new.input ≡ streams.old.input) }
+    ensures bad_deck { (d : List ℕ) (f : DeckFault) → D.rest deck.old ≡ Some d → deck_of d ≡ Err f → streams.new.input ≡ streams.old.input }
+    ensures source_failed { S.failed source.old < S.failed source.new → (deck.new ≡ deck.old) × (streams.new.input ≡ streams.old.input) }
+    ensures deck_failed { D.failed deck.old < D.failed deck.new → streams.new.input ≡ streams.old.input }
+    ensures in_turn { (s : List ℕ) → S.rest source.old ≡ Some s
+        → ((deck.new ≡ deck.old) × (streams.new.input ≡ streams.old.input)) ⊎ (S.rest source.new ≡ Some (drop (max_source_bytes + 1) s)) }
+    ensures input_in_turn { (d : List ℕ) → D.rest deck.old ≡ Some d
+        → (streams.new.input ≡ streams.old.input) ⊎ (D.rest deck.new ≡ Some (drop (max_deck_bytes + 1) d)) }
     ensures ends { IfOk result IsStatus }
 {
     let text = read_up_to(alloc, source, MAX_SOURCE_BYTES + 1)?;
     match assemble(alloc, &text) {
         Err(Refused::Memory) => Err(ToolFault::Memory),
-        Err(Refused::Fault(fault)) => refuse_and_tell(alloc, name, &text, fault, out, errors),
+        Err(Refused::Fault(fault)) => refuse_and_tell(alloc, name, &text, fault, streams),
         Ok(program) => {
             let units = match read_units(alloc, deck) {
                 Ok(units) => units,
                 Err(fault) => return Err(fault),
             };
-            talk_with(alloc, program, units, talker, input, out, errors)
+            talk_with(alloc, program, units, streams)
         }
     }
 }
@@ -119,7 +147,7 @@ fn talk_of_source<S: In, D: In, R: In, W: Out, E: Out>(
 /// and answered before the next is read. A person is greeted and prompted on the error output, and has `help` and `quit` beside the commands. The
 /// status is 0 where each command was accepted, 3 where one was refused, and 1 where the source is refused: then its first fault is written, and
 /// told on the error output with the name of the source, its line and a mark. At most 1,048,577 bytes of the source are read and 33,554,433 of the
-/// deck, before the first line is read.
+/// deck, before the first line is read; the deck is read after the source. After a refusal or a read that failed nothing else is read.
 ///
 /// It fails with T1 where memory is refused, with T2 or T3 where a read or a write fails, with T5 where the deck is refused, and with T6 where a line
 /// is over 1,048,576 bytes. After T2 and T6 the replies to the lines before it have been written, after T1 and T3 a beginning of them.
@@ -129,37 +157,55 @@ pub fn run_talk<S: In, D: In, R: In, W: Out, E: Out>(
     name: &str,
     source: &mut S,
     deck: &mut D,
-    talker: Talker,
-    input: &mut R,
-    out: &mut W,
-    errors: &mut E,
+    streams: &mut Streams<R, W, E>,
 ) -> Result<u8, ToolFault>
     requires source_count { S.failed source.old < 2 ^ 64 - 1 }
     requires deck_count { D.failed deck.old < 2 ^ 64 - 1 }
-    requires input_count { R.failed input.old < 2 ^ 64 - 1 }
-    requires out_count { W.failed out.old < 2 ^ 64 - 1 }
+    requires input_count { R.failed streams.old.input < 2 ^ 64 - 1 }
+    requires out_count { W.failed streams.old.out < 2 ^ 64 - 1 }
 
     // What is written are the replies to the lines, each before the next is read.
-    ensures talks { (s d t : List ℕ) → S.rest source.old ≡ Some s → D.rest deck.old ≡ Some d → R.rest input.old ≡ Some t
-        → TalksWith (assembly s) (deck_of d) talker t result (R.rest input.new) (W.told out.old) (W.told out.new) }
+    ensures talks { (s d t : List ℕ) → S.rest source.old ≡ Some s → D.rest deck.old ≡ Some d → R.rest streams.old.input ≡ Some t
+        → TalksWith (assembly s) (deck_of d) streams.old.talker t result (R.rest streams.new.input) (W.told streams.old.out) (W.told streams.new.out) }
 
     // Where no read fails, it is what a script of these lines writes.
-    ensures as_script { (s d t : List ℕ) → S.rest source.old ≡ Some s → D.rest deck.old ≡ Some d → R.rest input.old ≡ Some t
-        → talker ≡ Talker.Program → length t ≤ max_script_bytes → result ≢ Err ToolFault.Read
-        → Meets (output s d t) result (W.told out.old) (W.told out.new) }
+    ensures as_script { (s d t : List ℕ) → S.rest source.old ≡ Some s → D.rest deck.old ≡ Some d → R.rest streams.old.input ≡ Some t
+        → streams.old.talker ≡ Talker.Program → length t ≤ max_script_bytes → result ≢ Err ToolFault.Read
+        → Meets (output s d t) result (W.told streams.old.out) (W.told streams.new.out) }
 
     // Only a line that is too long is refused for its length.
-    ensures long { result ≡ Err ToolFault.Long → (d t : List ℕ) → D.rest deck.old ≡ Some d → R.rest input.old ≡ Some t → max_script_bytes < length t }
+    ensures long { result ≡ Err ToolFault.Long → (d t : List ℕ) → D.rest deck.old ≡ Some d → R.rest streams.old.input ≡ Some t → max_script_bytes < length t }
 
     // A read or a write has failed exactly where that is answered.
-    ensures read { CountsFailure (result ≡ Err ToolFault.Read) (S.failed source.old + D.failed deck.old + R.failed input.old)
-        (S.failed source.new + D.failed deck.new + R.failed input.new) }
-    ensures write { CountsFailure (result ≡ Err ToolFault.Write) (W.failed out.old) (W.failed out.new) }
+    ensures read { CountsFailure (result ≡ Err ToolFault.Read) (S.failed source.old + D.failed deck.old + R.failed streams.old.input)
+        (S.failed source.new + D.failed deck.new + R.failed streams.new.input) }
+    ensures reads { (S.failed source.old ≤ S.failed source.new) × (D.failed deck.old ≤ D.failed deck.new)
+        × (R.failed streams.old.input ≤ R.failed streams.new.input) }
+    ensures write { CountsFailure (result ≡ Err ToolFault.Write) (W.failed streams.old.out) (W.failed streams.new.out) }
 
     // Never more is read of the source and the deck.
     ensures source { ConsumesAtMost (S.rest source.old) (S.rest source.new) (max_source_bytes + 1) }
     ensures deck { ConsumesAtMost (D.rest deck.old) (D.rest deck.new) (max_deck_bytes + 1) }
+
+    // After a refusal nothing else is read.
+    ensures source_refused { result ≡ Ok 1 → (deck.new ≡ deck.old) × (streams.new.input ≡ streams.old.input) }
+    ensures deck_refused { (f : DeckFault) → result ≡ Err (ToolFault.Deck f) → streams.new.input ≡ streams.old.input }
+
+    // Nor is it after a source or a deck that is to be refused, whatever the call answers.
+    ensures bad_source { (s : List ℕ) (f : AsmFault) → S.rest source.old ≡ Some s → assembly s ≡ Err f
+        → (deck.new ≡ deck.old) × (streams.new.input ≡ streams.old.input) }
+    ensures bad_deck { (d : List ℕ) (f : DeckFault) → D.rest deck.old ≡ Some d → deck_of d ≡ Err f → streams.new.input ≡ streams.old.input }
+
+    // Nor after a read that failed.
+    ensures source_failed { S.failed source.old < S.failed source.new → (deck.new ≡ deck.old) × (streams.new.input ≡ streams.old.input) }
+    ensures deck_failed { D.failed deck.old < D.failed deck.new → streams.new.input ≡ streams.old.input }
+
+    // Each is read when the one before it has been read up to its end or its limit.
+    ensures in_turn { (s : List ℕ) → S.rest source.old ≡ Some s
+        → ((deck.new ≡ deck.old) × (streams.new.input ≡ streams.old.input)) ⊎ (S.rest source.new ≡ Some (drop (max_source_bytes + 1) s)) }
+    ensures input_in_turn { (d : List ℕ) → D.rest deck.old ≡ Some d
+        → (streams.new.input ≡ streams.old.input) ⊎ (D.rest deck.new ≡ Some (drop (max_deck_bytes + 1) d)) }
     ensures ends { IfOk result IsStatus }
 {
-    talk_of_source(alloc, name, source, deck, talker, input, out, errors)
+    talk_of_source(alloc, name, source, deck, streams)
 }

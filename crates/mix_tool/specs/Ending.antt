@@ -1,5 +1,5 @@
 -- How the program ends: its status, and what stands on its error output.
-use Rattle.std.specs.Prelude.{◌≡◌, ◌⊎◌, ◌+◌, ℕ, Bool, true, false, Option, None, Some, List, [], ◌∷◌, ◌++◌, Result, Ok, Err, codes}
+use Rattle.std.specs.Prelude.{◌≡◌, ◌⊎◌, ◌+◌, ℕ, Option, List, [], ◌∷◌, ◌++◌, Result, Ok, Err, codes}
 use Rattle.std.specs.Io.KnownBytes.{Appends, Keeps}
 use Rattle.mix_stream.specs.Stream.{AppendsFront}
 use Rattle.mix_session.specs.Fault.{tool_fault_text}
@@ -15,8 +15,6 @@ use Rattle.mixal_asm.specs.Program.{ProgramValue}
 use Rattle.mixal_asm.specs.declared.fault.AsmFault.{AsmFault}
 use Rattle.mix_machine.specs.units.Units.{UnitsState}
 use Rattle.mix_machine.specs.declared.units.deck_fault.DeckFault.{DeckFault}
-use Rattle.mix_cli.specs.declared.words.Plan.{Plan}
-use Rattle.mix_cli.specs.declared.words.Plan.TheVariants as plan
 use Rattle.mix_session.specs.declared.fault.ToolFault.{ToolFault}
 
 -- `mixrev: T2 read failed`
@@ -50,16 +48,24 @@ abbrev pub TellsRun : Result ℕ ToolFault → Option (List ℕ) → Option (Lis
 TellsRun (Ok status) old new failed_old failed_new = Keeps old new × (failed_new ≡ failed_old)
 TellsRun (Err fault) old new failed_old failed_new = Tells (report fault) old new failed_old failed_new
 
+-- what is known of the streams of a run at one moment: what the input still has, what the output and the error output were told, and how many
+-- writes on the error output have failed
+pub record Seen : Type 0 where
+  pub input : Option (List ℕ)
+  pub out : Option (List ℕ)
+  pub errors : Option (List ℕ)
+  pub failed : ℕ
+
 -- a run with this outcome was made: what it wrote and answered is the outcome, its status is answered, and its fault is told
-abbrev pub Runs : Outcome → ℕ → Option (List ℕ) → Option (List ℕ) → Option (List ℕ) → Option (List ℕ) → ℕ → ℕ → Type 0
-Runs outcome status old new told_old told_new failed_old failed_new =
-    (run : Result ℕ ToolFault) × Meets outcome run old new × (status ≡ status_of_run run)
-    × TellsRun run told_old told_new failed_old failed_new
+abbrev pub Runs : Outcome → ℕ → Seen → Seen → Type 0
+Runs outcome status before after =
+    (run : Result ℕ ToolFault) × Meets outcome run before.out after.out × (status ≡ status_of_run run)
+    × TellsRun run before.errors after.errors before.failed after.failed
 
 -- a talk was made, and its status is answered
-abbrev pub TalkRuns : Result ProgramValue AsmFault → Result UnitsState DeckFault → Talker → List ℕ → ℕ → Option (List ℕ) → Option (List ℕ) → Option (List ℕ) → Type 0
-TalkRuns program units talker text status left old new =
-    (run : Result ℕ ToolFault) × TalksWith program units talker text run left old new × (status ≡ status_of_run run)
+abbrev pub TalkRuns : Result ProgramValue AsmFault → Result UnitsState DeckFault → Talker → List ℕ → ℕ → Seen → Seen → Type 0
+TalkRuns program units talker text status before after =
+    (run : Result ℕ ToolFault) × TalksWith program units talker text run after.input before.out after.out × (status ≡ status_of_run run)
 
 -- the status of a run: 0 at a halt, 3 where a step meets a fault or the steps are used up, 1 where the source is refused
 abbrev pub status_of_end : RunEnd → ℕ
@@ -76,31 +82,6 @@ status_of_print (Ok answer) = status_of_answer answer
 status_of_print (Err fault) = 2
 
 -- a run was made: what it printed and answered is the outcome, and its status is answered
-abbrev pub PrintRuns : PrintOutcome → ℕ → Option (List ℕ) → Option (List ℕ) → Type 0
-PrintRuns outcome status old new = (run : Result PrintAnswer ToolFault) × Prints outcome run old new × (status ≡ status_of_print run)
-
--- whether a plan reads the input: a bundle and a talk do
-abbrev pub reads_input : Plan → Bool
-reads_input plan.Bundle = true
-reads_input (plan.List source) = false
-reads_input (plan.Debug source (Some script) devices) = false
-reads_input (plan.Debug source None devices) = true
-reads_input (plan.Run source cards devices steps printing) = false
-reads_input plan.Dap = false
-
--- whether a plan hears a client: the debug adapter does
-abbrev pub hears_client : Plan → Bool
-hears_client plan.Bundle = false
-hears_client (plan.List source) = false
-hears_client (plan.Debug source script devices) = false
-hears_client (plan.Run source cards devices steps printing) = false
-hears_client plan.Dap = true
-
--- whether nothing is told on the error output but a fault of the tool: of a talk and of a run other things are
-abbrev pub is_quiet : Plan → Bool
-is_quiet plan.Bundle = true
-is_quiet (plan.List source) = true
-is_quiet (plan.Debug source (Some script) devices) = true
-is_quiet (plan.Debug source None devices) = false
-is_quiet (plan.Run source cards devices steps printing) = false
-is_quiet plan.Dap = true
+abbrev pub PrintRuns : PrintOutcome → ℕ → Seen → Seen → Type 0
+PrintRuns outcome status before after =
+    (run : Result PrintAnswer ToolFault) × Prints outcome run before.out after.out × (status ≡ status_of_print run)

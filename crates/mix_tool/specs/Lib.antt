@@ -1,1 +1,4 @@
 pub mod Ending
+pub mod Opening
+pub mod Plan
+pub mod Shelf

@@ -1,9 +1,10 @@
 //! How a run ends: its status, and what is told on the error output.
 
 ghost use Rattle.std.specs.Prelude.{◌≡◌, ◌<◌, ◌-◌, ◌^◌, IfOk, OnOk, MatchResult, string_bytes};
-ghost use Rattle.mix_tool.specs.Ending.{Tells, TellsRun, Wrote, memory_line, not_opened, report, status_of_run};
+ghost use Rattle.mix_tool.specs.Ending.{Tells, TellsRun, Wrote, memory_line, not_opened, report, status_of_end, status_of_print, status_of_run};
 
 use mix_cli::FAILED;
+use mix_run::{DONE, NOT_DONE, PrintAnswer, RanTo, RunEnd, SOURCE_REFUSED};
 use mix_session::ToolFault;
 use mix_stream::{Out, write_all};
 use std::alloc::{AllocError, Global};
@@ -74,8 +75,8 @@ pub(crate) fn status<E: Out>(alloc: Global, outcome: Result<u8, ToolFault>, erro
     }
 }
 
-/// A line is told beside what a run writes, or that memory is refused for it; where a write there has failed, nothing more is.
-pub(crate) fn tell_beside<E: Out>(line: Result<String, AllocError>, errors: &mut E) {
+// A line is told beside what a run writes, or that memory is refused for it; where a write there has failed, nothing more is.
+fn tell_beside<E: Out>(line: Result<String, AllocError>, errors: &mut E) {
     if errors.failures() == 0 {
         tell(line, errors);
     }
@@ -94,6 +95,60 @@ pub(crate) fn status_beside<E: Out>(
         Err(fault) => {
             tell_beside(fault_line(alloc, fault), errors);
             FAILED
+        }
+    }
+}
+
+// Where a run came to, if not to a halt: `prog.mix:3: M8 negative shift at 0002 clock 5`.
+fn came_to(alloc: Global, name: &str, ran: RanTo) -> Result<String, AllocError> {
+    let place = place(alloc, name, ran.line)?;
+    let (loc, clock) = (ran.loc, ran.clock);
+    match ran.end {
+        RunEnd::Faulted(fault) => format!(in alloc; "{place}: {fault} at {loc:04} clock {clock}\n"),
+        RunEnd::Halted | RunEnd::UsedUp => {
+            format!(in alloc; "{place}: steps used up at {loc:04} clock {clock}\n")
+        }
+    }
+}
+
+// The name of a source, with the number of a line if there is one.
+fn place(alloc: Global, name: &str, line: Option<u32>) -> Result<String, AllocError> {
+    match line {
+        Some(line) => format!(in alloc; "{name}:{line}"),
+        None => String::from_str(alloc, name),
+    }
+}
+
+// The status of a run that came to its end.
+fn status_of_end(end: RunEnd) -> u8
+    ensures { result ≡ status_of_end end }
+{
+    match end {
+        RunEnd::Halted => DONE,
+        RunEnd::Faulted(_) | RunEnd::UsedUp => NOT_DONE,
+    }
+}
+
+/// The status of what a run answers; where it did not halt, where it came to is told, and a fault is.
+pub(crate) fn print_status<E: Out>(
+    alloc: Global,
+    name: &str,
+    outcome: Result<PrintAnswer, ToolFault>,
+    errors: &mut E,
+) -> u8
+    ensures { result ≡ status_of_print outcome }
+{
+    match outcome {
+        Err(fault) => status_beside(alloc, Err(fault), errors),
+        Ok(PrintAnswer::Refused(_)) => SOURCE_REFUSED,
+        Ok(PrintAnswer::Ran(ran)) => {
+            match ran.end {
+                RunEnd::Halted => {}
+                RunEnd::Faulted(_) | RunEnd::UsedUp => {
+                    tell_beside(came_to(alloc, name, ran), errors)
+                }
+            }
+            status_of_end(ran.end)
         }
     }
 }

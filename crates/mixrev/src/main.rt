@@ -1,7 +1,10 @@
 //! The program: what its words ask for, from files or standard input to standard output.
 #![tactic(auto)]
 
-use mix_tool::{Counted, FAILED, LineFault, Talker, ToolFault, line_status, read_words, run_plan};
+use mix_tool::{
+    Counted, FAILED, LineFault, Streams, SystemFiles, Talker, ToolFault, line_status, read_words,
+    run_plan,
+};
 use std::io::IsTerminal;
 use std::process::ExitCode;
 use std::{env, fmt, io};
@@ -31,20 +34,15 @@ fn run(rt: &HostRuntime, words: &[String]) -> ExitCode {
     }
     match read_words(rt.alloc(), &texts) {
         Ok(plan) => {
-            let mut input = Counted::of(rt.reader());
+            let mut files = SystemFiles::of(rt);
             let mut client = rt.stdin();
-            let mut output = Counted::of(io::writer(rt));
-            let mut errors = Counted::of(rt.stderr());
-            let status = run_plan(
-                rt,
-                rt.alloc(),
-                &plan,
-                talker(rt),
-                &mut input,
-                &mut client,
-                &mut output,
-                &mut errors,
-            );
+            let mut streams = Streams {
+                talker: talker(rt),
+                input: Counted::of(rt.reader()),
+                out: Counted::of(io::writer(rt)),
+                errors: Counted::of(rt.stderr()),
+            };
+            let status = run_plan(&mut files, rt.alloc(), &plan, &mut client, &mut streams);
             ExitCode::from(status)
         }
         Err(fault) => tell(rt, &fault),

@@ -1,10 +1,12 @@
-//! Rows of text over the session and over the run that prints: what they answer to calls that no line of a script and no command line makes.
+//! Rows of text over the session, over the run that prints, and over plans on files in memory: what they answer to calls that no line of a script
+//! and no command line makes.
 //!
 //! A row is `LIBRARY KIND |INPUT| WANTED`, where the input is some fields, parted by bars. A field stands as it is: blanks count, and `\n`
 //! and `\r` are the bytes that they name. Texts that are answered stand as Rust writes them. Empty lines and those that begin with `#` are
 //! no rows. Rows of a kind stand together: after the last one their number is printed.
 #![tactic(auto)]
 
+mod plan;
 mod print;
 mod reader;
 mod row;

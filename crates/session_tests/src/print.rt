@@ -1,6 +1,8 @@
 //! A kind of rows: what a run prints, its end, and the location, the clock and the line of the source then.
 use crate::reader::{bytes, number};
-use mix_run::{PrintAnswer, PrintOptions, RanTo, RunEnd, ToolFault, UnitSet, run_printed};
+use mix_run::{
+    PrintAnswer, PrintOptions, PrintTexts, RanTo, RunEnd, ToolFault, UnitSet, run_printed,
+};
 use mix_stream::fake::{Chunks, Sink};
 use std::alloc::Global;
 use std::fmt::Write;
@@ -45,16 +47,13 @@ fn printed_by(alloc: Global, fields: &[&str], size: usize) -> Option<String> {
         cards: is_given,
     };
     let mut out = Sink::of(size, 0);
-    let answer = run_printed(
-        alloc,
-        "f",
-        &mut Chunks::of(&source, size, 0),
-        &mut Chunks::of(&deck, size, 0),
-        &mut Chunks::of(&text, size, 0),
-        options,
-        &mut out,
-        &mut Sink::of(ALL, 0),
-    );
+    let mut texts = PrintTexts {
+        source: Chunks::of(&source, size, 0),
+        deck: Chunks::of(&deck, size, 0),
+        cards: Chunks::of(&text, size, 0),
+    };
+    let mut errors = Sink::of(ALL, 0);
+    let answer = run_printed(alloc, "f", &mut texts, options, &mut out, &mut errors);
     let text = String::from_utf8_lossy(alloc, out.bytes()).ok()?;
     let mut told = format!(in alloc; "{text:?}, ").ok()?;
     push_answer(&mut told, answer)?;

@@ -1,5 +1,5 @@
 //! A row: its kind, and whether it is answered as it wants.
-use crate::{print, session};
+use crate::{plan, print, session};
 use std::alloc::Global;
 
 /// How a row is answered.
@@ -46,6 +46,7 @@ fn answer(alloc: Global, kind: &str, fields: &[&str]) -> Option<String> {
     match kind {
         "session set" => session::set(alloc, fields),
         "run printed" => print::printed(alloc, fields),
+        "tool plan" => plan::planned(alloc, fields),
         _ => None,
     }
 }

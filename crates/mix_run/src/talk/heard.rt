@@ -1,9 +1,10 @@
 //! The lines of a talk, as they come: each is executed as soon as its end is read, and answered before more is read.
 
-ghost use Rattle.std.specs.Prelude.{◌≡◌, ◌≤◌, ◌<◌, ◌-◌, ◌^◌, ◌++◌, ◌∷◌, ◌↔◌, [], ℕ, List, None, Some, Ok, Err, IfErr, IfOk, IfSome, OnOk, false, true, length, take, drop, vec_len};
+ghost use Rattle.std.specs.Prelude.{◌≡◌, ◌≢◌, ◌≤◌, ◌<◌, ◌-◌, ◌^◌, ◌++◌, ◌∷◌, ◌↔◌, [], ℕ, List, None, Some, Ok, Err, IfErr, IfOk, IfSome, OnOk, false, true, length, take, drop, vec_len};
 ghost use Rattle.std.specs.List.{list_any};
 ghost use Rattle.std.specs.Io.KnownBytes.{Appends};
 ghost use Rattle.mix_lines.specs.Lines.{is_line_feed, lines};
+ghost use Rattle.mix_machine.specs.declared.units.deck_fault.DeckFault.{DeckFault};
 ghost use Rattle.mix_session.specs.Session.{IsMemoryOrWrite};
 ghost use Rattle.mix_run.specs.Talk.{Talks, after_lines, answers, asked, is_over, is_quit, is_whole, max_line_bytes};
 ghost use Rattle.mix_run.specs.Hearing.{Begins, Hears};
@@ -180,6 +181,7 @@ pub(crate) fn talk<R: In, W: Out, E: Out>(
         → Talks session.old talker t result (R.rest input.new) (W.told out.old) (W.told out.new) }
     ensures long { result ≡ Err ToolFault.Long → (t : List ℕ) → R.rest input.old ≡ Some t → max_line_bytes < length t }
     ensures read { CountsFailure (result ≡ Err ToolFault.Read) (R.failed input.old) (R.failed input.new) }
+    ensures deck { (f : DeckFault) → result ≢ Err (ToolFault.Deck f) }
     ensures write { CountsFailure (result ≡ Err ToolFault.Write) (W.failed out.old) (W.failed out.new) }
     ensures quiet { talker ≡ Talker.Program → errors.new ≡ errors.old }
 {

@@ -8,4 +8,4 @@ use Rattle.mix_run.proofs.talk.run_talk.Goals as goal
 pub returns-clause-as_script : goal.returns-clause-as_script
 unfolding output
 returns-clause-as_script g c s d t hs hd ht is le read =
-    TalksWith-script (assembly s) (deck_of d) c.args.talker t _ _ _ _ is le read (λ e. c.talk_of_source.ensures.long e d t hd ht) (c.talk_of_source.ensures.talks s d t hs hd ht)
+    TalksWith-script (assembly s) (deck_of d) c.args.streams.now.talker t _ _ _ _ is le read (λ e. c.talk_of_source.ensures.long e d t hd ht) (c.talk_of_source.ensures.talks s d t hs hd ht)

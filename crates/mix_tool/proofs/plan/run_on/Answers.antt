@@ -1,0 +1,9 @@
+-- The run of a program is that of the texts of the plan.
+use Rattle.mix_tool.proofs.plan.run_on.Goals as goal
+
+pub returns-in-Run-clause-runs : goal.returns-in-Run-clause-runs
+returns-in-Run-clause-runs g c given holds =
+    let texts = c.of_run-texts.ensures in
+    let prints = c.run_printed-outcome.ensures.output given.source given.deck given.cards
+    (rw texts holds.source) (rw texts holds.deck) (rw texts holds.cards) in
+    rw c.in-Run.is (c.run_printed-outcome.result, rw c.options_of-options.ensures at prints, c.print_status.ensures)

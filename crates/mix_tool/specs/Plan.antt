@@ -1,0 +1,146 @@
+-- What a plan does: the files that it opens, in their order, and the run that it makes on their texts.
+use Rattle.std.specs.Prelude.{◌≡◌, ◌≤◌, ℕ, Bool, true, false, not, List, [], ◌++◌, Option, None, Some, option_map, is_some, string_bytes}
+use Rattle.std.specs.Option.{option_map_or}
+use Rattle.mixal_asm.specs.Assembly.{assembly}
+use Rattle.mix_machine.specs.units.deck.Deck.{deck_of}
+use Rattle.mix_cli.specs.declared.words.Plan.{Plan}
+use Rattle.mix_cli.specs.declared.words.Plan.TheVariants as plan
+use Rattle.mix_cli.specs.declared.words.Printing.{Printing}
+use Rattle.mix_run.specs.Output.{bundle_output, list_output, output}
+use Rattle.mix_run.specs.PrintOutput.{print_output}
+use Rattle.mix_run.specs.declared.print.options.PrintOptions.{PrintOptions}
+use Rattle.mix_run.specs.declared.print.options.UnitSet.{UnitSet}
+use Rattle.mix_run.specs.declared.talk.Streams.{Streams}
+use Rattle.mix_run.specs.declared.talk.aside.Talker.{Talker}
+use Rattle.mix_tool.specs.Ending.{PrintRuns, Runs, Seen, TalkRuns, Tells, not_opened}
+use Rattle.mix_tool.specs.Opening.{Files, missing_of, named, text_of}
+use Rattle.mix_tool.specs.declared.texts.Names.{Names}
+use Rattle.mix_tool.specs.declared.texts.Texts.{Texts}
+
+-- the names of the files of a plan: of a source, a deck, cards and a script, each if there is one
+pub record FileNames : Type 0 where
+  pub source : Option (List ℕ)
+  pub deck : Option (List ℕ)
+  pub cards : Option (List ℕ)
+  pub script : Option (List ℕ)
+
+abbrev pub names_of : Plan → FileNames
+names_of plan.Bundle = record { source = None; deck = None; cards = None; script = None }
+names_of (plan.List source) = record { source = Some (string_bytes source); deck = None; cards = None; script = None }
+names_of (plan.Debug source script devices) =
+    record { source = Some (string_bytes source); deck = option_map string_bytes devices; cards = None; script = option_map string_bytes script }
+names_of (plan.Run source cards devices steps printing) =
+    record { source = Some (string_bytes source); deck = option_map string_bytes devices; cards = option_map string_bytes cards; script = None }
+names_of plan.Dap = record { source = None; deck = None; cards = None; script = None }
+
+-- in the order in which they are opened
+abbrev pub in_order : FileNames → List (List ℕ)
+in_order names = named names.source ++ (named names.deck ++ (named names.cards ++ named names.script))
+
+-- the names as they are in the code
+abbrev pub names_in : Names → FileNames
+names_in names = record {
+  source = option_map (λ n. n.now) names.source;
+  deck = option_map (λ n. n.now) names.deck;
+  cards = option_map (λ n. n.now) names.cards;
+  script = option_map (λ n. n.now) names.script;
+}
+
+-- the texts of a plan: one that has no file is empty
+pub record Given : Type 0 where
+  pub source : List ℕ
+  pub deck : List ℕ
+  pub cards : List ℕ
+  pub script : List ℕ
+
+abbrev pub given_of : Files → FileNames → Given
+given_of all names = record {
+  source = text_of all names.source;
+  deck = text_of all names.deck;
+  cards = text_of all names.cards;
+  script = text_of all names.script;
+}
+
+-- the readers of a plan have these texts; without a reader a text is empty
+abbrev pub rest_of : {R : Type 0} → (R → Option (List ℕ)) → Option R → Option (List ℕ)
+rest_of rest reader = option_map_or rest reader (Some [])
+
+pub record HoldTexts {R : Type 0} (rest : R → Option (List ℕ)) (texts : Texts R) (given : Given) : Type 0 where
+  pub source : rest_of rest texts.source.reader ≡ Some given.source
+  pub deck : rest_of rest texts.deck.reader ≡ Some given.deck
+  pub cards : rest_of rest texts.cards.reader ≡ Some given.cards
+  pub script : rest_of rest texts.script.reader ≡ Some given.script
+
+-- and no read of them has failed
+pub record AreFresh {R : Type 0} (failed : R → ℕ) (texts : Texts R) : Type 0 where
+  pub source : option_map_or failed texts.source.reader 0 ≡ 0
+  pub deck : option_map_or failed texts.deck.reader 0 ≡ 0
+  pub cards : option_map_or failed texts.cards.reader 0 ≡ 0
+  pub script : option_map_or failed texts.script.reader 0 ≡ 0
+
+-- what is asked of a run
+abbrev pub units_of : Printing → UnitSet
+units_of printing =
+    record { card_punch = printing.punch; printer = printing.printer; typewriter = printing.typewriter; paper_tape = printing.tape }
+
+abbrev pub options_of : {Name : Type 0} → Option Name → ℕ → Printing → PrintOptions
+options_of cards steps printing = record { steps = steps; units = units_of printing; cards = is_some cards }
+
+-- what is seen of some streams
+abbrev pub seen : {R W E : Type 0} → (R → Option (List ℕ)) → (W → Option (List ℕ)) → (E → Option (List ℕ)) → (E → ℕ) → Streams R W E → Seen
+seen rest told errors failed s = record { input = rest s.input; out = told s.out; errors = errors s.errors; failed = failed s.errors }
+
+-- a session by a script, or without one by the lines of the input
+abbrev pub DebugsOn : {Name : Type 0} → Option Name → Given → Talker → ℕ → Seen → Seen → Type 0
+DebugsOn (Some script) given talker status before after = Runs (output given.source given.deck given.script) status before after
+DebugsOn None given talker status before after =
+    (t : List ℕ) → before.input ≡ Some t → TalkRuns (assembly given.source) (deck_of given.deck) talker t status before after
+
+-- whether a session is by the lines of the input
+abbrev pub is_talk : {Name : Type 0} → Option Name → Bool
+is_talk (Some script) = false
+is_talk None = true
+
+-- the run of a plan on its texts; a client of the debug adapter is served
+abbrev pub RunsOn : Plan → Given → Talker → ℕ → Seen → Seen → Type 0
+RunsOn plan.Bundle given talker status before after = (b : List ℕ) → before.input ≡ Some b → Runs (bundle_output b) status before after
+RunsOn (plan.List source) given talker status before after = Runs (list_output given.source) status before after
+RunsOn (plan.Debug source script devices) given talker status before after = DebugsOn script given talker status before after
+RunsOn (plan.Run source cards devices steps printing) given talker status before after =
+    PrintRuns (print_output (options_of cards steps printing) given.source given.deck given.cards) status before after
+RunsOn plan.Dap given talker status before after = status ≤ 2
+
+-- a plan is done: the first of its files that can't be opened is told, and the status is 2; where there is none, its run is made
+abbrev pub DoneAfter : Option (List ℕ) → Plan → Given → Talker → ℕ → Seen → Seen → Type 0
+DoneAfter None p given talker status before after = RunsOn p given talker status before after
+DoneAfter (Some name) p given talker status before after =
+    (status ≡ 2) × (after.input ≡ before.input) × (after.out ≡ before.out)
+    × Tells (not_opened name) before.errors after.errors before.failed after.failed
+
+abbrev pub IsDone : Files → Plan → Talker → ℕ → Seen → Seen → Type 0
+IsDone all p talker status before after =
+    let names = names_of p in DoneAfter (missing_of all (in_order names)) p (given_of all names) talker status before after
+
+-- whether a plan reads the input: a bundle and a talk do
+abbrev pub reads_input : Plan → Bool
+reads_input plan.Bundle = true
+reads_input (plan.List source) = false
+reads_input (plan.Debug source script devices) = is_talk script
+reads_input (plan.Run source cards devices steps printing) = false
+reads_input plan.Dap = false
+
+-- whether a plan hears a client: the debug adapter does
+abbrev pub hears_client : Plan → Bool
+hears_client plan.Bundle = false
+hears_client (plan.List source) = false
+hears_client (plan.Debug source script devices) = false
+hears_client (plan.Run source cards devices steps printing) = false
+hears_client plan.Dap = true
+
+-- whether nothing is told on the error output but a fault of the tool: of a talk and of a run other things are
+abbrev pub is_quiet : Plan → Bool
+is_quiet plan.Bundle = true
+is_quiet (plan.List source) = true
+is_quiet (plan.Debug source script devices) = not (is_talk script)
+is_quiet (plan.Run source cards devices steps printing) = false
+is_quiet plan.Dap = true

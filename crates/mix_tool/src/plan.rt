@@ -1,0 +1,209 @@
+//! A plan is done: its files are opened, and the run is made on their texts.
+
+ghost use Rattle.std.specs.Prelude.{◌≡◌, ◌≢◌, ◌<◌, ◌≤◌, ◌-◌, ◌^◌, Some, true, false};
+ghost use Rattle.mix_tool.specs.Opening.{Asks, Files, asked_of};
+ghost use Rattle.mix_tool.specs.Plan.{AreFresh, DebugsOn, Given, HoldTexts, IsDone, RunsOn, hears_client, in_order, is_quiet, is_talk, names_in, names_of, options_of, reads_input, seen};
+
+use crate::ending::{print_status, status, status_beside, tell_not_opened};
+use crate::opener::Opener;
+use crate::texts::{Names, Texts, open_texts};
+use mix_cli::{Plan, Printing};
+use mix_dap::{Library, serve_from};
+use mix_run::{
+    PrintOptions, Streams, UnitSet, run_bundle, run_debug, run_list, run_printed, run_talk,
+};
+use mix_stream::{In, Out};
+use std::alloc::Global;
+use std::io::Read;
+
+// The names of the files of a plan.
+fn names_in(plan: &Plan) -> Names<'_>
+    ensures { names_in result ≡ names_of plan.now }
+{
+    match plan {
+        Plan::Bundle | Plan::Dap => Names {
+            source: None,
+            deck: None,
+            cards: None,
+            script: None,
+        },
+        Plan::List(source) => Names {
+            source: Some(source),
+            deck: None,
+            cards: None,
+            script: None,
+        },
+        Plan::Debug {
+            source,
+            script,
+            devices,
+        } => Names {
+            source: Some(source),
+            deck: devices.as_deref(),
+            cards: None,
+            script: script.as_deref(),
+        },
+        Plan::Run {
+            source,
+            cards,
+            devices,
+            ..
+        } => Names {
+            source: Some(source),
+            deck: devices.as_deref(),
+            cards: cards.as_deref(),
+            script: None,
+        },
+    }
+}
+
+// What is asked of a run.
+fn options_of(cards: &Option<String>, steps: u64, printing: Printing) -> PrintOptions
+    ensures { result ≡ options_of cards.now steps printing }
+{
+    PrintOptions {
+        steps,
+        units: UnitSet {
+            card_punch: printing.punch,
+            printer: printing.printer,
+            typewriter: printing.typewriter,
+            paper_tape: printing.tape,
+        },
+        cards: cards.is_some(),
+    }
+}
+
+// A session by a script, or without one by the lines of the input.
+fn debug_on<F: In + Drop, R: In, W: Out, E: Out>(
+    alloc: Global,
+    name: &str,
+    script: &Option<String>,
+    texts: Texts<F>,
+    streams: &mut Streams<R, W, E>,
+) -> u8
+    requires fresh { AreFresh F.failed texts }
+    requires input_count { R.failed streams.old.input < 2 ^ 64 - 1 }
+    requires out_count { W.failed streams.old.out < 2 ^ 64 - 1 }
+    requires errors_count { E.failed streams.old.errors < 2 ^ 64 - 1 }
+    ensures runs { (given : Given) → HoldTexts F.rest texts given
+        → DebugsOn script.now given streams.old.talker result (seen R.rest W.told E.told E.failed streams.old) (seen R.rest W.told E.told E.failed streams.new) }
+    ensures input { is_talk script.now ≡ false → streams.new.input ≡ streams.old.input }
+    ensures range { result ≤ 3 }
+    ensures written { result ≢ 2 → W.failed streams.new.out ≡ W.failed streams.old.out }
+    ensures quiet { is_talk script.now ≡ false → result ≢ 2 → streams.new.errors ≡ streams.old.errors }
+{
+    let Texts {
+        source,
+        deck,
+        cards: _,
+        script: lines,
+    } = texts;
+    let (mut source, mut deck, mut lines) = (source, deck, lines);
+    match script {
+        Some(_) => {
+            let outcome = run_debug(alloc, &mut source, &mut deck, &mut lines, &mut streams.out);
+            status(alloc, outcome, &mut streams.errors)
+        }
+        None => {
+            let outcome = run_talk(alloc, name, &mut source, &mut deck, streams);
+            status_beside(alloc, outcome, &mut streams.errors)
+        }
+    }
+}
+
+// The run of a plan on its texts; a client of the debug adapter finds others in a library.
+fn run_on<L: Library, F: In + Drop, C: Read, R: In, W: Out, E: Out>(
+    library: &L,
+    alloc: Global,
+    plan: &Plan,
+    texts: Texts<F>,
+    client: &mut C,
+    streams: &mut Streams<R, W, E>,
+) -> u8
+    requires fresh { AreFresh F.failed texts }
+    requires input_count { R.failed streams.old.input < 2 ^ 64 - 1 }
+    requires out_count { W.failed streams.old.out < 2 ^ 64 - 1 }
+    requires errors_count { E.failed streams.old.errors < 2 ^ 64 - 1 }
+    ensures runs { (given : Given) → HoldTexts F.rest texts given
+        → RunsOn plan.now given streams.old.talker result (seen R.rest W.told E.told E.failed streams.old) (seen R.rest W.told E.told E.failed streams.new) }
+    ensures input { reads_input plan.now ≡ false → streams.new.input ≡ streams.old.input }
+    ensures client { hears_client plan.now ≡ false → client.new ≡ client.old }
+    ensures range { result ≤ 3 }
+    ensures written { result ≢ 2 → W.failed streams.new.out ≡ W.failed streams.old.out }
+    ensures quiet { is_quiet plan.now ≡ true → result ≢ 2 → streams.new.errors ≡ streams.old.errors }
+{
+    match plan {
+        Plan::Bundle => {
+            let outcome = run_bundle(alloc, &mut streams.input, &mut streams.out);
+            status(alloc, outcome, &mut streams.errors)
+        }
+        Plan::List(_) => {
+            let mut texts = texts;
+            let outcome = run_list(alloc, &mut texts.source, &mut streams.out);
+            status(alloc, outcome, &mut streams.errors)
+        }
+        Plan::Debug { source, script, .. } => debug_on(alloc, source, script, texts, streams),
+        Plan::Run {
+            source,
+            cards,
+            steps,
+            printing,
+            ..
+        } => {
+            let options = options_of(cards, *steps, *printing);
+            let mut texts = texts.of_run();
+            let (out, errors) = (&mut streams.out, &mut streams.errors);
+            let outcome = run_printed(alloc, source, &mut texts, options, out, errors);
+            print_status(alloc, source, outcome, errors)
+        }
+        Plan::Dap => {
+            let (out, errors) = (&mut streams.out, &mut streams.errors);
+            serve_from(library, alloc, client, out, errors)
+        }
+    }
+}
+
+/// Does what a plan asks for: a bundle or a talk from the input, a listing, a run or a session of files, or what a client of the debug adapter asks
+/// for. All go to the output. The files of a plan are opened before any is read, in the order source, deck, cards or script; without a deck all
+/// units are empty.
+///
+/// The status is that of the run. It is 2 where the tool itself fails; then that fault stands on the error output, as
+/// `mixrev: T2 read failed`, or for the first file that cannot be opened `mixrev: T4 not opened: NAME`. A write there that fails
+/// changes no status. Of a talk the prompts and the help stand there too, of a run where it came to if not to a halt, and of both a refused source
+/// with its line and a mark.
+pub fn run_plan<O: Opener + Library, C: Read, R: In, W: Out, E: Out>(
+    files: &mut O,
+    alloc: Global,
+    plan: &Plan,
+    client: &mut C,
+    streams: &mut Streams<R, W, E>,
+) -> u8
+    requires input_count { R.failed streams.old.input < 2 ^ 64 - 1 }
+    requires out_count { W.failed streams.old.out < 2 ^ 64 - 1 }
+    requires errors_count { E.failed streams.old.errors < 2 ^ 64 - 1 }
+
+    // The files of the plan are opened, each in its turn, up to the first that can't be; no other is.
+    ensures opened { (all : Files) → O.holds files.old ≡ Some all
+        → Asks (O.asked files.old) (O.asked files.new) (asked_of all (in_order (names_of plan.now))) }
+
+    // That one is told, or else the run of the plan is made on the texts of its files, and its status is answered.
+    ensures done { (all : Files) → O.holds files.old ≡ Some all
+        → IsDone all plan.now streams.old.talker result (seen R.rest W.told E.told E.failed streams.old)
+        (seen R.rest W.told E.told E.failed streams.new) }
+
+    // Of a plan whose texts are all files the input is not read.
+    ensures input { reads_input plan.now ≡ false → streams.new.input ≡ streams.old.input }
+
+    // A client is heard by the debug adapter alone.
+    ensures client { hears_client plan.now ≡ false → client.new ≡ client.old }
+
+    // A run that ends well wrote all that it had to, and where nothing is told beside, nothing on the error output.
+    ensures range { result ≤ 3 }
+    ensures written { result ≢ 2 → W.failed streams.new.out ≡ W.failed streams.old.out }
+    ensures quiet { is_quiet plan.now ≡ true → result ≢ 2 → streams.new.errors ≡ streams.old.errors }
+{
+    match open_texts(files, names_in(plan)) {
+        Ok(texts) => run_on(files, alloc, plan, texts, client, streams),
+        Err(fault) => tell_not_opened(alloc, fault.name, &mut streams.errors),
+    }
+}

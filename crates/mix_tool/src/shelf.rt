@@ -1,0 +1,108 @@
+//! Files in memory, for tests: of each name its text, and a note of the names that were asked for.
+
+ghost use Rattle.std.specs.Prelude.{◌≡◌, ◌++◌, ◌∷◌, [], OnOk, option_map, string_bytes, map};
+ghost use Rattle.mix_tool.specs.Opening.{Asks};
+ghost use Rattle.mix_tool.specs.Shelf.{text_in};
+
+use crate::opener::Opener;
+use mix_dap::{Fault, Library};
+use mix_refused::Refused;
+use mix_stream::fake::Chunks;
+use std::alloc::{AllocError, Global};
+
+/// All bytes in one call.
+const ALL: usize = 4096;
+
+/// A file in memory: its name and its text.
+#[derive(Clone, Copy)]
+pub struct Shelved<'a> {
+    pub name: &'a str,
+    pub text: &'a [u8],
+}
+
+/// Files in memory. The first of two files of a name is the one that is opened.
+#[derive(Drop)]
+pub struct Shelf<'a> {
+    alloc: Global,
+    files: &'a [Shelved<'a>],
+    asked: Option<Vec<String>>,
+}
+
+impl<'a> Shelf<'a> {
+    /// Files of which none was asked for yet.
+    pub fn of(alloc: Global, files: &'a [Shelved<'a>]) -> Shelf<'a> {
+        Shelf {
+            alloc,
+            files,
+            asked: Some(Vec::new(alloc)),
+        }
+    }
+
+    /// The names that were asked for, in their order; none where memory was refused for a note of them.
+    pub fn asked(&self) -> Option<&[String]> {
+        match &self.asked {
+            Some(names) => Some(names),
+            None => None,
+        }
+    }
+}
+
+impl<'a> Opener for Shelf<'a> {
+    type Reader = Chunks<'a>;
+
+    ghost use Rattle.std.specs.Prelude.{Some, map, option_map, string_bytes};
+    ghost use Rattle.mix_tool.specs.Shelf.{text_in};
+
+    ghost asked = { λ s. option_map (λ names. map string_bytes names.items) s.asked };
+
+    ghost holds = { λ s. Some (text_in s.files.now) };
+
+    fn open(&mut self, name: &str) -> Option<Chunks<'a>> {
+        note(self.alloc, &mut self.asked, name);
+        match text_in(self.files, name) {
+            Some(text) => Some(Chunks::of(text, ALL, 0)),
+            None => None,
+        }
+    }
+}
+
+impl Library for Shelf<'_> {
+    fn text(&self, alloc: Global, name: &str, most: usize) -> Result<Vec<u8>, Refused<Fault>> {
+        match text_in(self.files, name) {
+            Some(text) => Ok(Vec::from_slice(alloc, &text[..most.min(text.len())])?),
+            None => Err(Refused::Fault(Fault::NotOpened)),
+        }
+    }
+}
+
+// A name is noted; where memory is refused for it, the names are no longer known.
+fn note(alloc: Global, asked: &mut Option<Vec<String>>, name: &str)
+    ensures { Asks (option_map (λ names. map string_bytes names.items) asked.old) (option_map (λ names. map string_bytes names.items) asked.new) (name.now ∷ []) }
+{
+    if let Some(names) = asked {
+        if push_name(alloc, names, name).is_err() {
+            *asked = None;
+        }
+    }
+}
+
+fn push_name(alloc: Global, names: &mut Vec<String>, name: &str) -> Result<(), AllocError>
+    ensures { OnOk result (map string_bytes names.new.items ≡ map string_bytes names.old.items ++ (name.now ∷ [])) }
+{
+    names.push(String::from_str(alloc, name)?)?;
+    Ok(())
+}
+
+// The text of the first file of a name.
+fn text_in<'a>(files: &[Shelved<'a>], name: &str) -> Option<&'a [u8]>
+    ensures { option_map (λ t. t.now) result ≡ text_in files.now name.now }
+{
+    let mut rest = files;
+    while let [file, after @ ..] = rest {
+        if file.name == name {
+            return Some(file.text);
+        }
+        rest = after;
+    }
+    None
+}
