@@ -23,6 +23,11 @@ export function mark(element, name, value) {
   if (element.getAttribute(name) !== String(value)) element.setAttribute(name, value);
 }
 
+// Calls back when an element has another size. It is done in the next frame, since a frame that alters a size again in answer to one is an error.
+export function onResize(element, work) {
+  new ResizeObserver(() => requestAnimationFrame(work)).observe(element);
+}
+
 // The rows of a list by their keys. A row whose key is still there keeps its element, and so the focus and the selection in it; `create` makes the
 // element of a new one, and `update` shows what it holds now. Where the focus was in a row that is gone, it goes to the box.
 export function keepRows(box, items, keyOf, create, update) {

@@ -1,6 +1,6 @@
 // The text of the source: a box for typing, and behind it the same text in colours. Long lines are wrapped, so that all of a line is seen.
 
-import { $, make, put } from "./dom.js";
+import { $, make, onResize, put } from "./dom.js";
 import { piecesOf } from "./colours.js";
 import { explained } from "./operations.js";
 
@@ -27,7 +27,7 @@ export class Source {
     this.shades = []; // of each line its element, its text, and the rules that are open before and behind it
     this.box.addEventListener("input", () => this.typed());
     this.box.addEventListener("mousemove", (event) => this.pointed(event));
-    new ResizeObserver(() => resized()).observe($("colours"));
+    onResize($("colours"), resized);
     this.draw([""]);
   }
 

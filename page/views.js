@@ -1,6 +1,6 @@
 // What is seen of the machine: registers, memory, output, units, symbols. And which of it is in view in a narrow window.
 
-import { $ } from "./dom.js";
+import { $, onResize } from "./dom.js";
 import { Memory } from "./memory.js";
 import { Output } from "./output.js";
 import { Registers } from "./registers.js";
@@ -22,7 +22,7 @@ export class Views {
     // The bar of time stays at the top, and what is scrolled to comes below it.
     const heights = { "--bar": $("time"), "--head": document.querySelector("header") };
     for (const [name, element] of Object.entries(heights)) {
-      new ResizeObserver(() => document.documentElement.style.setProperty(name, `${element.offsetHeight}px`)).observe(element);
+      onResize(element, () => document.documentElement.style.setProperty(name, `${element.offsetHeight}px`));
     }
   }
 

@@ -203,4 +203,15 @@ def ranges(page, native, count):
         count.same(f"range: {start} to {end}: cells", found, [str(cell) for cell in range(1000, 1010)])
 
 
-REPAIRS = (halts, kept_apart, own_faults, chosen_meanwhile, edit_undone, focus, setting, refused_text, ranges)
+def sizes(page, native, count):
+    """A window that gets another size is no fault of the page."""
+    page.lesson(20)
+    page.click("run")
+    page.script("window.noticed = []; window.addEventListener('error', ({ message }) => window.noticed.push(message))")
+    for width, height in ((1920, 1080), (320, 568), (1920, 1080), (640, 360), (1920, 1080), (1280, 900), (375, 667), (1920, 1080)):
+        page.size(width, height)
+        page.script("return new Promise((done) => requestAnimationFrame(() => requestAnimationFrame(done)))")
+        count.same(f"sizes: {width} x {height}", page.script("const noticed = window.noticed; window.noticed = []; return noticed"), [])
+
+
+REPAIRS = (halts, kept_apart, own_faults, chosen_meanwhile, edit_undone, focus, setting, refused_text, ranges, sizes)

@@ -1,4 +1,4 @@
-"""All tests of the page: tests/page/run [--webkit] PROGRAM PAGE.html [NAME ..]. Some words after them do only the tests of these names."""
+"""All tests of the page: tests/page/run [--webkit | --firefox] PROGRAM PAGE.html [NAME ..]. Some words after them do only the tests of these names."""
 import pathlib
 import sys
 import time
@@ -12,17 +12,19 @@ import tasks
 import uses
 import walks
 from browser import Page
+from firefox import Firefox
 from native import Count, Native
 from webkit import WebKit
 
 USES = (uses.examples, uses.breakpoints, uses.slider, uses.who, uses.faults, uses.cards, uses.share, looks.narrow, looks.keys, looks.names, looks.bounds, *repairs.REPAIRS, *guards.GUARDS, *seen.SEEN, seen.contrast, tasks.tasks)
 IN_CHROMIUM = (looks.names, seen.contrast)  # what asks Chromium itself
+OTHERS = {"--webkit": WebKit, "--firefox": Firefox}
 WALKS = range(1, 13)
 
 
 def main(words):
-    browser = WebKit if words[0] == "--webkit" else Page
-    program, place, *only = words[browser is WebKit:]
+    browser = OTHERS.get(words[0], Page)
+    program, place, *only = words[browser is not Page:]
     address = place if place.startswith("http:") else pathlib.Path(place).resolve().as_uri()
     native, count = Native(program), Count()
 
@@ -62,7 +64,7 @@ def main(words):
             row(test.__name__, lambda test=test: one(test))
     if place.startswith("http:"):
         print("not run: memory, since this page has another engine than its own")
-    elif browser is WebKit:
+    elif browser is not Page:
         print("not run: memory, names, requests and pictures, which ask Chromium itself")
     else:
         row("memory", lambda: one(looks.memory))

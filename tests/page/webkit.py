@@ -7,8 +7,11 @@ from browser import SECONDS, Page
 from selenium import webdriver
 from selenium.webdriver.webkitgtk.options import Options
 
-# It has no folder for what is saved, so the page itself keeps it.
-KEPT = """const make = URL.createObjectURL;
+# It has no folder for what is saved and no log of what went wrong, so the page itself keeps both.
+KEPT = """window.faults = [];
+window.addEventListener("error", ({ message }) => window.faults.push(message));
+window.addEventListener("unhandledrejection", ({ reason }) => window.faults.push(String(reason)));
+const make = URL.createObjectURL;
 URL.createObjectURL = (blob) => {
   blob.arrayBuffer().then((bytes) => { window.saved = [...new Uint8Array(bytes)]; });
   return make.call(URL, blob);
@@ -54,4 +57,4 @@ class WebKit(Page):
         return bytes(self.script("return window.saved"))
 
     def errors(self):
-        return []
+        return self.script("const faults = window.faults; window.faults = []; return faults")
