@@ -68,7 +68,6 @@ def keys(page, native, count):
         count.row(f"keys: the tab key comes to {need}", need in seen, seen)
     for wanted in ("rA: who wrote it?", "Line 1: breakpoint", "overflow: who wrote it?"):
         count.row(f"keys: the tab key comes to {wanted}", wanted in seen, seen)
-    page.tap(page.one("did"))  # back from the browser's own buttons, where the tab key may have come to
     page.script("document.activeElement.blur()")
     page.press(Keys.F8)
     page.press(Keys.F8)

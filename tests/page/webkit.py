@@ -11,6 +11,7 @@ from selenium.webdriver.webkitgtk.options import Options
 KEPT = """window.faults = [];
 window.addEventListener("error", ({ message }) => window.faults.push(message));
 window.addEventListener("unhandledrejection", ({ reason }) => window.faults.push(String(reason)));
+console.error = (...words) => window.faults.push(words.join(" "));
 const make = URL.createObjectURL;
 URL.createObjectURL = (blob) => {
   blob.arrayBuffer().then((bytes) => { window.saved = [...new Uint8Array(bytes)]; });
