@@ -44,7 +44,7 @@ fn wanted_and_answer(alloc: Global, row: &str) -> Option<(&str, String)> {
 
 fn answer(alloc: Global, kind: &str, fields: &[&str]) -> Option<String> {
     match kind {
-        "session set" => session::set(alloc, fields),
+        "session setting" => session::setting(alloc, fields),
         "run printed" => print::printed(alloc, fields),
         "tool plan" => plan::planned(alloc, fields),
         _ => None,

@@ -1,14 +1,15 @@
-//! A kind of rows: lines that `set` refuses. The first field is a source, whose machine has empty units; a row ends with where the machine
-//! stands, what rA holds, and how many changes are done and stand ahead.
+//! A kind of rows: registers that are set to what texts say. The first field is a source, whose machine has empty units; each field after it
+//! has the name of a register, a blank and the text. A row ends with where the machine stands, what rA holds, and how many changes are done
+//! and stand ahead.
 use crate::reader::bytes;
-use mix_machine::{Reg, Units};
-use mix_session::Session;
+use mix_machine::{Part, Reg, Units};
+use mix_session::{Refusal, Request, Session};
 use mixal_asm::assemble;
 use std::alloc::Global;
 use std::fmt::Write;
 
-/// Makes the change that each line asks for, or tells its refusal.
-pub fn set(alloc: Global, fields: &[&str]) -> Option<String> {
+/// Sets each register, or tells the refusal.
+pub fn setting(alloc: Global, fields: &[&str]) -> Option<String> {
     let [source, lines @ ..] = fields else {
         return None
     };
@@ -16,13 +17,26 @@ pub fn set(alloc: Global, fields: &[&str]) -> Option<String> {
     let mut session = opened(alloc, &source)?;
     let mut told = String::new(alloc);
     for line in lines {
-        match session.set(line.as_bytes()).ok()? {
+        let (name, text) = line.split_once(" ")?;
+        let register = Reg::named(name.as_bytes())?;
+        match refusal_of(&mut session, register, text)? {
             Some(refusal) => write!(told, "{refusal}, ").ok()?,
             None => write!(told, "done, ").ok()?,
         }
     }
     push_state(&mut told, &session)?;
     Some(told)
+}
+
+// Why a register is not set to what a text says, if it is not; nothing where memory is refused.
+fn refusal_of(session: &mut Session, register: Reg, text: &str) -> Option<Option<Refusal>> {
+    match session.setting(Part::Register(register), text.as_bytes()) {
+        Ok(change) => match session.execute(Request::Change(change)) {
+            Ok(answer) => Some(answer.refusal()),
+            Err(_) => None,
+        },
+        Err(refusal) => Some(Some(refusal)),
+    }
 }
 
 fn opened(alloc: Global, source: &[u8]) -> Option<Session<'_>> {
