@@ -33,7 +33,7 @@ pub fn serve<F: Files, R: Read, W: Out, E: Out>(
     requires errors_count { E.failed errors.old < 2 ^ 64 - 1 }
     ensures range { result ≤ 2 }
 
-    // A talk that ends well sent all that it had to, and told nothing on the error output.
+    // In a talk that ends well no write failed, and nothing was told on the error output.
     ensures written { result ≢ 2 → W.failed out.new ≡ W.failed out.old }
     ensures quiet { result ≢ 2 → errors.new ≡ errors.old }
 {

@@ -88,7 +88,7 @@ abbrev pub status_from : Result Told ToolFault → Result ℕ ToolFault
 status_from (Ok told) = Ok (status_of told)
 status_from (Err fault) = Err fault
 
--- A talk with the program of a source and the units of a deck: where one of them is refused, that is answered, and no line is read.
+-- A talk with the program of a source and the units of a deck: where one of them is refused, that is answered.
 abbrev pub TalksWith : Result ProgramValue AsmFault → Result UnitsState DeckFault → Talker → List ℕ → Result ℕ ToolFault
     → Option (List ℕ) → Option (List ℕ) → Option (List ℕ) → Type 0
 TalksWith (Err fault) units talker text result left old new = Meets (refusal_of fault) result old new

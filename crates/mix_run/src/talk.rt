@@ -173,7 +173,7 @@ pub fn run_talk<S: In, D: In, R: In, W: Out, E: Out>(
         → streams.old.talker ≡ Talker.Program → length t ≤ max_script_bytes → result ≢ Err ToolFault.Read
         → Meets (output s d t) result (W.told streams.old.out) (W.told streams.new.out) }
 
-    // Only a line that is too long is refused for its length.
+    // T6 is answered only where the whole input is longer than one line may be.
     ensures long { result ≡ Err ToolFault.Long → (d t : List ℕ) → D.rest deck.old ≡ Some d → R.rest streams.old.input ≡ Some t → max_script_bytes < length t }
 
     // A read or a write has failed exactly where that is answered.
