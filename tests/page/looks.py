@@ -133,7 +133,7 @@ def alone(page, native, count):
 
 
 def pictures(open_page, count):
-    """The pictures, to be looked at: wide and narrow, light and dark."""
+    """The pictures, to be looked at: wide and narrow, light and dark, and as printed."""
     OUT.mkdir(exist_ok=True)
     for width, height in ((1280, 1000), (320, 700)):
         for dark in (False, True):
@@ -152,6 +152,11 @@ def pictures(open_page, count):
                 ink, ground = page.script("const s = getComputedStyle(document.documentElement); return [s.color, s.backgroundColor]")
                 light = [sum(int(part) for part in colour.split("(")[1].split(")")[0].split(",")[:3]) for colour in (ink, ground)]
                 count.row(f"pictures: {width} {shade}", (light[0] > light[1]) == dark, (ink, ground))
+    with open_page(width=720) as page:
+        page.command("Emulation.setEmulatedMedia", media="print")
+        page.shot(OUT / "on-paper.png")
+        tops = page.script("return [...document.querySelectorAll('.heads span')].map(e => Math.round(e.getBoundingClientRect().top))")
+        count.row("pictures: on paper the heads of the listing are in one row", len(tops) == 4 and len(set(tops)) == 1, tops)
 
 
 def bounds(page, native, count):
@@ -160,6 +165,7 @@ def bounds(page, native, count):
     page.put("text", " ENT1 0\nLOOP INC1 1\n ST1 100\n DEC1 1\n JMP LOOP\n END 0\n")
     page.click("run")
     count.row("bounds: a million steps", page.log()[-1][1].startswith("ran 1000000 to "), page.log())
+    count.same("bounds: a million steps: told", page.told(), "A million steps were done without a halt. Press Run to go on.")
     times = []
     for moment in (0, 123456, 500000, 777777, 999999, 1000000):
         begun = time.monotonic()
@@ -190,7 +196,7 @@ def memory(page, native, count):
     while not page.one("stop").is_displayed() and time.monotonic() < end:
         time.sleep(0.02)
     page.click("stop")
-    count.row("stop: told", page.told().startswith("Stopped."), page.told())
+    count.row("stop: told, and as no fault", page.told().startswith("Stopped.") and page.one("status").get_attribute("class") == "", page.told())
     stands("stop")
     page.click("script-all")
     count.row("memory: told", page.told().startswith("Not done: T1 out of memory."), page.told())

@@ -164,6 +164,12 @@ def small(page, native, count):
         count.same(f"{width} x {height}: the line that is next is in view", seen.count(True), 20)
         bar = page.script("return document.getElementById('time').offsetHeight / innerHeight")
         count.row(f"{width} x {height}: the bar leaves room", bar < 0.34, bar)
+        low = "return [...document.querySelectorAll('main button, #time button, header button')].filter(b => b.offsetParent && b.getBoundingClientRect().height < 23.9).map(b => b.id || b.getAttribute('aria-label'))"
+        found = page.script(low)
+        for tab in ("machine", "program") if width < 960 else ():
+            page.tab(tab)
+            found += page.script(low)
+        count.same(f"{width} x {height}: buttons are high enough for a finger", found, [])
         if width < 960:
             shown = {}
             for tab, part in (("program", "source"), ("machine", "registers"), ("talk", "talk"), ("lesson", "notes"), ("output", "units")):
