@@ -17,6 +17,8 @@ IDLE = "return !!document.querySelector('main') && document.querySelector('main'
 LOG = """return [...document.querySelectorAll('#log p')].map(p => [p.textContent, p.nextElementSibling.textContent])"""
 SLIDE = """const s = document.getElementById('slider'); s.value = arguments[0];
 s.dispatchEvent(new Event('input', {bubbles: true})); if (arguments[1]) s.dispatchEvent(new Event('change', {bubbles: true}));"""
+READ = """window.isRead = false; const { text } = Blob.prototype;
+Blob.prototype.text = async function () { Blob.prototype.text = text; const read = await text.call(this); setTimeout(() => { window.isRead = true; }); return read; };"""
 PUT = """const e = document.getElementById(arguments[0]); e.focus(); e.value = arguments[1]; e.dispatchEvent(new Event('input', {bubbles: true}));"""
 
 
@@ -194,9 +196,10 @@ class Page:
         """Opens a file of these bytes."""
         path = pathlib.Path(self.folder.name) / "opened"
         path.write_bytes(data)
+        self.script(READ)
         self.one("file").send_keys(str(path))
-        self.idle()
         self.leave()
+        self.wait(lambda: self.script("return window.isRead"), SECONDS)
         self.idle()
 
     def link(self):
