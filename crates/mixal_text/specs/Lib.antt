@@ -13,4 +13,5 @@ pub mod Label
 pub mod Words
 pub mod Alf
 pub mod Line
+pub mod Span
 pub mod Address

@@ -21,8 +21,9 @@ pub(crate) fn alf_word(rest: &[u8]) -> Result<Word, TextFault>
     }
 }
 
-fn alf_start(rest: &[u8]) -> &[u8]
-    ensures { result.now ≡ alf_start rest.now }
+pub(crate) fn alf_start(rest: &[u8]) -> &[u8]
+    ensures is { result.now ≡ alf_start rest.now }
+    ensures within { length result.now ≤ length rest.now }
 {
     match rest {
         [first, text @ ..] if is_blank(*first) => text,
@@ -50,7 +51,7 @@ fn short_word(text: &[u8]) -> Result<Word, TextFault>
     }
 }
 
-fn quote_in(text: &[u8]) -> Option<usize>
+pub(crate) fn quote_in(text: &[u8]) -> Option<usize>
     ensures { result ≡ position is_quote text.now }
 {
     text.iter().position(|byte| *byte == b'"')

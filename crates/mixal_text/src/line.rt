@@ -47,7 +47,7 @@ pub fn read_line(text: &[u8]) -> Result<Line<'_>, TextFault>
 }
 
 #[tactic(auto, unfolding(crate::specs::Line::loc_of))]
-fn read_loc(text: &[u8]) -> Result<Option<Label>, TextFault>
+pub(crate) fn read_loc(text: &[u8]) -> Result<Option<Label>, TextFault>
     ensures { result ≡ loc_of text.now }
 {
     if text.is_empty() {
@@ -63,7 +63,7 @@ fn read_loc(text: &[u8]) -> Result<Option<Label>, TextFault>
 }
 
 #[tactic(auto, unfolding(crate::specs::Line::op_of))]
-fn read_op(name: &[u8]) -> Result<Mnemonic, TextFault>
+pub(crate) fn read_op(name: &[u8]) -> Result<Mnemonic, TextFault>
     ensures { result ≡ op_of name.now }
 {
     if are_characters(name) {
@@ -117,7 +117,7 @@ fn with_address(loc: Option<Label>, op: Op, address: &[u8]) -> Result<Line<'_>, 
     }
 }
 
-fn address_after(operation: Operation, rest: &[u8]) -> &[u8]
+pub(crate) fn address_after(operation: Operation, rest: &[u8]) -> &[u8]
     ensures { result.now ≡ address_after operation rest.now }
 {
     let address = first_word(rest);
@@ -137,7 +137,7 @@ fn begins_with_letter(text: &[u8]) -> bool
     }
 }
 
-fn first_word(text: &[u8]) -> &[u8]
+pub(crate) fn first_word(text: &[u8]) -> &[u8]
     ensures { result.now ≡ first_word text.now }
 {
     split_word(skip_blanks(text)).0

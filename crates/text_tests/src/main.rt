@@ -15,6 +15,7 @@ mod mixal;
 mod operations;
 mod reader;
 mod row;
+mod spans;
 mod streams;
 mod words;
 mod writer;

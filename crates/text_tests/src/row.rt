@@ -1,5 +1,5 @@
 //! A row: its kind, and whether it is answered as it wants.
-use crate::{arithmetic, assembler, expressions, lines, mixal, operations, streams, words};
+use crate::{arithmetic, assembler, expressions, lines, mixal, operations, spans, streams, words};
 use std::alloc::Global;
 
 /// How a row is answered.
@@ -50,6 +50,7 @@ fn answer(alloc: Global, library: &str, kind: &str, fields: &[&str]) -> Option<S
         "arithmetic" => arithmetic::answer(alloc, kind, fields),
         "operation" => operations::answer(alloc, kind, fields),
         "mixal" => mixal::answer(alloc, kind, fields),
+        "span" => spans::answer(alloc, kind, fields),
         "expression" => expressions::answer(alloc, kind, fields),
         "assembler" => assembler::answer(alloc, kind, fields),
         "stream" => streams::answer(alloc, kind, fields),

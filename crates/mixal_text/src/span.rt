@@ -1,0 +1,245 @@
+//! Where in a line its parts stand, and which bytes of a refused line are at fault (1.3.2).
+ghost use Rattle.std.specs.Prelude.{◌≡◌, ◌≤◌, ◌-◌, IfSome, length, position};
+ghost use Rattle.std.specs.List.{before_first, position_or_len};
+ghost use Rattle.mixal_text.specs.Words.{after_blanks};
+ghost use Rattle.mixal_text.specs.Alf.{is_quote};
+ghost use Rattle.mixal_text.specs.Span.{span_in, alf_text, alf_piece, address_span_by, address_span, operation_span, part_span, first_refused, bad_span, character_length, is_bad, is_new, joined, narrowed, span_of};
+
+use crate::alf::{alf_start, quote_in};
+use crate::fault::TextFault;
+use crate::line::{address_after, first_word, read_line, read_loc, read_op};
+use crate::op::Mnemonic;
+use crate::words::{skip_blanks, split_word};
+use mix_lines::is_blank;
+use mix_word::code_of;
+
+/// Some bytes of a text, from the number of the first to the number after the last.
+#[derive(Clone, Copy)]
+pub struct Span {
+    pub from: usize,
+    pub to: usize,
+}
+
+/// A part of a line (1.3.2): LOC, OP, ADDRESS, or OP and ADDRESS.
+#[derive(Clone, Copy)]
+pub enum Part {
+    Label,
+    Operation,
+    Address,
+    Statement,
+}
+
+/// Where a part stands in a line without its line end (1.3.2). The span of a part that is left out is empty and says where it
+/// would stand; that of ALF's ADDRESS are the characters that it takes.
+#[tactic(auto, unfolding(crate::specs::Span::part_span))]
+pub fn part_span(line: &[u8], part: Part) -> Span
+    ensures is { result ≡ part_span line.now part }
+    ensures order { result.from ≤ result.to }
+    ensures within { result.to ≤ length line.now }
+{
+    match part {
+        Part::Label => span_in(line, line, split_word(line).0),
+        Part::Operation => operation_span(line),
+        Part::Address => address_span(line),
+        Part::Statement => joined(operation_span(line), address_span(line)),
+    }
+}
+
+/// The bytes with which a line is at fault that `read_line` refuses: a character that is none of MIX, or else LOC, OP or
+/// ADDRESS. None where the line is not refused.
+#[tactic(auto, unfolding(crate::specs::Span::span_of))]
+pub fn fault_span(line: &[u8]) -> Option<Span>
+    ensures is { result ≡ span_of line.now }
+    ensures order { IfSome result (λ span. span.from ≤ span.to) }
+    ensures within { IfSome result (λ span. span.to ≤ length line.now) }
+{
+    match read_line(line) {
+        Ok(_) => None,
+        Err(fault) => Some(narrowed(line, fault, part_span(line, first_refused(line)))),
+    }
+}
+
+// Where a part of a text stands, by what is left of the text from it on.
+fn span_in(text: &[u8], rest: &[u8], piece: &[u8]) -> Span
+    requires rest { length rest.now ≤ length text.now }
+    requires piece { length piece.now ≤ length rest.now }
+    ensures is { result ≡ span_in text.now rest.now piece.now }
+    ensures order { result.from ≤ result.to }
+    ensures within { result.to ≤ length text.now }
+{
+    let from = text.len() - rest.len();
+    Span {
+        from,
+        to: from + piece.len(),
+    }
+}
+
+fn operation_span(line: &[u8]) -> Span
+    ensures is { result ≡ operation_span line.now }
+    ensures order { result.from ≤ result.to }
+    ensures within { result.to ≤ length line.now }
+{
+    let rest = skip_blanks(split_word(line).1);
+    span_in(line, rest, split_word(rest).0)
+}
+
+#[tactic(auto, unfolding(crate::specs::Span::address_span))]
+fn address_span(line: &[u8]) -> Span
+    ensures is { result ≡ address_span line.now }
+    ensures after { (operation_span line.now).from ≤ result.from }
+    ensures order { result.from ≤ result.to }
+    ensures within { result.to ≤ length line.now }
+{
+    let (name, rest) = split_word(skip_blanks(split_word(line).1));
+    address_span_by(read_op(name), line, rest)
+}
+
+#[tactic(auto, unfolding(crate::specs::Span::address_span_by))]
+fn address_span_by(mnemonic: Result<Mnemonic, TextFault>, line: &[u8], rest: &[u8]) -> Span
+    requires { length rest.now ≤ length line.now }
+    ensures is { result ≡ address_span_by mnemonic line.now rest.now }
+    ensures after { length line.now - length rest.now ≤ result.from }
+    ensures order { result.from ≤ result.to }
+    ensures within { result.to ≤ length line.now }
+{
+    let from = skip_blanks(rest);
+    match mnemonic {
+        Ok(Mnemonic::Machine(operation)) => span_in(line, from, address_after(operation, rest)),
+        Ok(Mnemonic::Alf) => alf_span(line, rest),
+        _ => span_in(line, from, first_word(rest)),
+    }
+}
+
+fn alf_span(line: &[u8], rest: &[u8]) -> Span
+    requires { length rest.now ≤ length line.now }
+    ensures is { result ≡ span_in line.now (alf_text (after_blanks rest.now) rest.now) (alf_piece (after_blanks rest.now) rest.now) }
+    ensures after { length line.now - length rest.now ≤ result.from }
+    ensures order { result.from ≤ result.to }
+    ensures within { result.to ≤ length line.now }
+{
+    match skip_blanks(rest) {
+        [b'"', text @ ..] => span_in(line, text, before_quote(text)),
+        _ => {
+            let text = alf_start(rest);
+            span_in(line, text, &text[..text.len().min(5)])
+        }
+    }
+}
+
+// What stands before the next quotation mark, or all where there is none.
+#[tactic(auto, using(crate::proofs::PartLemmas::cuts))]
+fn before_quote(text: &[u8]) -> &[u8]
+    ensures is { result.now ≡ before_first is_quote text.now }
+    ensures within { length result.now ≤ length text.now }
+{
+    match quote_in(text) {
+        Some(end) => &text[..end],
+        None => text,
+    }
+}
+
+// From one part to another, if that is not empty.
+fn joined(first: Span, second: Span) -> Span
+    requires { first.from ≤ first.to }
+    ensures is { result ≡ joined first second }
+    ensures order { first.from ≤ second.from → result.from ≤ result.to }
+{
+    if second.from < second.to {
+        Span {
+            from: first.from,
+            to: second.to,
+        }
+    } else {
+        first
+    }
+}
+
+// The first part of a line that cannot be read.
+#[tactic(auto, unfolding(crate::specs::Span::first_refused))]
+fn first_refused(line: &[u8]) -> Part
+    ensures { result ≡ first_refused line.now }
+{
+    let (label, rest) = split_word(line);
+    match read_loc(label) {
+        Err(_) => Part::Label,
+        Ok(_) => match read_op(first_word(rest)) {
+            Err(_) => Part::Operation,
+            Ok(_) => Part::Address,
+        },
+    }
+}
+
+fn narrowed(line: &[u8], fault: TextFault, span: Span) -> Span
+    requires order { span.from ≤ span.to }
+    requires within { span.to ≤ length line.now }
+    ensures is { result ≡ narrowed line.now fault span }
+    ensures order { result.from ≤ result.to }
+    ensures within { result.to ≤ length line.now }
+{
+    match fault {
+        TextFault::BadByte => bad_span(line, span),
+        _ => span,
+    }
+}
+
+// The first bad byte of a span, with the bytes that continue its character.
+fn bad_span(line: &[u8], span: Span) -> Span
+    requires order { span.from ≤ span.to }
+    requires within { span.to ≤ length line.now }
+    ensures is { result ≡ bad_span line.now span }
+    ensures order { result.from ≤ result.to }
+    ensures within { result.to ≤ length line.now }
+{
+    let from = span.from + good_length(&line[span.from..span.to]);
+    Span {
+        from,
+        to: from + character_length(&line[from..]),
+    }
+}
+
+// How many bytes a text begins with that are no bad ones.
+#[tactic(auto, using(crate::proofs::Positions::first_place))]
+fn good_length(text: &[u8]) -> usize
+    ensures is { result ≡ position_or_len is_bad text.now }
+    ensures within { result ≤ length text.now }
+{
+    match bad_in(text) {
+        Some(end) => end,
+        None => text.len(),
+    }
+}
+
+fn bad_in(text: &[u8]) -> Option<usize>
+    ensures { result ≡ position is_bad text.now }
+{
+    text.iter()
+        .position(|byte| !(is_blank(*byte) || code_of(*byte).is_some()))
+}
+
+fn character_length(text: &[u8]) -> usize
+    ensures is { result ≡ character_length text.now }
+    ensures within { result ≤ length text.now }
+{
+    match text {
+        [] => 0,
+        [_, rest @ ..] => 1 + continued_length(rest),
+    }
+}
+
+// How many bytes a text begins with that continue a character in UTF-8.
+#[tactic(auto, using(crate::proofs::Positions::first_place))]
+fn continued_length(text: &[u8]) -> usize
+    ensures is { result ≡ position_or_len is_new text.now }
+    ensures within { result ≤ length text.now }
+{
+    match new_in(text) {
+        Some(end) => end,
+        None => text.len(),
+    }
+}
+
+fn new_in(text: &[u8]) -> Option<usize>
+    ensures { result ≡ position is_new text.now }
+{
+    text.iter().position(|byte| *byte < 128 || 192 <= *byte)
+}
