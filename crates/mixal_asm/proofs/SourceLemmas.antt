@@ -3,8 +3,10 @@ use Rattle.std.proofs.Common.{◌≡◌, ℕ, ◌==◌, true, List, [], ◌∷�
 use Rattle.std.proofs.lemmas.Bool.{eqb-true}
 use Rattle.mix_lines.specs.Lines.{lines, lines-nil}
 use Rattle.mixal_asm.specs.declared.fault.AsmKind.TheVariants.{NoEnd}
+use Rattle.mixal_asm.specs.declared.fault.AsmFault.{AsmFault}
 use Rattle.mixal_asm.specs.PassOne.{Before, number_after}
 use Rattle.mixal_asm.specs.Assembly.{program_from, fault_at}
+use Rattle.mixal_asm.specs.Faults.{program_with}
 
 nothing_in : (text : List ℕ) → (length text == 0) ≡ true → text ≡ []
 nothing_in [] empty = refl
@@ -14,3 +16,9 @@ pub no_end : (source rest : List ℕ) (first b : Before) → program_from first 
     → (length rest == 0) ≡ true → program_from first (lines source) ≡ fault_at (number_after b) NoEnd
 no_end source rest first b leads empty =
     leads ∙ ap (λ (text : List ℕ). program_from b (lines text)) (nothing_in rest empty) ∙ ap (λ (ls : List (List ℕ)). program_from b ls) lines-nil
+
+-- the same where some lines are mended
+pub no_end_with : (told : List AsmFault) (source rest : List ℕ) (first b : Before) → program_with told first (lines source) ≡ program_with told b (lines rest)
+    → (length rest == 0) ≡ true → program_with told first (lines source) ≡ fault_at (number_after b) NoEnd
+no_end_with told source rest first b leads empty =
+    leads ∙ ap (λ (text : List ℕ). program_with told b (lines text)) (nothing_in rest empty) ∙ ap (λ (ls : List (List ℕ)). program_with told b ls) lines-nil

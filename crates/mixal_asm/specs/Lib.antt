@@ -7,6 +7,7 @@ pub mod Table
 pub mod Assembly
 pub mod Chain
 pub mod Draft
+pub mod Faults
 pub mod Fed
 pub mod Listing
 pub mod Source

@@ -88,9 +88,12 @@ pub(crate) fn add_line<'s>(
     }
 }
 
-// The same without the number of the line.
+/// The same without the number of the line.
 #[tactic(auto, unfolding(crate::specs::Assembly::answer_of))]
-fn answer<'s>(draft: &mut Draft<'s>, text: &'s [u8]) -> Result<Option<Place>, Refused<AsmKind>>
+pub(crate) fn answer<'s>(
+    draft: &mut Draft<'s>,
+    text: &'s [u8],
+) -> Result<Option<Place>, Refused<AsmKind>>
     requires { HasNoLiteral draft.old.names }
     ensures ok { IfOk result (λ end. answer_of draft.old text.now ≡ Ok (answer_at draft.new end)) }
     ensures fault { IfFault result (λ kind. answer_of draft.old text.now ≡ Err kind) }
@@ -105,8 +108,8 @@ fn answer<'s>(draft: &mut Draft<'s>, text: &'s [u8]) -> Result<Option<Place>, Re
     }
 }
 
-// A line that was read. A symbol that has a value already is A4.
-fn answer_line<'s>(
+/// A line that was read. A symbol that has a value already is A4.
+pub(crate) fn answer_line<'s>(
     draft: &mut Draft<'s>,
     text: &'s [u8],
     line: Line<'s>,

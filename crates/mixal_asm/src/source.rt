@@ -49,7 +49,8 @@ fn add_lines<'s>(draft: &mut Draft<'s>, text: &'s [u8]) -> Result<Place, Refused
     Err(fault_at(draft.number(), AsmKind::NoEnd))
 }
 
-fn fault_at(line: u32, kind: AsmKind) -> Refused<AsmFault>
+/// A fault at a line.
+pub(crate) fn fault_at(line: u32, kind: AsmKind) -> Refused<AsmFault>
     ensures { result ≡ Refused.Fault (record { line = line; kind = kind }) }
 {
     Refused::Fault(AsmFault { line, kind })

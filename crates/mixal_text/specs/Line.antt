@@ -43,6 +43,13 @@ unfoldable pub op_of : List ℕ → Result Mnemonic TextFault
 op_of name =
     if are_characters name then ok_or (mnemonic_of (str_to_ascii_uppercase name)) NoSuchOperation else Err BadByte
 
+-- the LOC and the OP of a line, whatever the rest of it is
+abbrev pub loc_of_line : List ℕ → Result (Option Label) TextFault
+loc_of_line text = loc_of (before_first is_blank text)
+
+abbrev pub op_of_line : List ℕ → Result Mnemonic TextFault
+op_of_line text = op_of (first_word (after_first is_blank text))
+
 -- the ADDRESS of a symbolic operation, by what stands after OP; a remark is none
 abbrev pub address_after : Operation → List ℕ → List ℕ
 address_after operation rest =

@@ -4,7 +4,7 @@ ghost use Rattle.std.specs.List.{list_all};
 ghost use Rattle.std.specs.Char.{is_ascii_alphabetic};
 ghost use Rattle.mix_lines.specs.Lines.{begins_with};
 ghost use Rattle.mixal_text.specs.Words.{first_word};
-ghost use Rattle.mixal_text.specs.Line.{HasBytes, IsOfBytes, are_characters, loc_of, op_of, address_after, with_address, line_from, line_of, value_of_line};
+ghost use Rattle.mixal_text.specs.Line.{HasBytes, IsOfBytes, are_characters, loc_of, op_of, loc_of_line, op_of_line, address_after, with_address, line_from, line_of, value_of_line};
 
 use crate::alf::alf_word;
 use crate::fault::TextFault;
@@ -44,6 +44,20 @@ pub fn read_line(text: &[u8]) -> Result<Line<'_>, TextFault>
     let (name, rest) = split_word(skip_blanks(rest));
     let mnemonic = read_op(name)?;
     code_line(loc, mnemonic, rest)
+}
+
+/// The LOC of a line, whatever follows it (1.3.2). A1 is a byte that is no MIX character, and A3 what is no label.
+pub fn line_loc(text: &[u8]) -> Result<Option<Label>, TextFault>
+    ensures loc { result ≡ loc_of_line text.now }
+{
+    read_loc(split_word(text).0)
+}
+
+/// The OP of a line, whatever stands around it (1.3.2). A1 is a byte that is no MIX character, and A2 a name of no operation.
+pub fn line_op(text: &[u8]) -> Result<Mnemonic, TextFault>
+    ensures op { result ≡ op_of_line text.now }
+{
+    read_op(first_word(split_word(text).1))
 }
 
 #[tactic(auto, unfolding(crate::specs::Line::loc_of))]

@@ -17,9 +17,9 @@ pub enum Op {
     End,
 }
 
-/// The name that stands in the place of OP.
+/// The name that stands in the place of OP (1.3.2): that of an operation of MIX, or of a pseudo-operation.
 #[derive(Clone, Copy)]
-pub(crate) enum Mnemonic {
+pub enum Mnemonic {
     Machine(Operation),
     Equ,
     Orig,

@@ -4,7 +4,7 @@ use crate::reader::{bytes, number, one_text, three, two};
 use crate::writer::{push, push_bytes, push_value, text};
 use mix_refused::Refused;
 use mix_word::{Place, Word};
-use mixal_asm::{Assembler, Fed, Program, Source, assemble};
+use mixal_asm::{AsmFault, Assembler, Fed, Program, Source, assemble, faults_of};
 use mixal_text::{Names, Symbol};
 use std::alloc::Global;
 use std::fmt::Write;
@@ -16,6 +16,8 @@ pub fn answer(alloc: Global, kind: &str, fields: &[&str]) -> Option<String> {
         "symbols" => symbols(alloc, &one_text(alloc, fields)?),
         "fault" => fault(alloc, &one_text(alloc, fields)?),
         "long" => long(alloc, three(fields)?),
+        "faults" => faults(alloc, &one_text(alloc, fields)?),
+        "many faults" => many_faults(alloc, three(fields)?),
         "waiting" => waiting(alloc, &one_text(alloc, fields)?),
         "listing" => listing(alloc, &one_text(alloc, fields)?),
         "failed listing" => failed_listing(alloc, fields),
@@ -82,14 +84,45 @@ fn fault(alloc: Global, source: &[u8]) -> Option<String> {
 }
 
 // The same of a source that has so many times a piece, and then an end.
-fn long(alloc: Global, (piece, count, end): (&str, &str, &str)) -> Option<String> {
+fn long(alloc: Global, parts: (&str, &str, &str)) -> Option<String> {
+    fault(alloc, &long_source(alloc, parts)?)
+}
+
+fn long_source(alloc: Global, (piece, count, end): (&str, &str, &str)) -> Option<Vec<u8>> {
     let piece = bytes(alloc, piece)?;
     let mut source = Vec::new(alloc);
     for _ in 0..number::<u32>(count)? {
         source.extend_from_slice(&piece).ok()?;
     }
     source.extend_from_slice(&bytes(alloc, end)?).ok()?;
-    fault(alloc, &source)
+    Some(source)
+}
+
+// All faults of a source: a line and a number each.
+fn faults(alloc: Global, source: &[u8]) -> Option<String> {
+    let mut answer = String::new(alloc);
+    for fault in &faults_of(alloc, source).ok()? {
+        push_fault(&mut answer, *fault)?;
+    }
+    Some(answer)
+}
+
+fn push_fault(answer: &mut String, fault: AsmFault) -> Option<()> {
+    let (line, number) = (fault.line, fault.kind.number());
+    write!(answer, "{line} A{number}, ").ok()
+}
+
+// How many faults a long source has, and the last of them.
+fn many_faults(alloc: Global, parts: (&str, &str, &str)) -> Option<String> {
+    let source = long_source(alloc, parts)?;
+    let faults = faults_of(alloc, &source).ok()?;
+    let mut answer = String::new(alloc);
+    push_value(&mut answer, faults.len())?;
+    match faults.last() {
+        Some(fault) => push_fault(&mut answer, *fault)?,
+        None => push(&mut answer, "none")?,
+    }
+    Some(answer)
 }
 
 // How many future references wait after each line, up to END.

@@ -1,0 +1,14 @@
+use Rattle.std.proofs.Common.{◌≡◌, length}
+use Rattle.mix_lines.specs.Lines.{lines}
+use Rattle.mixal_asm.specs.Faults.{program_with}
+use Rattle.mixal_asm.specs.Draft.{IsReady}
+use Rattle.mixal_asm.proofs.faults.add_lines_with.Given as goal
+
+abbrev pub invariant-loop-rest : goal.invariant-loop-rest
+invariant-loop-rest l = record {
+  leads : program_with l.fn.told l.fn.draft (lines l.fn.text) ≡ program_with l.fn.told l.draft (lines l.rest);
+  ready : IsReady l.draft;
+}
+
+abbrev pub decreases-loop-rest : goal.decreases-loop-rest
+decreases-loop-rest l = length l.rest
