@@ -1,9 +1,10 @@
 -- The list of the breakpoints and the bits that it is read from.
-use Rattle.std.proofs.Common.{ℕ, zero, suc, ◌+◌, ◌/◌, ◌%◌, ◌<◌, ◌≤◌, ◌≡◌, ◌≢◌, ◌∙◌, ◌==◌, Bool, true, false, cond, List, length, get_or, set, replicate, refl, ap, sym, arith}
+use Rattle.std.proofs.Common.{ℕ, zero, suc, ◌+◌, ◌/◌, ◌%◌, ◌<◌, ◌≤◌, ◌≡◌, ◌≢◌, ◌∙◌, ◌==◌, ◌||◌, Bool, true, false, not, cond, List, [], ◌∷◌, length, get_or, set, replicate, refl, ap, sym, arith}
 use Rattle.std.proofs.lemmas.Bool.Decides.{nat_tests}
 use Rattle.std.proofs.lemmas.List.{get_or-set_same, get_or-set_other}
 use Rattle.std.proofs.lemmas.Nat.Bits.{bit_at-zero, shr_and_one}
 use Rattle.std.specs.Int.{bit_at}
+use Rattle.std.specs.List.{list_any}
 use Rattle.mix_machine.specs.Breakpoints.{bit_of, bits_from, breaks_in}
 
 -- a bit of the list
@@ -60,6 +61,24 @@ get-same (suc n) (suc i) z = get-same n i z
 pub no-breaks : breaks_in (replicate 63 0) ≡ replicate 4000 false
 unfolding breaks_in
 no-breaks = no-bits 4000 0 (replicate 63 0) (λ q. ap (λ w. bit_at w (q % 64) == 1) (get-same 63 (q / 64) 0) ∙ ap (λ b. b == 1) (bit_at-zero (q % 64)))
+
+-- numbers of which none has a bit set
+pub none-set : (words : List ℕ) → list_any (λ word. not (word == 0)) words ≡ false → words ≡ replicate (length words) 0
+none-set [] e = refl
+none-set (w ∷ ws) e =
+    elim (w == 0) as (λ b. (w == 0) ≡ b → (not b || list_any (λ word. not (word == 0)) ws) ≡ false → w ∷ ws ≡ 0 ∷ replicate (length ws) 0) [
+      | true ↦ λ t q. let nothing : w ≡ 0 = grind (arith, nat_tests) in rw nothing (ap (λ vs. 0 ∷ vs) (none-set ws q))
+      | false ↦ λ t q. absurd (cc)
+    ] refl e
+
+get-false : (n p : ℕ) → get_or (replicate n false) p false ≡ false
+get-false zero p = refl
+get-false (suc n) zero = refl
+get-false (suc n) (suc p) = get-false n p
+
+pub no-break-at : (words : List ℕ) (now : List Bool) (p : ℕ) → breaks_in words ≡ now → words ≡ replicate 63 0 → false ≡ get_or now p false
+no-break-at words now p is none =
+    sym (get-false 4000 p) ∙ ap (λ (bs : List Bool). get_or bs p false) (sym no-breaks ∙ ap breaks_in (sym none) ∙ is)
 
 -- a number of the row altered in one bit
 altered-bit : (words : List ℕ) (p q word : ℕ) → p / 64 < length words → q ≢ p →

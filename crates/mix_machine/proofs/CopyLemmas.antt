@@ -1,38 +1,89 @@
--- One word of MOVE copied after the others.
-use Rattle.std.proofs.Common.{ℕ, zero, suc, ◌+◌, ◌<◌, ◌≡◌, ◌++◌, ◌∙◌, [], ◌∷◌, ap, subst, refl, arith}
+-- The words of MOVE copied, and those that they replace kept.
+use Rattle.std.proofs.Common.{ℕ, zero, suc, ◌+◌, ◌-◌, ◌≤◌, ◌≡◌, ◌++◌, ◌∙◌, List, [], ◌∷◌, length, take, drop, slice_set, slice_index_or, ap, sym, refl, arith}
+use Rattle.std.proofs.lemmas.List.{length-set, length-take-le, length-drop, drop-set-lt, drop_more}
 use Rattle.undo_core.specs.Pack.{KeptList}
-use Rattle.mix_word.specs.Word.{WordValue}
-use Rattle.mix_machine.specs.World.{WorldState, cell_of}
-use Rattle.mix_machine.specs.Write.{Write, set, written, write_all, copies}
+use Rattle.mix_word.specs.Word.{WordValue, zero_word}
+use Rattle.mix_machine.specs.World.{WorldState, IsWorld, cell_of}
+use Rattle.mix_machine.specs.Write.{set, written, write_all, kept_by, copies}
+use Rattle.mix_machine.specs.Cells.{cell_values, with_copies}
 use Rattle.mix_machine.specs.law.Wrote.{HasRoom, Wrote}
 use Rattle.mix_machine.specs.declared.old.Old.{Old}
 use Rattle.mix_machine.specs.declared.old.Old.TheVariants.{Cell}
-use Rattle.mix_machine.proofs.WriteLemmas.{joined, length-copies}
+use Rattle.mix_machine.proofs.WriteLemmas.{length-copies}
 
-copies-last : (n from to : ℕ) (w : WorldState) (m p q : ℕ) → m ≡ n + 1 → p ≡ to + n → q ≡ from + n →
-    copies m from to w ≡ copies n from to w ++ set (Cell p (cell_of (write_all w (copies n from to w)) q)) ∷ []
-copies-last zero from to w m p q e ep eq =
+-- one word copied after the others
+pub copied-last : (n from to : ℕ) (cells : List WordValue) (m p q : ℕ) → m ≡ n + 1 → p ≡ to + n → q ≡ from + n →
+    with_copies m from to cells ≡ slice_set (with_copies n from to cells) p (slice_index_or (with_copies n from to cells) q zero_word)
+copied-last zero from to cells m p q e ep eq =
     let one : m ≡ 1 = omega arith in
     let into : p ≡ to = omega arith in
     let out : q ≡ from = omega arith in
     rw (one, into, out) refl
-copies-last (suc n) from to w m p q e ep eq =
+copied-last (suc n) from to cells m p q e ep eq =
     let more : m ≡ suc (suc n) = omega arith in
-    let first = set (Cell to (cell_of w from)) in
-    rw more (ap (λ xs. first ∷ xs) (copies-last n (from + 1) (to + 1) (written w first) (suc n) p q (omega arith) (omega arith) (omega arith)))
+    rw more (copied-last n (from + 1) (to + 1) (slice_set cells to (slice_index_or cells from zero_word)) (suc n) p q (omega arith) (omega arith) (omega arith))
 
-pub copy-written : (i from to p q : ℕ) (word : WordValue) (w v u : WorldState) (ks ls ms : KeptList Old) → Wrote (copies i from to w) w v ks ls →
-    Wrote (set (Cell p word) ∷ []) v u ls ms → p ≡ to + i → q ≡ from + i → word ≡ cell_of v q → Wrote (copies (i + 1) from to w) w u ks ms
-copy-written i from to p q word w v u ks ls ms a b ep eq ew =
-    let read : word ≡ cell_of (write_all w (copies i from to w)) q = ew ∙ ap (λ (s : WorldState). cell_of s q) a.state in
-    let one = subst (λ x. Wrote (set (Cell p x) ∷ []) v u ls ms) read b in
-    rw (copies-last i from to w (i + 1) p q refl ep eq) (joined (copies i from to w) (set (Cell p _) ∷ []) w v u ks ls ms a one)
+-- the state after them is that of the writes
+copied-state : (n from to : ℕ) (w : WorldState) → write_all w (copies n from to w) ≡ record w { cells = with_copies n from to w.cells }
+copied-state zero from to w = refl
+copied-state (suc n) from to w = copied-state n (from + 1) (to + 1) (written w (set (Cell to (cell_of w from))))
 
--- there is room for it
-pub copy-room : (count i from to : ℕ) (x : Write) (w v : WorldState) (ks ls : KeptList Old) → HasRoom ks (copies count from to w) →
-    Wrote (copies i from to w) w v ks ls → i < count → HasRoom ls (x ∷ [])
-copy-room count i from to x w v ks ls h a l =
-    let all = length-copies count from to w in
-    let some = length-copies i from to w in
-    let room = a.room in
-    omega arith
+-- no word is copied into a cell into which another one was copied before, so what stands in the cells at first is kept
+copied-kept : (n from to : ℕ) (w : WorldState) → to + n ≤ length w.cells → kept_by w (copies n from to w) ≡ cell_values to (take n (drop to w.cells))
+copied-kept zero from to w h = refl
+copied-kept (suc n) from to w h =
+    let v = cell_of w from in
+    let len : length (slice_set w.cells to v) ≡ length w.cells = length-set w.cells to v in
+    let rest = copied-kept n (from + 1) (to + 1) (written w (set (Cell to v))) (omega (arith, len, h)) in
+    let after : drop (to + 1) (slice_set w.cells to v) ≡ drop (to + 1) w.cells = drop-set-lt (to + 1) w.cells to v (omega arith) in
+    let all : drop to w.cells ≡ cell_of w to ∷ drop (to + 1) w.cells = drop_more w.cells to zero_word (omega (arith, h)) in
+    ap (λ (os : List Old). Cell to (cell_of w to) ∷ os) (rest ∙ ap (λ (cells : List WordValue). cell_values (to + 1) (take n cells)) after)
+    ∙ sym (ap (λ (cells : List WordValue). cell_values to (take (suc n) cells)) all)
+
+pub length-cell_values : (place : ℕ) (ws : List WordValue) → length (cell_values place ws) ≡ length ws
+length-cell_values place [] = refl
+length-cell_values place (w ∷ ws) = ap suc (length-cell_values (place + 1) ws)
+
+-- the state with other cells
+pub same-cells : (v w : WorldState) (cells others : List WordValue) → v ≡ w → cells ≡ others → record v { cells = cells } ≡ record w { cells = others }
+same-cells v w cells others e g = rw (e, g) refl
+
+length-take-few : (n : ℕ) (ws : List WordValue) → length (take n ws) ≤ n
+length-take-few zero ws = omega arith
+length-take-few (suc n) [] = omega arith
+length-take-few (suc n) (w ∷ ws) = omega (arith, length-take-few n ws)
+
+-- there is room for what they replace
+pub copy-room : (n from to m at : ℕ) (w : WorldState) (cells : List WordValue) (values : List Old) (ks : KeptList Old) → HasRoom ks (copies n from to w) →
+    m ≡ n → values ≡ cell_values to (take (at + m - at) (drop at cells)) → length values ≤ ks.room
+copy-room n from to m at w cells values ks h e is =
+    let count = length-copies n from to w in
+    let few = length-take-few (at + m - at) (drop at cells) in
+    let len = ap length is ∙ length-cell_values to (take (at + m - at) (drop at cells)) in
+    omega (arith, count, few, len, e, h)
+
+-- the words copied, those that they replace kept together
+pub copy-wrote : (n from to m out at : ℕ) (w v u : WorldState) (cells copied : List WordValue) (values : List Old) (ks ls : KeptList Old) →
+    to + n ≤ 4000 → IsWorld w → m ≡ n → out ≡ from → at ≡ to → v ≡ w → cells ≡ v.cells →
+    values ≡ cell_values to (take (at + m - at) (drop at cells)) → ls.items ≡ ks.items ++ values → ks.room ≤ ls.room + length values →
+    copied ≡ with_copies m out at cells → u ≡ record v { cells = copied } → Wrote (copies n from to w) w u ks ls
+copy-wrote n from to m out at w v u cells copied values ks ls within h em eo ea ev ec is items room done after =
+    let count = length-copies n from to w in
+    let size : at + m - at ≡ n = omega (arith, em, ea) in
+    let all : length w.cells ≡ 4000 = h.cells in
+    let there : to + n ≤ length w.cells = omega (arith, all, within) in
+    let old : cells ≡ w.cells = ec ∙ ap (λ (s : WorldState). s.cells) ev in
+    let kept : values ≡ cell_values to (take n (drop to w.cells)) =
+    is ∙ ap (λ k. cell_values to (take k (drop at cells))) size ∙ ap (λ p. cell_values to (take n (drop p cells))) ea
+    ∙ ap (λ (cs : List WordValue). cell_values to (take n (drop to cs))) old in
+    let few : length values ≡ n =
+    ap length kept ∙ length-cell_values to (take n (drop to w.cells))
+    ∙ length-take-le n (drop to w.cells) (omega (arith, there, length-drop to w.cells)) in
+    let cells_after : copied ≡ with_copies n from to w.cells =
+    done ∙ ap (λ k. with_copies k out at cells) em ∙ ap (λ p. with_copies n p at cells) eo ∙ ap (λ p. with_copies n from p cells) ea
+    ∙ ap (with_copies n from to) old in
+    record {
+      state = after ∙ same-cells v w copied (with_copies n from to w.cells) ev cells_after ∙ sym (copied-state n from to w);
+      kept = items ∙ ap (λ (os : List Old). ks.items ++ os) (kept ∙ sym (copied-kept n from to w there));
+      room = omega (arith, count, room, few);
+    }

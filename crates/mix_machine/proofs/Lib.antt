@@ -10,6 +10,7 @@ pub mod Halting
 pub mod MarkLemmas
 pub mod PackLemmas
 pub mod RegisterLemmas
+pub mod RowLemmas
 pub mod SameFields
 pub mod SameUnit
 pub mod StageLemmas

@@ -245,7 +245,7 @@ register-header number bits r w us low listed is =
     rw (mod-mul-add bits 16 number small, div-mul-add bits 16 number small, listed, is) refl
 
 -- the header of a row of two cells or more
-row-header : (n place bits header : ℕ) (us : List ℕ) → n % 4096 ≡ place → place < 4000 → 8192 ≤ n → header_of kind.Row (n - 4097) ≡ header →
+pub row-header : (n place bits header : ℕ) (us : List ℕ) → n % 4096 ≡ place → place < 4000 → 8192 ≤ n → header_of kind.Row (n - 4097) ≡ header →
     value_by kind.Row n (bits ∷ us) ≡ Some (last_of (old.Cell place (long_word bits)) (header ∷ us))
 row-header n place bits header us is cell more rest =
     let test : nat_lt place 4000 ≡ true = grind (arith, nat_tests) in

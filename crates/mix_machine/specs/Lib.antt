@@ -1,4 +1,5 @@
 pub mod Breakpoints
+pub mod Cells
 pub mod Decode
 pub mod Do
 pub mod Effects

@@ -6,6 +6,7 @@ pub mod Fits
 pub mod Packed
 pub mod Passed
 pub mod Plans
+pub mod Restored
 pub mod Stages
 pub mod Undone
 pub mod Units

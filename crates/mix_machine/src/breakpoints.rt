@@ -1,6 +1,7 @@
 //! The breakpoints, one bit to a cell.
-ghost use Rattle.std.specs.Prelude.{◌≡◌, ◌<◌, ◌≤◌, ◌^◌, ◌==◌, ◌≢◌, ℕ, false, slice_index_or, slice_set, replicate, if◌then◌else◌};
+ghost use Rattle.std.specs.Prelude.{◌≡◌, ◌<◌, ◌≤◌, ◌^◌, ◌==◌, ◌≢◌, ℕ, false, not, slice_index_or, slice_set, replicate, if◌then◌else◌};
 ghost use Rattle.std.specs.Int.{bit_at};
+ghost use Rattle.std.specs.List.{list_any};
 
 use mix_word::Place;
 use std::marker::Model;
@@ -9,6 +10,8 @@ use std::marker::Model;
 #[derive(Drop)]
 pub(crate) struct Breakpoints {
     words: [u64; 63],
+    // Whether there is any, which a run asks first.
+    any: bool,
 }
 
 impl Model for Breakpoints {
@@ -18,6 +21,10 @@ impl Model for Breakpoints {
     ghost Value = { List Bool };
 
     ghost view = { λ b. breaks_in b.words };
+
+    ghost use Rattle.std.specs.Prelude.{◌≡◌, false, replicate};
+
+    ghost invariant = { λ b. b.any ≡ false → b.words ≡ replicate 63 0 };
 }
 
 impl Breakpoints {
@@ -25,14 +32,20 @@ impl Breakpoints {
     pub(crate) fn none() -> Breakpoints
         ensures { result ≡ replicate 4000 false }
     {
-        Breakpoints { words: [0; 63] }
+        Breakpoints {
+            words: [0; 63],
+            any: false,
+        }
     }
 
     /// The same breakpoints.
     pub(crate) fn copied(&self) -> Breakpoints
         ensures { result ≡ self.now }
     {
-        Breakpoints { words: self.words }
+        Breakpoints {
+            words: self.words,
+            any: self.any,
+        }
     }
 
     /// Whether a cell has a breakpoint.
@@ -40,6 +53,9 @@ impl Breakpoints {
     pub(crate) fn get(&self, p: Place) -> bool
         ensures { result ≡ slice_index_or self.now p false }
     {
+        if !self.any {
+            return false;
+        }
         let number = p.number();
         let word = self.words[usize::from(number / 64)];
         (word >> (number % 64)) & 1 == 1
@@ -52,7 +68,15 @@ impl Breakpoints {
         let number = p.number();
         let index = usize::from(number / 64);
         self.words[index] = with_bit(self.words[index], number % 64, on);
+        self.any = has_any(&self.words);
     }
+}
+
+// Whether one of the numbers has a bit set.
+fn has_any(words: &[u64]) -> bool
+    ensures { result ≡ list_any (λ word. not (word == 0)) words.now }
+{
+    words.iter().any(|word| *word != 0)
 }
 
 // A number with one of its bits set, or cleared.

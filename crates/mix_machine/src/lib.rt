@@ -3,6 +3,7 @@
 
 mod address;
 mod breakpoints;
+mod cells;
 mod change;
 mod decode;
 mod fault;

@@ -6,10 +6,12 @@ ghost use Rattle.mix_machine.specs.law.Packed.{said-fewer};
 mod appending;
 mod kind;
 mod reading;
+mod row;
 
 use crate::old::Old;
 pub(crate) use crate::pack::kind::Kind;
-pub(crate) use crate::pack::reading::{take_before, time};
+pub(crate) use crate::pack::reading::{long, take_before, time};
+pub(crate) use crate::pack::row::{append_row, row_of};
 use undo_core::{Last, Pack};
 
 impl Pack for Old {

@@ -5,11 +5,11 @@ ghost use Rattle.mix_machine.specs.Write.{copies, writes_in, writes_of};
 ghost use Rattle.mix_machine.specs.law.Plans.{plan_fits, PlanFits, UnitFits};
 ghost use Rattle.mix_machine.specs.law.Wrote.{HasRoom, Wrote, Tried};
 
+use crate::cells::{Cells, copy_words};
 use crate::old::Old;
 use crate::plan::{Plan, Writes};
 use crate::world::World;
 use mix_word::{Place, Reg, Word};
-use std::mem;
 use undo_core::{Kept, Memory};
 
 impl World {
@@ -87,14 +87,11 @@ impl World {
         requires room { HasRoom kept.old (copies count from to self.old) }
         ensures { Wrote (copies count from to self.old) self.old self.new kept.old kept.new }
     {
-        // (a list that nothing else can reach, so that the compiler need not read its place and length again for each word)
-        let alloc = *kept.allocator();
-        let mut list = mem::replace(kept, Kept::new(alloc));
-        for i in 0..count {
-            let word = self.cell(place(from + u16::from(i)));
-            self.write_cell(place(to + u16::from(i)), word, &mut list);
-        }
-        *kept = list;
+        // (the proof knows the ranges of the machine where a field of it is named)
+        let _ = &self.loc;
+        let (count, at) = (usize::from(count), usize::from(to));
+        kept.append_reserved(&Cells::of(to, &self.cells[at..at + count]));
+        copy_words(&mut self.cells, count, usize::from(from), at);
     }
 }
 

@@ -1,14 +1,18 @@
 //! The machine as a state whose changes can be taken back by the values that they replaced.
-ghost use Rattle.std.specs.Prelude.{◌≡◌, ◌<◌, ◌∷◌, IsSome, IfSome, IsTrue, reverse, vec_len, vec_capacity};
+ghost use Rattle.std.specs.Prelude.{◌≡◌, ◌-◌, ◌<◌, ◌≤◌, ◌++◌, [], ◌∷◌, IsSome, IfSome, IsTrue, length, drop, reverse, vec_len, vec_capacity};
+ghost use Rattle.undo_core.specs.Replay.{put_back};
 ghost use Rattle.mix_machine.specs.World.{IsWorld};
 ghost use Rattle.mix_machine.specs.Write.{put_value, set_value, fits};
-ghost use Rattle.mix_machine.specs.Pack.{last_value};
+ghost use Rattle.mix_machine.specs.Pack.{last_value, said};
+ghost use Rattle.mix_machine.specs.Cells.{IsRow};
+ghost use Rattle.mix_machine.specs.law.Restored.{Restored};
 ghost use Rattle.mix_machine.specs.Do.{does, kept_values, IsReal};
 ghost use Rattle.mix_machine.specs.law.Undone.{undone-does};
 
+use crate::cells::put_words;
 use crate::fault::MixFault;
 use crate::old::{Change, Old};
-use crate::pack::{Kind, take_before, time};
+use crate::pack::{Kind, row_of, take_before, time};
 use crate::world::World;
 use undo_core::{Kept, Refused, Undo};
 
@@ -49,11 +53,11 @@ impl Undo for World {
         self.set_value(old);
     }
 
-    /// Takes the last value of units off, and puts it back. It takes no memory.
+    /// Takes the last values of units off, and puts them back: the cells of a row, or one value. It takes no memory.
     #[inline(always)]
-    fn restore_last(&mut self, units: &mut Vec<u32>) {
+    fn restore_some(&mut self, units: &mut Vec<u32>, most: usize) -> usize {
         match units.pop() {
-            Some(header) => self.restore_before(header, units),
+            Some(header) => self.restore_by(header, units, most),
             None => unreachable!(),
         }
     }
@@ -62,6 +66,42 @@ impl Undo for World {
 }
 
 impl World {
+    // The same before a header: the cells of its row where they may all be taken off, or else one value.
+    #[inline(always)]
+    fn restore_by(&mut self, header: u32, units: &mut Vec<u32>, most: usize) -> usize
+        requires room { vec_len units.old < vec_capacity units.old }
+        requires most { 0 < most }
+        requires some { 0 < length (said (units.old.items ++ header ∷ [])) }
+        requires fits { IsSome (put_back put_value (drop (length (said (units.old.items ++ header ∷ [])) - 1) (said (units.old.items ++ header ∷ []))) self.old) }
+        ensures restored { Restored (said (units.old.items ++ header ∷ [])) (said units.new.items) self.old self.new result }
+        ensures within { result ≤ most }
+    {
+        match row_of(header, units.len(), most) {
+            Some((place, count)) => {
+                self.restore_row(header, place, count, units);
+                count
+            }
+            None => {
+                self.restore_before(header, units);
+                1
+            }
+        }
+    }
+
+    // Puts back the cells of a row, before its header.
+    #[inline(never)]
+    fn restore_row(&mut self, header: u32, place: usize, count: usize, units: &mut Vec<u32>)
+        requires row { IsRow header place count }
+        requires units { count ≤ vec_len units.old }
+        ensures { Restored (said (units.old.items ++ header ∷ [])) (said units.new.items) self.old self.new count }
+    {
+        // (the proof knows the ranges of the machine where a field of it is named)
+        let _ = &self.loc;
+        let left = units.len() - count;
+        put_words(&mut self.cells, place, &units[left..]);
+        units.truncate(left);
+    }
+
     // Puts back the last value of units, before their header. A location and a clock, which each step keeps, are put back by their kind at once.
     #[inline(always)]
     fn restore_before(&mut self, header: u32, units: &mut Vec<u32>)

@@ -74,9 +74,9 @@ later-put put xs n m s t below within is =
 pub cut-length : {O : Type 0} (xs all : List O) (n : ℕ) → xs ≡ take n all → n ≤ length all → length xs ≡ n
 cut-length xs all n is within = ap length is ∙ length-take-le n all within
 
--- one value fewer of them
-pub cut-one : {O : Type 0} (xs all : List O) (n : ℕ) → xs ≡ take n all → n ≤ length all → take (length xs - 1) xs ≡ take (n - 1) all
-cut-one xs all n is within =
+-- some values fewer of them
+pub cut-some : {O : Type 0} (xs all : List O) (n some : ℕ) → xs ≡ take n all → n ≤ length all → take (length xs - some) xs ≡ take (n - some) all
+cut-some xs all n some is within =
     let len = cut-length xs all n is within in
-    let place : length xs - 1 ≡ n - 1 = omega (arith, len) in
-    ap (take (length xs - 1)) is ∙ take-take (length xs - 1) n all (omega (arith, len)) ∙ ap (λ k. take k all) place
+    let place : length xs - some ≡ n - some = omega (arith, len) in
+    ap (take (length xs - some)) is ∙ take-take (length xs - some) n all (omega (arith, len)) ∙ ap (λ k. take k all) place

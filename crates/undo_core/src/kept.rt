@@ -2,7 +2,7 @@
 ghost use Rattle.std.specs.Prelude.{◌≡◌, ◌+◌, ◌-◌, ◌<◌, ◌≤◌, ◌^◌, ◌++◌, [], ◌∷◌, Some, IsSome, length, take, drop, MatchOption, OnOk, OnErr};
 ghost use Rattle.undo_core.specs.Replay.{put_back};
 
-use crate::pack::Pack;
+use crate::pack::{Pack, PackAll};
 use crate::undo::Undo;
 use crate::values::{Backwards, Values};
 use std::alloc::{AllocError, Global};
@@ -69,6 +69,17 @@ impl<O: Pack> Kept<O> {
         self.count += 1;
     }
 
+    /// Appends values that are packed together. There is room for them.
+    #[inline(always)]
+    pub fn append_reserved<R: PackAll<O>>(&mut self, values: &R)
+        requires { length (R.values values.now) ≤ self.old.room }
+        ensures items { self.new.items ≡ self.old.items ++ R.values values.now }
+        ensures room { self.old.room ≤ self.new.room + length (R.values values.now) }
+    {
+        values.pack_all(&mut self.units);
+        self.count += values.count();
+    }
+
     /// Appends a value.
     pub fn push(&mut self, value: O) -> Result<(), AllocError>
         ensures items { OnOk result (self.new.items ≡ self.old.items ++ value ∷ []) }
@@ -103,11 +114,6 @@ impl<O: Pack> Kept<O> {
         self.count = 0;
     }
 
-    /// What gives memory to the list.
-    pub fn allocator(&self) -> &Global {
-        self.units.allocator()
-    }
-
     /// All values, to be read from the last one backwards. It takes no memory.
     pub fn values(&self) -> Values<'_, O>
         ensures { result ≡ self.now.items }
@@ -132,8 +138,9 @@ pub fn revert<S: Undo>(state: &mut S, kept: &mut Kept<S::Old>, count: usize)
     ensures back { put_back S.put (drop (length kept.old.items - count) kept.old.items) state.old ≡ Some state.new }
     ensures cut { kept.new.items ≡ take (length kept.old.items - count) kept.old.items }
 {
-    for _ in 0..count {
-        state.restore_last(&mut kept.units);
+    let mut left = count;
+    while left > 0 {
+        left -= state.restore_some(&mut kept.units, left);
     }
     kept.count -= count;
 }

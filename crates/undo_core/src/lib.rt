@@ -15,7 +15,7 @@ pub use changes::Changes;
 pub use journal::Journal;
 pub use kept::{Kept, revert};
 pub use mix_refused::{Memory, Refused};
-pub use pack::{Last, Pack};
+pub use pack::{Last, Pack, PackAll};
 pub use past::Past;
 pub use undo::Undo;
 pub use values::Values;

@@ -1,5 +1,5 @@
 //! Values that can be kept in units of 32 bits, one after the other.
-ghost use Rattle.std.specs.Prelude.{◌≡◌, ◌+◌, ◌<◌, ◌≤◌, ℕ, ◌++◌, [], ◌∷◌, List, MatchOption, length, take, refl, vec_len, vec_capacity};
+ghost use Rattle.std.specs.Prelude.{◌≡◌, ◌+◌, ◌*◌, ◌<◌, ◌≤◌, ℕ, ◌++◌, [], ◌∷◌, List, MatchOption, length, take, refl, vec_len, vec_capacity};
 ghost use Rattle.undo_core.specs.Pack.{unit_list};
 ghost use Rattle.std.proofs.Math.Nat.{le_refl};
 
@@ -30,6 +30,23 @@ pub trait Pack: Copy {
         ensures is { MatchOption result (said (units.now ++ unit_list more) ≡ [])
             (λ last. said (units.now ++ unit_list more) ≡ said (take last.left units.now ++ unit_list last.more) ++ last.value ∷ []) }
         ensures within { MatchOption result (said (units.now ++ unit_list more) ≡ []) (λ last. last.left ≤ length units.now) };
+}
+
+/// Values that are packed together, which may take fewer units than each of them by itself.
+pub trait PackAll<O: Pack> {
+    /// The values.
+    ghost values: { Self → List O };
+
+    /// How many there are.
+    fn count(&self) -> usize
+        ensures { result ≡ length (values self.now) };
+
+    /// Appends the units of the values. There is room for three for each.
+    fn pack_all(&self, units: &mut Vec<u32>)
+        requires { vec_len units.old + 3 * length (values self.now) ≤ vec_capacity units.old }
+        ensures said { O.said units.new.items ≡ O.said units.old.items ++ values self.now }
+        ensures len { vec_len units.new ≤ vec_len units.old + 3 * length (values self.now) }
+        ensures capacity { vec_capacity units.new ≡ vec_capacity units.old };
 }
 
 /// The last value of units, and what is left before it: the first units of their list, and maybe one more.

@@ -58,18 +58,22 @@ pub trait Undo: Drop {
         requires { IsSome (put self.old old) }
         ensures { put self.old old ≡ Some self.new };
 
-    /// Takes the last value of units off, and puts it back. It takes no memory.
+    /// Takes the last value of units off, and puts it back, and maybe some before it, but at most so many in all. Returns how many. It takes no memory.
     #[inline(always)]
-    fn restore_last(&mut self, units: &mut Vec<u32>)
-        requires some { 0 < length (Self.Old.said units.old.items) }
+    fn restore_some(&mut self, units: &mut Vec<u32>, most: usize) -> usize
+        requires some { 0 < most }
+        requires within { most ≤ length (Self.Old.said units.old.items) }
         requires fits { IsSome (put_back put (drop (length (Self.Old.said units.old.items) - 1) (Self.Old.said units.old.items)) self.old) }
-        ensures back { put_back put (drop (length (Self.Old.said units.old.items) - 1) (Self.Old.said units.old.items)) self.old ≡ Some self.new }
-        ensures cut { Self.Old.said units.new.items ≡ take (length (Self.Old.said units.old.items) - 1) (Self.Old.said units.old.items) }
+        ensures some { 0 < result }
+        ensures within { result ≤ most }
+        ensures back { put_back put (drop (length (Self.Old.said units.old.items) - result) (Self.Old.said units.old.items)) self.old ≡ Some self.new }
+        ensures cut { Self.Old.said units.new.items ≡ take (length (Self.Old.said units.old.items) - result) (Self.Old.said units.old.items) }
     {
         match Self::Old::take(units) {
             Some(value) => self.restore(value),
             None => unreachable!(),
         }
+        1
     }
 
     /// Puts values back, the last one first. It takes no memory.

@@ -276,7 +276,7 @@ fn short_bits(word: Word) -> u32
 }
 
 #[inline(always)]
-fn long_bits(word: Word) -> u32
+pub(crate) fn long_bits(word: Word) -> u32
     ensures { long_word result ≡ word }
 {
     match word.sign() {

@@ -217,7 +217,7 @@ fn short(bits: u32) -> Word
 }
 
 #[inline(always)]
-fn long(bits: u32) -> Word
+pub(crate) fn long(bits: u32) -> Word
     ensures { result ≡ long_word bits }
 {
     let sign = if bits < 0x4000_0000 {

@@ -1,38 +1,30 @@
-use Rattle.std.proofs.Common.{◌≡◌, ◌+◌, subst, arith}
-use Rattle.mix_machine.specs.Write.{set, copies}
-use Rattle.mix_machine.specs.law.Wrote.{Wrote}
-use Rattle.mix_machine.specs.declared.old.Old.TheVariants.{Cell}
-use Rattle.mix_machine.proofs.WriteLemmas.{wrote-none}
-use Rattle.mix_machine.proofs.CopyLemmas.{copy-written, copy-room}
-use Rattle.mix_machine.proofs.EachLemmas.{cell-below}
+use Rattle.std.proofs.Common.{◌≡◌, ◌+◌, ◌-◌, ◌∙◌, List, ap, drop, length, refl, subst, sym, take}
+use Rattle.std.proofs.lemmas.List.{with_items_is}
+use Rattle.std.specs.Vec.{with_items}
+use Rattle.mix_word.specs.Word.{WordValue}
+use Rattle.mix_machine.specs.Cells.{cell_values, with_copies}
+use Rattle.mix_machine.specs.View.{view_of}
+use Rattle.mix_machine.specs.World.{IsWorld}
+use Rattle.mix_machine.proofs.CopyLemmas.{copy-room, copy-wrote}
 use Rattle.mix_machine.proofs.world.World.copy.Goals as goal
 
-pub loop-i-init : goal.loop-i-init
-loop-i-init c = wrote-none _ _
-
-pub loop-i-preserved : goal.loop-i-preserved
-loop-i-preserved c =
-    let i = c.loop-i.i in
-    let into : c.place-in-loop-i.result ≡ c.args.to + i = cc in
-    let out : c.place.result ≡ c.args.from + i = cc in
-    copy-written i c.args.from c.args.to _ _ c.cell-word.result c.args.self.now c.loop-i.self _ _ c.loop-i.list _ c.loop-i.invariant c.write_cell.ensures into out c.cell-word.ensures
+pub append_reserved-requires : goal.append_reserved-requires
+append_reserved-requires c =
+    copy-room c.args.count c.args.from c.args.to c.from-count.result c.from-at.result c.args.self.now c.deref.result.now c.of.result c.args.kept.now
+    c.requires.room c.from-count.ensures c.of.ensures
 
 pub returns : goal.returns
 returns c =
     let w = c.args.self.now in
-    let done : c.loop-i.i ≡ c.args.count = omega arith in
-    let all = subst (λ ks. Wrote (copies c.loop-i.i c.args.from c.args.to w) w c.loop-i.self ks c.loop-i.list) c.replace-list.ensures.value c.loop-i.invariant in
-    subst (λ n. Wrote (copies n c.args.from c.args.to w) w c.loop-i.self c.args.kept.now c.loop-i.list) done all
-
-pub place-requires : goal.place-requires
-place-requires c = cell-below _ _ _ _ c.from.ensures c.loop-i-test.true c.requires.there
-
-pub place-requires-in-loop-i : goal.place-requires-in-loop-i
-place-requires-in-loop-i c = cell-below _ _ _ _ c.from-in-loop-i.ensures c.loop-i-test.true c.requires.into
-
-pub write_cell-requires-clause-room : goal.write_cell-requires-clause-room
-write_cell-requires-clause-room c =
-    let w = c.args.self.now in
-    let some = subst (λ ks. Wrote (copies c.loop-i.i c.args.from c.args.to w) w c.loop-i.self ks c.loop-i.list) c.replace-list.ensures.value c.loop-i.invariant in
-    copy-room c.args.count c.loop-i.i c.args.from c.args.to (set (Cell c.place-in-loop-i.result c.cell-word.result)) w c.loop-i.self c.args.kept.now c.loop-i.list
-    c.requires.room some c.loop-i-test.true
+    let to = c.args.to in
+    let at = c.from-at.result in
+    let count = c.from-count.result in
+    let cells = c.self.inside.cells in
+    let now = c.copy_words.new.cells in
+    let values = c.of.ensures ∙ ap (λ (cs : List WordValue). cell_values to (take (at + count - at) (drop at cs))) c.deref.ensures.value in
+    let len = c.copy_words.ensures.len ∙ ap length c.deref_mut.ensures.value ∙ sym cells.ok.0 in
+    let copied : (with_items cells now).items ≡ with_copies count c.from.result at cells.items =
+    with_items_is cells now len ∙ c.copy_words.ensures.is ∙ ap (with_copies count c.from.result at) c.deref_mut.ensures.value in
+    copy-wrote c.args.count c.args.from to count c.from.result at w (view_of c.self.inside) _ cells.items (with_items cells now).items c.of.result c.args.kept.now
+    c.append_reserved.new.self c.requires.into (subst IsWorld c.self.view_is c.self.invariant) c.from-count.ensures c.from.ensures c.from-at.ensures
+    c.self.view_is refl values c.append_reserved.ensures.items c.append_reserved.ensures.room copied refl
