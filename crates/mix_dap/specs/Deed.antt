@@ -11,7 +11,8 @@ use Rattle.mix_word.specs.Word.{WordValue, plus}
 use Rattle.mix_machine.specs.declared.old.Change.TheVariants as change
 use Rattle.mix_machine.specs.declared.part.Part.{Part}
 use Rattle.mix_session.specs.Client.{setting_at}
-use Rattle.mix_session.specs.Command.{Effect, at_once, effect_of, effect_of_run, no_stops}
+use Rattle.mix_session.specs.Command.{Effect, at_once, effect_of, effect_of_run}
+use Rattle.mix_session.specs.Stops.{no_stops}
 use Rattle.mix_session.specs.Names.{names_of}
 use Rattle.mix_session.specs.Session.{SessionState, request_in}
 use Rattle.mix_session.specs.Timeline.{Timeline, world_of}

@@ -6,8 +6,8 @@ use Rattle.mixal_asm.specs.declared.fault.AsmFault.{AsmFault}
 use Rattle.mix_machine.specs.units.Units.{UnitsState}
 use Rattle.mix_machine.specs.units.deck.Deck.{deck_of, cards_of}
 use Rattle.mix_machine.specs.declared.units.deck_fault.DeckFault.{DeckFault}
-use Rattle.mix_session.specs.declared.fault.ToolFault.{ToolFault}
-use Rattle.mix_session.specs.declared.fault.ToolFault.TheVariants as faults
+use Rattle.mix_run.specs.declared.fault.ToolFault.{ToolFault}
+use Rattle.mix_run.specs.declared.fault.ToolFault.TheVariants as faults
 use Rattle.mix_run.specs.PrintOutput.{Prints, with_cards, outcome_of_run, print_outcome, print_output}
 use Rattle.mix_run.specs.UnitsRead.{GivesUnits}
 use Rattle.mix_run.specs.declared.print.PrintAnswer.{PrintAnswer}

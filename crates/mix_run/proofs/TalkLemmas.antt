@@ -6,13 +6,14 @@ use Rattle.std.proofs.lemmas.List.Folds.{list_any-append}
 use Rattle.std.specs.List.{list_any, onto_first}
 use Rattle.std.specs.Io.KnownBytes.{Appends, Consumes, IsAtEnd, Keeps}
 use Rattle.mix_lines.specs.Lines.{is_line_feed, lines, lines-nil, text_of_line, whole_lines}
-use Rattle.mix_session.specs.Session.{IsMemoryOrWrite, SessionState, effect_in}
+use Rattle.mix_session.specs.Session.{SessionState, effect_in}
+use Rattle.mix_run.specs.Fault.{IsMemoryOrWrite}
 use Rattle.mix_session.specs.Command.{after, reply_of}
 use Rattle.mix_session.specs.Answer.{told_of}
 use Rattle.mix_session.specs.Reply.{told_of_both}
 use Rattle.mix_session.specs.declared.reply.Told.{Told}
-use Rattle.mix_session.specs.declared.fault.ToolFault.{ToolFault}
-use Rattle.mix_session.specs.declared.fault.ToolFault.TheVariants as faults
+use Rattle.mix_run.specs.declared.fault.ToolFault.{ToolFault}
+use Rattle.mix_run.specs.declared.fault.ToolFault.TheVariants as faults
 use Rattle.mix_stream.specs.Stream.{AppendsFront}
 use Rattle.mix_run.specs.Output.{replies}
 use Rattle.mix_run.specs.Talk.{AnswersRead, Talks, after_lines, answers, asked, is_help, is_over, is_quit, is_whole}

@@ -13,10 +13,10 @@ use Rattle.mix_refused.specs.declared.refused.Refused.TheVariants as reads
 use Rattle.mix_stream.specs.declared.counted.Failed.{Failed}
 use Rattle.mix_stream.specs.Stream.{AppendsFront, CountsFailure}
 use Rattle.mix_session.specs.Session.{SessionState, opened}
-use Rattle.mix_session.specs.Wrapped.{fault_of_read}
+use Rattle.mix_run.specs.Fault.{fault_of_read}
 use Rattle.mix_session.specs.declared.reply.Told.{Told}
-use Rattle.mix_session.specs.declared.fault.ToolFault.{ToolFault}
-use Rattle.mix_session.specs.declared.fault.ToolFault.TheVariants as faults
+use Rattle.mix_run.specs.declared.fault.ToolFault.{ToolFault}
+use Rattle.mix_run.specs.declared.fault.ToolFault.TheVariants as faults
 use Rattle.mix_run.specs.Output.{DeckRefused, Ended, Meets, TooLong, max_script_bytes, outcome_of, outcome_of_script, refusal_of, replies, status_of}
 use Rattle.mix_run.specs.Talk.{AnswersRead, Talks, TalksWith, answers, asked, max_line_bytes, status_from}
 use Rattle.mix_run.specs.UnitsRead.{GivesUnits}

@@ -16,8 +16,8 @@ use Rattle.mix_lines.specs.Lines.{lines}
 use Rattle.mix_stream.specs.Stream.{AppendsFront}
 use Rattle.mix_session.specs.Reply.{told_of_both}
 use Rattle.mix_machine.specs.declared.units.deck_fault.DeckFault.{DeckFault}
-use Rattle.mix_session.specs.declared.fault.ToolFault.{ToolFault}
-use Rattle.mix_session.specs.declared.fault.ToolFault.TheVariants as faults
+use Rattle.mix_run.specs.declared.fault.ToolFault.{ToolFault}
+use Rattle.mix_run.specs.declared.fault.ToolFault.TheVariants as faults
 use Rattle.mix_session.specs.declared.reply.Told.{Told}
 use Rattle.mix_session.specs.declared.reply.Told.TheVariants.{Accepted, Refused}
 

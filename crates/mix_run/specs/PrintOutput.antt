@@ -8,8 +8,8 @@ use Rattle.mix_machine.specs.Loaded.{loaded}
 use Rattle.mix_machine.specs.units.Units.{UnitsState}
 use Rattle.mix_machine.specs.units.deck.Deck.{deck_of, cards_of}
 use Rattle.mix_machine.specs.declared.units.deck_fault.DeckFault.{DeckFault}
-use Rattle.mix_session.specs.declared.fault.ToolFault.{ToolFault}
-use Rattle.mix_session.specs.declared.fault.ToolFault.TheVariants as faults
+use Rattle.mix_run.specs.declared.fault.ToolFault.{ToolFault}
+use Rattle.mix_run.specs.declared.fault.ToolFault.TheVariants as faults
 use Rattle.mix_stream.specs.Stream.{AppendsFront}
 use Rattle.mix_run.specs.Print.{Run, printed, line_at}
 use Rattle.mix_run.specs.declared.print.PrintAnswer.{PrintAnswer}

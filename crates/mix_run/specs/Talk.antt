@@ -10,8 +10,8 @@ use Rattle.mix_machine.specs.units.Units.{UnitsState}
 use Rattle.mix_machine.specs.declared.units.deck_fault.DeckFault.{DeckFault}
 use Rattle.mix_session.specs.Session.{SessionState, opened, effect_in}
 use Rattle.mix_session.specs.Command.{after}
-use Rattle.mix_session.specs.declared.fault.ToolFault.{ToolFault}
-use Rattle.mix_session.specs.declared.fault.ToolFault.TheVariants as faults
+use Rattle.mix_run.specs.declared.fault.ToolFault.{ToolFault}
+use Rattle.mix_run.specs.declared.fault.ToolFault.TheVariants as faults
 use Rattle.mix_session.specs.declared.reply.Told.{Told}
 use Rattle.mix_run.specs.Output.{DeckRefused, Meets, Replies, refusal_of, replies, status_of}
 use Rattle.mix_stream.specs.Stream.{AppendsFront}

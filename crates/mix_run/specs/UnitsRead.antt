@@ -2,8 +2,8 @@
 use Rattle.std.specs.Prelude.{◌≡◌, ⊤, Result, Ok, Err}
 use Rattle.mix_machine.specs.units.Units.{UnitsState}
 use Rattle.mix_machine.specs.declared.units.deck_fault.DeckFault.{DeckFault}
-use Rattle.mix_session.specs.declared.fault.ToolFault.{ToolFault}
-use Rattle.mix_session.specs.declared.fault.ToolFault.TheVariants as faults
+use Rattle.mix_run.specs.declared.fault.ToolFault.{ToolFault}
+use Rattle.mix_run.specs.declared.fault.ToolFault.TheVariants as faults
 
 -- what the reading of units may answer: the units, their fault, or that memory is refused or a read failed
 abbrev pub GivesUnits : Result UnitsState DeckFault → Result UnitsState ToolFault → Type 0

@@ -1,9 +1,23 @@
-//! The parts of a bundle.
+//! A bundle: its parts, and their run.
 
-ghost use Rattle.std.specs.Prelude.{◌≡◌};
+ghost use Rattle.std.specs.Prelude.{◌≡◌, ◌≢◌, ◌<◌, ◌+◌, ◌-◌, ◌^◌, ℕ, List, Some, Err, IfOk};
+ghost use Rattle.std.specs.Io.KnownBytes.{Keeps};
 ghost use Rattle.mix_run.specs.Bundle.{after_marker, before_marker, cut_of};
+ghost use Rattle.mix_run.specs.Output.{Meets, IsStatus, output, bundle_output, max_bundle_bytes};
+ghost use Rattle.mix_stream.specs.Stream.{ConsumesAtMost, CountsFailure};
 
+use crate::fault::ToolFault;
+use crate::run::open_and_execute;
+use crate::statuses::refuse_source;
+use crate::units::units_of;
 use mix_lines::{line_text, split_whole_line};
+use mix_refused::Refused;
+use mix_stream::{In, Out, read_up_to};
+use mixal_asm::assemble;
+use std::alloc::Global;
+
+/// The most bytes that a bundle may have.
+const MAX_BUNDLE_BYTES: usize = 41_943_040;
 
 const DEVICES: &[u8] = b"%DEVICES";
 
@@ -46,4 +60,57 @@ fn split_at_marker<'a>(text: &'a [u8], marker: &[u8]) -> (&'a [u8], &'a [u8])
         rest = after;
     }
     (text, rest)
+}
+
+// A source, a deck and a script that are read already.
+#[tactic(auto, unfolding(crate::specs::Output::output, crate::specs::Output::outcome_of))]
+fn run_parts<W: Out>(
+    alloc: Global,
+    source: &[u8],
+    deck: &[u8],
+    script: &[u8],
+    out: &mut W,
+) -> Result<u8, ToolFault>
+    requires { W.failed out.old < 2 ^ 64 - 1 }
+    ensures output { Meets (output source.now deck.now script.now) result (W.told out.old) (W.told out.new) }
+    ensures write { CountsFailure (result ≡ Err ToolFault.Write) (W.failed out.old) (W.failed out.new) }
+    ensures unread { result ≢ Err ToolFault.Read }
+    ensures ends { IfOk result IsStatus }
+{
+    match assemble(alloc, source) {
+        Err(Refused::Memory) => Err(ToolFault::Memory),
+        Err(Refused::Fault(fault)) => refuse_source(alloc, fault, out),
+        Ok(program) => {
+            let units = units_of(alloc, deck)?;
+            open_and_execute(alloc, program, units, script, out)
+        }
+    }
+}
+
+/// What `run_debug` does, of a bundle: the source, then the deck after a line `%DEVICES`, then the script after a line `%SCRIPT`; a part that is
+/// missing is empty. At most 41,943,041 bytes are read, all of them before the first byte is written. T6 is for a bundle over
+/// 41,943,040 bytes too.
+#[tactic(auto, unfolding(crate::specs::Output::bundle_output))]
+pub fn run_bundle<R: In, W: Out>(alloc: Global, input: &mut R, out: &mut W) -> Result<u8, ToolFault>
+    requires input_count { R.failed input.old < 2 ^ 64 - 1 }
+    requires out_count { W.failed out.old < 2 ^ 64 - 1 }
+
+    // The headline.
+    ensures output { (b : List ℕ) → R.rest input.old ≡ Some b → Meets (bundle_output b) result (W.told out.old) (W.told out.new) }
+
+    // A read or a write has failed exactly where that is answered.
+    ensures read { CountsFailure (result ≡ Err ToolFault.Read) (R.failed input.old) (R.failed input.new) }
+    ensures write { CountsFailure (result ≡ Err ToolFault.Write) (W.failed out.old) (W.failed out.new) }
+    ensures unread { result ≡ Err ToolFault.Read → Keeps (W.told out.old) (W.told out.new) }
+
+    // Never more is read.
+    ensures input { ConsumesAtMost (R.rest input.old) (R.rest input.new) (max_bundle_bytes + 1) }
+    ensures ends { IfOk result IsStatus }
+{
+    let bundle = read_up_to(alloc, input, MAX_BUNDLE_BYTES + 1)?;
+    if bundle.len() > MAX_BUNDLE_BYTES {
+        return Err(ToolFault::Long);
+    }
+    let parts = cut(&bundle);
+    run_parts(alloc, parts.source, parts.deck, parts.script, out)
 }

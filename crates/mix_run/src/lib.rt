@@ -3,6 +3,7 @@
 #![tactic(auto)]
 
 mod bundle;
+mod fault;
 mod list;
 mod print;
 mod refusal;
@@ -11,14 +12,16 @@ mod statuses;
 mod talk;
 mod units;
 
+pub use bundle::run_bundle;
+pub use fault::ToolFault;
 pub use list::run_list;
 pub use mix_machine::MixFault;
 pub use mix_session::{
     AsmFault, AsmKind, Counted, DeckFault, DeckKind, Failed, In, Out, Refusal, Session, Told,
-    ToolFault, back_and_forth_law,
+    back_and_forth_law,
 };
 pub use print::options::{PrintOptions, UnitSet};
 pub use print::{PrintAnswer, PrintTexts, RanTo, RunEnd, run_printed};
-pub use run::{run_bundle, run_debug};
+pub use run::run_debug;
 pub use statuses::{DONE, NOT_DONE, SOURCE_REFUSED};
 pub use talk::{Streams, Talker, run_talk};

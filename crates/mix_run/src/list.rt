@@ -5,13 +5,12 @@ ghost use Rattle.std.specs.Io.KnownBytes.{Appends, Keeps};
 ghost use Rattle.mix_stream.specs.Stream.{AppendsFront, ConsumesAtMost, CountsFailure};
 ghost use Rattle.mixal_asm.specs.Assembly.{max_source_bytes};
 ghost use Rattle.mixal_asm.specs.Listing.{listing};
-ghost use Rattle.mix_session.specs.Session.{IsMemoryOrWrite};
+ghost use Rattle.mix_run.specs.Fault.{IsMemoryOrWrite};
 ghost use Rattle.mix_run.specs.Output.{Meets, Ended, IsStatus, list_output, list_outcome};
 
-use crate::run::refuse_source;
-use crate::statuses::DONE;
+use crate::fault::ToolFault;
+use crate::statuses::{DONE, refuse_source};
 use mix_refused::Refused;
-use mix_session::ToolFault;
 use mix_stream::{In, Out, read_up_to};
 use mixal_asm::{MAX_SOURCE_BYTES, Program, assemble};
 use std::alloc::Global;

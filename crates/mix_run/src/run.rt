@@ -1,56 +1,52 @@
-//! The runs of the program: a source, a deck and a script, each from a reader of its own or all in one bundle.
+//! The run of a source, a deck and a script, each from a reader of its own.
 
-ghost use Rattle.std.specs.Prelude.{◌≡◌, ◌⊎◌, drop, ◌≢◌, ◌<◌, ◌≤◌, ◌+◌, ◌-◌, ◌^◌, ◌++◌, [], ◌∷◌, ℕ, List, Some, Ok, Err, IfOk, IfErr, string_bytes};
+ghost use Rattle.std.specs.Prelude.{◌≡◌, ◌⊎◌, drop, ◌≢◌, ◌<◌, ◌≤◌, ◌+◌, ◌-◌, ◌^◌, ℕ, List, Some, Ok, Err, IfOk, IfErr};
 ghost use Rattle.std.specs.Io.KnownBytes.{Appends, Keeps};
-ghost use Rattle.mixal_asm.specs.Fault.{asm_fault_line};
 ghost use Rattle.mixal_asm.specs.declared.fault.AsmFault.{AsmFault};
 ghost use Rattle.mix_machine.specs.declared.units.deck_fault.DeckFault.{DeckFault};
 ghost use Rattle.mix_lines.specs.Lines.{lines};
 ghost use Rattle.mixal_asm.specs.Assembly.{assembly, max_source_bytes};
 ghost use Rattle.mix_machine.specs.units.deck.Deck.{deck_of, max_deck_bytes};
-ghost use Rattle.mix_session.specs.Session.{opened, IsMemoryOrWrite};
-ghost use Rattle.mix_run.specs.Output.{Meets, IsStatus, output, refusal_of, outcome_of, bundle_output, outcome_of_script, replies, status_of, max_script_bytes, max_bundle_bytes};
+ghost use Rattle.mix_session.specs.Answer.{told_of};
+ghost use Rattle.mix_session.specs.Command.{after, reply_of};
+ghost use Rattle.mix_session.specs.Session.{opened, effect_in};
+ghost use Rattle.mix_run.specs.Fault.{IsMemoryOrWrite};
+ghost use Rattle.mix_run.specs.Output.{Meets, IsStatus, output, outcome_of, outcome_of_script, replies, max_script_bytes};
 ghost use Rattle.mix_stream.specs.Stream.{AppendsFront, ConsumesAtMost, CountsFailure};
 
-use crate::bundle::cut;
-use crate::statuses::{DONE, NOT_DONE, SOURCE_REFUSED};
-use crate::units::{read_units, units_of};
+use crate::fault::ToolFault;
+use crate::statuses::{refuse_source, status};
+use crate::units::read_units;
 use mix_lines::split_line;
 use mix_machine::Units;
-use mix_refused::{Memory, Refused};
-use mix_session::{Session, Told, ToolFault};
-use mix_stream::{In, Out, read_up_to, write_all};
-use mixal_asm::{AsmFault, MAX_SOURCE_BYTES, Program, assemble};
+use mix_refused::Refused;
+use mix_session::{Session, Told};
+use mix_stream::{In, Out, read_up_to};
+use mixal_asm::{MAX_SOURCE_BYTES, Program, assemble};
 use std::alloc::Global;
 
 /// The most bytes that a script may have.
 const MAX_SCRIPT_BYTES: usize = 1_048_576;
 
-/// The most bytes that a bundle may have.
-const MAX_BUNDLE_BYTES: usize = 41_943_040;
-
-/// The first fault of a source is all that is written.
-pub(crate) fn refuse_source<W: Out>(
-    alloc: Global,
-    fault: AsmFault,
+/// One line of a script: it is executed, and its reply is written.
+pub(crate) fn command<W: Out>(
+    session: &mut Session,
+    line: &[u8],
     out: &mut W,
-) -> Result<u8, ToolFault>
+) -> Result<Told, ToolFault>
     requires { W.failed out.old < 2 ^ 64 - 1 }
-    ensures output { Meets (refusal_of fault) result (W.told out.old) (W.told out.new) }
+    ensures effect { let effect = effect_in session.old line.now in
+        IfOk result (λ told. (session.new ≡ record session.old { timeline = after effect }) × (told ≡ told_of effect.answer)
+        × Appends (W.told out.old) (W.told out.new) (reply_of session.old.program effect)) }
+    ensures begun { AppendsFront (W.told out.old) (W.told out.new) (reply_of session.old.program (effect_in session.old line.now)) }
     ensures write { CountsFailure (result ≡ Err ToolFault.Write) (W.failed out.old) (W.failed out.new) }
     ensures only { IfErr result IsMemoryOrWrite }
-    ensures ends { IfOk result IsStatus }
 {
-    let line = fault_line(alloc, fault)?;
-    write_all(out, line.as_bytes())?;
-    Ok(SOURCE_REFUSED)
-}
-
-fn fault_line(alloc: Global, fault: AsmFault) -> Result<String, Memory>
-    ensures { IfOk result (λ s. string_bytes s ≡ asm_fault_line fault ++ 10 ∷ []) }
-{
-    let text = format!(in alloc; "{fault}\n")?;
-    Ok(text)
+    match session.command(line, out) {
+        Ok(told) => Ok(told),
+        Err(Refused::Memory) => Err(ToolFault::Memory),
+        Err(Refused::Fault(_)) => Err(ToolFault::Write),
+    }
 }
 
 // The lines of a script, one after the other; accepted where each is.
@@ -70,19 +66,10 @@ fn execute_lines<W: Out>(
     let mut rest = script;
     while !rest.is_empty() {
         let (line, after) = split_line(rest);
-        told = told.and(session.command(line, out)?);
+        told = told.and(command(session, line, out)?);
         rest = after;
     }
     Ok(told)
-}
-
-pub(crate) fn status(told: Told) -> u8
-    ensures { result ≡ status_of told }
-{
-    match told {
-        Told::Accepted => DONE,
-        Told::Refused => NOT_DONE,
-    }
 }
 
 // A script in a session.
@@ -103,8 +90,8 @@ fn execute<W: Out>(session: &mut Session, script: &[u8], out: &mut W) -> Result<
     Ok(status(told))
 }
 
-// A script on the machine that a program loads, with its units.
-fn open_and_execute<W: Out>(
+/// A script on the machine that a program loads, with its units.
+pub(crate) fn open_and_execute<W: Out>(
     alloc: Global,
     program: Program,
     units: Units,
@@ -121,31 +108,6 @@ fn open_and_execute<W: Out>(
 {
     let mut session = Session::open(alloc, program, units)?;
     execute(&mut session, script, out)
-}
-
-// A source, a deck and a script that are read already.
-#[tactic(auto, unfolding(crate::specs::Output::output, crate::specs::Output::outcome_of))]
-fn run_parts<W: Out>(
-    alloc: Global,
-    source: &[u8],
-    deck: &[u8],
-    script: &[u8],
-    out: &mut W,
-) -> Result<u8, ToolFault>
-    requires { W.failed out.old < 2 ^ 64 - 1 }
-    ensures output { Meets (output source.now deck.now script.now) result (W.told out.old) (W.told out.new) }
-    ensures write { CountsFailure (result ≡ Err ToolFault.Write) (W.failed out.old) (W.failed out.new) }
-    ensures unread { result ≢ Err ToolFault.Read }
-    ensures ends { IfOk result IsStatus }
-{
-    match assemble(alloc, source) {
-        Err(Refused::Memory) => Err(ToolFault::Memory),
-        Err(Refused::Fault(fault)) => refuse_source(alloc, fault, out),
-        Ok(program) => {
-            let units = units_of(alloc, deck)?;
-            open_and_execute(alloc, program, units, script, out)
-        }
-    }
 }
 
 // The script of an assembled source, with the units of its deck.
@@ -263,32 +225,4 @@ pub fn run_debug<S: In, D: In, C: In, W: Out>(
         Err(Refused::Fault(fault)) => refuse_source(alloc, fault, out),
         Ok(program) => run_program(alloc, program, deck, script, out),
     }
-}
-
-/// The same of a bundle: the source, then the deck after a line `%DEVICES`, then the script after a line `%SCRIPT`; a part that is
-/// missing is empty. At most 41,943,041 bytes are read, all of them before the first byte is written. T6 is for a bundle over
-/// 41,943,040 bytes too.
-#[tactic(auto, unfolding(crate::specs::Output::bundle_output))]
-pub fn run_bundle<R: In, W: Out>(alloc: Global, input: &mut R, out: &mut W) -> Result<u8, ToolFault>
-    requires input_count { R.failed input.old < 2 ^ 64 - 1 }
-    requires out_count { W.failed out.old < 2 ^ 64 - 1 }
-
-    // The headline.
-    ensures output { (b : List ℕ) → R.rest input.old ≡ Some b → Meets (bundle_output b) result (W.told out.old) (W.told out.new) }
-
-    // A read or a write has failed exactly where that is answered.
-    ensures read { CountsFailure (result ≡ Err ToolFault.Read) (R.failed input.old) (R.failed input.new) }
-    ensures write { CountsFailure (result ≡ Err ToolFault.Write) (W.failed out.old) (W.failed out.new) }
-    ensures unread { result ≡ Err ToolFault.Read → Keeps (W.told out.old) (W.told out.new) }
-
-    // Never more is read.
-    ensures input { ConsumesAtMost (R.rest input.old) (R.rest input.new) (max_bundle_bytes + 1) }
-    ensures ends { IfOk result IsStatus }
-{
-    let bundle = read_up_to(alloc, input, MAX_BUNDLE_BYTES + 1)?;
-    if bundle.len() > MAX_BUNDLE_BYTES {
-        return Err(ToolFault::Long);
-    }
-    let parts = cut(&bundle);
-    run_parts(alloc, parts.source, parts.deck, parts.script, out)
 }

@@ -5,9 +5,9 @@ ghost use Rattle.mix_stream.specs.Stream.{ConsumesAtMost, CountsFailure};
 ghost use Rattle.mix_run.specs.Output.{IsDeckRefusal};
 ghost use Rattle.mix_run.specs.UnitsRead.{GivesUnits};
 
+use crate::fault::ToolFault;
 use mix_machine::{MAX_DECK_BYTES, Units};
 use mix_refused::Refused;
-use mix_session::ToolFault;
 use mix_stream::{In, read_up_to};
 use std::alloc::Global;
 

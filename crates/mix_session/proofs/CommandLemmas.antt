@@ -9,7 +9,8 @@ use Rattle.mix_machine.specs.declared.old.Change.{Change}
 use Rattle.mix_machine.specs.declared.old.Change.TheVariants.{Step}
 use Rattle.mix_machine.specs.declared.fault.MixFault.{MixFault}
 use Rattle.mix_session.specs.Timeline.{Timeline, world_of, begins_with_step, with_change, back_by, forth_by, moved_once, moved}
-use Rattle.mix_session.specs.Command.{effect_of_run, effect_of_change, effect_of_result, refusal_effect, change_stage, count_of_run, least_below, is_met_by, is_halt_done, is_at_stop, is_awaited, end_there, end_of_move, end_of_last, end_of_more, end_at, fault_end, after, Begun}
+use Rattle.mix_session.specs.Command.{effect_of_run, effect_of_change, effect_of_result, refusal_effect, change_stage, count_of_run, least_below, is_met_by, is_halt_done, end_there, end_of_move, end_of_last, end_of_more, end_at, fault_end, after, Begun}
+use Rattle.mix_session.specs.Stops.{is_at_stop, is_awaited}
 use Rattle.mix_session.specs.Stops.{StopsState}
 use Rattle.mix_session.specs.declared.fault.Refusal.TheVariants.{RefusedByMachine}
 use Rattle.mix_session.specs.declared.answer.Answer.TheVariants.{Ran, Done}

@@ -7,14 +7,12 @@ use Rattle.mix_machine.specs.World.{WorldState}
 use Rattle.mix_machine.specs.declared.fault.MixFault.{MixFault}
 use Rattle.mix_machine.specs.declared.old.Change.{Change}
 use Rattle.mix_session.specs.Timeline.{Timeline, world_of, back_by, forth_by}
-use Rattle.mix_session.specs.Change.{all_changes}
-use Rattle.mix_session.specs.Command.{Effect, after, at_once, refusal_effect, sought, count_back, count_forth, effect_of, effect_of_run, effect_of_back, effect_of_forth, effect_of_forth_within, effect_of_back_until, effect_of_forth_until, effect_of_change, effect_of_result, effect_of_show, HasEffect}
+use Rattle.mix_session.specs.Command.{Effect, after, at_once, refusal_effect, sought, count_back, count_forth, effect_of, effect_of_run, effect_of_back, effect_of_forth, effect_of_forth_within, effect_of_back_until, effect_of_forth_until, effect_of_change, effect_of_result, effect_of_show, is_there, HasEffect}
 use Rattle.mix_session.specs.Answer.{refusal_of}
 use Rattle.mix_session.specs.declared.answer.Answer.{Answer}
 use Rattle.mix_session.specs.declared.answer.Answer.TheVariants as answers
 use Rattle.mix_session.specs.declared.fault.Refusal.TheVariants.{TooFewChanges, NoSuchChange}
-use Rattle.mix_session.specs.declared.request.Topic.{Topic}
-use Rattle.mix_session.specs.declared.request.Topic.TheVariants as topic
+use Rattle.mix_session.specs.declared.request.topics.Topic.{Topic}
 use Rattle.mix_session.specs.declared.request.Request.{Request}
 use Rattle.mix_session.specs.declared.request.Request.TheVariants as ask
 use Rattle.mix_session.proofs.ConditionLemmas.{sought-end}
@@ -31,21 +29,7 @@ of_result t change (Ok world) = tt
 of_result t change (Err fault) = refl
 
 of_show : (t : Timeline) (shown : Topic) → Spares t (effect_of_show t shown)
-of_show t topic.Registers = tt
-of_show t (topic.Cells from to) = tt
-of_show t topic.Clock = tt
-of_show t topic.Breaks = tt
-of_show t topic.Changes = tt
-of_show t (topic.Unit number) = tt
-of_show t topic.All = tt
-of_show t (topic.Code from to) = tt
-of_show t (topic.Value word) = tt
-of_show t topic.Values = tt
-of_show t (topic.CellValues from to) = tt
-of_show t topic.Symbols = tt
-of_show t (topic.Last n) = tt
-of_show t (topic.Diff n) = either (ltb (length (all_changes t)) n) t (refusal_effect t TooFewChanges) (at_once t (answers.Shows (topic.Diff n))) refl tt
-of_show t topic.Counts = tt
+of_show t shown = either (is_there t shown) t (at_once t (answers.Shows shown)) (refusal_effect t TooFewChanges) tt refl
 
 pub spares : (t : Timeline) (r : Request) → Spares t (effect_of t r)
 unfolding effect_of effect_of_run effect_of_back_until effect_of_forth_until effect_of_change

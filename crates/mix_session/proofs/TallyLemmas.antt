@@ -21,7 +21,7 @@ use Rattle.mix_session.specs.Counts.{is_step, sum_below, number_if, time_of, is_
 use Rattle.mix_session.specs.Tally.{HasRoom, no_tally, tally_in, with_one, location_in, time_in}
 use Rattle.mix_session.specs.Each.{texts}
 use Rattle.mix_session.specs.Timeline.{Timeline, world_of}
-use Rattle.mix_session.specs.declared.show.counts.Tally.{Tally}
+use Rattle.mix_session.specs.declared.tally.Tally.{Tally}
 use Rattle.mix_session.proofs.ShowLemmas.{flat_map-range_next}
 
 -- values that are put back say the marks of the state before, and that is one of the machine

@@ -1,7 +1,6 @@
 -- What a request does to the timeline of a session, and what it answers. The machine is run anew, from its first state on the changes
 -- done, wherever something of it is asked; no value from before a `back` is left to be shown.
-use Rattle.std.specs.Prelude.{◌≡◌, ◌≤◌, ◌+◌, ◌-◌, ◌==◌, ◌&&◌, ◌||◌, ℕ, zero, suc, List, [], ◌∷◌, length, position, Bool, true, false, Option, None, Some, Result, Ok, Err, is_some, unwrap_or, nat_lt, if◌then◌else◌}
-use Rattle.std.specs.List.{list_any}
+use Rattle.std.specs.Prelude.{◌≡◌, ◌≤◌, ◌+◌, ◌-◌, ◌==◌, ◌&&◌, ◌||◌, ℕ, zero, suc, List, [], ◌∷◌, length, position, Bool, true, false, Option, None, Some, Result, Ok, Err, is_some, unwrap_or, nat_le, nat_lt, if◌then◌else◌}
 use Rattle.std.specs.Option.{option_map, option_or}
 use Rattle.mix_refused.specs.declared.refused.Memory.{Memory}
 use Rattle.mix_word.specs.Word.{plus}
@@ -11,8 +10,8 @@ use Rattle.mix_machine.specs.Do.{does, is_halt_next}
 use Rattle.mix_machine.specs.declared.old.Change.{Change}
 use Rattle.mix_machine.specs.declared.old.Change.TheVariants.{Step}
 use Rattle.mix_machine.specs.declared.fault.MixFault.{MixFault}
-use Rattle.mix_session.specs.Timeline.{Timeline, world_of, with_change, back_by, forth_by, moved, is_at_break}
-use Rattle.mix_session.specs.Stops.{StopsState}
+use Rattle.mix_session.specs.Timeline.{Timeline, world_of, with_change, back_by, forth_by, moved}
+use Rattle.mix_session.specs.Stops.{StopsState, no_stops, at_breaks, at_breaks_or, is_at_stop, is_awaited}
 use Rattle.mix_session.specs.Change.{all_changes}
 use Rattle.mix_session.specs.Condition.{is_reached}
 use Rattle.mix_session.specs.Request.{request_of}
@@ -22,8 +21,8 @@ use Rattle.mix_session.specs.declared.fault.Refusal.TheVariants.{TooFewChanges, 
 use Rattle.mix_session.specs.declared.condition.Condition.{Condition}
 use Rattle.mix_session.specs.declared.command.stops.Way.{Way}
 use Rattle.mix_session.specs.declared.command.stops.Way.TheVariants as way
-use Rattle.mix_session.specs.declared.request.Topic.{Topic}
-use Rattle.mix_session.specs.declared.request.Topic.TheVariants as topic
+use Rattle.mix_session.specs.declared.request.topics.Topic.{Topic}
+use Rattle.mix_session.specs.declared.request.topics.Topic.TheVariants as topic
 use Rattle.mix_session.specs.declared.request.Request.{Request}
 use Rattle.mix_session.specs.declared.request.Request.TheVariants as ask
 use Rattle.mix_session.specs.declared.answer.Answer.{Answer}
@@ -51,16 +50,6 @@ abbrev pub least_below : ℕ → (ℕ → Bool) → ℕ
 least_below zero passes = 0
 least_below (suc n) passes = if passes 0 then 0 else suc (least_below n (λ k. passes (suc k)))
 
--- what stops the runs of a script: nothing; breakpoints; breakpoints and a condition
-abbrev pub no_stops : StopsState
-no_stops = record { breaks = false; cells = []; watched = []; location = None }
-
-abbrev pub at_breaks : StopsState
-at_breaks = record no_stops { breaks = true }
-
-abbrev pub at_breaks_or : Condition → StopsState
-at_breaks_or condition = record at_breaks { watched = condition ∷ [] }
-
 -- whether the change by which a run went from one state to another meets a condition: it leads from the one to the other, or is taken back
 abbrev pub is_met_by : Way → WorldState → WorldState → Condition → Bool
 is_met_by way.Back old now condition = is_reached condition now old now
@@ -70,15 +59,6 @@ is_met_by other old now condition = is_reached condition old now now
 abbrev pub is_halt_done : Way → WorldState → Bool
 is_halt_done way.Back old = false
 is_halt_done other old = is_halt_next old
-
--- whether the machine is at a cell where the run stops: one that has a breakpoint, where those stop it, or one of the client's
-abbrev pub is_at_stop : StopsState → WorldState → Bool
-is_at_stop stops w = stops.breaks && is_at_break w || list_any (λ p. p == w.loc) stops.cells
-
--- whether the location is the one that is waited for
-abbrev pub is_awaited : Option ℕ → WorldState → Bool
-is_awaited None w = false
-is_awaited (Some location) w = w.loc == location
 
 -- why a run ends at a state, whichever change led there
 abbrev pub end_there : StopsState → WorldState → Option End
@@ -209,15 +189,14 @@ effect_of_result t change (Err fault) = refusal_effect t (RefusedByMachine fault
 unfoldable pub effect_of_change : Timeline → Change → Effect
 effect_of_change t change = effect_of_result t change (does (world_of t) change)
 
--- `show diff`: a state that no list of changes comes to is not shown
-abbrev pub effect_of_diff : Timeline → ℕ → Effect
-effect_of_diff t n =
-    if nat_lt (length (all_changes t)) n then refusal_effect t TooFewChanges else at_once t (answers.Shows (topic.Diff n))
+-- whether there is what is to be shown: only `show diff` asks for a state that no list of changes may come to
+abbrev pub is_there : Timeline → Topic → Bool
+is_there t (topic.Diff n) = nat_le n (length (all_changes t))
+is_there t other = true
 
 -- what is shown
 abbrev pub effect_of_show : Timeline → Topic → Effect
-effect_of_show t (topic.Diff n) = effect_of_diff t n
-effect_of_show t other = at_once t (answers.Shows other)
+effect_of_show t shown = if is_there t shown then at_once t (answers.Shows shown) else refusal_effect t TooFewChanges
 
 -- what a request does; each request has an effect, whoever makes it
 unfoldable pub effect_of : Timeline → Request → Effect

@@ -13,7 +13,7 @@ use Rattle.mix_session.specs.Each.{texts}
 use Rattle.mix_session.specs.Reply.{location_text}
 use Rattle.mix_session.specs.ShowCode.{is_overwritten, line_text}
 use Rattle.mix_session.specs.Timeline.{Timeline, world_of}
-use Rattle.mix_session.specs.declared.show.counts.Tally.{Tally}
+use Rattle.mix_session.specs.declared.tally.Tally.{Tally}
 
 abbrev pub is_step : Change → Bool
 is_step Step = true

@@ -1,43 +1,12 @@
--- Each fault's number and text, and the line that reports it.
+-- Each refusal's number and text.
 use Rattle.std.specs.Prelude.{ℕ, List, [], ◌++◌, codes, decimal}
 use Rattle.mix_machine.specs.Fault.{fault_line}
-use Rattle.mix_machine.specs.units.deck.Fault.{deck_fault_text}
-use Rattle.mix_session.specs.declared.fault.ToolFault.{ToolFault}
-use Rattle.mix_session.specs.declared.fault.ToolFault.TheVariants.{Memory, Read, Write, Deck, Long}
 use Rattle.mix_session.specs.declared.fault.Refusal.{Refusal}
 use Rattle.mix_session.specs.declared.fault.Refusal.TheVariants.{NoSuchCommand, BadArgument, OutOfRange, TooFewChanges, RefusedByMachine, NoSuchChange}
 
 -- the letter and the number, a blank and the words
 abbrev pub numbered : List ℕ → ℕ → List ℕ → List ℕ
 numbered letter number text = letter ++ decimal number ++ codes " " ++ text
-
--- the number of a fault of the tool; T4, a file that is not opened, is none of this type
-abbrev pub tool_number : ToolFault → ℕ
-tool_number Memory = 1
-tool_number Read = 2
-tool_number Write = 3
-tool_number (Deck fault) = 5
-tool_number Long = 6
-
--- its words
-abbrev pub tool_text : ToolFault → List ℕ
-tool_text Memory = codes "out of memory"
-tool_text Read = codes "read failed"
-tool_text Write = codes "write failed"
-tool_text (Deck fault) = codes "deck refused"
-tool_text Long = codes "input too long"
-
--- what stands after the words: of a deck its line and its own fault
-abbrev pub tool_detail : ToolFault → List ℕ
-tool_detail Memory = []
-tool_detail Read = []
-tool_detail Write = []
-tool_detail (Deck fault) = codes " at " ++ deck_fault_text fault
-tool_detail Long = []
-
--- `T1 out of memory`, `T5 deck refused at line 1: K1 bad header`
-abbrev pub tool_fault_text : ToolFault → List ℕ
-tool_fault_text fault = numbered (codes "T") (tool_number fault) (tool_text fault) ++ tool_detail fault
 
 -- the number of a refusal
 abbrev pub refusal_number : Refusal → ℕ

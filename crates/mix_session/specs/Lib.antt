@@ -24,5 +24,4 @@ pub mod Sums
 pub mod Tally
 pub mod Timeline
 pub mod Topic
-pub mod Wrapped
 pub mod law

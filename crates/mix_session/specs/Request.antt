@@ -35,8 +35,8 @@ use Rattle.mix_machine.specs.declared.part.Part.{Part}
 use Rattle.mix_machine.specs.declared.part.Part.TheVariants as part
 use Rattle.mix_machine.specs.declared.old.Change.{Change}
 use Rattle.mix_machine.specs.declared.old.Change.TheVariants.{SetReg, SetCell, SetLoc, SetOver, SetCmp, Break, Clear}
-use Rattle.mix_session.specs.declared.request.Topic.{Topic}
-use Rattle.mix_session.specs.declared.request.Topic.TheVariants as topic
+use Rattle.mix_session.specs.declared.request.topics.Topic.{Topic}
+use Rattle.mix_session.specs.declared.request.topics.Topic.TheVariants as topic
 
 -- no word more
 abbrev pub no_word : List (List ℕ) → Result (Unit {0}) Refusal

@@ -7,8 +7,6 @@ use Rattle.mix_session.specs.Timeline.{Timeline, beginning}
 use Rattle.mix_session.specs.Command.{Effect, command, request_at}
 use Rattle.mix_session.specs.declared.fault.Refusal.{Refusal}
 use Rattle.mix_session.specs.declared.request.Request.{Request}
-use Rattle.mix_session.specs.declared.fault.ToolFault.{ToolFault}
-use Rattle.mix_session.specs.declared.fault.ToolFault.TheVariants as faults
 
 pub record SessionState : Type 0 where
   pub program : ProgramValue
@@ -25,11 +23,3 @@ request_in s line = request_at s.program s.timeline line
 -- what a line of the script does
 abbrev pub effect_in : SessionState → List ℕ → Effect
 effect_in s line = command s.program s.timeline line
-
--- the faults that a command or a script meets: no memory, or a write that failed
-abbrev pub IsMemoryOrWrite : ToolFault → Type 0
-IsMemoryOrWrite faults.Memory = Unit {0}
-IsMemoryOrWrite faults.Write = Unit {0}
-IsMemoryOrWrite faults.Read = ⊥
-IsMemoryOrWrite (faults.Deck fault) = ⊥
-IsMemoryOrWrite faults.Long = ⊥

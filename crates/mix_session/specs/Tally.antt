@@ -2,7 +2,7 @@
 use Rattle.std.specs.Prelude.{ℕ, ◌+◌, ◌<◌, ◌^◌, List, get_or}
 use Rattle.mix_machine.specs.declared.part.Mark.{Mark}
 use Rattle.mix_machine.specs.declared.part.Mark.TheVariants as mark
-use Rattle.mix_session.specs.declared.show.counts.Tally.{Tally}
+use Rattle.mix_session.specs.declared.tally.Tally.{Tally}
 
 -- no execution
 abbrev pub no_tally : Tally

@@ -9,8 +9,8 @@ use Rattle.mix_session.specs.ShowValue.{value_line, values_text, cell_values_tex
 use Rattle.mixal_asm.specs.Listing.{symbols_text}
 use Rattle.mix_session.specs.Change.{last_lines, diff_text}
 use Rattle.mix_session.specs.Counts.{counts_text}
-use Rattle.mix_session.specs.declared.request.Topic.{Topic}
-use Rattle.mix_session.specs.declared.request.Topic.TheVariants.{Registers, Cells, Clock, Breaks, Changes, Unit, All, Code, Value, Values, CellValues, Symbols, Last, Diff, Counts}
+use Rattle.mix_session.specs.declared.request.topics.Topic.{Topic}
+use Rattle.mix_session.specs.declared.request.topics.Topic.TheVariants.{Registers, Cells, Clock, Breaks, Changes, Unit, All, Code, Value, Values, CellValues, Symbols, Last, Diff, Counts}
 
 -- of a program and of the machine that its timeline has come to
 abbrev pub topic_text : Topic → ProgramValue → Timeline → List ℕ

@@ -7,8 +7,9 @@ ghost use Rattle.mix_session.specs.Altered.{count_of, part_of, numbered, with_nu
 pub(crate) mod unit;
 
 use crate::show::all::{UNITS, unit_at};
-use crate::show::cells::{CELLS, place_at};
+use crate::show::cells::place_at;
 use mix_machine::{Change, Part, Place, Reg, UnitNo, World};
+use mix_word::CELLS;
 use std::alloc::{AllocError, Global};
 use undo_core::Memory;
 

@@ -3,7 +3,7 @@
 ghost use Rattle.std.specs.Prelude.{◌≡◌, ◌≤◌, ◌<◌, ℕ, IfErr, IfOk, Ok, length};
 ghost use Rattle.mix_session.specs.Timeline.{back_by, forth_by};
 ghost use Rattle.mix_session.specs.Command.{effect_of, effect_of_back, effect_of_back_within, effect_of_forth, effect_of_forth_within, effect_of_goto, effect_of_change};
-ghost use Rattle.mix_session.specs.Command.{effect_of_back_until, effect_of_forth_until, effect_of_show, count_back, is_reached_forth, HasEffect};
+ghost use Rattle.mix_session.specs.Command.{effect_of_back_until, effect_of_forth_until, effect_of_show, is_there, count_back, is_reached_forth, HasEffect};
 ghost use Rattle.mix_machine.specs.Part.{mark_before};
 ghost use Rattle.mix_session.specs.Condition.{watched, is_met};
 
@@ -201,10 +201,19 @@ fn change_by(journal: &mut Journal<World>, change: Change) -> Result<Answer, Mem
 fn show(journal: &mut Journal<World>, topic: Topic) -> Answer
     ensures { HasEffect (effect_of_show journal.old topic) journal.old journal.new (Ok result) }
 {
-    match topic {
-        Topic::Diff(number) if (journal.all().len() as u64) < number => {
-            Answer::Refused(Refusal::TooFewChanges)
-        }
-        _ => Answer::Shows(topic),
+    if is_there(journal, &topic) {
+        Answer::Shows(topic)
+    } else {
+        Answer::Refused(Refusal::TooFewChanges)
+    }
+}
+
+// Whether there is what is to be shown.
+fn is_there(journal: &Journal<World>, topic: &Topic) -> bool
+    ensures { result ≡ is_there journal.now topic.now }
+{
+    match *topic {
+        Topic::Diff(number) => number <= journal.all().len() as u64,
+        _ => true,
     }
 }

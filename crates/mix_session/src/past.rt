@@ -8,7 +8,8 @@ ghost use Rattle.mix_session.specs.Tally.{tally_in};
 
 use crate::session::Session;
 use crate::show::changes;
-use crate::show::counts::{Tallies, tallies_of};
+use crate::tally::{Tallies, tallies_of};
+use crate::timeline;
 use mix_machine::{Change, World};
 use std::alloc::Global;
 use undo_core::Memory;
@@ -19,7 +20,7 @@ impl Session<'_> {
     pub fn world_at(&self, alloc: Global, number: usize) -> Result<World, Memory>
         ensures { IfOk result (λ w. w ≡ world_at self.now.timeline number) }
     {
-        changes::world_at(alloc, self.journal(), number)
+        timeline::world_at(alloc, self.journal(), number)
     }
 
     /// The change of a number, counted from 1, of those done and those that stand ahead; none where there is no such number.

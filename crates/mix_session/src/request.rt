@@ -12,12 +12,13 @@ use crate::condition::Condition;
 use crate::fault::Refusal;
 use crate::keyword::{BackWord, CommandWord, ForthWord, named};
 use mix_lines::{Words, is_comment};
-use mix_machine::{Change, Place, UnitNo, Word};
+use mix_machine::{Change, Place, Word};
 use mixal_asm::Program;
 use mixal_text::Names;
 use operand::{first_word, from_one, no_word, number_in, one_word, place_named, up_to};
 use set::read_change;
 pub(crate) use set::{read_condition, read_setting};
+pub use topics::Topic;
 use topics::read_topic;
 
 /// A request to a session: what one line of a script asks for.
@@ -38,27 +39,6 @@ pub enum Request {
     Goto(u64),
     Change(Change),
     Show(Topic),
-}
-
-/// What `show` shows. `Cells`, `Code` and `CellValues` have the first and the last cell, `Last` the
-/// number of changes, `Diff` the number of changes after which the other state is taken.
-#[derive(Clone, Copy)]
-pub enum Topic {
-    Registers,
-    Cells(Place, Place),
-    Clock,
-    Breaks,
-    Changes,
-    Unit(UnitNo),
-    All,
-    Code(Place, Place),
-    Value(Word),
-    Values,
-    CellValues(Place, Place),
-    Symbols,
-    Last(u64),
-    Diff(u64),
-    Counts,
 }
 
 /// The most steps that one command may ask for.

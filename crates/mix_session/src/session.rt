@@ -6,23 +6,24 @@ ghost use Rattle.mix_session.specs.Timeline.{world_of};
 ghost use Rattle.mix_word.specs.Word.{plus};
 ghost use Rattle.mix_session.specs.Answer.{refusal_of, told_of, text_of};
 ghost use Rattle.mix_session.specs.Command.{after, effect_of, effect_of_run, reply_of, Begun, HasEffect};
-ghost use Rattle.mix_session.specs.Session.{opened, request_in, effect_in, IsMemoryOrWrite};
+ghost use Rattle.mix_session.specs.Session.{opened, request_in, effect_in};
+ghost use Rattle.mix_refused.specs.Refused.{IsFault};
 ghost use Rattle.mix_stream.specs.Stream.{AppendsFront, CountsFailure};
 
 use crate::answer::{Answer, answer_text};
 use crate::command::execute;
 use crate::command::runs::run_on;
 use crate::command::stops::{Stops, Way, marks_of};
-use crate::fault::{Refusal, ToolFault};
+use crate::fault::Refusal;
 use crate::reply::{End, Told};
 use crate::request::{Request, read_request};
 use crate::timeline::world_of;
 use mix_machine::{Change, Sign, Units, Word, World};
-use mix_stream::{Out, write_all};
+use mix_stream::{Failed, Out, write_all};
 use mixal_asm::Program;
 use std::alloc::Global;
 use std::marker::Model;
-use undo_core::{Changes, Journal, Memory};
+use undo_core::{Changes, Journal, Memory, Refused};
 
 /// An assembled program, the machine that it was loaded into, and the changes of that machine.
 pub struct Session<'s> {
@@ -161,9 +162,9 @@ impl<'s> Session<'s> {
     }
 
     /// Executes one line of a script and writes its reply: `Accepted`, or `Refused` where the line or the machine refuses it or a step
-    /// meets a fault. Out of memory, T1, nothing is written: of `step` and `run` the steps done stand, of `forth` the changes done again,
-    /// of another command all or nothing. Where a write fails, T3, the command is done, and a beginning of its reply is written.
-    pub fn command<W: Out>(&mut self, line: &[u8], out: &mut W) -> Result<Told, ToolFault>
+    /// meets a fault. Out of memory, nothing is written: of `step` and `run` the steps done stand, of `forth` the changes done again,
+    /// of another command all or nothing. Where a write fails, the command is done, and a beginning of its reply is written.
+    pub fn command<W: Out>(&mut self, line: &[u8], out: &mut W) -> Result<Told, Refused<Failed>>
         requires { W.failed out.old < 2 ^ 64 - 1 }
         ensures program { self.new.program ≡ self.old.program }
         ensures first { self.new.timeline.first ≡ self.old.timeline.first }
@@ -171,16 +172,17 @@ impl<'s> Session<'s> {
             IfOk result (λ told. (self.new ≡ record self.old { timeline = after effect }) × (told ≡ told_of effect.answer)
             × Appends (W.told out.old) (W.told out.new) (reply_of self.old.program effect)) }
         ensures begun { AppendsFront (W.told out.old) (W.told out.new) (reply_of self.old.program (effect_in self.old line.now)) }
-        ensures memory { result ≡ Err ToolFault.Memory → Keeps (W.told out.old) (W.told out.new)
+        ensures memory { result ≡ Err Refused.Memory → Keeps (W.told out.old) (W.told out.new)
             × Begun (effect_in self.old line.now) self.new.timeline }
-        ensures done { result ≡ Err ToolFault.Write → self.new.timeline ≡ after (effect_in self.old line.now) }
-        ensures write { CountsFailure (result ≡ Err ToolFault.Write) (W.failed out.old) (W.failed out.new) }
-        ensures only { IfErr result IsMemoryOrWrite }
+        ensures done { IsFault result → self.new.timeline ≡ after (effect_in self.old line.now) }
+        ensures write { CountsFailure (IsFault result) (W.failed out.old) (W.failed out.new) }
     {
         let answer = self.execute_line(line)?;
         let text = self.text(&answer)?;
-        write_all(out, text.as_slice())?;
-        Ok(answer.told())
+        match write_all(out, text.as_slice()) {
+            Ok(()) => Ok(answer.told()),
+            Err(failed) => Err(Refused::Fault(failed)),
+        }
     }
 
     /// The journal, for what it keeps.

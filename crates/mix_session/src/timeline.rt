@@ -1,13 +1,15 @@
-//! The machine that a timeline has come to, and the one before it.
+//! The machine that a timeline has come to, and those before and ahead of it.
 
-ghost use Rattle.std.specs.Prelude.{◌≡◌, ◌+◌, Some, take};
+ghost use Rattle.std.specs.Prelude.{◌≡◌, ◌≤◌, ◌+◌, ◌++◌, Some, OnOk, IfOk, length, take};
 ghost use Rattle.undo_core.specs.Replay.{replay, TakesBack};
 ghost use Rattle.mix_machine.specs.Do.{does};
 ghost use Rattle.mix_machine.specs.Write.{put_value};
+ghost use Rattle.mix_session.specs.Change.{world_at};
 ghost use Rattle.mix_session.specs.Timeline.{world_of};
 
 use mix_machine::{Old, World};
-use undo_core::{Journal, Past, Undo, Values};
+use std::alloc::Global;
+use undo_core::{Journal, Kept, Memory, Past, Undo, Values};
 
 /// The machine after the changes done.
 #[tactic(auto, unfolding(crate::specs::Timeline::world_of))]
@@ -47,4 +49,56 @@ pub(crate) fn unwind(
     ensures { replay does journal.now.first (take number journal.now.changes) ≡ Some world.new }
 {
     world.restore_all(values);
+}
+
+/// The machine after the first changes of all, those done and those ahead: a copy that is led there.
+pub(crate) fn world_at(
+    alloc: Global,
+    journal: &Journal<World>,
+    number: usize,
+) -> Result<World, Memory>
+    ensures { IfOk result (λ w. w ≡ world_at journal.now number) }
+{
+    let mut world = journal.state().copied(alloc)?;
+    if number <= journal.done() {
+        lead_back(journal, number, &mut world);
+    } else {
+        lead_forth(alloc, journal, number.min(journal.all().len()), &mut world)?;
+    }
+    Ok(world)
+}
+
+// Leads the machine back to where it was after the first of the changes done.
+fn lead_back(journal: &Journal<World>, number: usize, world: &mut World)
+    requires within { number ≤ length journal.now.changes }
+    requires now { replay does journal.now.first journal.now.changes ≡ Some world.old }
+    ensures { replay does journal.now.first (take number journal.now.changes) ≡ Some world.new }
+{
+    let mut past = journal.past();
+    let mut at = journal.done();
+    while at > number {
+        at -= 1;
+        let values = earlier(journal, &mut past, at);
+        unwind(journal, at, &values, world);
+    }
+}
+
+// Leads the machine forth to where it is after the first of all changes.
+fn lead_forth(
+    alloc: Global,
+    journal: &Journal<World>,
+    number: usize,
+    world: &mut World,
+) -> Result<(), Memory>
+    requires done { length journal.now.changes ≤ number }
+    requires all { number ≤ length journal.now.changes + length journal.now.ahead }
+    requires now { replay does journal.now.first journal.now.changes ≡ Some world.old }
+    ensures { OnOk result (replay does journal.now.first (take number (journal.now.changes ++ journal.now.ahead)) ≡ Some world.new) }
+{
+    let mut kept = Kept::new(alloc);
+    for at in journal.done()..number {
+        journal.redo(at, world, &mut kept)?;
+        kept.clear();
+    }
+    Ok(())
 }

@@ -4,8 +4,7 @@ ghost use Rattle.std.specs.Prelude.{◌≡◌, ◌<◌, ◌-◌, ◌^◌, IfOk, 
 ghost use Rattle.mix_tool.specs.Ending.{Tells, TellsRun, Wrote, memory_line, not_opened, report, status_of_end, status_of_print, status_of_run};
 
 use mix_cli::FAILED;
-use mix_run::{DONE, NOT_DONE, PrintAnswer, RanTo, RunEnd, SOURCE_REFUSED};
-use mix_session::ToolFault;
+use mix_run::{DONE, NOT_DONE, PrintAnswer, RanTo, RunEnd, SOURCE_REFUSED, ToolFault};
 use mix_stream::{Out, write_all};
 use std::alloc::{AllocError, Global};
 

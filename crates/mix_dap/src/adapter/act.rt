@@ -2,7 +2,8 @@
 
 ghost use Rattle.std.specs.Prelude.{◌≡◌, IfOk, IfErr};
 ghost use Rattle.mix_refused.specs.Refused.{IfFault};
-ghost use Rattle.mix_session.specs.Command.{after, effect_of, effect_of_run, no_stops, Begun};
+ghost use Rattle.mix_session.specs.Command.{after, effect_of, effect_of_run, Begun};
+ghost use Rattle.mix_session.specs.Stops.{no_stops};
 ghost use Rattle.mix_session.specs.declared.command.stops.Way.TheVariants as ways;
 ghost use Rattle.mix_session.specs.declared.request.Request.TheVariants.{BackAll};
 ghost use Rattle.mix_dap.specs.Deed.{deed_of, effect_of_deed};

@@ -3,12 +3,12 @@ ghost use Rattle.std.specs.Prelude.{◌≡◌, ◌++◌, ◌<◌, ◌-◌, ◌^�
 ghost use Rattle.std.specs.Io.KnownBytes.{Appends};
 ghost use Rattle.mix_stream.specs.Stream.{AppendsFront, CountsFailure};
 ghost use Rattle.mix_session.specs.ShowUnit.{letters_text, characters_text};
-ghost use Rattle.mix_session.specs.Session.{IsMemoryOrWrite};
+ghost use Rattle.mix_run.specs.Fault.{IsMemoryOrWrite};
 ghost use Rattle.mix_run.specs.Print.{after_blanks, without_last_blanks, printed_row};
 
+use crate::fault::ToolFault;
 use mix_machine::{Row, Word};
 use mix_refused::Memory;
-use mix_session::ToolFault;
 use mix_stream::{Out, write_all};
 use mix_word::char_of;
 use std::alloc::Global;

@@ -2,15 +2,15 @@
 ghost use Rattle.std.specs.Prelude.{◌≡◌, ◌<◌, ◌-◌, ◌^◌, IfOk, IfErr, OnOk, Err, None, drop, flat_map, length, slice_index_or};
 ghost use Rattle.std.specs.Io.KnownBytes.{Appends};
 ghost use Rattle.mix_machine.specs.World.{unit_at};
-ghost use Rattle.mix_session.specs.Session.{IsMemoryOrWrite};
+ghost use Rattle.mix_run.specs.Fault.{IsMemoryOrWrite};
 ghost use Rattle.mix_stream.specs.Stream.{AppendsFront, CountsFailure};
 ghost use Rattle.mix_run.specs.Print.{printed, printed_row, printed_from};
 ghost use Rattle.mix_run.specs.PrintSteps.{HasCounts, StepPrints, step_bytes, printed_after};
 
+use crate::fault::ToolFault;
 use crate::print::options::UnitSet;
 use crate::print::row::print_row;
 use mix_machine::{Change, MixFault, Old, Row, Unit, UnitNo, World};
-use mix_session::ToolFault;
 use mix_stream::Out;
 use std::alloc::Global;
 use undo_core::{Kept, Refused, Undo};

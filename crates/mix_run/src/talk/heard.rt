@@ -5,15 +5,17 @@ ghost use Rattle.std.specs.List.{list_any};
 ghost use Rattle.std.specs.Io.KnownBytes.{Appends};
 ghost use Rattle.mix_lines.specs.Lines.{is_line_feed, lines};
 ghost use Rattle.mix_machine.specs.declared.units.deck_fault.DeckFault.{DeckFault};
-ghost use Rattle.mix_session.specs.Session.{IsMemoryOrWrite};
+ghost use Rattle.mix_run.specs.Fault.{IsMemoryOrWrite};
 ghost use Rattle.mix_run.specs.Talk.{Talks, after_lines, answers, asked, is_over, is_quit, is_whole, max_line_bytes};
 ghost use Rattle.mix_run.specs.Hearing.{Begins, Hears};
 ghost use Rattle.mix_stream.specs.Stream.{AppendsFront, CountsFailure};
 
+use crate::fault::ToolFault;
+use crate::run::command;
 use crate::talk::aside::{Line, Talker, end_prompt, help, kind_of, prompt};
 use mix_lines::split_line;
 use mix_refused::Memory;
-use mix_session::{Session, Told, ToolFault};
+use mix_session::{Session, Told};
 use mix_stream::{In, Out};
 use std::alloc::Global;
 
@@ -59,7 +61,7 @@ fn answer_line<W: Out, E: Out>(
             Ok(Some(Told::Accepted))
         }
         Line::Command => {
-            let told = session.command(line, out)?;
+            let told = command(session, line, out)?;
             Ok(Some(told))
         }
     }

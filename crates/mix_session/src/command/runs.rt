@@ -2,7 +2,8 @@
 
 ghost use Rattle.std.specs.Prelude.{◌≡◌, ◌≤◌, ◌<◌, ℕ, IfErr, IfOk, OnErr, [], ◌∷◌, Some, None, true};
 ghost use Rattle.mix_session.specs.Timeline.{world_of, begins_with_step, moved};
-ghost use Rattle.mix_session.specs.Command.{effect_of_run, effect_of_trace, effect_of_back_break, is_halt_done, end_at, no_stops, at_breaks, at_breaks_or, Begun, HasEffect};
+ghost use Rattle.mix_session.specs.Command.{effect_of_run, effect_of_trace, effect_of_back_break, is_halt_done, end_at, Begun, HasEffect};
+ghost use Rattle.mix_session.specs.Stops.{no_stops, at_breaks, at_breaks_or};
 ghost use Rattle.mix_session.specs.Marks.{AreMarks, HasMoved};
 
 use crate::answer::Answer;

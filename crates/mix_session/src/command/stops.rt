@@ -4,7 +4,8 @@ ghost use Rattle.std.specs.Prelude.{◌≡◌, ◌==◌, IfOk, Some, None, lengt
 ghost use Rattle.std.specs.List.{list_any};
 ghost use Rattle.std.specs.Option.{option_or};
 ghost use Rattle.mix_session.specs.Timeline.{is_at_break};
-ghost use Rattle.mix_session.specs.Command.{end_there, is_at_stop, is_awaited};
+ghost use Rattle.mix_session.specs.Command.{end_there};
+ghost use Rattle.mix_session.specs.Stops.{is_at_stop, is_awaited};
 ghost use Rattle.mix_session.specs.Marks.{AreMarks, first_met, end_by_marks};
 
 use crate::condition::Condition;

@@ -5,14 +5,34 @@ ghost use Rattle.mix_session.specs.Request.{last_topic, diff_topic, alone, range
 
 use crate::fault::Refusal;
 use crate::keyword::ShowWord;
-use crate::request::Topic;
 use crate::request::operand::{
     expression_in, first_keyword, from_one, no_word, number_in, one_unit, one_word, place_of,
     two_words, word_in,
 };
 use mix_lines::Words;
-use mix_machine::{Place, Word};
+use mix_machine::{Place, UnitNo, Word};
 use mixal_text::Names;
+
+/// What `show` shows. `Cells`, `Code` and `CellValues` have the first and the last cell, `Last` the
+/// number of changes, `Diff` the number of changes after which the other state is taken.
+#[derive(Clone, Copy)]
+pub enum Topic {
+    Registers,
+    Cells(Place, Place),
+    Clock,
+    Breaks,
+    Changes,
+    Unit(UnitNo),
+    All,
+    Code(Place, Place),
+    Value(Word),
+    Values,
+    CellValues(Place, Place),
+    Symbols,
+    Last(u64),
+    Diff(u64),
+    Counts,
+}
 
 #[tactic(auto, unfolding(crate::specs::Request::topic_in))]
 pub(crate) fn read_topic<N: Names>(

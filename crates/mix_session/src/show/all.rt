@@ -3,11 +3,12 @@
 ghost use Rattle.std.specs.Prelude.{◌≡◌, ◌<◌, IfOk, string_bytes};
 ghost use Rattle.mix_session.specs.Show.{is_used, was_used, used_unit_text, all_text};
 
-use crate::show::cells::{Breakpoints, CELLS, Cells, FilledCells};
+use crate::show::cells::{Breakpoints, Cells, FilledCells};
 use crate::show::each::{Each, Numbered};
 use crate::show::unit::UnitLines;
 use crate::show::{Flags, Registers};
 use mix_machine::{Unit, UnitNo, World};
+use mix_word::CELLS;
 use std::alloc::{AllocError, Global};
 use std::fmt;
 

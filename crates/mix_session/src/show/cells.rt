@@ -11,9 +11,6 @@ use mix_machine::{Place, Sign, Word, World};
 use std::fmt;
 use std::marker::PhantomData;
 
-/// How many cells there are.
-pub(crate) const CELLS: u16 = 4000;
-
 /// A kind of text that each cell of a machine has.
 pub(super) trait CellText {
     // The text of the cell with a number.

@@ -1,22 +1,22 @@
 //! The lines of the changes: what each did, and what it altered.
 
-ghost use Rattle.std.specs.Prelude.{◌≡◌, ◌<◌, ◌≤◌, ◌+◌, ◌++◌, Some, OnOk, IfOk, length, reverse, take, string_bytes};
+ghost use Rattle.std.specs.Prelude.{◌≡◌, ◌<◌, ◌+◌, ◌++◌, Some, OnOk, IfOk, length, reverse, take, string_bytes};
 ghost use Rattle.undo_core.specs.Replay.{replay, TakesBack};
 ghost use Rattle.mix_machine.specs.Do.{does};
 ghost use Rattle.mix_machine.specs.Write.{put_value};
 ghost use Rattle.mix_machine.specs.declared.old.Change.TheVariants.{Step};
-ghost use Rattle.mix_session.specs.Change.{world_at, change_at, change_text, change_columns, change_line, change_line_at, last_lines, diff_text};
+ghost use Rattle.mix_session.specs.Change.{change_at, change_text, change_columns, change_line, change_line_at, last_lines, diff_text};
 ghost use Rattle.mix_session.specs.Differences.{differences};
 
 use crate::altered::{Worlds, alterations, altered_by};
 use crate::reply::Location;
 use crate::show::columns::{add_left, add_right};
 use crate::show::differences::{add_item_columns, add_item_lines};
-use crate::timeline::{earlier, unwind, world_of};
+use crate::timeline::{earlier, unwind, world_at, world_of};
 use mix_machine::{Change, Old, Place, World};
 use mix_word::Instruction;
 use std::alloc::{AllocError, Global};
-use undo_core::{Journal, Kept, Memory, Values};
+use undo_core::{Journal, Memory, Values};
 
 /// The lines of the last changes that are done, or of all where there are fewer. They are told from now backwards, by what the journal keeps: no
 /// change is done again.
@@ -236,56 +236,4 @@ fn add_differences(alloc: Global, text: &mut Vec<u8>, worlds: Worlds<'_>) -> Res
 {
     let parts = alterations(alloc, worlds.before, worlds.after)?;
     add_item_lines(alloc, text, worlds, &parts)
-}
-
-/// The machine after the first changes of all, those done and those ahead: a copy that is led there.
-pub(crate) fn world_at(
-    alloc: Global,
-    journal: &Journal<World>,
-    number: usize,
-) -> Result<World, Memory>
-    ensures { IfOk result (λ w. w ≡ world_at journal.now number) }
-{
-    let mut world = journal.state().copied(alloc)?;
-    if number <= journal.done() {
-        lead_back(journal, number, &mut world);
-    } else {
-        lead_forth(alloc, journal, number.min(journal.all().len()), &mut world)?;
-    }
-    Ok(world)
-}
-
-// Leads the machine back to where it was after the first of the changes done.
-fn lead_back(journal: &Journal<World>, number: usize, world: &mut World)
-    requires within { number ≤ length journal.now.changes }
-    requires now { replay does journal.now.first journal.now.changes ≡ Some world.old }
-    ensures { replay does journal.now.first (take number journal.now.changes) ≡ Some world.new }
-{
-    let mut past = journal.past();
-    let mut at = journal.done();
-    while at > number {
-        at -= 1;
-        let values = earlier(journal, &mut past, at);
-        unwind(journal, at, &values, world);
-    }
-}
-
-// Leads the machine forth to where it is after the first of all changes.
-fn lead_forth(
-    alloc: Global,
-    journal: &Journal<World>,
-    number: usize,
-    world: &mut World,
-) -> Result<(), Memory>
-    requires done { length journal.now.changes ≤ number }
-    requires all { number ≤ length journal.now.changes + length journal.now.ahead }
-    requires now { replay does journal.now.first journal.now.changes ≡ Some world.old }
-    ensures { OnOk result (replay does journal.now.first (take number (journal.now.changes ++ journal.now.ahead)) ≡ Some world.new) }
-{
-    let mut kept = Kept::new(alloc);
-    for at in journal.done()..number {
-        journal.redo(at, world, &mut kept)?;
-        kept.clear();
-    }
-    Ok(())
 }

@@ -1,7 +1,7 @@
 -- What was read of the source and of the deck is all that the talk looks at.
 use Rattle.std.proofs.Common.{◌≡◌, ◌∙◌, Ok, Err, inl, inr, refl}
 use Rattle.std.proofs.lemmas.Result.{err_from_is_err_and}
-use Rattle.mix_session.specs.declared.fault.ToolFault.TheVariants.{Long}
+use Rattle.mix_run.specs.declared.fault.ToolFault.TheVariants.{Long}
 use Rattle.mix_refused.specs.declared.refused.Refused.TheVariants as reads
 use Rattle.mixal_asm.specs.Assembly.{assembly}
 use Rattle.mix_machine.specs.units.deck.Deck.{deck_of}

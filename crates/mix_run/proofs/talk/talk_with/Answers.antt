@@ -1,6 +1,6 @@
 -- Out of memory before the machine stands, nothing is written.
 use Rattle.std.proofs.Common.{Err, refl, arith}
-use Rattle.mix_session.specs.declared.fault.ToolFault.TheVariants.{Memory}
+use Rattle.mix_run.specs.declared.fault.ToolFault.TheVariants.{Memory}
 use Rattle.mix_run.proofs.Written.{Appends-nothing}
 use Rattle.mix_run.proofs.talk.talk_with.Goals as goal
 

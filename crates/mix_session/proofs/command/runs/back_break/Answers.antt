@@ -1,6 +1,6 @@
 -- So many changes are taken back at once as the run takes back one at a time.
 use Rattle.std.proofs.Common.{◌∙◌, length, refl}
-use Rattle.mix_session.specs.Command.{at_breaks}
+use Rattle.mix_session.specs.Stops.{at_breaks}
 use Rattle.mix_session.specs.declared.command.stops.Way.TheVariants.{Back}
 use Rattle.mix_session.proofs.CommandLemmas.{count_of_run-is, moved-back}
 use Rattle.mix_session.proofs.command.runs.back_break.Goals as goal

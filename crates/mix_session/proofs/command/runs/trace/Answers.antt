@@ -1,6 +1,6 @@
 -- The answer is made of the steps that were done.
 use Rattle.std.proofs.Common.{refl}
-use Rattle.mix_session.specs.Command.{no_stops}
+use Rattle.mix_session.specs.Stops.{no_stops}
 use Rattle.mix_session.specs.declared.command.stops.Way.TheVariants.{New}
 use Rattle.mix_session.proofs.CommandLemmas.{effect_of_run-is}
 use Rattle.mix_session.proofs.command.runs.trace.Goals as goal

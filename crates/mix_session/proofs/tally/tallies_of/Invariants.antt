@@ -4,7 +4,7 @@ use Rattle.mix_machine.specs.declared.part.Part.TheVariants.{Loc, Clock}
 use Rattle.mix_session.specs.Change.{world_at}
 use Rattle.mix_session.specs.Counts.{is_step_after}
 use Rattle.mix_session.proofs.TallyLemmas.{Stands, IsTallied, AreTallied}
-use Rattle.mix_session.proofs.show.counts.tallies_of.Given as goal
+use Rattle.mix_session.proofs.tally.tallies_of.Given as goal
 
 abbrev pub invariant-loop-number : goal.invariant-loop-number
 invariant-loop-number l = record {

@@ -5,8 +5,8 @@ use Rattle.mix_machine.specs.Part.{mark_of}
 use Rattle.mix_machine.specs.declared.part.Part.TheVariants.{Loc, Clock}
 use Rattle.mix_session.specs.Counts.{is_step_after}
 use Rattle.mix_session.proofs.TallyLemmas.{Stands-now, Passes-is, step-after, Took-is, IsTallied-none, IsTallied-one, IsTallied-other, HasRoom-one, HasRoom-at, AreTallied-none, AreTallied-one, AreTallied-other}
-use Rattle.mix_session.proofs.show.counts.tallies_of.Goals as goal
-use Rattle.mix_session.proofs.show.counts.tallies_of.Goals.{then-is_step, else-is_step}
+use Rattle.mix_session.proofs.tally.tallies_of.Goals as goal
+use Rattle.mix_session.proofs.tally.tallies_of.Goals.{then-is_step, else-is_step}
 
 pub loop-number-init : goal.loop-number-init
 loop-number-init c =

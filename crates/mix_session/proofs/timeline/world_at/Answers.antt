@@ -1,7 +1,7 @@
 use Rattle.std.proofs.Common.{min, ap, sym, ◌∙◌}
 use Rattle.mix_session.proofs.ChangeLemmas.{world_at-done, world_at-all}
-use Rattle.mix_session.proofs.show.changes.world_at.Goals as goal
-use Rattle.mix_session.proofs.show.changes.world_at.Goals.{then-number-done, else-number-done+in_ok-lead_forth}
+use Rattle.mix_session.proofs.timeline.world_at.Goals as goal
+use Rattle.mix_session.proofs.timeline.world_at.Goals.{then-number-done, else-number-done+in_ok-lead_forth}
 
 pub returns : goal.returns
 returns c = elim c.if-number-done.branch [

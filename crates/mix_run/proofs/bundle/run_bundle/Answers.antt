@@ -1,8 +1,8 @@
 -- What was read of the bundle is all that the outcome looks at.
 use Rattle.std.proofs.Common.{◌∙◌, ◌<◌, ◌≤◌, length, arith, Err}
-use Rattle.mix_session.specs.declared.fault.ToolFault.TheVariants.{Long}
+use Rattle.mix_run.specs.declared.fault.ToolFault.TheVariants.{Long}
 use Rattle.mix_run.proofs.RunLemmas.{Meets-bundle, Meets-long, Meets-parts}
-use Rattle.mix_run.proofs.run.run_bundle.Goals as goal
+use Rattle.mix_run.proofs.bundle.run_bundle.Goals as goal
 
 pub returns-then-len-gt-MAX_BUNDLE_BYTES-clause-output : goal.returns-then-len-gt-MAX_BUNDLE_BYTES-clause-output
 returns-then-len-gt-MAX_BUNDLE_BYTES-clause-output g c b hb =
