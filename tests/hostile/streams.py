@@ -33,7 +33,7 @@ def due(program, name):
 def vanishing_terminal(program, text):
     """Standard input is a terminal that goes away after some lines: its reads fail then."""
     ours, theirs = pty.openpty()
-    child = subprocess.Popen([program], stdin=theirs, stdout=subprocess.PIPE, stderr=subprocess.PIPE)
+    child = subprocess.Popen([program, "list", "/dev/stdin"], stdin=theirs, stdout=subprocess.PIPE, stderr=subprocess.PIPE)
     os.close(theirs)
     os.write(ours, text)
     threading.Event().wait(0.2)  # it reads what was written, and waits for more

@@ -1,9 +1,7 @@
 -- A command line that has words, and clap's errors as its own.
-use Rattle.std.proofs.Common.{◌≡◌, ◌<◌, ◌∙◌, ⊎_elim, false, refl, sym, ap, subst, List, length, Result, Ok, Err, IfErr}
-use Rattle.std.specs.Prelude.{nat_le}
+use Rattle.std.proofs.Common.{◌≡◌, ⊎_elim, Bool, false, refl, sym, subst, List, length, Result, Ok, Err, IfErr}
 use Rattle.std.specs.Result.{IsErrAnd}
 use Rattle.std.specs.Borrow.{Bor}
-use Rattle.std.proofs.lemmas.Bool.{lt-leb}
 use Rattle.std.proofs.lemmas.List.{length-map}
 use Rattle.clap.specs.Walk.{Text, texts}
 use Rattle.clap.specs.Kinds.{HasKind, IsAmong, Kinds}
@@ -14,14 +12,13 @@ use Rattle.clap.specs.declared.error.kind.ErrorKind.TheVariants.{OutOfMemory}
 use Rattle.mix_cli.specs.declared.fault.LineFault.{LineFault}
 use Rattle.mix_cli.specs.declared.fault.LineFault.TheVariants.{Line, Memory}
 use Rattle.mix_cli.specs.Fault.{IsFaultOf, IsRefusedBy}
-use Rattle.mix_cli.specs.Plan.{line_kinds}
+use Rattle.mix_cli.specs.Plan.{line_kinds, means_bundle}
 use Rattle.mix_cli.specs.Program.{mixrev}
 
-pub has_words : (words : List (Bor Text)) → 1 < length words → nat_le (length (texts words)) 1 ≡ false
-has_words words lt = ap (λ n. nat_le n 1) (length-map words (λ s. s.now)) ∙ lt-leb (length words) 1 lt
-
-pub kinds_are : (words : List (Bor Text)) → 1 < length words → line_kinds (texts words) ≡ fault_of mixrev (texts words)
-kinds_are words lt = rw (has_words words lt) refl
+-- where no bundle is meant the kinds are clap's
+pub kinds_are : (terminal : Bool) (words : List (Bor Text)) → means_bundle terminal (length words) ≡ false
+    → line_kinds terminal (texts words) ≡ fault_of mixrev (texts words)
+kinds_are terminal words other = rw (length-map words (λ s. s.now), other) refl
 
 among : (kinds : Kinds) (error : Error) (fault : LineFault) → HasKind kinds error → IsFaultOf error fault → IsRefusedBy kinds fault
 among kinds error Memory has is = tt

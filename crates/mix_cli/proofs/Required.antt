@@ -4,7 +4,7 @@ use Rattle.std.specs.Option.{option_map_or, option_and_then, is_some}
 use Rattle.std.specs.List.{list_any}
 use Rattle.std.specs.Prelude.{option_map}
 use Rattle.clap.specs.Walk.{Text, answers_to, first_of, nothing_held, rows_after, stop_after, without}
-use Rattle.clap.specs.Simple.{App, Shape, argument_words, built, entered, filled, help_rule, names_of, new_rule, rows_at, with_index}
+use Rattle.clap.specs.Simple.{App, Shape, argument_words, built, entered, filled, help_rule, version_rule, names_of, new_rule, rows_at, with_index}
 use Rattle.clap.specs.Takes.{is_given}
 use Rattle.clap.specs.Faults.{entered_fault, fault_of, level_fault}
 use Rattle.clap.specs.Simple.{subcommand_of}
@@ -37,6 +37,9 @@ unit_solid i again (v ∷ vs) rows e f = values_filled (codes "unit") _ _ (v ∷
 
 help_solid : (i : ℕ) → Solid (with_index i (filled help_rule))
 help_solid i again values rows e f = f
+
+version_solid : (i : ℕ) → Solid (with_index i (filled version_rule))
+version_solid i again values rows e f = f
 
 -- ---- the levels
 
@@ -132,5 +135,5 @@ stop_given (Some p) e there =
 pub line_planned : (words : List Text) → fault_of mixrev words ≡ [] → IsSome (option_and_then subcommand_planned (subcommand_of mixrev words))
 line_planned words e =
     let stop = stop_after tool.top.rules (names_of tool) (argument_words tool words) in
-    let level = level_filled tool.top (help_solid 1, tt) (names_of tool) (argument_words tool words) (is_some (entered tool stop)) (entered_fault tool stop) e in
+    let level = level_filled tool.top (help_solid 1, (version_solid 1, tt)) (names_of tool) (argument_words tool words) (is_some (entered tool stop)) (entered_fault tool stop) e in
     stop_given stop level.1 (not_missing (is_some (entered tool stop)) level.2)

@@ -4,7 +4,7 @@ use Rattle.clap.specs.Values.{kind_of}
 use Rattle.clap.specs.Kinds.{IsAmong, Kinds}
 use Rattle.clap.specs.declared.error.Error.{Error}
 use Rattle.clap.specs.declared.error.kind.ErrorKind.{ErrorKind}
-use Rattle.clap.specs.declared.error.kind.ErrorKind.TheVariants.{DisplayHelp, OutOfMemory}
+use Rattle.clap.specs.declared.error.kind.ErrorKind.TheVariants.{DisplayHelp, DisplayVersion, OutOfMemory}
 use Rattle.mix_cli.specs.declared.fault.LineFault.{LineFault}
 use Rattle.mix_cli.specs.declared.fault.LineFault.TheVariants.{Line, Memory}
 
@@ -18,9 +18,10 @@ abbrev pub IsRefusedBy : Kinds → LineFault → Type 0
 IsRefusedBy kinds Memory = ⊤
 IsRefusedBy kinds (Line told) = IsAmong (kind_of told) kinds
 
--- help ends with 0, all else with 2
+-- help and the version end with 0, all else with 2
 abbrev pub status_of_kind : ErrorKind → ℕ
 status_of_kind DisplayHelp = 0
+status_of_kind DisplayVersion = 0
 status_of_kind _ = 2
 
 abbrev pub status_of_fault : LineFault → ℕ

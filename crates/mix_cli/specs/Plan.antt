@@ -1,5 +1,5 @@
 -- What the words of a command line ask for.
-use Rattle.std.specs.Prelude.{ℕ, ◌^◌, ◌==◌, ◌&&◌, Bool, true, false, List, [], length, nat_le, nat_lt, if◌then◌else◌, Option, Some, None, option_and_then, option_map, unwrap_or, codes, string_bytes}
+use Rattle.std.specs.Prelude.{ℕ, ◌^◌, ◌==◌, ◌&&◌, Bool, true, false, not, List, [], length, nat_le, nat_lt, if◌then◌else◌, Option, Some, None, option_and_then, option_map, unwrap_or, codes, string_bytes}
 use Rattle.std.specs.List.{list_all, list_any}
 use Rattle.std.specs.Option.{option_map_or}
 use Rattle.std.specs.Char.{digit_value}
@@ -72,11 +72,15 @@ subcommand_planned found =
     if bytes_eq found.0 (codes "list") then list_planned found.1 else
     if bytes_eq found.0 (codes "dap") then Some adapts else None
 
--- a bundle where no word stands after the program's name, and else what clap's own definitions make of the words
-abbrev pub planned : List Text → Option Planned
-planned words =
-    if nat_le (length words) 1 then Some bundle else option_and_then subcommand_planned (subcommand_of mixrev words)
+-- whether so many words mean a bundle: none stands after the program's name, and nobody types at a terminal
+abbrev pub means_bundle : Bool → ℕ → Bool
+means_bundle terminal words = not terminal && nat_le words 1
+
+-- a bundle where one is meant, and else what clap's own definitions make of the words
+abbrev pub planned : Bool → List Text → Option Planned
+planned terminal words =
+    if means_bundle terminal (length words) then Some bundle else option_and_then subcommand_planned (subcommand_of mixrev words)
 
 -- the kinds of error that the words may give, by clap's own definitions; where there is none they give a plan
-abbrev pub line_kinds : List Text → Kinds
-line_kinds words = if nat_le (length words) 1 then [] else fault_of mixrev words
+abbrev pub line_kinds : Bool → List Text → Kinds
+line_kinds terminal words = if means_bundle terminal (length words) then [] else fault_of mixrev words

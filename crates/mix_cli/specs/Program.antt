@@ -32,9 +32,13 @@ steps_option = record (option_named (codes "steps")) { parser = Some (Unsigned 1
 abbrev pub unit_option : Rule
 unit_option = record (option_named (codes "unit")) { action = Some Append; parser = Some (Unsigned 17 20) }
 
+-- a command that shows its help where it is given no word
+abbrev pub helpful : App → App
+helpful app = on_top (λ s. record s { arg_required_else_help = true }) app
+
 -- a subcommand whose first word is the source
 abbrev pub of_source : Text → App
-of_source name = with_rule (new_app name) (required_word (codes "SOURCE"))
+of_source name = with_rule (helpful (new_app name)) (required_word (codes "SOURCE"))
 
 abbrev pub list_app : App
 list_app = of_source (codes "list")
@@ -53,9 +57,11 @@ run_app = with_rule (with_rule run_inputs steps_option) unit_option
 abbrev pub dap_app : App
 dap_app = new_app (codes "dap")
 
--- a subcommand has to be there, and `help` is none
+-- a subcommand has to be there, and `help` is none; it has a version
 abbrev pub bare_app : App
-bare_app = on_top (λ s. record s { subcommand_required = true; disable_help_subcommand = true }) (new_app (codes "mixrev"))
+bare_app =
+    on_top (λ s. record s { subcommand_required = true; disable_help_subcommand = true; has_version = true })
+    (helpful (new_app (codes "mixrev")))
 
 -- the subcommands `run` and `debug`, and then all four
 abbrev pub with_sources : App

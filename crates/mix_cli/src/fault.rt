@@ -10,10 +10,10 @@ use clap::Error;
 use clap::error::ErrorKind;
 use std::alloc::AllocError;
 
-/// Why a command line gives no plan: its words are a mistake or ask for help, or memory is refused.
+/// Why a command line gives no plan: its words are a mistake or ask for help or the version, or memory is refused.
 #[derive(Drop)]
 pub enum LineFault {
-    /// The text that help shows, or that names the mistake.
+    /// The text that help shows, the version, or what names the mistake.
     Line(Error),
     Memory,
 }
@@ -40,12 +40,15 @@ impl From<AllocError> for LineFault {
 /// The status where the tool itself fails, or the words are a mistake.
 pub const FAILED: u8 = 2;
 
-/// The status that the program ends with: 0 where help was asked for, and else 2.
+/// The status that the program ends with: 0 where help or the version was asked for, and else 2.
 pub fn line_status(fault: &LineFault) -> u8
     ensures { result ≡ status_of_fault fault.now }
 {
     match fault {
-        LineFault::Line(error) if error.kind() == ErrorKind::DisplayHelp => 0,
-        LineFault::Line(_) | LineFault::Memory => FAILED,
+        LineFault::Line(error) => match error.kind() {
+            ErrorKind::DisplayHelp | ErrorKind::DisplayVersion => 0,
+            _ => FAILED,
+        },
+        LineFault::Memory => FAILED,
     }
 }

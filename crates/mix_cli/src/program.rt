@@ -11,14 +11,17 @@ use std::alloc::{AllocError, Global};
 /// How many steps a run may be allowed.
 const MOST_STEPS: u64 = 1_000_000_000_000_000_000;
 
+/// The version of the tool, which the package has too.
+const VERSION: &str = "0.1.0";
+
 const ABOUT: &str = "Knuth's MIX computer, its assembler MIXAL, and a debugger that runs backwards";
 
 const MORE: &str = "\
 A source is a program in the language MIXAL. A deck says what tapes, disks and cards hold before the program runs.
 A script is a text file of commands, one a line, such as: step 4, back 2, forth 1, set A 7, break LOOP, run 1000, show regs.
 
-Without any words, mixrev reads a bundle from standard input: the source; after a line %DEVICES a deck; after a line
-%SCRIPT a script. The deck and the script may be left out.
+Without any words, mixrev reads a bundle from standard input, if that is no terminal: the source; after a line %DEVICES a
+deck; after a line %SCRIPT a script. The deck and the script may be left out.
 
 Examples:
   mixrev run primes.mix
@@ -65,12 +68,14 @@ steps forth and back, registers, cells and units.";
 
 const SOURCE: &str = "The file with the program, in the language MIXAL";
 
-// A subcommand with its first word, the source.
+// A subcommand with its first word, the source. Without any word it shows its help.
 fn of_source<'a>(alloc: Global, name: &'a str) -> Result<Command<'a>, AllocError>
     ensures app { IfOk result (λ c. app_of c ≡ of_source name.entry.now) }
 {
     let source = Arg::new(alloc, "SOURCE").required(true).help(SOURCE);
-    Command::new(alloc, name).arg(source)
+    Command::new(alloc, name)
+        .arg_required_else_help(true)
+        .arg(source)
 }
 
 // An option with one value.
@@ -195,7 +200,9 @@ fn bare<'a>(alloc: Global) -> Command<'a>
 {
     Command::new(alloc, "mixrev")
         .about(ABOUT)
+        .version(VERSION)
         .after_help(MORE)
+        .arg_required_else_help(true)
         .subcommand_required(true)
         .disable_help_subcommand(true)
 }

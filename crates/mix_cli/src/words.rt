@@ -1,11 +1,11 @@
 //! What a command line asks for.
 
-ghost use Rattle.std.specs.Prelude.{◌≡◌, ◌≤◌, IfOk, IfErr, IsSome, Some, [], length, map, true, codes, string_bytes, option_map, option_and_then};
+ghost use Rattle.std.specs.Prelude.{◌≡◌, IfOk, IfErr, IsSome, Some, [], length, map, true, codes, string_bytes, option_map, option_and_then};
 ghost use Rattle.std.specs.List.{list_any};
 ghost use Rattle.clap.specs.Words.{FailsBy, all_of, fault_of, first_of, found_of, kind_of, rows_of, subcommand_of, subcommand_rows_of, takes};
 ghost use Rattle.clap.specs.declared.error.kind.ErrorKind.TheVariants.{OutOfMemory};
 ghost use Rattle.mix_cli.specs.Fault.{IsRefusedBy};
-ghost use Rattle.mix_cli.specs.Plan.{debug_planned, line_kinds, list_planned, names_unit, number_of, planned, planned_of, printing_of, prints, run_planned, steps_of, subcommand_planned};
+ghost use Rattle.mix_cli.specs.Plan.{debug_planned, line_kinds, list_planned, means_bundle, names_unit, number_of, planned, planned_of, printing_of, prints, run_planned, steps_of, subcommand_planned};
 ghost use Rattle.mix_cli.specs.Program.{mixrev};
 ghost use Rattle.mix_cli.specs.declared.fault.LineFault.{LineFault};
 
@@ -202,19 +202,30 @@ fn found_in<'a>(alloc: Global, words: &'a [&'a str]) -> Result<ArgMatches<'a>, E
     program(alloc)?.try_get_matches_from(words)
 }
 
+// Whether a bundle is meant: no word stands after the program's name, and nobody types at a terminal.
+fn means_bundle(words: usize, terminal: bool) -> bool
+    ensures { result ≡ means_bundle terminal words }
+{
+    !terminal && words <= 1
+}
+
 /// The plan of a command line. The words are as `env::args` gives them, the first the program's name: none after it is a bundle,
 /// `list SOURCE` a listing, `debug SOURCE SCRIPT` a session, with a deck by `--devices FILE`, `debug SOURCE` a talk, `run SOURCE` a run, and `dap`
-/// the debug adapter.
+/// the debug adapter. Where standard input is a terminal no bundle is meant, and help is shown.
 ///
-/// It fails with `Line` where the words are none of these or ask for help, and with `Memory` where memory is refused.
-pub fn read_words<'a>(alloc: Global, words: &'a [&'a str]) -> Result<Plan, LineFault>
-    ensures plan { IfOk result (λ p. planned (map (λ s. s.now) words.entry.now) ≡ Some (planned_of p)) }
-    ensures accepted { IfOk result (λ _. line_kinds (map (λ s. s.now) words.entry.now) ≡ []) }
-    ensures refused { IfErr result (IsRefusedBy (line_kinds (map (λ s. s.now) words.entry.now))) }
-    ensures none { IfErr result (λ e. length words.entry.now ≤ 1 → e ≡ LineFault.Memory) }
+/// It fails with `Line` where the words are none of these or ask for help or the version, and with `Memory` where memory is refused.
+pub fn read_words<'a>(
+    alloc: Global,
+    words: &'a [&'a str],
+    terminal: bool,
+) -> Result<Plan, LineFault>
+    ensures plan { IfOk result (λ p. planned terminal (map (λ s. s.now) words.entry.now) ≡ Some (planned_of p)) }
+    ensures accepted { IfOk result (λ _. line_kinds terminal (map (λ s. s.now) words.entry.now) ≡ []) }
+    ensures refused { IfErr result (IsRefusedBy (line_kinds terminal (map (λ s. s.now) words.entry.now))) }
+    ensures none { IfErr result (λ e. means_bundle terminal (length words.entry.now) ≡ true → e ≡ LineFault.Memory) }
     ensures taken { IfErr result (λ e. takes mixrev (map (λ s. s.now) words.entry.now) ≡ true → e ≡ LineFault.Memory) }
 {
-    if words.len() <= 1 {
+    if means_bundle(words.len(), terminal) {
         return Ok(Plan::Bundle);
     }
     let found = found_in(alloc, words)?;

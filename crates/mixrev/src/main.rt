@@ -32,7 +32,7 @@ fn run(rt: &HostRuntime, words: &[String]) -> ExitCode {
             return report(rt, ToolFault::Memory);
         }
     }
-    match read_words(rt.alloc(), &texts) {
+    match read_words(rt.alloc(), &texts, at_terminal(rt)) {
         Ok(plan) => {
             let mut files = SystemFiles::of(rt);
             let mut client = rt.stdin();
@@ -49,16 +49,20 @@ fn run(rt: &HostRuntime, words: &[String]) -> ExitCode {
     }
 }
 
+fn at_terminal(rt: &HostRuntime) -> bool {
+    rt.stdin().is_terminal()
+}
+
 // A person talks where standard input is a terminal.
 fn talker(rt: &HostRuntime) -> Talker {
-    if rt.stdin().is_terminal() {
+    if at_terminal(rt) {
         Talker::Person
     } else {
         Talker::Program
     }
 }
 
-// Help goes to standard output, a mistake to standard error; where the write fails, the status alone says so.
+// Help and the version go to standard output, a mistake to standard error; where the write fails, the status alone says so.
 fn tell(rt: &HostRuntime, fault: &LineFault) -> ExitCode {
     match fault {
         LineFault::Line(error) => {

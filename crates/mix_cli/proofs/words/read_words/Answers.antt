@@ -1,4 +1,4 @@
-use Rattle.std.proofs.Common.{◌∙◌, subst, sym, arith}
+use Rattle.std.proofs.Common.{◌∙◌, subst, sym}
 use Rattle.std.specs.Option.{IsSome, option_and_then}
 use Rattle.clap.specs.Walk.{texts}
 use Rattle.mix_cli.specs.Plan.{subcommand_planned}
@@ -8,7 +8,7 @@ use Rattle.mix_cli.proofs.words.read_words.Goals as goal
 
 pub returns-in_err-found-clause-refused : goal.returns-in_err-found-clause-refused
 returns-in_err-found-clause-refused c =
-    let same = kinds_are c.args.words.now (omega arith) in
+    let same = kinds_are c.args.terminal c.args.words.now (sym c.means_bundle.ensures ∙ c.if-means_bundle.false) in
     rw same (refused_by c.from_residual.result _ c.in_err-found.field-0.0 c.in_err-found.ensures.kinds c.from_residual.ensures.1)
 
 pub returns-in_err-found-clause-taken : goal.returns-in_err-found-clause-taken
@@ -21,4 +21,4 @@ plan_of-requires c =
     (line_planned (texts c.args.words.now) c.in_ok-found.ensures.kinds)
 
 pub returns-clause-accepted : goal.returns-clause-accepted
-returns-clause-accepted c = kinds_are c.args.words.now (omega arith) ∙ c.in_ok-found.ensures.kinds
+returns-clause-accepted c = kinds_are c.args.terminal c.args.words.now (sym c.means_bundle.ensures ∙ c.if-means_bundle.false) ∙ c.in_ok-found.ensures.kinds

@@ -1,0 +1,19 @@
+#compdef mixrev
+# Completion of mixrev's words in zsh. tests/commands compares it with --help.
+local devices='--devices=[what tapes, disks and cards hold]:deck:_files' source='1:source:_files'
+if ((CURRENT == 2)); then
+  _arguments '(- *)'{-h,--help}'[writes help]' '(- *)'{-V,--version}'[writes the version]' \
+    '1:command:((run\:"runs a program to its halt" debug\:"executes commands, forwards and backwards" list\:"writes the listing" dap\:"is the debug adapter of an editor"))'
+  return
+fi
+shift words
+((CURRENT -= 1))
+case $words[1] in
+  run)
+    _arguments '(- *)'{-h,--help}'[writes help]' '--cards=[the cards of the reader]:cards:_files' $devices '--steps=[the most steps]:number:' \
+      '*--unit=[writes only the rows of this unit]:unit:(17 18 19 20)' $source
+    ;;
+  debug) _arguments '(- *)'{-h,--help}'[writes help]' $devices $source '2:script:_files' ;;
+  list) _arguments '(- *)'{-h,--help}'[writes help]' $source ;;
+  dap) _arguments '(- *)'{-h,--help}'[writes help]' ;;
+esac
