@@ -16,7 +16,7 @@ use Rattle.mix_run.specs.declared.fault.ToolFault.{ToolFault}
 use Rattle.mix_run.specs.declared.fault.ToolFault.TheVariants as faults
 use Rattle.mix_stream.specs.Stream.{AppendsFront}
 use Rattle.mix_run.specs.Output.{replies}
-use Rattle.mix_run.specs.Talk.{AnswersRead, Talks, after_lines, answers, asked, is_help, is_over, is_quit, is_whole}
+use Rattle.mix_run.specs.Talk.{AnswersRead, Talks, after_lines, answers, asked, is_help, is_over, is_quit, is_whole, line_of}
 use Rattle.mix_run.specs.Hearing.{Begins, Hears}
 use Rattle.mix_run.specs.declared.talk.aside.Talker.{Talker}
 use Rattle.mix_run.proofs.RunLemmas.{both-accepted, both-assoc}
@@ -85,22 +85,22 @@ asked-append talker [] ys still = refl
 asked-append talker (line ∷ rest) ys still = go (is_quit talker line) (is_help talker line) still (asked-append talker rest ys)
   where
     go : (q h : Bool) → (q || is_over talker rest) ≡ false → (is_over talker rest ≡ false → asked talker (rest ++ ys) ≡ asked talker rest ++ asked talker ys)
-        → cond q [] (cond h (asked talker (rest ++ ys)) (line ∷ asked talker (rest ++ ys)))
-        ≡ cond q [] (cond h (asked talker rest) (line ∷ asked talker rest)) ++ asked talker ys
+        → cond q [] (cond h (asked talker (rest ++ ys)) (line_of talker line ∷ asked talker (rest ++ ys)))
+        ≡ cond q [] (cond h (asked talker rest) (line_of talker line ∷ asked talker rest)) ++ asked talker ys
     go true h still later = absurd (true≢false still)
     go false true still later = later still
-    go false false still later = ap (λ l. line ∷ l) (later still)
+    go false false still later = ap (λ l. line_of talker line ∷ l) (later still)
 
 asked-over : (talker : Talker) (xs ys : List (List ℕ)) → is_over talker xs ≡ true → asked talker (xs ++ ys) ≡ asked talker xs
 asked-over talker [] ys over = absurd (true≢false (sym over))
 asked-over talker (line ∷ rest) ys over = go (is_quit talker line) (is_help talker line) over (asked-over talker rest ys)
   where
     go : (q h : Bool) → (q || is_over talker rest) ≡ true → (is_over talker rest ≡ true → asked talker (rest ++ ys) ≡ asked talker rest)
-        → cond q [] (cond h (asked talker (rest ++ ys)) (line ∷ asked talker (rest ++ ys)))
-        ≡ cond q [] (cond h (asked talker rest) (line ∷ asked talker rest))
+        → cond q [] (cond h (asked talker (rest ++ ys)) (line_of talker line ∷ asked talker (rest ++ ys)))
+        ≡ cond q [] (cond h (asked talker rest) (line_of talker line ∷ asked talker rest))
     go true h over later = refl
     go false true over later = later over
-    go false false over later = ap (λ l. line ∷ l) (later over)
+    go false false over later = ap (λ l. line_of talker line ∷ l) (later over)
 
 -- ---- replies
 

@@ -2,6 +2,7 @@ pub mod Bundle
 pub mod Fault
 pub mod Hearing
 pub mod Output
+pub mod Person
 pub mod Print
 pub mod PrintOutput
 pub mod PrintSteps

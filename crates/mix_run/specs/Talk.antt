@@ -13,6 +13,7 @@ use Rattle.mix_session.specs.Command.{after}
 use Rattle.mix_run.specs.declared.fault.ToolFault.{ToolFault}
 use Rattle.mix_run.specs.declared.fault.ToolFault.TheVariants as faults
 use Rattle.mix_session.specs.declared.reply.Told.{Told}
+use Rattle.mix_run.specs.Person.{person_line}
 use Rattle.mix_run.specs.Output.{DeckRefused, Meets, Replies, refusal_of, replies, status_of}
 use Rattle.mix_stream.specs.Stream.{AppendsFront}
 use Rattle.mix_run.specs.declared.talk.aside.Talker.{Talker}
@@ -32,26 +33,31 @@ abbrev pub are_help : List (List ℕ) → Bool
 are_help [] = false
 are_help (word ∷ rest) = str_eq_ignore_ascii_case word (codes "help")
 
+-- the line of a script that a line stands for: a program's stands for itself
+abbrev pub line_of : Talker → List ℕ → List ℕ
+line_of Program line = line
+line_of Person line = person_line line
+
 -- whether a person's line ends the talk, or asks for help; a program's does neither
 abbrev pub is_quit : Talker → List ℕ → Bool
 is_quit Program line = false
-is_quit Person line = are_quit (words line)
+is_quit Person line = are_quit (words (person_line line))
 
 abbrev pub is_help : Talker → List ℕ → Bool
 is_help Program line = false
-is_help Person line = are_help (words line)
+is_help Person line = are_help (words (person_line line))
 
--- the lines that are commands: those before the one that ends the talk which ask for no help
+-- the lines of a script that are executed: what the lines before the one that ends the talk stand for, except those that ask for help
 abbrev pub asked : Talker → List (List ℕ) → List (List ℕ)
 asked talker [] = []
 asked talker (line ∷ rest) =
-    if is_quit talker line then [] else if is_help talker line then asked talker rest else line ∷ asked talker rest
+    if is_quit talker line then [] else if is_help talker line then asked talker rest else line_of talker line ∷ asked talker rest
 
 -- whether one of the lines ends the talk
 abbrev pub is_over : Talker → List (List ℕ) → Bool
 is_over talker = list_any (is_quit talker)
 
--- the replies to the lines that are commands
+-- the replies to the lines that are executed
 abbrev pub answers : SessionState → Talker → List (List ℕ) → Replies
 answers s talker all = replies s (asked talker all)
 

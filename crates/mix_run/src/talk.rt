@@ -10,9 +10,11 @@ ghost use Rattle.mix_run.specs.Output.{IsStatus, Meets, max_script_bytes, output
 ghost use Rattle.mix_run.specs.Talk.{TalksWith};
 ghost use Rattle.mix_stream.specs.Stream.{ConsumesAtMost, CountsFailure};
 
+mod answer;
 mod aside;
 mod heard;
 mod help;
+mod person;
 
 use crate::fault::ToolFault;
 use crate::refusal::tell_refusal;

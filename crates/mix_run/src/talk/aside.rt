@@ -1,15 +1,19 @@
-//! What is written beside the replies, on the error output, where a person talks: a greeting, prompts and help.
+//! What is written beside the replies, on the error output, where a person talks: a greeting, prompts, help, the next instruction after a stop, and
+//! the form of a command that is refused.
 
 ghost use Rattle.std.specs.Prelude.{◌≡◌, ◌↔◌, true, false};
 ghost use Rattle.mix_lines.specs.Lines.{words};
-ghost use Rattle.mix_run.specs.Talk.{are_quit, are_help, is_quit, is_help};
+ghost use Rattle.mix_run.specs.Talk.{are_quit, are_help};
 
-use crate::talk::help::help_on;
+use crate::talk::help::{form_of, help_on};
 use mix_lines::Words;
+use mix_machine::Place;
+use mix_refused::Memory;
+use mix_session::{Answer, Request, Session, Topic};
 use mix_stream::{Out, write_all};
 
-/// Who talks: another program or a file, whose lines are all commands; or a person at a terminal, who is prompted, may ask for help by a line
-/// that begins with the word `help`, and ends the talk by the line `quit`.
+/// Who talks: another program or a file, whose lines are all commands; or a person at a terminal, whose lines stand for commands that may be
+/// shortened, who is prompted, may ask for help by a line that begins with the word `help`, and ends the talk by the line `quit`.
 #[derive(Clone, Copy)]
 pub enum Talker {
     Program,
@@ -21,7 +25,7 @@ const GREETING: &str =
 
 const PROMPT: &str = "(mixrev) ";
 
-/// What a line of a talk is.
+/// What the line of a script is that a person's line stands for.
 #[derive(Clone, Copy)]
 pub(crate) enum Line {
     Command,
@@ -29,23 +33,17 @@ pub(crate) enum Line {
     Quit,
 }
 
-/// What a line is to this talker.
-pub(crate) fn kind_of(talker: Talker, line: &[u8]) -> Line
-    ensures quit { (result ≡ Line.Quit) ↔ (is_quit talker line.now ≡ true) }
-    ensures help { result ≡ Line.Help → is_help talker line.now ≡ true }
-    ensures command { result ≡ Line.Command → is_help talker line.now ≡ false }
+pub(crate) fn kind_of(line: &[u8]) -> Line
+    ensures quit { (result ≡ Line.Quit) ↔ (are_quit (words line.now) ≡ true) }
+    ensures help { result ≡ Line.Help → are_help (words line.now) ≡ true }
+    ensures command { result ≡ Line.Command → are_help (words line.now) ≡ false }
 {
-    match talker {
-        Talker::Program => Line::Command,
-        Talker::Person => {
-            if is_quit(line) {
-                Line::Quit
-            } else if is_help(line) {
-                Line::Help
-            } else {
-                Line::Command
-            }
-        }
+    if is_quit(line) {
+        Line::Quit
+    } else if is_help(line) {
+        Line::Help
+    } else {
+        Line::Command
     }
 }
 
@@ -71,8 +69,12 @@ fn is_help(line: &[u8]) -> bool
 
 /// A text is written beside the replies. Where that fails, nothing more is: the talk goes on.
 fn say<E: Out>(text: &str, errors: &mut E) {
+    say_bytes(text.as_bytes(), errors);
+}
+
+fn say_bytes<E: Out>(text: &[u8], errors: &mut E) {
     if errors.failures() == 0 {
-        match write_all(errors, text.as_bytes()) {
+        match write_all(errors, text) {
             Ok(()) | Err(_) => {}
         }
     }
@@ -113,5 +115,58 @@ pub(crate) fn help<E: Out>(line: &[u8], errors: &mut E) {
     let mut words = Words::of(line);
     match words.next() {
         Some(_) | None => say(help_on(words.next()), errors),
+    }
+}
+
+/// What a person is told after the reply to a command.
+#[derive(Clone, Copy)]
+pub(crate) enum After {
+    Nothing,
+    Place,
+    Form,
+}
+
+/// What is told after the reply to a line: where the machine has come to, if the line asks it to go; and the form, if its words are refused.
+pub(crate) fn after_reply(session: &Session, line: &[u8]) -> After {
+    match session.read(line) {
+        Ok(request) => after_request(request),
+        Err(_) => After::Form,
+    }
+}
+
+fn after_request(request: Request) -> After {
+    match request {
+        Request::Step(_)
+        | Request::Trace(_)
+        | Request::Run(_)
+        | Request::RunUntil(..)
+        | Request::Back(_)
+        | Request::BackAll
+        | Request::BackBreak
+        | Request::BackUntil(_)
+        | Request::Forth(_)
+        | Request::ForthAll
+        | Request::ForthUntil(_)
+        | Request::Goto(_) => After::Place,
+        Request::Nothing | Request::Change(_) | Request::Show(_) => After::Nothing,
+    }
+}
+
+/// Tells what is told after the reply.
+pub(crate) fn tell<E: Out>(after: After, session: &Session, line: &[u8], errors: &mut E) {
+    match after {
+        After::Nothing => {}
+        After::Place => tell_place(session, errors),
+        After::Form => say(form_of(Words::of(line).next()), errors),
+    }
+}
+
+// The next instruction, with its line of the source.
+fn tell_place<E: Out>(session: &Session, errors: &mut E) {
+    if let Some(place) = Place::of(session.world().loc()) {
+        match session.text(&Answer::Shows(Topic::Code(place, place))) {
+            Ok(text) => say_bytes(&text, errors),
+            Err(Memory) => {}
+        }
     }
 }

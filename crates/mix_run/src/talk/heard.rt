@@ -11,8 +11,8 @@ ghost use Rattle.mix_run.specs.Hearing.{Begins, Hears};
 ghost use Rattle.mix_stream.specs.Stream.{AppendsFront, CountsFailure};
 
 use crate::fault::ToolFault;
-use crate::run::command;
-use crate::talk::aside::{Line, Talker, end_prompt, help, kind_of, prompt};
+use crate::talk::answer::answer_line;
+use crate::talk::aside::{Talker, end_prompt, prompt};
 use mix_lines::split_line;
 use mix_refused::Memory;
 use mix_session::{Session, Told};
@@ -36,39 +36,9 @@ const NOTHING: Heard = Heard {
     is_over: false,
 };
 
-// One line: a command is executed, and help is given. Whether the command was accepted; none where the line ends the talk.
-fn answer_line<W: Out, E: Out>(
-    session: &mut Session,
-    talker: Talker,
-    line: &[u8],
-    out: &mut W,
-    errors: &mut E,
-) -> Result<Option<Told>, ToolFault>
-    requires { W.failed out.old < 2 ^ 64 - 1 }
-    ensures quit { IfOk result (λ answer. (answer ≡ None) ↔ (is_quit talker line.now ≡ true)) }
-    ensures told { IfOk result (λ answer. IfSome answer (λ told. told ≡ (answers session.old talker (line.now ∷ [])).told)) }
-    ensures written { OnOk result (Appends (W.told out.old) (W.told out.new) (answers session.old talker (line.now ∷ [])).bytes) }
-    ensures session { OnOk result (session.new ≡ after_lines session.old (asked talker (line.now ∷ []))) }
-    ensures begun { AppendsFront (W.told out.old) (W.told out.new) (answers session.old talker (line.now ∷ [])).bytes }
-    ensures write { CountsFailure (result ≡ Err ToolFault.Write) (W.failed out.old) (W.failed out.new) }
-    ensures only { IfErr result IsMemoryOrWrite }
-    ensures quiet { talker ≡ Talker.Program → errors.new ≡ errors.old }
-{
-    match kind_of(talker, line) {
-        Line::Quit => Ok(None),
-        Line::Help => {
-            help(line, errors);
-            Ok(Some(Told::Accepted))
-        }
-        Line::Command => {
-            let told = command(session, line, out)?;
-            Ok(Some(told))
-        }
-    }
-}
-
 // The lines of a text, one after the other, up to the one that ends the talk.
 fn answer_lines<W: Out, E: Out>(
+    alloc: Global,
     session: &mut Session,
     talker: Talker,
     text: &[u8],
@@ -89,7 +59,7 @@ fn answer_lines<W: Out, E: Out>(
     let mut rest = text;
     while !rest.is_empty() {
         let (line, after) = split_line(rest);
-        match answer_line(session, talker, line, out, errors)? {
+        match answer_line(alloc, session, talker, line, out, errors)? {
             None => {
                 return Ok(Heard {
                     told,
@@ -139,6 +109,7 @@ fn keep(pending: &mut Vec<u8>, bytes: &[u8]) -> Result<(), Memory>
 
 // Some bytes more: the lines that are whole now are answered, and what stands after them is left.
 fn hear<W: Out, E: Out>(
+    alloc: Global,
     session: &mut Session,
     talker: Talker,
     pending: &mut Vec<u8>,
@@ -161,7 +132,7 @@ fn hear<W: Out, E: Out>(
         return Ok(NOTHING);
     }
     keep(pending, whole)?;
-    let heard = answer_lines(session, talker, pending, out, errors)?;
+    let heard = answer_lines(alloc, session, talker, pending, out, errors)?;
     pending.clear();
     keep(pending, rest)?;
     Ok(heard)
@@ -198,13 +169,13 @@ pub(crate) fn talk<R: In, W: Out, E: Out>(
         };
         if count == 0 {
             end_prompt(talker, errors);
-            match answer_lines(session, talker, &pending, out, errors) {
+            match answer_lines(alloc, session, talker, &pending, out, errors) {
                 Ok(heard) => return Ok(told.and(heard.told)),
                 Err(fault) => return Err(fault),
             }
         }
         let part = &buffer[..count];
-        let heard = match hear(session, talker, &mut pending, part, out, errors) {
+        let heard = match hear(alloc, session, talker, &mut pending, part, out, errors) {
             Ok(heard) => heard,
             Err(fault) => return Err(fault),
         };

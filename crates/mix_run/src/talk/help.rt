@@ -6,6 +6,8 @@ back, forth, goto    take changes back, do them again, go to a numbered state
 set, break, clear    change the machine, set a breakpoint, take one away
 show                 shows the machine, its code, its past, counts
 quit                 ends the session
+Beginnings will do: s for step, b for break, ba for back, u for until; n is step too, c is run.
+back and forth alone take 1, run alone 1000000.
 help COMMAND explains one, as help back. A blank line and a line that begins with * do nothing.
 ";
 
@@ -69,6 +71,11 @@ show counts      how often each instruction was executed, and the time that it t
 show clock, show breaks, show changes, show symbols
 ";
 
+const SHOW_TAKES: &str = "\
+show takes regs, all, cells E E, unit N, code, value W, values, last N, diff N, counts,
+clock, breaks, changes or symbols
+";
+
 const QUIT: &str = "\
 quit             ends the session, as the end of the input does
 ";
@@ -80,12 +87,14 @@ or by leading to location E. As: run 1000 until A, back until cell 100.
 
 const NONE: &str = "There is no help on that; help alone names the commands.\n";
 
+const NO_COMMAND: &str = "help lists the commands\n";
+
 /// The help on a word, or on all where there is none.
 pub(crate) fn help_on(word: Option<&[u8]>) -> &'static str {
     match word {
         None => ALL,
         Some(word) => {
-            for (name, text) in &TOPICS {
+            for (name, _, text) in &TOPICS {
                 if word.eq_ignore_ascii_case(name.as_bytes()) {
                     return text;
                 }
@@ -95,19 +104,33 @@ pub(crate) fn help_on(word: Option<&[u8]>) -> &'static str {
     }
 }
 
-static TOPICS: [(&str, &str); 14] = [
-    ("step", STEP),
-    ("run", RUN),
-    ("trace", TRACE),
-    ("back", BACK),
-    ("forth", FORTH),
-    ("goto", GOTO),
-    ("set", SET),
-    ("break", BREAK),
-    ("clear", BREAK),
-    ("show", SHOW),
-    ("quit", QUIT),
-    ("until", UNTIL),
-    ("cond", UNTIL),
-    ("help", ALL),
+/// What the command of this name takes; of no command, where to look for one.
+pub(crate) fn form_of(word: Option<&[u8]>) -> &'static str {
+    if let Some(word) = word {
+        for (name, form, _) in &TOPICS {
+            if word.eq_ignore_ascii_case(name.as_bytes()) {
+                return form;
+            }
+        }
+    }
+    NO_COMMAND
+}
+
+// Each word that there is help on: what it takes, as a refusal says it, and the help.
+#[rattlefmt::skip]
+static TOPICS: [(&str, &str, &str); 14] = [
+    ("step", "step takes a number, 1 to 1000000, or nothing\n", STEP),
+    ("run", "run takes a number, 1 to 1000000, until COND, both or nothing\n", RUN),
+    ("trace", "trace takes a number, 1 to 1000000, or nothing\n", TRACE),
+    ("back", "back takes a number, all, break or until COND\n", BACK),
+    ("forth", "forth takes a number, all or until COND\n", FORTH),
+    ("goto", "goto takes a number\n", GOTO),
+    ("set", "set takes REG W, cell E W, loc E, over on, over off or cmp L, E, G\n", SET),
+    ("break", "break takes E, a cell, or line N\n", BREAK),
+    ("clear", "clear takes E, a cell, or line N\n", BREAK),
+    ("show", SHOW_TAKES, SHOW),
+    ("quit", NO_COMMAND, QUIT),
+    ("until", NO_COMMAND, UNTIL),
+    ("cond", NO_COMMAND, UNTIL),
+    ("help", NO_COMMAND, ALL),
 ];

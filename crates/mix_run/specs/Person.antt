@@ -1,0 +1,88 @@
+-- What a person types at a prompt, and the line of a script that it stands for.
+use Rattle.std.specs.Prelude.{ℕ, List, [], ◌∷◌, ◌++◌, ◌&&◌, nat_le, length, take, find, Option, None, Some, Bool, codes, if◌then◌else◌}
+use Rattle.std.specs.Str.{str_eq_ignore_ascii_case}
+use Rattle.mix_lines.specs.Lines.{words}
+use Rattle.mix_run.specs.declared.talk.person.PersonWord.{PersonWord}
+use Rattle.mix_run.specs.declared.talk.person.PersonWord.TheVariants.{Step, Next, Run, Trace, Break, Back, Forth, Goto, Continue, Clear, Set, Show, Quit, Help, Question}
+
+-- the words that a person may begin a line with
+abbrev pub name_of : PersonWord → List ℕ
+name_of Step = codes "step"
+name_of Next = codes "next"
+name_of Run = codes "run"
+name_of Trace = codes "trace"
+name_of Break = codes "break"
+name_of Back = codes "back"
+name_of Forth = codes "forth"
+name_of Goto = codes "goto"
+name_of Continue = codes "continue"
+name_of Clear = codes "clear"
+name_of Set = codes "set"
+name_of Show = codes "show"
+name_of Quit = codes "quit"
+name_of Help = codes "help"
+name_of Question = codes "?"
+
+-- in this order: of several that begin in the same way, the first one is meant
+abbrev pub all_words : List PersonWord
+all_words =
+    Step ∷ Next ∷ Run ∷ Trace ∷ Break ∷ Back ∷ Forth ∷ Goto ∷ Continue ∷ Clear ∷ Set ∷ Show ∷ Quit ∷ Help ∷ Question ∷ []
+
+-- the command that each stands for
+abbrev pub command_of : PersonWord → List ℕ
+command_of Next = codes "step"
+command_of Continue = codes "run"
+command_of Question = codes "help"
+command_of word = name_of word
+
+-- whether a word is a beginning of a name, in capitals or small letters
+abbrev pub is_beginning : List ℕ → List ℕ → Bool
+is_beginning word name = nat_le (length word) (length name) && str_eq_ignore_ascii_case word (take (length word) name)
+
+-- the word that is begun
+abbrev pub word_begun : List ℕ → Option PersonWord
+word_begun word = find (λ known. is_beginning word (name_of known)) all_words
+
+-- `until` may be begun too
+abbrev pub until_of : List ℕ → List ℕ
+until_of word = if is_beginning word (codes "until") then codes "until" else word
+
+-- what follows the number of steps of `run`
+abbrev pub limit_of : List (List ℕ) → List (List ℕ)
+limit_of [] = []
+limit_of (word ∷ rest) = until_of word ∷ rest
+
+-- what follows `run`: as many steps as one command may do, where no number is said
+abbrev pub steps_of : List (List ℕ) → List (List ℕ)
+steps_of [] = codes "1000000" ∷ []
+steps_of (word ∷ rest) = if is_beginning word (codes "until") then codes "1000000" ∷ codes "until" ∷ rest else word ∷ limit_of rest
+
+-- what follows `back` and `forth`: one change, where nothing is said
+abbrev pub changes_of : List (List ℕ) → List (List ℕ)
+changes_of [] = codes "1" ∷ []
+changes_of (word ∷ rest) = until_of word ∷ rest
+
+-- what follows each command
+abbrev pub after_of : PersonWord → List (List ℕ) → List (List ℕ)
+after_of Run rest = steps_of rest
+after_of Continue rest = steps_of rest
+after_of Back rest = changes_of rest
+after_of Forth rest = changes_of rest
+after_of word rest = rest
+
+-- words, each with a blank before it
+abbrev pub spaced : List (List ℕ) → List ℕ
+spaced [] = []
+spaced (word ∷ rest) = 32 ∷ (word ++ spaced rest)
+
+abbrev pub line_begun : List ℕ → Option PersonWord → List (List ℕ) → List ℕ
+line_begun line None rest = line
+line_begun line (Some word) rest = command_of word ++ spaced (after_of word rest)
+
+abbrev pub line_of_words : List ℕ → List (List ℕ) → List ℕ
+line_of_words line [] = line
+line_of_words line (word ∷ rest) = line_begun line (word_begun word) rest
+
+-- the line of a script that a person's line stands for: itself, where it begins with no word that is known
+unfoldable pub person_line : List ℕ → List ℕ
+person_line line = line_of_words line (words line)
