@@ -1,1 +1,1 @@
-mod DepthLemmas
+pub mod Telling

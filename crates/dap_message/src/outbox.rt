@@ -1,10 +1,10 @@
 //! Messages that wait to be sent.
 
-ghost use Rattle.std.specs.Prelude.{◌≡◌, ◌≤◌, [], IfOk, OnOk};
-ghost use Rattle.serde_json.specs.Data.{depth};
+ghost use Rattle.std.specs.Prelude.{◌≡◌, [], true, false, map, IfOk, OnOk, OnErr};
 ghost use Rattle.serde_json.specs.View.{view};
 ghost use Rattle.dap_message.specs.Fields.{members_in};
-ghost use Rattle.dap_message.specs.Message.{next_seq, response_head, numbered, reply_message, texts_of, Sent};
+ghost use Rattle.dap_message.specs.Message.{response_head, refusal_error, refusal_body, output_body, numbered, reply_message, refusal_message, event_message, output_message, waits, Adds, Stays};
+ghost use Rattle.dap_message.specs.Told.{response_to, done, refused, Events, Answers};
 
 use crate::fields::Fields;
 use crate::request::Request;
@@ -12,18 +12,18 @@ use mix_refused::Memory;
 use serde_json::Value;
 use std::alloc::Global;
 
-/// The messages that wait to be sent, each the text of one JSON object, in their order.
+/// The messages that wait to be sent, each the value of one JSON object, in their order.
 #[derive(Drop)]
 pub struct Outbox {
     alloc: Global,
     seq: u64,
-    messages: Vec<String>,
+    messages: Vec<Value>,
 }
 
 impl Outbox {
     /// No message; the first one will have the number 1.
     pub fn new(alloc: Global) -> Outbox
-        ensures none { texts_of result ≡ [] }
+        ensures none { waits result ≡ [] }
         ensures seq { result.seq ≡ 0 }
     {
         Outbox {
@@ -34,50 +34,57 @@ impl Outbox {
     }
 
     /// The messages that wait.
-    pub fn messages(&self) -> &[String] {
+    pub fn messages(&self) -> &[Value]
+        ensures { map view result.now ≡ waits self.now }
+    {
         self.messages.as_slice()
     }
 
     /// No message waits any more.
     pub fn clear(&mut self)
-        ensures none { texts_of self.new ≡ [] }
+        ensures none { waits self.new ≡ [] }
         ensures seq { self.new.seq ≡ self.old.seq }
     {
         self.messages.clear();
     }
 
-    /// Answers a request that was done; a body of `Null` is left out.
+    /// Answers a request that was done; a body of `Null` is left out. Out of memory, here and below, no message more waits.
+    #[tactic(auto, using(crate::proofs::Telling::tells))]
     pub fn reply(&mut self, to: &Request, body: Value) -> Result<(), Memory>
-        ensures { OnOk result (depth (view body) ≤ 126 → Sent self.old self.new (reply_message (next_seq self.old.seq) to.now (view body))) }
+        ensures told { OnOk result (Adds self.old self.new (λ seq. reply_message seq to.now (view body))) }
+        ensures answers { OnOk result (Answers (response_to to.now done) (waits self.old) (waits self.new)) }
+        ensures stays { OnErr result (Stays self.old self.new) }
     {
         let head = self.response(to, true)?;
         self.send(head, body)
     }
 
     /// Answers a request that was refused, with a number and a text, and with what the text tells of as values; variables of `Null` are left out.
+    #[tactic(auto, using(crate::proofs::Telling::tells))]
     pub fn refuse(
         &mut self,
         to: &Request,
         number: u64,
         text: &str,
         variables: Value,
-    ) -> Result<(), Memory> {
+    ) -> Result<(), Memory>
+        ensures told { OnOk result (Adds self.old self.new (λ seq. refusal_message seq to.now number text.now (view variables))) }
+        ensures answers { OnOk result (Answers (response_to to.now (refused number text.now)) (waits self.old) (waits self.new)) }
+        ensures stays { OnErr result (Stays self.old self.new) }
+    {
         let mut head = self.response(to, false)?;
         head.text("message", text)?;
-        let mut error = Fields::new(self.alloc);
-        error.number("id", number)?;
-        error.text("format", text)?;
-        error.flag("showUser", true)?;
-        if !variables.is_null() {
-            error.put("variables", variables)?;
-        }
-        let mut body = Fields::new(self.alloc);
-        body.put("error", error.done())?;
-        self.send(head, body.done())
+        let body = self.refusal(number, text, variables)?;
+        self.send(head, body)
     }
 
     /// Tells of an event; a body of `Null` is left out.
-    pub fn event(&mut self, name: &str, body: Value) -> Result<(), Memory> {
+    #[tactic(auto, using(crate::proofs::Telling::tells))]
+    pub fn event(&mut self, name: &str, body: Value) -> Result<(), Memory>
+        ensures told { OnOk result (Adds self.old self.new (λ seq. event_message seq name.now (view body))) }
+        ensures events { OnOk result (Events (waits self.old) (waits self.new)) }
+        ensures stays { OnErr result (Stays self.old self.new) }
+    {
         let mut head = Fields::new(self.alloc);
         head.text("type", "event")?;
         head.text("event", name)?;
@@ -85,11 +92,45 @@ impl Outbox {
     }
 
     /// Tells a text to the one who debugs, of a category: `stdout` is the program's, `console` and `important` are the adapter's.
-    pub fn output(&mut self, category: &str, text: &str) -> Result<(), Memory> {
+    pub fn output(&mut self, category: &str, text: &str) -> Result<(), Memory>
+        ensures told { OnOk result (Adds self.old self.new (λ seq. output_message seq category.now text.now)) }
+        ensures events { OnOk result (Events (waits self.old) (waits self.new)) }
+        ensures stays { OnErr result (Stays self.old self.new) }
+    {
+        let body = self.text(category, text)?;
+        self.event("output", body)
+    }
+
+    fn text(&self, category: &str, text: &str) -> Result<Value, Memory>
+        ensures { IfOk result (λ body. view body ≡ output_body category.now text.now) }
+    {
         let mut body = Fields::new(self.alloc);
         body.text("category", category)?;
         body.text("output", text)?;
-        self.event("output", body.done())
+        Ok(body.done())
+    }
+
+    // What a refusal tells of its fault.
+    fn refusal(&self, number: u64, text: &str, variables: Value) -> Result<Value, Memory>
+        ensures { IfOk result (λ body. view body ≡ refusal_body number text.now (view variables)) }
+    {
+        let error = self.error(number, text, variables)?;
+        let mut body = Fields::new(self.alloc);
+        body.put("error", error)?;
+        Ok(body.done())
+    }
+
+    fn error(&self, number: u64, text: &str, variables: Value) -> Result<Value, Memory>
+        ensures { IfOk result (λ error. view error ≡ refusal_error number text.now (view variables)) }
+    {
+        let mut error = Fields::new(self.alloc);
+        error.number("id", number)?;
+        error.text("format", text)?;
+        error.flag("showUser", true)?;
+        if !variables.is_null() {
+            error.put("variables", variables)?;
+        }
+        Ok(error.done())
     }
 
     // What every response has.
@@ -106,8 +147,8 @@ impl Outbox {
 
     // A message with the next number.
     fn send(&mut self, head: Fields, body: Value) -> Result<(), Memory>
-        ensures { OnOk result (depth (numbered (next_seq self.old.seq) (members_in head) (view body)) ≤ 127
-            → Sent self.old self.new (numbered (next_seq self.old.seq) (members_in head) (view body))) }
+        ensures told { OnOk result (Adds self.old self.new (λ seq. numbered seq (members_in head) (view body))) }
+        ensures stays { OnErr result (Stays self.old self.new) }
     {
         let mut message = head;
         let seq = self.seq.wrapping_add(1);
@@ -115,8 +156,7 @@ impl Outbox {
         if !body.is_null() {
             message.put("body", body)?;
         }
-        let text = message.done().to_string(self.alloc)?;
-        self.messages.push(text)?;
+        self.messages.push(message.done())?;
         self.seq = seq;
         Ok(())
     }

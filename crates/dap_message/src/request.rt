@@ -1,7 +1,10 @@
 //! Requests, read from the bodies of frames.
 
-ghost use Rattle.std.specs.Prelude.{◌≡◌, option_map};
+ghost use Rattle.std.specs.Prelude.{◌≡◌, Some, None, IfSome, IfNone, option_map};
 ghost use Rattle.serde_json.specs.View.{view, items_view};
+ghost use Rattle.dap_message.specs.Fault.{message_fault_text};
+ghost use Rattle.dap_message.specs.Members.{request_seq};
+ghost use Rattle.dap_message.specs.Reads.{ReadsAs};
 ghost use Rattle.dap_message.specs.Request.{name_of, command_of, argument_of, text_of, number_of, integer_of, flag_of, list_of};
 
 use crate::command::Command;
@@ -20,6 +23,8 @@ pub enum MessageFault {
 }
 
 impl fmt::Display for MessageFault {
+    ghost output = { λ fault. Some (message_fault_text fault) };
+
     fn fmt<W: fmt::Write>(&self, f: &mut fmt::Formatter<W>) -> fmt::Result {
         match self {
             MessageFault::NotJson => write!(f, "not JSON"),
@@ -37,7 +42,9 @@ pub struct Request {
 
 impl Request {
     /// The request that a body is. `Memory` where there is no room for it.
-    pub fn read(alloc: Global, body: &[u8]) -> Result<Request, Refused<MessageFault>> {
+    pub fn read(alloc: Global, body: &[u8]) -> Result<Request, Refused<MessageFault>>
+        ensures { ReadsAs body.now result }
+    {
         match Value::from_slice(alloc, body) {
             Ok(message) => request_in(message).ok_or(Refused::Fault(MessageFault::NotRequest)),
             Err(error) if error.is_memory() => Err(Refused::Memory),
@@ -114,13 +121,23 @@ impl Request {
     }
 }
 
-fn request_in(message: Value) -> Option<Request> {
-    let seq = message.get("seq")?.as_u64()?;
+// The request that a message is.
+fn request_in(message: Value) -> Option<Request>
+    ensures request { IfSome result (λ r. (view r.message ≡ view message) × (request_seq (view message) ≡ Some r.seq)) }
+    ensures none { IfNone result (request_seq (view message) ≡ None) }
+{
+    let seq = seq_in(&message)?;
+    Some(Request { message, seq })
+}
+
+// Its number, if it is a request.
+fn seq_in(message: &Value) -> Option<u64>
+    ensures { result ≡ request_seq (view message.now) }
+{
     let kind = message.get("type")?.as_str()?;
-    let is_named = message.get("command")?.as_str().is_some();
-    if kind == "request" && is_named {
-        Some(Request { message, seq })
-    } else {
-        None
+    if kind != "request" {
+        return None;
     }
+    message.get("command")?.as_str()?;
+    message.get("seq")?.as_u64()
 }

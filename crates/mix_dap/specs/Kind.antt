@@ -6,7 +6,7 @@ use Rattle.mix_dap.specs.declared.kind.Kind.TheVariants as kind
 use Rattle.mix_dap.specs.declared.kind.Act.TheVariants as act
 
 abbrev pub kind_of : Command → Kind
-kind_of command.Initialize = kind.Look
+kind_of command.Initialize = kind.Initialize
 kind_of command.Threads = kind.Look
 kind_of command.StackTrace = kind.Look
 kind_of command.Scopes = kind.Look

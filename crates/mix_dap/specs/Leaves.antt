@@ -53,6 +53,7 @@ Leaves (Err wrong) t new (Err refused.Memory) = new ≡ t
 -- What a request of a kind leaves where it is answered: only a restart takes all changes back, a write of the memory sets cells, and only an act does
 -- anything besides, with the machine at rest. A launch is always refused.
 abbrev pub KindAnswered : Bool → Kind → Request → SessionState → Timeline → Type 0
+KindAnswered runs kind.Initialize r s new = new ≡ s.timeline
 KindAnswered runs kind.Look r s new = new ≡ s.timeline
 KindAnswered runs kind.Points r s new = new ≡ s.timeline
 KindAnswered runs kind.Pause r s new = new ≡ s.timeline
@@ -69,6 +70,7 @@ KindAnswered false (kind.Act act) r s new = Leaves {T = Fault} (deed_of act r s)
 -- Why a request of a kind is refused, where it is: one that looks, sets breakpoints or writes by its arguments; a launch always; an act while the
 -- program runs, and at rest where it asks for nothing that is there, or the session refuses it. No other is.
 abbrev pub KindRefused : Bool → Kind → Request → SessionState → Fault → Type 0
+KindRefused runs kind.Initialize r s why = ⊥
 KindRefused runs kind.Look r s why = Unit {0}
 KindRefused runs kind.Points r s why = Unit {0}
 KindRefused runs kind.Pause r s why = ⊥
@@ -91,6 +93,7 @@ KindBegun runs other r s new = new ≡ s.timeline
 
 -- whether the client has more to ask after a request of a kind that was answered
 abbrev pub flow_of : Kind → Flow
+flow_of kind.Initialize = flow.On
 flow_of kind.Look = flow.On
 flow_of kind.Points = flow.On
 flow_of kind.Pause = flow.On

@@ -1,3 +1,4 @@
+pub mod Before
 pub mod Deed
 pub mod Fault
 pub mod Kind
@@ -6,4 +7,6 @@ pub mod Launched
 pub mod Leaves
 pub mod Runs
 pub mod Scope
+pub mod Sent
+pub mod Told
 pub mod Written

@@ -2,16 +2,20 @@
 
 ghost use Rattle.std.specs.Prelude.{◌≡◌, ◌⊎◌, IfErr, IfOk, IfNone, IfSome, IsErr, OnOk, Ok, is_some, true, false};
 ghost use Rattle.mix_refused.specs.Refused.{IfFault, IfMemory};
+ghost use Rattle.dap_message.specs.Message.{waits};
 ghost use Rattle.dap_message.specs.Request.{command_of};
+ghost use Rattle.dap_message.specs.Told.{response_to, done, Answers};
 ghost use Rattle.mix_dap.specs.Leaves.{flow_of, KindAnswered, KindRefused, KindBegun, Begins, FlowLeaves};
 ghost use Rattle.mix_dap.specs.Kind.{kind_of};
 ghost use Rattle.mix_dap.specs.Launched.{launched_of};
+ghost use Rattle.mix_dap.specs.Told.{outcome_of, outcome_of_launch, refused_for};
 
 mod act;
 mod run;
 mod show;
+mod tell;
 
-use crate::capabilities::Client;
+use crate::capabilities::{Client, capabilities};
 use crate::fault::{Fault, refuse};
 use crate::kind::Kind;
 use crate::launch::{Texts, session_of};
@@ -76,11 +80,13 @@ impl Drop for Adapter<'_> {
 
 // Whether the client has more to ask after a request of a kind that was answered.
 fn flow_of(kind: Kind) -> Flow
-    ensures { result ≡ flow_of kind }
+    ensures flow { result ≡ flow_of kind }
+    ensures done { outcome_of result ≡ done }
 {
     match kind {
         Kind::Disconnect => Flow::Over,
-        Kind::Look
+        Kind::Initialize
+        | Kind::Look
         | Kind::Points
         | Kind::Pause
         | Kind::Terminate
@@ -95,6 +101,7 @@ fn flow_of(kind: Kind) -> Flow
 impl<'s> Adapter<'s> {
     /// Launches a program, and answers the request that asked for it: the machine is that of the texts, with no change, and it does not run yet. No
     /// adapter exactly where one of the texts is refused.
+    #[tactic(auto, using(dap_message::proofs::Telling::telling))]
     pub fn open(
         alloc: Global,
         waiting: &Waiting,
@@ -105,6 +112,7 @@ impl<'s> Adapter<'s> {
         ensures opened { IfOk result (λ o. IfSome o (λ a. launched_of texts.now ≡ Ok a.session)) }
         ensures refused { IfOk result (λ o. IfNone o (IsErr (launched_of texts.now))) }
         ensures rests { IfOk result (λ o. IfSome o (λ a. is_some a.way ≡ false)) }
+        ensures answers { OnOk result (Answers (response_to request.now (outcome_of_launch (launched_of texts.now))) (waits out.old) (waits out.new)) }
     {
         let session = match session_of(alloc, texts) {
             Ok(session) => session,
@@ -152,6 +160,7 @@ impl<'s> Adapter<'s> {
         ensures effect { IfOk result (λ flow. FlowLeaves flow (is_some self.old.way) (command_of request.now) request.now self.old.session self.new.session.timeline) }
         ensures begun { IfErr result (λ _. (self.new.session.timeline ≡ self.old.session.timeline)
             ⊎ Begins (is_some self.old.way) (command_of request.now) request.now self.old.session self.new.session.timeline) }
+        ensures answers { IfOk result (λ flow. Answers (response_to request.now (outcome_of flow)) (waits out.old) (waits out.new)) }
     {
         match request.command() {
             None => self.refuse(request, Fault::NoSuchRequest, out),
@@ -164,7 +173,8 @@ impl<'s> Adapter<'s> {
     }
 
     fn refuse(&self, request: &Request, fault: Fault, out: &mut Outbox) -> Result<Flow, Memory>
-        ensures { IfOk result (λ flow. flow ≡ Flow.Refused fault) }
+        ensures flow { IfOk result (λ flow. flow ≡ Flow.Refused fault) }
+        ensures answers { OnOk result (Answers (response_to request.now (refused_for fault)) (waits out.old) (waits out.new)) }
     {
         refuse(self.alloc, request, fault, out)?;
         Ok(Flow::Refused(fault))
@@ -183,6 +193,7 @@ impl<'s> Adapter<'s> {
     }
 
     // What a request asks for, by what it is about.
+    #[tactic(auto, using(dap_message::proofs::Telling::telling))]
     fn answer(
         &mut self,
         command: Command,
@@ -196,8 +207,14 @@ impl<'s> Adapter<'s> {
             × KindRefused (is_some self.old.way) (kind_of command) request.now self.old.session why) }
         ensures begun { IfMemory result ((self.new.session.timeline ≡ self.old.session.timeline)
             ⊎ KindBegun (is_some self.old.way) (kind_of command) request.now self.old.session self.new.session.timeline) }
+        ensures answers { OnOk result (Answers (response_to request.now done) (waits out.old) (waits out.new)) }
+        ensures untold { IfFault result (λ _. out.new ≡ out.old) }
     {
         match Kind::of(command) {
+            Kind::Initialize => {
+                let body = capabilities(self.alloc)?;
+                Ok(out.reply(request, body)?)
+            }
             Kind::Look => {
                 let body = self.show(command, request)?;
                 Ok(out.reply(request, body)?)

@@ -1,8 +1,11 @@
 //! Why a request is refused: a number and a text each.
 
-ghost use Rattle.std.specs.Prelude.{◌≡◌, IfOk, Some};
+ghost use Rattle.std.specs.Prelude.{◌≡◌, IfOk, OnOk, Some};
 ghost use Rattle.serde_json.specs.View.{view};
+ghost use Rattle.dap_message.specs.Message.{waits};
+ghost use Rattle.dap_message.specs.Told.{response_to, Answers};
 ghost use Rattle.mix_dap.specs.Fault.{fault_number, fault_text, text_place};
+ghost use Rattle.mix_dap.specs.Told.{refused_for};
 
 use dap_message::{Fields, Outbox, Request};
 use mix_machine::DeckFault;
@@ -94,7 +97,9 @@ pub(crate) fn refuse(
     request: &Request,
     fault: Fault,
     out: &mut Outbox,
-) -> Result<(), Memory> {
+) -> Result<(), Memory>
+    ensures { OnOk result (Answers (response_to request.now (refused_for fault)) (waits out.old) (waits out.new)) }
+{
     let text = format!(in alloc; "{fault}")?;
     let variables = match fault {
         Fault::Source(at) => place_of(alloc, "source", at.line)?,

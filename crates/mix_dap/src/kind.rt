@@ -8,6 +8,8 @@ use dap_message::Command;
 /// What a request is about.
 #[derive(Clone, Copy)]
 pub(crate) enum Kind {
+    /// What the adapter can do.
+    Initialize,
     /// It only looks.
     Look,
     /// Breakpoints, in place of those that stand.
@@ -59,8 +61,8 @@ impl Kind {
         ensures { result ≡ kind_of command }
     {
         match command {
-            Command::Initialize
-            | Command::Threads
+            Command::Initialize => Kind::Initialize,
+            Command::Threads
             | Command::StackTrace
             | Command::Scopes
             | Command::Variables

@@ -1,8 +1,13 @@
 //! What the units 17 to 20 have written, told as it comes.
+#![tactic(auto, using(dap_message::proofs::Telling::telling))]
+
+ghost use Rattle.std.specs.Prelude.{◌<◌, OnOk};
+ghost use Rattle.dap_message.specs.Message.{waits};
+ghost use Rattle.dap_message.specs.Told.{Events};
 
 use crate::variables::row_text;
 use dap_message::Outbox;
-use mix_machine::{UnitNo, World};
+use mix_machine::{Row, UnitNo, World};
 use mix_refused::Memory;
 use std::alloc::Global;
 
@@ -26,18 +31,34 @@ impl Printed {
         alloc: Global,
         world: &World,
         out: &mut Outbox,
-    ) -> Result<(), Memory> {
+    ) -> Result<(), Memory>
+        ensures { OnOk result (Events (waits out.old) (waits out.new)) }
+    {
         for i in 0..4u8 {
-            if let Some(number) = UnitNo::of(FIRST + i) {
-                let told = self.rows[usize::from(i)];
-                let rows = world.unit(number).rows();
-                tell_rows(alloc, world, number, told, out)?;
-                if rows < told {
-                    tell_taken(alloc, number, told - rows, out)?;
-                }
-                self.rows[usize::from(i)] = rows;
-            }
+            self.tell_unit(alloc, world, i, out)?;
         }
+        Ok(())
+    }
+
+    // The same of one of the units.
+    fn tell_unit(
+        &mut self,
+        alloc: Global,
+        world: &World,
+        i: u8,
+        out: &mut Outbox,
+    ) -> Result<(), Memory>
+        requires { i < 4 }
+        ensures { OnOk result (Events (waits out.old) (waits out.new)) }
+    {
+        let Some(number) = UnitNo::of(FIRST + i) else {
+            return Ok(());
+        };
+        let told = self.rows[usize::from(i)];
+        let rows = world.unit(number).rows();
+        tell_rows(alloc, world, number, told, out)?;
+        tell_taken(alloc, number, told, rows, out)?;
+        self.rows[usize::from(i)] = rows;
         Ok(())
     }
 }
@@ -49,20 +70,41 @@ fn tell_rows(
     number: UnitNo,
     from: u16,
     out: &mut Outbox,
-) -> Result<(), Memory> {
+) -> Result<(), Memory>
+    ensures { OnOk result (Events (waits out.old) (waits out.new)) }
+{
     let unit = world.unit(number);
     for i in from..unit.rows() {
-        if let Some(row) = unit.row(i) {
-            let text = row_text(alloc, row)?;
-            let line = format!(in alloc; "{text}\n")?;
-            out.output("stdout", line.as_str())?;
-        }
+        tell_row(alloc, unit.row(i), out)?;
     }
     Ok(())
 }
 
-fn tell_taken(alloc: Global, number: UnitNo, count: u16, out: &mut Outbox) -> Result<(), Memory> {
-    let unit = number.number();
+fn tell_row(alloc: Global, row: Option<&Row>, out: &mut Outbox) -> Result<(), Memory>
+    ensures { OnOk result (Events (waits out.old) (waits out.new)) }
+{
+    let Some(row) = row else {
+        return Ok(());
+    };
+    let text = row_text(alloc, row)?;
+    let line = format!(in alloc; "{text}\n")?;
+    out.output("stdout", line.as_str())
+}
+
+// That the last of the rows that were told are taken back, if they are.
+fn tell_taken(
+    alloc: Global,
+    number: UnitNo,
+    told: u16,
+    rows: u16,
+    out: &mut Outbox,
+) -> Result<(), Memory>
+    ensures { OnOk result (Events (waits out.old) (waits out.new)) }
+{
+    if told <= rows {
+        return Ok(());
+    }
+    let (unit, count) = (number.number(), told - rows);
     let line = format!(in alloc; "(unit {unit}: the last rows are taken back, {count} of them)\n")?;
     out.output("console", line.as_str())
 }

@@ -1,8 +1,8 @@
 //! The adapter over a stream: requests are heard and answered until the client is done.
 
 ghost use Rattle.std.specs.Prelude.{◌≡◌, ◌≢◌, ◌<◌, ◌≤◌, ◌-◌, ◌^◌, OnOk};
-ghost use Rattle.std.specs.Io.KnownBytes.{Appends};
-ghost use Rattle.dap_frame.specs.Frame.{frame_of};
+ghost use Rattle.serde_json.specs.View.{view};
+ghost use Rattle.mix_dap.specs.Sent.{Sends};
 
 use crate::adapter::{Adapter, Flow};
 use crate::broken::{Broken, tell};
@@ -13,6 +13,7 @@ use dap_frame::frame;
 use dap_message::{MessageFault, Outbox, Request};
 use mix_refused::Memory;
 use mix_stream::{Out, write_all};
+use serde_json::Value;
 use std::alloc::Global;
 use std::io::Read;
 use std::rt::Files;
@@ -201,22 +202,24 @@ fn send<W: Out>(alloc: Global, outbox: &mut Outbox, out: &mut W) -> Result<(), B
     Ok(())
 }
 
-fn send_all<W: Out>(alloc: Global, messages: &[String], out: &mut W) -> Result<(), Broken>
+fn send_all<W: Out>(alloc: Global, messages: &[Value], out: &mut W) -> Result<(), Broken>
     requires { W.failed out.old < 2 ^ 64 - 1 }
     ensures { OnOk result (W.failed out.new ≡ W.failed out.old) }
 {
     for message in messages {
-        send_one(alloc, message.as_str(), out)?;
+        send_one(alloc, message, out)?;
     }
     Ok(())
 }
 
-fn send_one<W: Out>(alloc: Global, message: &str, out: &mut W) -> Result<(), Broken>
+// A message is sent as its text, in a frame.
+fn send_one<W: Out>(alloc: Global, message: &Value, out: &mut W) -> Result<(), Broken>
     requires { W.failed out.old < 2 ^ 64 - 1 }
     ensures failed { OnOk result (W.failed out.new ≡ W.failed out.old) }
-    ensures sent { OnOk result (Appends (W.told out.old) (W.told out.new) (frame_of message.now)) }
+    ensures sent { OnOk result (Sends (view message.now) (W.told out.old) (W.told out.new)) }
 {
-    let text = frame(alloc, message)?;
-    write_all(out, text.as_bytes())?;
+    let text = message.to_string(alloc)?;
+    let framed = frame(alloc, text.as_str())?;
+    write_all(out, framed.as_bytes())?;
     Ok(())
 }

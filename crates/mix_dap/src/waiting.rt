@@ -1,9 +1,15 @@
 //! Before a program is launched.
 
+ghost use Rattle.std.specs.Prelude.{◌≡◌, IfOk};
+ghost use Rattle.dap_message.specs.Message.{waits};
+ghost use Rattle.dap_message.specs.Request.{command_of};
+ghost use Rattle.mix_dap.specs.Before.{Asks, LaunchTells};
+
 use crate::capabilities::{Client, capabilities};
 use crate::fault::{Fault, refuse};
+use crate::kind::Kind;
 use crate::launch::{Library, Texts, texts_of};
-use dap_message::{Command, Outbox, Request};
+use dap_message::{Outbox, Request};
 use mix_refused::{Memory, Refused};
 use serde_json::Value;
 use std::alloc::Global;
@@ -36,34 +42,43 @@ impl Waiting {
     }
 
     /// Answers a request, but for one to launch a program, whose texts are read.
+    #[tactic(auto, using(dap_message::proofs::Telling::telling))]
     pub fn receive<L: Library>(
         &mut self,
         library: &L,
         request: &Request,
         out: &mut Outbox,
-    ) -> Result<Asked, Memory> {
-        match request.command() {
-            Some(Command::Initialize) => {
+    ) -> Result<Asked, Memory>
+        ensures { IfOk result (λ asked. Asks asked (command_of request.now) request.now (waits out.old) (waits out.new)) }
+    {
+        let Some(command) = request.command() else {
+            refuse(self.alloc, request, Fault::NoSuchRequest, out)?;
+            return Ok(Asked::Answered);
+        };
+        match Kind::of(command) {
+            Kind::Initialize => {
                 self.client = Client::of(request);
                 out.reply(request, capabilities(self.alloc)?)?;
                 Ok(Asked::Answered)
             }
-            Some(Command::Launch) => self.launch(library, request, out),
-            Some(Command::Disconnect) => {
+            Kind::Launch => self.launch(library, request, out),
+            Kind::Disconnect => {
                 out.reply(request, Value::Null)?;
                 Ok(Asked::Over)
             }
-            Some(Command::Terminate) => {
+            Kind::Terminate => {
                 out.reply(request, Value::Null)?;
                 out.event("terminated", Value::Null)?;
                 Ok(Asked::Answered)
             }
-            Some(_) => {
+            Kind::Look
+            | Kind::Points
+            | Kind::Pause
+            | Kind::Restart
+            | Kind::Cancel
+            | Kind::Write
+            | Kind::Act(_) => {
                 refuse(self.alloc, request, Fault::NotLaunched, out)?;
-                Ok(Asked::Answered)
-            }
-            None => {
-                refuse(self.alloc, request, Fault::NoSuchRequest, out)?;
                 Ok(Asked::Answered)
             }
         }
@@ -74,7 +89,9 @@ impl Waiting {
         library: &L,
         request: &Request,
         out: &mut Outbox,
-    ) -> Result<Asked, Memory> {
+    ) -> Result<Asked, Memory>
+        ensures { IfOk result (λ asked. LaunchTells asked request.now (waits out.old) (waits out.new)) }
+    {
         match texts_of(self.alloc, library, request) {
             Ok(texts) => Ok(Asked::Launch(texts)),
             Err(Refused::Fault(fault)) => {

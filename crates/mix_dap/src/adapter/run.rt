@@ -1,6 +1,9 @@
 //! Runs, piece by piece, and what is told of the machine when it stops or is altered.
+#![tactic(auto, using(dap_message::proofs::Telling::telling))]
 
-ghost use Rattle.std.specs.Prelude.{◌≡◌, IfErr, IfOk, false, is_some};
+ghost use Rattle.std.specs.Prelude.{◌≡◌, IfErr, IfOk, OnOk, false, is_some};
+ghost use Rattle.dap_message.specs.Message.{waits};
+ghost use Rattle.dap_message.specs.Told.{response_to, done, Events, Answers};
 ghost use Rattle.mix_session.specs.Command.{after, Begun};
 ghost use Rattle.mix_dap.specs.Runs.{Advances, effect_of_piece, goes_on, is_limit};
 
@@ -24,7 +27,8 @@ impl Adapter<'_> {
         request: &Request,
         out: &mut Outbox,
     ) -> Result<(), Memory>
-        ensures { self.new.session ≡ self.old.session }
+        ensures session { self.new.session ≡ self.old.session }
+        ensures answers { OnOk result (Answers (response_to request.now done) (waits out.old) (waits out.new)) }
     {
         self.way = Some(way);
         self.fault = None;
@@ -40,7 +44,8 @@ impl Adapter<'_> {
 
     // The first stop or the first run, as the launch asked.
     pub(crate) fn begin(&mut self, out: &mut Outbox) -> Result<(), Memory>
-        ensures { self.new.session ≡ self.old.session }
+        ensures session { self.new.session ≡ self.old.session }
+        ensures events { OnOk result (Events (waits out.old) (waits out.new)) }
     {
         if self.stops {
             self.stopped("entry", None, out)
@@ -55,6 +60,7 @@ impl Adapter<'_> {
         ensures program { self.new.session.program ≡ self.old.session.program }
         ensures first { self.new.session.timeline.first ≡ self.old.session.timeline.first }
         ensures runs { Advances self.old.way self.old.points self.old.session.timeline self.new.session.timeline (is_some self.new.way) }
+        ensures events { OnOk result (Events (waits out.old) (waits out.new)) }
     {
         let Some(way) = self.way else {
             return Ok(());
@@ -70,6 +76,7 @@ impl Adapter<'_> {
     pub fn rest(&mut self, out: &mut Outbox) -> Result<(), Memory>
         ensures session { self.new.session ≡ self.old.session }
         ensures pauses { is_some self.new.way ≡ false }
+        ensures events { OnOk result (Events (waits out.old) (waits out.new)) }
     {
         if !self.is_running() {
             return Ok(());
@@ -79,7 +86,8 @@ impl Adapter<'_> {
     }
 
     pub(crate) fn pause(&mut self, request: &Request, out: &mut Outbox) -> Result<(), Memory>
-        ensures { self.new.session ≡ self.old.session }
+        ensures session { self.new.session ≡ self.old.session }
+        ensures answers { OnOk result (Answers (response_to request.now done) (waits out.old) (waits out.new)) }
     {
         self.way = None;
         out.reply(request, Value::Null)?;
@@ -90,6 +98,7 @@ impl Adapter<'_> {
     pub(crate) fn stop(&mut self, end: End, out: &mut Outbox) -> Result<(), Memory>
         ensures session { self.new.session ≡ self.old.session }
         ensures rests { is_some self.new.way ≡ false }
+        ensures events { OnOk result (Events (waits out.old) (waits out.new)) }
     {
         self.way = None;
         self.fault = None;
@@ -115,6 +124,7 @@ impl Adapter<'_> {
     fn stop_for_memory(&mut self, out: &mut Outbox) -> Result<(), Memory>
         ensures session { self.new.session ≡ self.old.session }
         ensures rests { is_some self.new.way ≡ false }
+        ensures events { OnOk result (Events (waits out.old) (waits out.new)) }
     {
         self.way = None;
         self.fault = None;
@@ -127,7 +137,9 @@ impl Adapter<'_> {
         reason: &str,
         text: Option<&str>,
         out: &mut Outbox,
-    ) -> Result<(), Memory> {
+    ) -> Result<(), Memory>
+        ensures { OnOk result (Events (waits out.old) (waits out.new)) }
+    {
         let mut body = Fields::new(self.alloc);
         body.text("reason", reason)?;
         body.number("threadId", THREAD)?;
@@ -140,7 +152,9 @@ impl Adapter<'_> {
     }
 
     // What the client shows is out of date, after a change that no stop tells of.
-    pub(crate) fn invalidated(&self, out: &mut Outbox) -> Result<(), Memory> {
+    pub(crate) fn invalidated(&self, out: &mut Outbox) -> Result<(), Memory>
+        ensures { OnOk result (Events (waits out.old) (waits out.new)) }
+    {
         if !self.client.hears_invalidated {
             return Ok(());
         }

@@ -3,7 +3,6 @@
 ghost use Rattle.std.specs.Prelude.{◌≡◌};
 
 use crate::adapter::Adapter;
-use crate::capabilities::capabilities;
 use crate::fault::Fault;
 use crate::look::{scopes, stack_trace, threads};
 use crate::memory::{disassemble, read_memory};
@@ -27,7 +26,6 @@ impl Adapter<'_> {
         let first = self.client.first;
         let session = &self.session;
         match command {
-            Command::Initialize => Ok(capabilities(alloc)?),
             Command::Threads => Ok(threads(alloc)?),
             Command::StackTrace => Ok(stack_trace(alloc, session, self.name, first, request)?),
             Command::Scopes => Ok(scopes(alloc)?),

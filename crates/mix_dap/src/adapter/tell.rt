@@ -1,0 +1,122 @@
+//! What was done is told: the request is answered, and then comes what the client has to know.
+#![tactic(auto, using(dap_message::proofs::Telling::telling))]
+
+ghost use Rattle.std.specs.Prelude.{◌≡◌, OnOk};
+ghost use Rattle.dap_message.specs.Message.{waits};
+ghost use Rattle.dap_message.specs.Told.{response_to, done, Answers};
+
+use crate::adapter::{Adapter, Way};
+use crate::deed::is_console;
+use crate::kind::Act;
+use crate::value::{value_asked, worth_asked};
+use dap_message::{Fields, Outbox, Request};
+use mix_machine::Reg;
+use mix_refused::Memory;
+use mix_session::{Answer, End};
+use serde_json::Value;
+
+impl Adapter<'_> {
+    // What an act has done.
+    pub(crate) fn tell(
+        &mut self,
+        act: Act,
+        answer: Answer,
+        request: &Request,
+        out: &mut Outbox,
+    ) -> Result<(), Memory>
+        ensures session { self.new.session ≡ self.old.session }
+        ensures answers { OnOk result (Answers (response_to request.now done) (waits out.old) (waits out.new)) }
+    {
+        match act {
+            Act::Step | Act::StepBack => {
+                out.reply(request, Value::Null)?;
+                self.stop(end_of(answer), out)
+            }
+            Act::Continue => self.run(Way::Forth(None), request, out),
+            Act::StepOut => {
+                let until = self.session.world().register(Reg::J).magnitude();
+                self.run(Way::Forth(u16::try_from(until).ok()), request, out)
+            }
+            Act::ReverseContinue => self.run(Way::Back, request, out),
+            Act::Begin => {
+                out.reply(request, Value::Null)?;
+                self.begin(out)
+            }
+            Act::Goto => {
+                out.reply(request, Value::Null)?;
+                self.stopped("goto", None, out)
+            }
+            Act::SetVariable => self.tell_value(request, out),
+            Act::Evaluate if is_console(request) => self.tell_command(answer, request, out),
+            Act::Evaluate => self.tell_worth(request, out),
+        }
+    }
+
+    // The value of a variable that was set.
+    fn tell_value(&self, request: &Request, out: &mut Outbox) -> Result<(), Memory>
+        ensures { OnOk result (Answers (response_to request.now done) (waits out.old) (waits out.new)) }
+    {
+        let value = value_asked(self.alloc, self.session.world(), request)?;
+        let mut body = Fields::new(self.alloc);
+        body.text("value", value.as_str())?;
+        out.reply(request, body.done())?;
+        self.invalidated(out)
+    }
+
+    // The reply to a line of the script, and what it has written.
+    fn tell_command(
+        &mut self,
+        answer: Answer,
+        request: &Request,
+        out: &mut Outbox,
+    ) -> Result<(), Memory>
+        ensures session { self.new.session ≡ self.old.session }
+        ensures answers { OnOk result (Answers (response_to request.now done) (waits out.old) (waits out.new)) }
+    {
+        self.fault = None;
+        let text = self.session.text(&answer)?;
+        let text = String::from_utf8_lossy(self.alloc, text.as_slice())?;
+        self.tell_result(text.as_str(), request, out)?;
+        self.printed.tell(self.alloc, self.session.world(), out)?;
+        self.invalidated(out)
+    }
+
+    // What an expression is worth.
+    fn tell_worth(&self, request: &Request, out: &mut Outbox) -> Result<(), Memory>
+        ensures { OnOk result (Answers (response_to request.now done) (waits out.old) (waits out.new)) }
+    {
+        let text = worth_asked(self.alloc, &self.session, request)?;
+        self.tell_result(text.as_str(), request, out)
+    }
+
+    fn tell_result(&self, text: &str, request: &Request, out: &mut Outbox) -> Result<(), Memory>
+        ensures { OnOk result (Answers (response_to request.now done) (waits out.old) (waits out.new)) }
+    {
+        let mut body = Fields::new(self.alloc);
+        body.text("result", text)?;
+        body.number("variablesReference", 0)?;
+        out.reply(request, body.done())
+    }
+
+    // The beginning again.
+    pub(crate) fn tell_beginning(
+        &mut self,
+        request: &Request,
+        out: &mut Outbox,
+    ) -> Result<(), Memory>
+        ensures session { self.new.session ≡ self.old.session }
+        ensures answers { OnOk result (Answers (response_to request.now done) (waits out.old) (waits out.new)) }
+    {
+        out.reply(request, Value::Null)?;
+        self.printed.tell(self.alloc, self.session.world(), out)?;
+        self.begin(out)
+    }
+}
+
+// How a step has ended; what is no step has come to what was asked.
+fn end_of(answer: Answer) -> End {
+    match answer {
+        Answer::Ran(_, end) => end,
+        _ => End::Limit,
+    }
+}
