@@ -16,6 +16,7 @@ TEXT = bundle(HELLO, GREETED)
 LONG = bundle(lines(" END 0"), lines(*["show cells 0 3999"] * 20))
 T2 = b"mixrev: T2 read failed\n"
 T3 = b"mixrev: T3 write failed\n"
+NO_FILE, FOLDER = b": No such file or directory", b": Is a directory"
 
 
 def shell(command, program, name, more=()):
@@ -33,7 +34,7 @@ def due(program, name):
 def vanishing_terminal(program, text):
     """Standard input is a terminal that goes away after some lines: its reads fail then."""
     ours, theirs = pty.openpty()
-    child = subprocess.Popen([program, "list", "/dev/stdin"], stdin=theirs, stdout=subprocess.PIPE, stderr=subprocess.PIPE)
+    child = subprocess.Popen([program, "list", "-"], stdin=theirs, stdout=subprocess.PIPE, stderr=subprocess.PIPE)
     os.close(theirs)
     os.write(ours, text)
     threading.Event().wait(0.2)  # it reads what was written, and waits for more
@@ -97,18 +98,20 @@ def by_files(program, place, count):
         with open(name, "wb") as file:
             file.write(text)
     gone = os.path.join(place, "gone")
-    not_opened = (b"", b"mixrev: T4 not opened: %s\n" % gone.encode(), 2)
+    not_opened = (b"", b"mixrev: T4 not opened: %s%s\n" % (gone.encode(), NO_FILE), 2)
+    is_folder, input_is_folder = ((b"", b"mixrev: T4 not opened: %s%s\n" % (file, FOLDER), 2) for file in (b"/", b"-"))
     for command, wanted in [
-            ("list /", (b"", T2, 2)), ("debug / $2", (b"", T2, 2)), ("debug $1 /", (b"", T2, 2)), ("debug $1 $2 --devices /", (b"", T2, 2)),
+            ("list /", is_folder), ("debug / $2", is_folder), ("debug $1 /", is_folder), ("debug $1 $2 --devices /", is_folder),
             ("list $3", not_opened), ("debug $3 $2", not_opened), ("debug $1 $3", not_opened), ("debug $1 $2 --devices $3", not_opened),
-            ("debug / $3", not_opened), ("list $1 >/dev/full", (b"", T3, 2)), ("debug $1 $2 >/dev/full", (b"", T3, 2)), ("list $1 >&-", (b"", T3, 2))]:
+            ("debug / $3", is_folder), ("list $1/a", (b"", b"mixrev: T4 not opened: %s/a: Not a directory\n" % source.encode(), 2)),
+            ("list - </", input_is_folder), ("list - <&-", (b"", b"mixrev: T4 not opened: -%s\n" % NO_FILE, 2)), ("list $1 >/dev/full", (b"", T3, 2)), ("debug $1 $2 >/dev/full", (b"", T3, 2)), ("list $1 >&-", (b"", T3, 2))]:
         count.same(command, shell('"$0" ' + command, program, source, [script, gone]), wanted)
 
 
 READS = b" IN 100(16)\n END 0\n"
 STEPS = b" HLT\n END 0\n%SCRIPT\nstep\n"
 NO_END = b"line 1: A13 no END\n"
-# The files of the plans below; the folder is one that can be opened and not be read.
+# The files of the plans below; the folder is one that a system opens, but that cannot be read.
 FILES = {"read.mix": READS, "refused.mix": b"", "step.txt": b"step\n", "card.deck": b"%UNIT 16\nA CARD\n"}
 # Words, standard input, and then the status, what is written and what is told of a fault of the tool.
 PLANS = [
@@ -116,20 +119,23 @@ PLANS = [
     ("dap", b"Content-Length: 2\r\n", 2, b"", b"T7 input cut"),
     ("list read.mix", b"", 0, lines("0000  + 01 36 00 16 36      1   IN 100(16)", "0000                        2   END 0", "symbols 0"), b""),
     ("list refused.mix", b"", 1, NO_END, b""),
+    ("list -", READS, 0, lines("0000  + 01 36 00 16 36      1   IN 100(16)", "0000                        2   END 0", "symbols 0"), b""),
+    ("debug read.mix - --devices card.deck", b"step\n", 0, b"ran 1 to 0001 clock 1: limit\n", b""),
+    ("debug read.mix step.txt --devices -", FILES["card.deck"], 0, b"ran 1 to 0001 clock 1: limit\n", b""),
     ("debug read.mix step.txt --devices card.deck", b"", 0, b"ran 1 to 0001 clock 1: limit\n", b""),
     ("debug read.mix step.txt", b"", 3, b"ran 0 to 0000 clock 0: fault M11 no block\n", b""),
     ("debug refused.mix step.txt", b"", 1, NO_END, b""),
     ("debug read.mix step.txt --devices read.mix", b"", 2, b"", b"T5 deck refused at line 1: K1 bad header"),
-    ("list none", b"", 2, b"", b"T4 not opened: none"),
-    ("list ''", b"", 2, b"", b"T4 not opened: "),
-    ("list folder", b"", 2, b"", b"T2 read failed"),
+    ("list none", b"", 2, b"", b"T4 not opened: none" + NO_FILE),
+    ("list ''", b"", 2, b"", b"T4 not opened: " + NO_FILE),
+    ("list folder", b"", 2, b"", b"T4 not opened: folder" + FOLDER),
     # the first that cannot be opened, and nothing is read: not even a source that is refused
-    ("debug no_a no_b --devices no_c", b"", 2, b"", b"T4 not opened: no_a"),
-    ("debug refused.mix no_b --devices no_c", b"", 2, b"", b"T4 not opened: no_c"),
-    ("debug refused.mix step.txt --devices no_c", b"", 2, b"", b"T4 not opened: no_c"),
-    ("debug refused.mix no_b --devices card.deck", b"", 2, b"", b"T4 not opened: no_b"),
-    ("debug refused.mix no_b", b"", 2, b"", b"T4 not opened: no_b"),
-    ("debug read.mix folder", b"", 2, b"", b"T2 read failed")]
+    ("debug no_a no_b --devices no_c", b"", 2, b"", b"T4 not opened: no_a" + NO_FILE),
+    ("debug refused.mix no_b --devices no_c", b"", 2, b"", b"T4 not opened: no_c" + NO_FILE),
+    ("debug refused.mix step.txt --devices no_c", b"", 2, b"", b"T4 not opened: no_c" + NO_FILE),
+    ("debug refused.mix no_b --devices card.deck", b"", 2, b"", b"T4 not opened: no_b" + NO_FILE),
+    ("debug refused.mix no_b", b"", 2, b"", b"T4 not opened: no_b" + NO_FILE),
+    ("debug read.mix folder", b"", 2, b"", b"T4 not opened: folder" + FOLDER)]
 
 
 def plans(program, place, count):

@@ -21,7 +21,7 @@ A source is a program in the language MIXAL. A deck says what tapes, disks and c
 A script is a text file of commands, one a line, such as: step 4, back 2, forth 1, set A 7, break LOOP, run 1000, show regs.
 
 Without any words, mixrev reads a bundle from standard input, if that is no terminal: the source; after a line %DEVICES a
-deck; after a line %SCRIPT a script. The deck and the script may be left out.
+deck; after a line %SCRIPT a script. The deck and the script may be left out. As the name of a file, - is standard input.
 
 Examples:
   mixrev run primes.mix

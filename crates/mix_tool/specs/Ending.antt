@@ -16,14 +16,16 @@ use Rattle.mixal_asm.specs.declared.fault.AsmFault.{AsmFault}
 use Rattle.mix_machine.specs.units.Units.{UnitsState}
 use Rattle.mix_machine.specs.declared.units.deck_fault.DeckFault.{DeckFault}
 use Rattle.mix_run.specs.declared.fault.ToolFault.{ToolFault}
+use Rattle.mix_tool.specs.Reason.{reason_text}
+use Rattle.mix_tool.specs.declared.reason.Reason.{Reason}
 
 -- `mixrev: T2 read failed`
 abbrev pub report : ToolFault → List ℕ
 report fault = codes "mixrev: " ++ tool_fault_text fault ++ 10 ∷ []
 
--- `mixrev: T4 not opened: NAME`
-abbrev pub not_opened : List ℕ → List ℕ
-not_opened name = codes "mixrev: T4 not opened: " ++ name ++ 10 ∷ []
+-- `mixrev: T4 not opened: NAME: No such file or directory`
+abbrev pub not_opened : List ℕ → Reason → List ℕ
+not_opened name reason = codes "mixrev: T4 not opened: " ++ (name ++ (reason_text reason ++ 10 ∷ []))
 
 -- the status of a run: 2 where the tool itself failed
 abbrev pub status_of_run : Result ℕ ToolFault → ℕ

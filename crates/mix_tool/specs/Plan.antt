@@ -13,7 +13,7 @@ use Rattle.mix_run.specs.declared.print.options.UnitSet.{UnitSet}
 use Rattle.mix_run.specs.declared.talk.Streams.{Streams}
 use Rattle.mix_run.specs.declared.talk.aside.Talker.{Talker}
 use Rattle.mix_tool.specs.Ending.{PrintRuns, Runs, Seen, TalkRuns, Tells, not_opened}
-use Rattle.mix_tool.specs.Opening.{Files, missing_of, named, text_of}
+use Rattle.mix_tool.specs.Opening.{Files, Missing, missing_of, named, text_of}
 use Rattle.mix_tool.specs.declared.texts.Names.{Names}
 use Rattle.mix_tool.specs.declared.texts.Texts.{Texts}
 
@@ -110,12 +110,12 @@ RunsOn (plan.Run source cards devices steps printing) given talker status before
     PrintRuns (print_output (options_of cards steps printing) given.source given.deck given.cards) status before after
 RunsOn plan.Dap given talker status before after = status ≤ 2
 
--- a plan is done: the first of its files that can't be opened is told, and the status is 2; where there is none, its run is made
-abbrev pub DoneAfter : Option (List ℕ) → Plan → Given → Talker → ℕ → Seen → Seen → Type 0
+-- a plan is done: the first of its files that can't be opened is told and why, and the status is 2; where there is none, its run is made
+abbrev pub DoneAfter : Option Missing → Plan → Given → Talker → ℕ → Seen → Seen → Type 0
 DoneAfter None p given talker status before after = RunsOn p given talker status before after
-DoneAfter (Some name) p given talker status before after =
+DoneAfter (Some missing) p given talker status before after =
     (status ≡ 2) × (after.input ≡ before.input) × (after.out ≡ before.out)
-    × Tells (not_opened name) before.errors after.errors before.failed after.failed
+    × Tells (not_opened missing.0 missing.1) before.errors after.errors before.failed after.failed
 
 abbrev pub IsDone : Files → Plan → Talker → ℕ → Seen → Seen → Type 0
 IsDone all p talker status before after =

@@ -3,6 +3,7 @@
 ghost use Rattle.std.specs.Prelude.{◌≡◌, ◌<◌, ◌-◌, ◌^◌, IfOk, OnOk, MatchResult, string_bytes};
 ghost use Rattle.mix_tool.specs.Ending.{Tells, TellsRun, Wrote, memory_line, not_opened, report, status_of_end, status_of_print, status_of_run};
 
+use crate::reason::Reason;
 use mix_cli::FAILED;
 use mix_run::{DONE, NOT_DONE, PrintAnswer, RanTo, RunEnd, SOURCE_REFUSED, ToolFault};
 use mix_stream::{Out, write_all};
@@ -18,10 +19,11 @@ fn fault_line(alloc: Global, fault: ToolFault) -> Result<String, AllocError>
     Ok(text)
 }
 
-fn not_opened_line(alloc: Global, name: &str) -> Result<String, AllocError>
-    ensures { IfOk result (λ s. string_bytes s ≡ not_opened name.now) }
+fn not_opened_line(alloc: Global, name: &str, reason: Reason) -> Result<String, AllocError>
+    ensures { IfOk result (λ s. string_bytes s ≡ not_opened name.now reason) }
 {
-    let text = format!(in alloc; "mixrev: T4 not opened: {name}\n")?;
+    let reason = reason.text();
+    let text = format!(in alloc; "mixrev: T4 not opened: {name}{reason}\n")?;
     Ok(text)
 }
 
@@ -49,12 +51,17 @@ pub(crate) fn tell<E: Out>(line: Result<String, AllocError>, errors: &mut E)
 }
 
 /// A file that could not be opened is told.
-pub(crate) fn tell_not_opened<E: Out>(alloc: Global, name: &str, errors: &mut E) -> u8
+pub(crate) fn tell_not_opened<E: Out>(
+    alloc: Global,
+    name: &str,
+    reason: Reason,
+    errors: &mut E,
+) -> u8
     requires { E.failed errors.old < 2 ^ 64 - 1 }
     ensures status { result ≡ 2 }
-    ensures told { Tells (not_opened name.now) (E.told errors.old) (E.told errors.new) (E.failed errors.old) (E.failed errors.new) }
+    ensures told { Tells (not_opened name.now reason) (E.told errors.old) (E.told errors.new) (E.failed errors.old) (E.failed errors.new) }
 {
-    tell(not_opened_line(alloc, name), errors);
+    tell(not_opened_line(alloc, name, reason), errors);
     FAILED
 }
 

@@ -4,6 +4,7 @@
 mod ending;
 mod opener;
 mod plan;
+mod reason;
 pub mod shelf;
 mod texts;
 
@@ -16,3 +17,4 @@ pub use mix_run::{
 };
 pub use opener::{Opener, SystemFiles};
 pub use plan::run_plan;
+pub use reason::Reason;

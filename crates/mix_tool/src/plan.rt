@@ -168,8 +168,8 @@ fn run_on<L: Library, F: In + Drop, C: Read, R: In, W: Out, E: Out>(
 /// units are empty.
 ///
 /// The status is that of the run. It is 2 where the tool itself fails; then that fault stands on the error output, as
-/// `mixrev: T2 read failed`, or for the first file that cannot be opened `mixrev: T4 not opened: NAME`. A write there that fails
-/// changes no status. Of a talk the prompts and the help stand there too, of a run where it came to if not to a halt, and of both a refused source
+/// `mixrev: T2 read failed`, or for the first file that cannot be opened `mixrev: T4 not opened: NAME: REASON`. A write there that
+/// fails changes no status. Of a talk the prompts and the help stand there too, of a run where it came to if not to a halt, and of both a refused source
 /// with its line and a mark.
 pub fn run_plan<O: Opener + Library, C: Read, R: In, W: Out, E: Out>(
     files: &mut O,
@@ -204,6 +204,6 @@ pub fn run_plan<O: Opener + Library, C: Read, R: In, W: Out, E: Out>(
 {
     match open_texts(files, names_in(plan)) {
         Ok(texts) => run_on(files, alloc, plan, texts, client, streams),
-        Err(fault) => tell_not_opened(alloc, fault.name, &mut streams.errors),
+        Err(fault) => tell_not_opened(alloc, fault.name, fault.reason, &mut streams.errors),
     }
 }

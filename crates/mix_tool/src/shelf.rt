@@ -5,6 +5,7 @@ ghost use Rattle.mix_tool.specs.Opening.{Asks};
 ghost use Rattle.mix_tool.specs.Shelf.{text_in};
 
 use crate::opener::Opener;
+use crate::reason::Reason;
 use mix_dap::{Fault, Library};
 use mix_refused::Refused;
 use mix_stream::fake::Chunks;
@@ -51,17 +52,17 @@ impl<'a> Opener for Shelf<'a> {
     type Reader = Chunks<'a>;
 
     ghost use Rattle.std.specs.Prelude.{Some, map, option_map, string_bytes};
-    ghost use Rattle.mix_tool.specs.Shelf.{text_in};
+    ghost use Rattle.mix_tool.specs.Shelf.{held_in};
 
     ghost asked = { λ s. option_map (λ names. map string_bytes names.items) s.asked };
 
-    ghost holds = { λ s. Some (text_in s.files.now) };
+    ghost holds = { λ s. Some (held_in s.files.now) };
 
-    fn open(&mut self, name: &str) -> Option<Chunks<'a>> {
+    fn open(&mut self, name: &str) -> Result<Chunks<'a>, Reason> {
         note(self.alloc, &mut self.asked, name);
         match text_in(self.files, name) {
-            Some(text) => Some(Chunks::of(text, ALL, 0)),
-            None => None,
+            Some(text) => Ok(Chunks::of(text, ALL, 0)),
+            None => Err(Reason::Missing),
         }
     }
 }

@@ -6,6 +6,7 @@ ghost use Rattle.mix_tool.specs.Opening.{Files, Opens, named, text_of};
 ghost use Rattle.mix_tool.specs.Plan.{AreFresh, HoldTexts, given_of, in_order, names_in, rest_of};
 
 use crate::opener::Opener;
+use crate::reason::Reason;
 use mix_run::PrintTexts;
 use mix_stream::{Failed, In};
 
@@ -75,10 +76,11 @@ impl<R: Drop> Texts<R> {
     }
 }
 
-/// A file that could not be opened.
+/// A file that could not be opened, and why.
 #[derive(Clone, Copy)]
 pub(crate) struct NotOpened<'n> {
     pub(crate) name: &'n str,
+    pub(crate) reason: Reason,
 }
 
 // The text of a name, if there is one.
@@ -89,7 +91,7 @@ fn open_text<'n, O: Opener>(
     ensures opened { (all : Files) → O.holds files.old ≡ Some all
         → IfOk result (λ _. Opens all (named (option_map (λ n. n.now) name.entry)) (O.asked files.old) (O.asked files.new) None) }
     ensures missing { (all : Files) → O.holds files.old ≡ Some all
-        → IfErr result (λ e. Opens all (named (option_map (λ n. n.now) name.entry)) (O.asked files.old) (O.asked files.new) (Some e.name.now)) }
+        → IfErr result (λ e. Opens all (named (option_map (λ n. n.now) name.entry)) (O.asked files.old) (O.asked files.new) (Some (e.name.now, e.reason))) }
     ensures text { (all : Files) → O.holds files.old ≡ Some all
         → IfOk result (λ t. rest_of O.Reader.rest t.reader ≡ Some (text_of all (option_map (λ n. n.now) name.entry))) }
     ensures fresh { IfOk result (λ t. option_map_or O.Reader.failed t.reader 0 ≡ 0) }
@@ -98,10 +100,10 @@ fn open_text<'n, O: Opener>(
     match name {
         None => Ok(Text { reader: None }),
         Some(name) => match files.open(name) {
-            Some(reader) => Ok(Text {
+            Ok(reader) => Ok(Text {
                 reader: Some(reader),
             }),
-            None => Err(NotOpened { name }),
+            Err(reason) => Err(NotOpened { name, reason }),
         },
     }
 }
@@ -114,7 +116,7 @@ pub(crate) fn open_texts<'n, O: Opener>(
     ensures opened { (all : Files) → O.holds files.old ≡ Some all
         → IfOk result (λ _. Opens all (in_order (names_in names.entry)) (O.asked files.old) (O.asked files.new) None) }
     ensures missing { (all : Files) → O.holds files.old ≡ Some all
-        → IfErr result (λ e. Opens all (in_order (names_in names.entry)) (O.asked files.old) (O.asked files.new) (Some e.name.now)) }
+        → IfErr result (λ e. Opens all (in_order (names_in names.entry)) (O.asked files.old) (O.asked files.new) (Some (e.name.now, e.reason))) }
     ensures texts { (all : Files) → O.holds files.old ≡ Some all → IfOk result (λ t. HoldTexts O.Reader.rest t (given_of all (names_in names.entry))) }
     ensures fresh { IfOk result (AreFresh O.Reader.failed) }
 {

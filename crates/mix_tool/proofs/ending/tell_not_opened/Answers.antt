@@ -8,4 +8,4 @@ pub returns-clause-told : goal.returns-clause-told
 returns-clause-told g c =
     either_told c.not_opened_line.result
     (λ line. Wrote line (g.E.Out.told c.args.errors.now) (g.E.Out.told c.tell.new.errors) (g.E.Out.failed c.args.errors.now) (g.E.Out.failed c.tell.new.errors))
-    string_bytes (not_opened c.args.name.now) memory_line c.not_opened_line.ensures c.tell.ensures
+    string_bytes (not_opened c.args.name.now c.args.reason) memory_line c.not_opened_line.ensures c.tell.ensures

@@ -1,0 +1,57 @@
+//! Why a file cannot be opened.
+
+ghost use Rattle.std.specs.Prelude.{◌≡◌};
+ghost use Rattle.mix_tool.specs.Reason.{reason_of, reason_text};
+
+use std::io::ErrorKind;
+
+/// Why a file cannot be opened, as the system has it.
+#[derive(Clone, Copy)]
+pub enum Reason {
+    /// There is none of this name.
+    Missing,
+    /// It may not be read.
+    Denied,
+    /// It is a folder.
+    Folder,
+    /// What should be a folder on the way to it is none.
+    NoFolder,
+    /// Links lead round and round.
+    Loop,
+    /// Its name is too long.
+    LongName,
+    /// Something else.
+    Other,
+}
+
+impl Reason {
+    /// The reason of an error of this kind.
+    pub(crate) fn of(kind: ErrorKind) -> Reason
+        ensures { result ≡ reason_of kind }
+    {
+        match kind {
+            ErrorKind::NotFound => Reason::Missing,
+            ErrorKind::PermissionDenied => Reason::Denied,
+            ErrorKind::IsADirectory => Reason::Folder,
+            ErrorKind::NotADirectory => Reason::NoFolder,
+            ErrorKind::FilesystemLoop => Reason::Loop,
+            ErrorKind::InvalidFilename => Reason::LongName,
+            _ => Reason::Other,
+        }
+    }
+
+    /// What is told after the name of the file: for another reason nothing.
+    pub(crate) fn text(self) -> &'static str
+        ensures { result.now ≡ reason_text self }
+    {
+        match self {
+            Reason::Missing => ": No such file or directory",
+            Reason::Denied => ": Permission denied",
+            Reason::Folder => ": Is a directory",
+            Reason::NoFolder => ": Not a directory",
+            Reason::Loop => ": Too many levels of symbolic links",
+            Reason::LongName => ": File name too long",
+            Reason::Other => "",
+        }
+    }
+}

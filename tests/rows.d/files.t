@@ -1,0 +1,46 @@
+Files of the command line: the name - is standard input, and of one that cannot be opened the reason is reported.
+
+  $ printf ' JUMP\n' | mixrev list -
+  line 1: A2 no such operation
+  [1]
+
+  $ printf ' OUT 5(19)\n HLT\n ORIG 5\n ALF HELLO\n END 0\n' | mixrev run -
+  HELLO
+
+  $ printf ' IN 9(16)\n OUT 9(19)\n HLT\n END 0\n' >a.mix
+  $ printf 'A CARD\n' | mixrev run a.mix --cards -
+  A CARD
+
+The first of two reads to the end.
+
+  $ printf ' END 0\n' | mixrev debug - -
+
+  $ printf ' END 0\n' | mixrev debug -
+
+A file whose name is a dash.
+
+  $ printf ' END\n' >-
+  $ printf '' | mixrev list ./-
+  0000                        1   END
+  symbols 0
+
+  $ mixrev list none.mix </dev/null
+  stderr: mixrev: T4 not opened: none.mix: No such file or directory
+  [2]
+
+  $ mkdir folder
+  $ mixrev run a.mix --cards folder </dev/null
+  stderr: mixrev: T4 not opened: folder: Is a directory
+  [2]
+
+  $ mixrev debug a.mix/b </dev/null
+  stderr: mixrev: T4 not opened: a.mix/b: Not a directory
+  [2]
+
+  $ ln -s round round
+  $ mixrev list round </dev/null
+  stderr: mixrev: T4 not opened: round: Too many levels of symbolic links
+  [2]
+
+  $ mixrev list "$(printf '%256s' '' | tr ' ' a)" </dev/null 2>&1 | sed 's/a\{256\}/A/'
+  stderr: mixrev: T4 not opened: A: File name too long
