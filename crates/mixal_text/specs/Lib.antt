@@ -15,3 +15,5 @@ pub mod Alf
 pub mod Line
 pub mod Span
 pub mod Address
+pub mod ExpressionSpan
+pub mod AddressSpan

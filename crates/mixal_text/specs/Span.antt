@@ -1,5 +1,5 @@
 -- Where in a line its parts stand, and which bytes of a refused line are at fault (1.3.2).
-use Rattle.std.specs.Prelude.{ℕ, ◌+◌, ◌-◌, nat_lt, nat_le, Bool, not, ◌||◌, List, [], ◌∷◌, length, take, drop, is_none, Option, Some, None, Result, Ok, Err, if◌then◌else◌}
+use Rattle.std.specs.Prelude.{ℕ, ◌+◌, ◌-◌, ◌≤◌, nat_lt, nat_le, Bool, not, ◌||◌, List, [], ◌∷◌, length, take, drop, is_none, Option, Some, None, Result, Ok, Err, if◌then◌else◌}
 use Rattle.std.specs.List.{before_first, after_first, position_or_len}
 use Rattle.mix_word.specs.Characters.{character_code}
 use Rattle.mix_lines.specs.Lines.{is_blank}
@@ -14,6 +14,10 @@ use Rattle.mixal_text.specs.declared.span.Part.TheVariants as part
 use Rattle.mixal_text.specs.Words.{after_blanks, first_word, after_word}
 use Rattle.mixal_text.specs.Alf.{is_quote, alf_start}
 use Rattle.mixal_text.specs.Line.{LineValue, loc_of, op_of, address_after, line_of}
+
+-- a span between two places
+abbrev pub IsWithin : ℕ → ℕ → Span → Type 0
+IsWithin from to span = (from ≤ span.from) × ((span.from ≤ span.to) × (span.to ≤ to))
 
 -- where a part of a text stands that begins what is left of the text
 abbrev pub span_in : List ℕ → List ℕ → List ℕ → Span

@@ -1,5 +1,5 @@
 -- W-values (1.3.2): E1(F1),E2(F2),.. Each expression is put into its field of a word that is +0 at first, in turn.
-use Rattle.std.specs.Prelude.{ℕ, List, [], ◌∷◌, Option, Some, None, unwrap_or, Result, Ok}
+use Rattle.std.specs.Prelude.{ℕ, ◌+◌, length, List, [], ◌∷◌, Option, Some, None, unwrap_or, Result, Ok}
 use Rattle.std.specs.List.{slice_split, before_first}
 use Rattle.mix_word.specs.Word.{WordValue, zero_word}
 use Rattle.mix_word.specs.Field.{field, field_of, put_field_of}
@@ -26,6 +26,11 @@ put_pieces names here word (piece ∷ more) = do
 abbrev pub pieces_of : Option (List ℕ) → List (List ℕ)
 pieces_of None = []
 pieces_of (Some text) = slice_split is_comma text
+
+-- how many bytes that has with its comma
+abbrev pub length_with_comma : Option (List ℕ) → ℕ
+length_with_comma None = 0
+length_with_comma (Some text) = 1 + length text
 
 -- the word of a W-value, whose pieces stand between commas
 unfoldable pub w_value_of : NamesValue → WordValue → List ℕ → Result WordValue TextFault

@@ -1,5 +1,5 @@
 //! The ADDRESS of a symbolic operation (1.3.2): A-part, index and F.
-ghost use Rattle.std.specs.Prelude.{◌≡◌, ◌<◌, ◌≤◌, IfOk, IfSome, MatchOption, MatchResult, Ok, Err, Some, None, position};
+ghost use Rattle.std.specs.Prelude.{◌≡◌, ◌<◌, ◌≤◌, ◌+◌, length, IfOk, IfSome, MatchOption, MatchResult, Ok, Err, Some, None, position};
 ghost use Rattle.std.specs.List.{after_first, before_first, list_any};
 ghost use Rattle.mixal_text.specs.Local.{local_of};
 ghost use Rattle.mixal_text.specs.Symbol.{symbol_of};
@@ -97,7 +97,7 @@ fn literal_operand<'a, N: Names>(
     }
 }
 
-fn equals_in(text: &[u8]) -> Option<usize>
+pub(crate) fn equals_in(text: &[u8]) -> Option<usize>
     ensures { result ≡ position is_equals text.now }
 {
     text.iter().position(|byte| *byte == b'=')
@@ -124,9 +124,10 @@ fn plain_operand<'a, N: Names>(
 
 // A text cut before its first comma or opening bracket.
 #[tactic(auto, using(crate::proofs::PartLemmas::cuts))]
-fn split_at_delimiter(text: &[u8]) -> (&[u8], &[u8])
+pub(crate) fn split_at_delimiter(text: &[u8]) -> (&[u8], &[u8])
     ensures before { result.0.now ≡ before_first is_delimiter text.now }
     ensures from { result.1.now ≡ from_first is_delimiter text.now }
+    ensures whole { length result.0.now + length result.1.now ≡ length text.now }
 {
     match delimiter_in(text) {
         Some(start) => text.split_at(start),
@@ -216,7 +217,7 @@ fn a_part<'a, N: Names>(text: &[u8], names: &N, here: Word) -> Result<APart<'a>,
 }
 
 // The future reference that an atom is, where no operator begins what follows it.
-fn reference<'a, N: Names>(atom: &[u8], rest: &[u8], names: &N) -> Option<APart<'a>>
+pub(crate) fn reference<'a, N: Names>(atom: &[u8], rest: &[u8], names: &N) -> Option<APart<'a>>
     ensures is { MatchOption result
         (reference_with (N.names names.now) atom.now rest.now ≡ None)
         (λ a. reference_with (N.names names.now) atom.now rest.now ≡ Some (value_of_a_part a)) }

@@ -31,7 +31,7 @@ pub fn expression<N: Names>(text: &[u8], names: &N, here: Word) -> Result<(Word,
 
 // The sign that begins a text, and what follows it.
 #[tactic(auto, unfolding(crate::specs::Expression::sign_at))]
-fn split_sign(text: &[u8]) -> (Option<Sign>, &[u8])
+pub(crate) fn split_sign(text: &[u8]) -> (Option<Sign>, &[u8])
     ensures sign { result.0 ≡ sign_at text.now }
     ensures rest { result.1.now ≡ drop (sign_length (sign_at text.now)) text.now }
 {
@@ -42,7 +42,7 @@ fn split_sign(text: &[u8]) -> (Option<Sign>, &[u8])
     }
 }
 
-fn value_after_sign(sign: Option<Sign>, value: Word) -> Word
+pub(crate) fn value_after_sign(sign: Option<Sign>, value: Word) -> Word
     ensures { result ≡ value_after_sign sign value }
 {
     match sign {

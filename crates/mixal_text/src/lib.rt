@@ -2,9 +2,11 @@
 //! Each is read from borrowed bytes, and no call takes memory.
 #![tactic(auto)]
 
+mod address_span;
 mod addresses;
 mod alf;
 mod atom;
+mod expression_span;
 mod expressions;
 mod fault;
 mod label;
@@ -19,6 +21,7 @@ mod symbol;
 mod w_values;
 mod words;
 
+pub use address_span::{address_fault_span, w_value_fault_span};
 pub use addresses::{APart, Operand, address};
 pub use expressions::{expression, whole_expression};
 pub use fault::TextFault;

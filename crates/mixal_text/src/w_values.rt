@@ -1,9 +1,9 @@
 //! W-values (1.3.2): expressions, each put into its field of one word.
-ghost use Rattle.std.specs.Prelude.{◌≡◌, ◌∷◌, option_copied, position};
+ghost use Rattle.std.specs.Prelude.{◌≡◌, ◌∷◌, ◌+◌, length, option_copied, position};
 ghost use Rattle.std.specs.List.{slice_split};
 ghost use Rattle.mix_word.specs.Field.{field_of};
 ghost use Rattle.mixal_text.specs.Part.{is_comma, part_in_brackets};
-ghost use Rattle.mixal_text.specs.WValue.{put_piece, w_value_of, pieces_of};
+ghost use Rattle.mixal_text.specs.WValue.{put_piece, w_value_of, pieces_of, length_with_comma};
 
 use crate::expressions::whole_expression;
 use crate::fault::TextFault;
@@ -33,8 +33,9 @@ pub fn w_value<N: Names>(text: &[u8], names: &N, here: Word) -> Result<Word, Tex
 
 // The first piece of a text that commas cut, and what follows its comma, if there is one.
 #[tactic(auto, using(crate::proofs::PartLemmas::pieces))]
-fn split_piece(text: &[u8]) -> (&[u8], Option<&[u8]>)
-    ensures { slice_split is_comma text.now ≡ result.0.now ∷ pieces_of (option_copied result.1) }
+pub(crate) fn split_piece(text: &[u8]) -> (&[u8], Option<&[u8]>)
+    ensures is { slice_split is_comma text.now ≡ result.0.now ∷ pieces_of (option_copied result.1) }
+    ensures whole { length result.0.now + length_with_comma (option_copied result.1) ≡ length text.now }
 {
     match comma_in(text) {
         Some(end) => (&text[..end], Some(&text[end + 1..])),

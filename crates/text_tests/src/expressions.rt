@@ -29,7 +29,7 @@ pub fn answer(alloc: Global, kind: &str, fields: &[&str]) -> Option<String> {
 }
 
 /// X is 5, and 2B is 9; nothing else is known.
-struct Known;
+pub struct Known;
 
 impl Names for Known {
     ghost names = { λ _. record {
@@ -54,8 +54,8 @@ impl Names for Known {
     }
 }
 
-// The location that the asterisk stands for.
-fn here() -> Word {
+/// The location that the asterisk stands for.
+pub fn here() -> Word {
     Word::of(Sign::Plus, 7)
 }
 

@@ -1,7 +1,8 @@
-//! Kinds of rows: where the parts of a line stand, and which bytes of it are at fault.
+//! Kinds of rows: where the parts of a line stand, and which bytes of it, of an ADDRESS and of a W-value are at fault.
+use crate::expressions::{Known, here};
 use crate::reader::one_text;
 use crate::writer::{push, text};
-use mixal_text::{Part, Span, fault_span, part_span};
+use mixal_text::{Part, Span, address_fault_span, fault_span, part_span, w_value_fault_span};
 use std::alloc::Global;
 use std::fmt::Write;
 
@@ -10,6 +11,8 @@ pub fn answer(alloc: Global, kind: &str, fields: &[&str]) -> Option<String> {
     match kind {
         "fault" => span_or_none(alloc, fault_span(&one_text(alloc, fields)?)),
         "parts" => parts(alloc, &one_text(alloc, fields)?),
+        "address" => address(alloc, &one_text(alloc, fields)?),
+        "w-value" => word_value(alloc, &one_text(alloc, fields)?),
         _ => None,
     }
 }
@@ -24,6 +27,14 @@ fn span_or_none(alloc: Global, found: Option<Span>) -> Option<String> {
         }
         None => text(alloc, "none"),
     }
+}
+
+fn address(alloc: Global, text: &[u8]) -> Option<String> {
+    span_or_none(alloc, address_fault_span(text, &Known, here()))
+}
+
+fn word_value(alloc: Global, text: &[u8]) -> Option<String> {
+    span_or_none(alloc, w_value_fault_span(text, &Known, here()))
 }
 
 // LOC, OP, ADDRESS, and OP with ADDRESS.
