@@ -1,0 +1,130 @@
+//! How a line of a source is shown: the column of a byte, the line without control bytes, and a mark under some of its bytes.
+
+ghost use Rattle.std.specs.Prelude.{◌≡◌, ◌<◌, ◌≤◌, ◌+◌, ◌^◌, ◌++◌, OnOk, drop, length};
+ghost use Rattle.mixal_text.specs.Span.{is_new};
+ghost use Rattle.mix_check.specs.Mark.{column_after, is_control, mark_below, marked, place_after, shown, shown_byte, sign_below, signs_below};
+
+use mixal_text::Span;
+use std::alloc::AllocError;
+
+/// The column of what follows some bytes of a line, counted from 1: with tab stops at each eighth column, and one column for each
+/// character.
+pub(crate) fn column_after(bytes: &[u8]) -> u64
+    requires { length bytes.now < 2 ^ 40 }
+    ensures { result ≡ column_after bytes.now }
+{
+    let mut place = 0;
+    let mut rest = bytes;
+    while let [byte, after @ ..] = rest {
+        place = place_after(place, *byte);
+        rest = after;
+    }
+    place + 1
+}
+
+// The place after a byte, by its own place, both counted from 0.
+fn place_after(place: u64, byte: u8) -> u64
+    requires { place < 2 ^ 60 }
+    ensures is { result ≡ place_after place byte }
+    ensures near { result ≤ place + 8 }
+{
+    if byte == b'\t' {
+        (place / 8 + 1) * 8
+    } else if is_new(byte) {
+        place + 1
+    } else {
+        place
+    }
+}
+
+// No byte that continues a character of several bytes in UTF-8.
+fn is_new(byte: u8) -> bool
+    ensures { result ≡ is_new byte }
+{
+    byte < 128 || byte >= 192
+}
+
+/// Appends a line, and below it a mark under some of its bytes. Control characters are shown as question marks.
+#[tactic(auto, unfolding(crate::specs::Mark::marked))]
+pub(crate) fn add_marked(text: &mut Vec<u8>, line: &[u8], span: Span) -> Result<(), AllocError>
+    requires order { span.from ≤ span.to }
+    requires within { span.to ≤ length line.now }
+    ensures { OnOk result (text.new.items ≡ text.old.items ++ marked line.now span) }
+{
+    add_shown(text, line)?;
+    text.push(b'\n')?;
+    add_mark(text, line, span)
+}
+
+fn add_shown(text: &mut Vec<u8>, line: &[u8]) -> Result<(), AllocError>
+    ensures { OnOk result (text.new.items ≡ text.old.items ++ shown line.now) }
+{
+    let mut before = 0;
+    let mut rest = line;
+    while let [byte, after @ ..] = rest {
+        text.push(shown_byte(before, *byte))?;
+        before = *byte;
+        rest = after;
+    }
+    Ok(())
+}
+
+// A byte as it is shown after another one.
+fn shown_byte(before: u8, byte: u8) -> u8
+    ensures { result ≡ shown_byte before byte }
+{
+    if is_control(before, byte) { b'?' } else { byte }
+}
+
+fn is_control(before: u8, byte: u8) -> bool
+    ensures { result ≡ is_control before byte }
+{
+    (byte < 32 && (byte < 9 || 9 < byte))
+        || (byte == 127 || (before == 194 && (byte >= 128 && byte < 160)))
+}
+
+fn add_mark(text: &mut Vec<u8>, line: &[u8], span: Span) -> Result<(), AllocError>
+    requires order { span.from ≤ span.to }
+    requires within { span.to ≤ length line.now }
+    ensures { OnOk result (text.new.items ≡ text.old.items ++ mark_below line.now span) }
+{
+    add_signs(text, b' ', &line[..span.from])?;
+    text.push(b'^')?;
+    add_signs(text, b'^', after_first(&line[span.from..span.to]))?;
+    text.push(b'\n')?;
+    Ok(())
+}
+
+fn after_first(bytes: &[u8]) -> &[u8]
+    ensures { result.now ≡ drop 1 bytes.now }
+{
+    match bytes {
+        [_, rest @ ..] => rest,
+        [] => bytes,
+    }
+}
+
+// Appends a sign below each character.
+fn add_signs(text: &mut Vec<u8>, sign: u8, bytes: &[u8]) -> Result<(), AllocError>
+    ensures { OnOk result (text.new.items ≡ text.old.items ++ signs_below sign bytes.now) }
+{
+    let mut rest = bytes;
+    while let [byte, after @ ..] = rest {
+        add_sign(text, sign, *byte)?;
+        rest = after;
+    }
+    Ok(())
+}
+
+fn add_sign(text: &mut Vec<u8>, sign: u8, byte: u8) -> Result<(), AllocError>
+    ensures { OnOk result (text.new.items ≡ text.old.items ++ sign_below sign byte) }
+{
+    if is_new(byte) {
+        text.push(if sign == b' ' && byte == b'\t' {
+            b'\t'
+        } else {
+            sign
+        })?;
+    }
+    Ok(())
+}
