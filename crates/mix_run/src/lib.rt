@@ -6,7 +6,6 @@ mod bundle;
 mod fault;
 mod list;
 mod print;
-mod refusal;
 mod run;
 mod statuses;
 mod talk;

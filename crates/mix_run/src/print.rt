@@ -18,7 +18,7 @@ mod steps;
 use crate::fault::ToolFault;
 use crate::print::options::PrintOptions;
 use crate::print::steps::print_steps;
-use crate::refusal::tell_refusal;
+use crate::statuses::tell_refusal;
 use crate::units::{read_cards, read_units};
 use mix_machine::{Place, Units, World};
 use mix_refused::Refused;
@@ -154,10 +154,10 @@ fn print_program<D: In, C: In, W: Out>(
 /// Assembles a source, reads a deck, and where `options.cards` is true a text of cards, which stand in place of those that the deck gives to unit 16;
 /// then it runs the loaded machine (1.3.1, 1.3.2) up to a halt, a fault, or `options.steps` steps, and writes what it prints: each row of the units in
 /// `options.units` as soon as its step is done, without the blanks at its end and with a line feed, a page mark as a form feed alone. It keeps nothing of
-/// the steps, so it takes no more memory for many steps than for few. Where the source is refused, its fault is the answer, nothing is written, and on the
-/// error output it is told with the name of the source, its line and a mark. At
-/// most 1,048,577 bytes of the source are read, and 33,554,433 of the deck and of the cards each, all of them before the first byte is written; the
-/// deck is read after the source, and the cards after the deck. After a refusal or a read that failed nothing else is read.
+/// the steps, so it takes no more memory for many steps than for few. Where the source is refused, its first fault is the answer, nothing is
+/// written, and on the error output all are told, with their lines and marks. At most 1,048,577 bytes of the source are read, and 33,554,433 of the
+/// deck and of the cards each, all of them before the first byte is written; the deck is read after the source, and the cards after the deck. After a
+/// refusal or a read that failed nothing else is read.
 ///
 /// It fails with T1 where memory is refused, with T2 or T3 where a read or the write fails, and with T5 where the deck or the cards are refused. After T1
 /// and T3 a beginning of what the run prints has been written, after the others nothing.
@@ -214,7 +214,7 @@ pub fn run_printed<S: In, D: In, C: In, W: Out, E: Out>(
     match assemble(alloc, &text) {
         Err(Refused::Memory) => Err(ToolFault::Memory),
         Err(Refused::Fault(fault)) => {
-            tell_refusal(alloc, name, &text, &fault, errors);
+            tell_refusal(alloc, name, &text, errors);
             Ok(PrintAnswer::Refused(fault))
         }
         Ok(program) => {

@@ -7,6 +7,7 @@ ghost use Rattle.mix_run.specs.Output.{IsStatus, Meets, refusal_of, status_of};
 ghost use Rattle.mix_stream.specs.Stream.{CountsFailure};
 
 use crate::fault::ToolFault;
+use mix_check::add_report;
 use mix_refused::Memory;
 use mix_session::Told;
 use mix_stream::{Out, write_all};
@@ -47,6 +48,19 @@ pub(crate) fn refuse_source<W: Out>(
     let line = fault_line(alloc, fault)?;
     write_all(out, line.as_bytes())?;
     Ok(SOURCE_REFUSED)
+}
+
+/// Reports all faults of a refused source beside the run. If memory runs out, or what is told there cannot be written, nothing more is reported.
+pub(crate) fn tell_refusal<E: Out>(alloc: Global, name: &str, source: &[u8], errors: &mut E) {
+    if errors.failures() == 0 {
+        let mut text = Vec::new(alloc);
+        match add_report(alloc, name, source, &mut text) {
+            Err(Memory) => {}
+            Ok(_) => match write_all(errors, &text) {
+                Ok(()) | Err(_) => {}
+            },
+        }
+    }
 }
 
 fn fault_line(alloc: Global, fault: AsmFault) -> Result<String, Memory>

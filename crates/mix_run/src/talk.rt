@@ -17,8 +17,7 @@ mod help;
 mod person;
 
 use crate::fault::ToolFault;
-use crate::refusal::tell_refusal;
-use crate::statuses::{refuse_source, status};
+use crate::statuses::{refuse_source, status, tell_refusal};
 use crate::talk::aside::greet;
 use crate::talk::heard::talk;
 use crate::units::read_units;
@@ -78,7 +77,7 @@ fn talk_with<R: In, W: Out, E: Out>(
     }
 }
 
-// The first fault of a source is written, and told beside with its line and a mark.
+// The first fault of a source is written, and all of them are told beside.
 fn refuse_and_tell<R, W: Out, E: Out>(
     alloc: Global,
     name: &str,
@@ -93,7 +92,7 @@ fn refuse_and_tell<R, W: Out, E: Out>(
     ensures input { streams.new.input ≡ streams.old.input }
     ensures ends { IfOk result IsStatus }
 {
-    tell_refusal(alloc, name, source, &fault, &mut streams.errors);
+    tell_refusal(alloc, name, source, &mut streams.errors);
     refuse_source(alloc, fault, &mut streams.out)
 }
 
@@ -149,7 +148,7 @@ fn talk_of_source<S: In, D: In, R: In, W: Out, E: Out>(
 /// Assembles a source, reads a deck, and talks with the loaded machine: each line of the input is a command, as a line of a script is, which is done
 /// and answered before the next is read. A person is greeted and prompted on the error output, and has `help` and `quit` beside the commands. The
 /// status is 0 where each command was accepted, 3 where one was refused, and 1 where the source is refused: then its first fault is written, and
-/// told on the error output with the name of the source, its line and a mark. At most 1,048,577 bytes of the source are read and 33,554,433 of the
+/// all of them are told on the error output, with their lines and marks. At most 1,048,577 bytes of the source are read and 33,554,433 of the
 /// deck, before the first line is read; the deck is read after the source. After a refusal or a read that failed nothing else is read.
 ///
 /// It fails with T1 where memory is refused, with T2 or T3 where a read or a write fails, with T5 where the deck is refused, and with T6 where a line
