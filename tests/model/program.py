@@ -3,7 +3,7 @@
 import os
 import signal
 
-SECONDS = 60  # after which a run counts as one that doesn't end
+SECONDS = 300  # after which a run counts as one that does not end: a slow machine takes more than a minute to tell a million steps
 
 
 class Endless(Exception):
