@@ -5,7 +5,7 @@ use Rattle.std.specs.Option.{option_map}
 use Rattle.mix_word.specs.Word.{WordValue, is_plus, parts_of}
 use Rattle.mix_word.specs.Field.{field_of}
 use Rattle.mix_word.specs.Operation.{normal_f_of}
-use Rattle.mix_word.specs.Uses.{uses_of, needs}
+use Rattle.mix_word.specs.Uses.{uses_of, needs, unit_count}
 use Rattle.mix_word.specs.Names.{name_of}
 use Rattle.mix_word.specs.Table.{decode_of}
 use Rattle.mix_word.specs.declared.word.Sign.{Sign}
@@ -37,7 +37,7 @@ other_f uses.Address f = None
 other_f uses.Count f = None
 other_f uses.Operand f = option_map part.Field (field_of f)
 other_f uses.Cells f = Some (part.Number f)
-other_f (uses.Unit action) f = if nat_lt 20 f then None else Some (part.Number f)
+other_f (uses.Unit action) f = if nat_lt f unit_count then Some (part.Number f) else None
 
 -- how the F of an instruction is written, if it may have this F: nothing stands for the normal one
 abbrev pub f_part : Operation → ℕ → Option FPart

@@ -1,5 +1,5 @@
 -- What each operation uses of its instruction (1.3.1), and what that asks of M and of F.
-use Rattle.std.specs.Prelude.{Bool, true, false, Option, Some, None}
+use Rattle.std.specs.Prelude.{ℕ, Bool, true, false, Option, Some, None}
 use Rattle.mix_word.specs.declared.operation.Operation.{Operation}
 use Rattle.mix_word.specs.declared.operation.Operation.TheVariants.{Nop, Add, Sub, Mul, Div, Num, Char, Hlt, Shift, Move, Load, LoadNegated, Store, StoreJ, StoreZero, Jbus, Ioc, In, Out, Jred, Jump, RegisterJump, Increase, Decrease, Enter, EnterNegated, Compare}
 use Rattle.mix_word.specs.declared.uses.Uses.{Uses}
@@ -35,6 +35,10 @@ uses_of (Increase r) = Address
 uses_of (Decrease r) = Address
 uses_of (Enter r) = Address
 uses_of (EnterNegated r) = Address
+
+-- how many units there are
+abbrev pub unit_count : ℕ
+unit_count = 21
 
 -- Whether the address and the index are looked at, and whether M is a number of bytes; whether F is a field and M a
 -- cell; what is done with the unit F; and whether F tells which of several operations of one code is meant.

@@ -5,7 +5,7 @@ ghost use Rattle.mix_word.specs.Instruction.{number_text, signed_text, other_f, 
 use crate::decoding::{Decoded, decode};
 use crate::field::Field;
 use crate::operation::Operation;
-use crate::uses::Uses;
+use crate::uses::{UNITS, Uses};
 use crate::word::{Parts, Sign, Word};
 use std::fmt;
 
@@ -71,7 +71,13 @@ fn other_f(uses: Uses, f: u8) -> Option<FPart>
         Uses::Nothing | Uses::Cells => Some(FPart::Number(f)),
         Uses::FAlone | Uses::Address | Uses::Count => None,
         Uses::Operand => Field::of(f).map(FPart::Field),
-        Uses::Unit(_) => { if f > 20 { None } else { Some(FPart::Number(f)) } }
+        Uses::Unit(_) => {
+            if f < UNITS {
+                Some(FPart::Number(f))
+            } else {
+                None
+            }
+        }
     }
 }
 

@@ -34,5 +34,5 @@ pub use operation::{Condition, JumpKind, Operation, ShiftKind};
 pub use place::{CELLS, Place};
 pub use register::{DataReg, Reg};
 pub use shifting::shift;
-pub use uses::{UnitUse, Uses};
+pub use uses::{UNITS, UnitUse, Uses};
 pub use word::{Cmp, Parts, Sign, Word};

@@ -4,6 +4,9 @@ ghost use Rattle.mix_word.specs.Uses.{uses_of, needs};
 
 use crate::operation::Operation;
 
+/// How many units there are (1.3.1).
+pub const UNITS: u8 = 21;
+
 /// Which parts of its instruction an operation uses (1.3.1).
 #[derive(Clone, Copy)]
 pub enum Uses {
