@@ -4,6 +4,7 @@ use Rattle.std.specs.Prelude.{slice_index_or}
 use Rattle.std.proofs.lemmas.Bool.Decides.{nat_tests}
 use Rattle.undo_core.specs.Pack.{KeptList}
 use Rattle.mix_word.specs.Word.{WordValue, zero_word}
+use Rattle.mix_word.specs.Uses.{unit_count}
 use Rattle.mix_machine.specs.World.{WorldState, IsWorld, unit_at}
 use Rattle.mix_machine.specs.units.UnitKind.{block_length, has_place, has_medium}
 use Rattle.mix_machine.specs.declared.units.kind.UnitKind.{UnitKind}
@@ -35,12 +36,12 @@ pub to-ready : (w w1 w2 : WorldState) (t : Transfer) (k : UnitKind) (end : ℕ) 
     end ≡ transfer_end w t.unit → w2 ≡ set_value w1 (Until t.unit end) → w2 ≡ ready w t
 to-ready w w1 w2 t k end ek e1 ee e2 = rw (e2, ee, e1, ek) refl
 
-pub fits-place-after : (w : WorldState) (t : Transfer) (k : UnitKind) → t.unit < 21 → t.block < length (unit_at w t.unit).blocks →
+pub fits-place-after : (w : WorldState) (t : Transfer) (k : UnitKind) → t.unit < unit_count → t.block < length (unit_at w t.unit).blocks →
     k ≡ (unit_at w t.unit).kind → has_place k ≡ true → IsTrue (fits w (At t.unit (t.block + 1)))
 fits-place-after w t k l h e p = fits-place-in w t.unit (t.block + 1) l (ap has_place (sym e) ∙ p) (omega arith)
 
 -- the blocks of the unit are those before
-unit-placed : (b : Bool) (w : WorldState) (t : Transfer) → IsWorld w → t.unit < 21 →
+unit-placed : (b : Bool) (w : WorldState) (t : Transfer) → IsWorld w → t.unit < unit_count →
     ((unit_at (write_all w (cond b (set (At t.unit (t.block + 1)) ∷ []) [])) t.unit).blocks ≡ (unit_at w t.unit).blocks)
     × ((unit_at (write_all w (cond b (set (At t.unit (t.block + 1)) ∷ []) [])) t.unit).kind ≡ (unit_at w t.unit).kind)
 unit-placed true w t h l =
@@ -107,7 +108,7 @@ world-grown v w us t gap block e h f m b g u =
     let room : length (unit_at w t.unit).blocks + gap < most_entries = omega arith in
     rw u (with-units v _ h (keep-add_blocks v.units t.unit gap block h.units f.unit (rw e room)))
 
-pub world-printed : (v w : WorldState) (us : UnitsState) (n : ℕ) (row : RowState) → v ≡ w → IsWorld v → n < 21 →
+pub world-printed : (v w : WorldState) (us : UnitsState) (n : ℕ) (row : RowState) → v ≡ w → IsWorld v → n < unit_count →
     length (unit_at w n).rows < most_entries → us ≡ add_row v.units n row → IsWorld (record v { units = us })
 world-printed v w us n row e h l room u = rw u (with-units v _ h (keep-add_row v.units n row h.units l (rw e room)))
 

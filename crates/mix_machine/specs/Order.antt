@@ -1,7 +1,7 @@
 -- When each fault applies to a step, and in which order they are tested.
 use Rattle.std.specs.Prelude.{ℕ, Bool, true, false, not, ◌&&◌, ◌==◌, nat_le, nat_lt, if◌then◌else◌, List, [], ◌∷◌, ◌+◌, Result, Ok, Err}
 use Rattle.mix_word.specs.Operation.{time_of}
-use Rattle.mix_word.specs.Uses.{Needs, needs}
+use Rattle.mix_word.specs.Uses.{Needs, needs, unit_count}
 use Rattle.mix_word.specs.declared.decoding.Decoded.{Decoded}
 use Rattle.mix_word.specs.declared.decoding.Decoded.TheVariants.{Named, Floating, Unknown}
 use Rattle.mix_word.specs.declared.operation.Operation.{Operation}
@@ -67,7 +67,7 @@ applies d w a NoCell = not (reaches (operation_or_nop d) w a)
 applies d w a NoField = (needs_at d).operand && not (is_field a.f)
 applies d w a IndexOverflow = not (all_fit (effects (operation_or_nop d) w a).writes)
 applies d w a NegativeShift = (needs_at d).bytes && is_negative a.m
-applies d w a NoUnit = needs_unit (operation_or_nop d) && nat_lt 20 a.f
+applies d w a NoUnit = needs_unit (operation_or_nop d) && nat_le unit_count a.f
 applies d w a WrongDirection = wrong_direction (use_of (operation_or_nop d)) (unit_at w a.f).kind
 applies d w a NoBlock = no_block (use_of (operation_or_nop d)) w a.f
 applies d w a BadControl = bad_control (use_of (operation_or_nop d)) (unit_at w a.f) a.m

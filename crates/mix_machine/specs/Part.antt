@@ -5,6 +5,7 @@ use Rattle.std.specs.Bool.{beq}
 use Rattle.std.specs.Cmp.Lexicographic.{pointwise}
 use Rattle.mix_word.specs.Word.{is_same_word}
 use Rattle.mix_word.specs.Register.{number_of_register}
+use Rattle.mix_word.specs.Uses.{unit_count}
 use Rattle.mix_word.specs.declared.register.Reg.{Reg}
 use Rattle.mix_word.specs.declared.word.Cmp.{Cmp}
 use Rattle.mix_word.specs.declared.word.Cmp.TheVariants.{Less, Equal, Greater}
@@ -94,7 +95,7 @@ IsPart (Register r) = Unit {0}
 IsPart Over = Unit {0}
 IsPart Indicated = Unit {0}
 IsPart (Cell p) = p < 4000
-IsPart (Device n) = n < 21
+IsPart (Device n) = n < unit_count
 IsPart Loc = Unit {0}
 IsPart Clock = Unit {0}
 

@@ -25,7 +25,7 @@ use undo_core::Memory;
 pub use unit::Unit;
 pub use unit::same::are_same_words;
 
-/// The 21 units of the machine (1.3.1), 0 to 20.
+/// The units of the machine (1.3.1), unit 0 first.
 #[derive(Drop)]
 pub struct Units {
     list: Vec<Unit>,

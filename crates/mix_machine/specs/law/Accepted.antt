@@ -4,6 +4,7 @@ use Rattle.std.proofs.Common.{arith}
 use Rattle.std.proofs.lemmas.Bool.Decides.{nat_tests}
 use Rattle.mix_word.specs.Word.{WordValue, plus}
 use Rattle.mix_word.specs.Arithmetic.{sum_of}
+use Rattle.mix_word.specs.Uses.{unit_count}
 use Rattle.mix_word.specs.declared.register.DataReg.{DataReg}
 use Rattle.mix_word.specs.declared.register.DataReg.TheVariants.{A, I1, I2, I3, I4, I5, I6, X}
 use Rattle.mix_word.specs.declared.operation.ShiftKind.{ShiftKind}
@@ -67,11 +68,11 @@ fits-copy w a =
       | false ↦ tt
     ]
 
-unit-below : (f : ℕ) → nat_lt 20 f ≡ false → f < 21
+unit-below : (f : ℕ) → nat_le unit_count f ≡ false → f < unit_count
 unit-below f h = grind (arith, nat_tests)
 
 -- the delay is added to a clock that can be shown
-end-shown : (w : WorldState) (n : ℕ) → IsWorld w → n < 21 → nat_lt last_clock (transfer_start w n + 1) ≡ false → transfer_end w n ≤ last_until
+end-shown : (w : WorldState) (n : ℕ) → IsWorld w → n < unit_count → nat_lt last_clock (transfer_start w n + 1) ≡ false → transfer_end w n ≤ last_until
 end-shown w n h l c =
     let delay = (is-unit-at w.units n h.units l).delay in
     let clock : transfer_start w n + 1 ≤ last_clock = grind (arith, nat_tests) in
@@ -106,7 +107,7 @@ wound-within u Printer m h o = zero-within u m o
 wound-within u Typewriter m h o = absurd (cc)
 wound-within u PaperTape m h o = zero-within u m o
 
-fits-in : (w : WorldState) (a : Arguments) → IsWorld w → (needs_unit In && nat_lt 20 a.f) ≡ false → not (reaches In w a) ≡ false →
+fits-in : (w : WorldState) (a : Arguments) → IsWorld w → (needs_unit In && nat_le unit_count a.f) ≡ false → not (reaches In w a) ≡ false →
     no_block (use_of In) w a.f ≡ false → nat_lt last_clock (clock_after In w a) ≡ false → InputFits w (transfer_of w a)
 fits-in w a h u c b t =
     let unit = unit-below a.f u in
@@ -120,7 +121,7 @@ fits-in w a h u c b t =
       until = end-shown w a.f h unit t;
     }
 
-fits-out : (w : WorldState) (a : Arguments) → IsWorld w → (needs_unit Out && nat_lt 20 a.f) ≡ false →
+fits-out : (w : WorldState) (a : Arguments) → IsWorld w → (needs_unit Out && nat_le unit_count a.f) ≡ false →
     wrong_direction (use_of Out) (unit_at w a.f).kind ≡ false → not (reaches Out w a) ≡ false →
     unit_full (use_of Out) w a.f ≡ false → nat_lt last_clock (clock_after Out w a) ≡ false → OutputFits w (transfer_of w a)
 fits-out w a h u d c f t =
@@ -134,7 +135,7 @@ fits-out w a h u d c f t =
       row = λ m. out-row (has_medium (unit_at w a.f).kind) (block_at w a.f) _ m f;
     }
 
-fits-control : (w : WorldState) (a : Arguments) → IsWorld w → (needs_unit Ioc && nat_lt 20 a.f) ≡ false →
+fits-control : (w : WorldState) (a : Arguments) → IsWorld w → (needs_unit Ioc && nat_le unit_count a.f) ≡ false →
     bad_control (use_of Ioc) (unit_at w a.f) a.m ≡ false → unit_full (use_of Ioc) w a.f ≡ false →
     nat_lt last_clock (clock_after Ioc w a) ≡ false → ControlFits w a.f (wound (unit_at w a.f) a.m)
 fits-control w a h u o f t =
@@ -147,7 +148,7 @@ fits-control w a h u o f t =
     }
 
 -- a step that no fault refuses has room for what it moves
-pub unit-fits : (op : Operation) (w : WorldState) (a : Arguments) → IsWorld w → (needs_unit op && nat_lt 20 a.f) ≡ false →
+pub unit-fits : (op : Operation) (w : WorldState) (a : Arguments) → IsWorld w → (needs_unit op && nat_le unit_count a.f) ≡ false →
     wrong_direction (use_of op) (unit_at w a.f).kind ≡ false → bad_control (use_of op) (unit_at w a.f) a.m ≡ false →
     not (reaches op w a) ≡ false → no_block (use_of op) w a.f ≡ false → unit_full (use_of op) w a.f ≡ false →
     nat_lt last_clock (clock_after op w a) ≡ false → UnitFits w (effects op w a).writes

@@ -7,6 +7,7 @@ use Rattle.std.proofs.lemmas.Bool.Decides.{nat_tests}
 use Rattle.std.proofs.lemmas.List.{set-get_or, set-set}
 use Rattle.undo_core.specs.Replay.{put_back}
 use Rattle.mix_word.specs.Word.{WordValue, zero_word}
+use Rattle.mix_word.specs.Uses.{unit_count}
 use Rattle.mix_word.specs.declared.register.Reg.{Reg}
 use Rattle.mix_word.specs.declared.register.Reg.TheVariants.{A, X, I1, I2, I3, I4, I5, I6, J}
 use Rattle.mix_machine.specs.Registers.{RegistersState, AreRegisters, held_in, with_register, fits_register}
@@ -18,7 +19,7 @@ use Rattle.mix_machine.specs.units.Units.{UnitsState, AreUnits}
 use Rattle.mix_machine.specs.units.Keep.{keep-set_place, keep-set_length, keep-set_item, keep-set_until, keep-add_blocks, keep-add_row}
 use Rattle.mix_machine.specs.Write.{set_value, value_at, fits, put_value, Write, set, grow, print, written, replaced, write_all, kept_by}
 use Rattle.mix_machine.specs.units.Back.{back-set_place, fits-place_at, back-set_until, fits-until_at, back-set_item, fits-item_at, back-add_blocks, fits-length_of_blocks, back-add_row, fits-length_of_rows}
-use Rattle.mix_machine.specs.law.Units.{below-21, place-below, item-below}
+use Rattle.mix_machine.specs.law.Units.{is-number, place-below, item-below}
 use Rattle.mix_machine.specs.declared.old.Old.{Old}
 use Rattle.mix_machine.specs.declared.old.Old.TheVariants.{Loc, Clock, Reg as OldRegister, Cell, Over, Cmp as OldCmp, Break, At, Len, Item, Until}
 
@@ -40,9 +41,9 @@ is_length (Until n t) = false
 abbrev pub write_fits : WorldState → Write → Bool
 write_fits w (set o) = not (is_length o) && fits w o
 write_fits w (grow n gap block) =
-    nat_lt n 21 && has_medium (unit_at w n).kind && nat_lt (length (unit_at w n).blocks + gap) most_entries
+    nat_lt n unit_count && has_medium (unit_at w n).kind && nat_lt (length (unit_at w n).blocks + gap) most_entries
 write_fits w (print n row) =
-    nat_lt n 21 && not (has_medium (unit_at w n).kind) && has_output (unit_at w n).kind
+    nat_lt n unit_count && not (has_medium (unit_at w n).kind) && has_output (unit_at w n).kind
     && nat_lt (length (unit_at w n).rows) most_entries
 
 -- each in the state that the writes before it left
@@ -83,18 +84,18 @@ world-set_value w (Until n t) h f = with-units w _ h (keep-set_until w.units n t
 
 -- what the test of a write that grows says
 record CanGrow (w : WorldState) (n gap : ℕ) : Type 0 where
-  pub unit : n < 21
+  pub unit : n < unit_count
   pub medium : has_medium (unit_at w n).kind ≡ true
   pub room : length (unit_at w n).blocks + gap < most_entries
 
 can-grow : (w : WorldState) (n gap : ℕ) (block : List WordValue) → IsTrue (write_fits w (grow n gap block)) → CanGrow w n gap
 can-grow w n gap block f =
-    let all = and_parts (nat_lt n 21 && has_medium (unit_at w n).kind) (nat_lt (length (unit_at w n).blocks + gap) most_entries) f in
-    let both = and_parts (nat_lt n 21) (has_medium (unit_at w n).kind) all.0 in
+    let all = and_parts (nat_lt n unit_count && has_medium (unit_at w n).kind) (nat_lt (length (unit_at w n).blocks + gap) most_entries) f in
+    let both = and_parts (nat_lt n unit_count) (has_medium (unit_at w n).kind) all.0 in
     record { unit = grind (arith, nat_tests); medium = both.1; room = grind (arith, nat_tests) }
 
 record CanPrint (w : WorldState) (n : ℕ) : Type 0 where
-  pub unit : n < 21
+  pub unit : n < unit_count
   pub medium : has_medium (unit_at w n).kind ≡ false
   pub output : has_output (unit_at w n).kind ≡ true
   pub room : length (unit_at w n).rows < most_entries
@@ -106,9 +107,9 @@ not-false false h = refl
 can-print : (w : WorldState) (n : ℕ) (row : RowState) → IsTrue (write_fits w (print n row)) → CanPrint w n
 can-print w n row f =
     let u = unit_at w n in
-    let all = and_parts (nat_lt n 21 && not (has_medium u.kind) && has_output u.kind) (nat_lt (length u.rows) most_entries) f in
-    let three = and_parts (nat_lt n 21 && not (has_medium u.kind)) (has_output u.kind) all.0 in
-    let both = and_parts (nat_lt n 21) (not (has_medium u.kind)) three.0 in
+    let all = and_parts (nat_lt n unit_count && not (has_medium u.kind) && has_output u.kind) (nat_lt (length u.rows) most_entries) f in
+    let three = and_parts (nat_lt n unit_count && not (has_medium u.kind)) (has_output u.kind) all.0 in
+    let both = and_parts (nat_lt n unit_count) (not (has_medium u.kind)) three.0 in
     record { unit = grind (arith, nat_tests); medium = not-false (has_medium u.kind) both.1; output = three.1; room = grind (arith, nat_tests) }
 
 pub world-written : (w : WorldState) (x : Write) → IsWorld w → IsTrue (write_fits w x) → IsWorld (written w x)
@@ -158,7 +159,7 @@ fits-value_at w (Break p b) h s f = f
 fits-value_at w (At n k) h s f = fits-place_at w.units n k h.units f
 fits-value_at w (Len n k) h s f = absurd (cc)
 fits-value_at w (Item n i j v) h s f = fits-item_at w.units n i j v h.units f
-fits-value_at w (Until n t) h s f = fits-until_at w.units n h.units (below-21 n (nat_le t last_until) f)
+fits-value_at w (Until n t) h s f = fits-until_at w.units n h.units (is-number n (nat_le t last_until) f)
 
 with-them : (w : WorldState) (us : UnitsState) → us ≡ w.units → record w { units = us } ≡ w
 with-them w us e = ap (λ (units : UnitsState). record w { units = units }) e
@@ -182,7 +183,7 @@ set-value_at w (Break p b) h s f =
 set-value_at w (At n k) h s f = with-them w _ (back-set_place w.units n k h.units (place-below w.units n k f))
 set-value_at w (Len n k) h s f = absurd (cc)
 set-value_at w (Item n i j v) h s f = with-them w _ (back-set_item w.units n i j v h.units (item-below w.units n i j f))
-set-value_at w (Until n t) h s f = with-them w _ (back-set_until w.units n t h.units (below-21 n (nat_le t last_until) f))
+set-value_at w (Until n t) h s f = with-them w _ (back-set_until w.units n t h.units (is-number n (nat_le t last_until) f))
 
 -- putting back what a write replaced undoes it
 put-replaced : (w : WorldState) (x : Write) → IsWorld w → IsTrue (write_fits w x) → put_value (written w x) (replaced w x) ≡ Some w

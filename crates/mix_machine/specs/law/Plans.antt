@@ -3,6 +3,7 @@ use Rattle.std.specs.Prelude.{ℕ, zero, suc, ◌+◌, ◌-◌, true, false, Boo
 use Rattle.std.proofs.Common.{ap, arith}
 use Rattle.std.proofs.lemmas.Bool.Decides.{nat_tests}
 use Rattle.mix_word.specs.Word.{WordValue}
+use Rattle.mix_word.specs.Uses.{unit_count}
 use Rattle.mix_machine.specs.World.{WorldState, IsWorld, cell_of, unit_at, last_clock}
 use Rattle.mix_machine.specs.UnitAction.{transfer_end, marks_page}
 use Rattle.mix_machine.specs.units.UnitKind.{block_length, has_place, has_medium, has_output}
@@ -24,7 +25,7 @@ use Rattle.mix_machine.specs.declared.old.Old.TheVariants.{Cell, At, Item, Until
 
 -- what IN needs of its unit and its cells
 pub record InputFits (w : WorldState) (t : Transfer) : Type 0 where
-  pub unit : t.unit < 21
+  pub unit : t.unit < unit_count
   pub block : t.block < length (unit_at w t.unit).blocks
   pub few : t.block < most_entries
   pub cells : t.cell + block_length (unit_at w t.unit).kind ≤ 4000
@@ -32,7 +33,7 @@ pub record InputFits (w : WorldState) (t : Transfer) : Type 0 where
 
 -- what OUT needs
 pub record OutputFits (w : WorldState) (t : Transfer) : Type 0 where
-  pub unit : t.unit < 21
+  pub unit : t.unit < unit_count
   pub cells : t.cell + block_length (unit_at w t.unit).kind ≤ 4000
   pub until : transfer_end w t.unit ≤ last_until
   pub block : has_medium (unit_at w t.unit).kind ≡ true → t.block < most_entries
@@ -41,7 +42,7 @@ pub record OutputFits (w : WorldState) (t : Transfer) : Type 0 where
 
 -- and what IOC needs
 pub record ControlFits (w : WorldState) (n k : ℕ) : Type 0 where
-  pub unit : n < 21
+  pub unit : n < unit_count
   pub until : transfer_end w n ≤ last_until
   pub place : k ≤ length (unit_at w n).blocks
   pub page : marks_page (unit_at w n).kind ≡ true → length (unit_at w n).rows < most_entries
@@ -95,14 +96,14 @@ fit-items (suc n) j m i size w v h f le =
           (λ k l. fits-item-after w.units m i j k (v j) h.units here (f k l)) (omega arith),
     )
 
-pub fits-until-in : (n t : ℕ) → n < 21 → t ≤ last_until → IsTrue (fits_until n t)
+pub fits-until-in : (n t : ℕ) → n < unit_count → t ≤ last_until → IsTrue (fits_until n t)
 fits-until-in n t l h = grind (arith, nat_tests)
 
-pub fits-place-in : (w : WorldState) (n k : ℕ) → n < 21 → has_place (unit_at w n).kind ≡ true → k ≤ length (unit_at w n).blocks →
+pub fits-place-in : (w : WorldState) (n k : ℕ) → n < unit_count → has_place (unit_at w n).kind ≡ true → k ≤ length (unit_at w n).blocks →
     IsTrue (fits_place w.units n k)
 fits-place-in w n k l p h = grind (arith, nat_tests)
 
-fits-item-in : (w : WorldState) (n i j : ℕ) → n < 21 → has_medium (unit_at w n).kind ≡ true → i < length (unit_at w n).blocks →
+fits-item-in : (w : WorldState) (n i j : ℕ) → n < unit_count → has_medium (unit_at w n).kind ≡ true → i < length (unit_at w n).blocks →
     j < block_length (unit_at w n).kind → IsTrue (fits_item w.units n i j)
 fits-item-in w n i j l m h g = grind (arith, nat_tests)
 
@@ -113,7 +114,7 @@ fit-place true w t f = (f refl, tt)
 fit-place false w t f = tt
 
 -- which leaves the blocks alone
-items-placed : (b : Bool) (w : WorldState) (t : Transfer) (j : ℕ) → IsWorld w → t.unit < 21 → IsTrue (fits_item w.units t.unit t.block j) →
+items-placed : (b : Bool) (w : WorldState) (t : Transfer) (j : ℕ) → IsWorld w → t.unit < unit_count → IsTrue (fits_item w.units t.unit t.block j) →
     IsTrue (fits_item (write_all w (cond b (set (At t.unit (t.block + 1)) ∷ []) [])).units t.unit t.block j)
 items-placed true w t j h l f = fits-item-moved w.units t.unit (t.block + 1) t.block j h.units l f
 items-placed false w t j h l f = f
@@ -123,15 +124,15 @@ pub world-place : (b : Bool) (w : WorldState) (t : Transfer) → IsWorld w → (
 world-place true w t h f = world-set_value w (At t.unit (t.block + 1)) h (f refl)
 world-place false w t h f = h
 
-fits-item-timed : (us : UnitsState) (n t i j : ℕ) → AreUnits us → n < 21 → IsTrue (fits_item us n i j) →
+fits-item-timed : (us : UnitsState) (n t i j : ℕ) → AreUnits us → n < unit_count → IsTrue (fits_item us n i j) →
     IsTrue (fits_item (set_until us n t) n i j)
 fits-item-timed us n t i j h l f = rw (unit-with us n (record (unit_of us n) { until = t }) h l) f
 
-can-grow : (w : WorldState) (n gap : ℕ) (block : List WordValue) → n < 21 → has_medium (unit_at w n).kind ≡ true →
+can-grow : (w : WorldState) (n gap : ℕ) (block : List WordValue) → n < unit_count → has_medium (unit_at w n).kind ≡ true →
     length (unit_at w n).blocks + gap < most_entries → IsTrue (write_fits w (grow n gap block))
 can-grow w n gap block l m r = grind (arith, nat_tests)
 
-can-print : (w : WorldState) (n : ℕ) (row : RowState) → n < 21 → has_medium (unit_at w n).kind ≡ false → has_output (unit_at w n).kind ≡ true →
+can-print : (w : WorldState) (n : ℕ) (row : RowState) → n < unit_count → has_medium (unit_at w n).kind ≡ false → has_output (unit_at w n).kind ≡ true →
     length (unit_at w n).rows < most_entries → IsTrue (write_fits w (print n row))
 can-print w n row l m o r = grind (arith, nat_tests)
 

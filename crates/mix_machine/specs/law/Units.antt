@@ -5,22 +5,23 @@ use Rattle.std.proofs.lemmas.Bool.{and_parts}
 use Rattle.std.proofs.lemmas.Bool.Decides.{nat_tests}
 use Rattle.std.proofs.lemmas.List.{get_or-set_same, length-set}
 use Rattle.mix_word.specs.Word.{WordValue}
+use Rattle.mix_word.specs.Uses.{unit_count}
 use Rattle.mix_machine.specs.units.UnitKind.{has_place}
 use Rattle.mix_machine.specs.units.Unit.{UnitState, empty_unit, block_of, with_word, with_blocks}
 use Rattle.mix_machine.specs.units.Units.{UnitsState, AreUnits, unit_of, with_unit, set_place, fits_place, set_item, fits_item, add_blocks}
 use Rattle.mix_machine.specs.units.Keep.{length-units, length-with_blocks}
 use Rattle.mix_machine.specs.declared.units.kind.UnitKind.TheVariants.{Tape}
 
-pub unit-with : (us : UnitsState) (n : ℕ) (u : UnitState) → AreUnits us → n < 21 → unit_of (with_unit us n u) n ≡ u
+pub unit-with : (us : UnitsState) (n : ℕ) (u : UnitState) → AreUnits us → n < unit_count → unit_of (with_unit us n u) n ≡ u
 unit-with us n u h l = get_or-set_same us n u (empty_unit Tape) (rw (length-units us h) l)
 
-pub below-21 : (n : ℕ) (b : Bool) → IsTrue (nat_lt n 21 && b) → n < 21
-below-21 n b f = let both = and_parts (nat_lt n 21) b f in grind (arith, nat_tests)
+pub is-number : (n : ℕ) (b : Bool) → IsTrue (nat_lt n unit_count && b) → n < unit_count
+is-number n b f = let both = and_parts (nat_lt n unit_count) b f in grind (arith, nat_tests)
 
-pub place-below : (us : UnitsState) (n k : ℕ) → IsTrue (fits_place us n k) → n < 21
+pub place-below : (us : UnitsState) (n k : ℕ) → IsTrue (fits_place us n k) → n < unit_count
 place-below us n k f = grind (arith, nat_tests)
 
-pub item-below : (us : UnitsState) (n i j : ℕ) → IsTrue (fits_item us n i j) → n < 21
+pub item-below : (us : UnitsState) (n i j : ℕ) → IsTrue (fits_item us n i j) → n < unit_count
 item-below us n i j f = grind (arith, nat_tests)
 
 -- setting a word leaves the others where they are
@@ -32,12 +33,12 @@ fits-item-after us n i j k v h f g =
     rw (unit-with us n (with_word (unit_of us n) i j v) h l, same) g
 
 -- and so does setting the place
-pub fits-item-moved : (us : UnitsState) (n k i j : ℕ) → AreUnits us → n < 21 → IsTrue (fits_item us n i j) →
+pub fits-item-moved : (us : UnitsState) (n k i j : ℕ) → AreUnits us → n < unit_count → IsTrue (fits_item us n i j) →
     IsTrue (fits_item (set_place us n k) n i j)
 fits-item-moved us n k i j h l f = rw (unit-with us n (record (unit_of us n) { place = k }) h l) f
 
 -- the place after a block that was appended
-pub fits-place-grown : (us : UnitsState) (n block : ℕ) (words : List WordValue) → AreUnits us → n < 21 → has_place (unit_of us n).kind ≡ true →
+pub fits-place-grown : (us : UnitsState) (n block : ℕ) (words : List WordValue) → AreUnits us → n < unit_count → has_place (unit_of us n).kind ≡ true →
     length (unit_of us n).blocks ≤ block →
     IsTrue (fits_place (add_blocks us n (block - length (unit_of us n).blocks) words) n (block + 1))
 fits-place-grown us n block words h l p le =

@@ -5,6 +5,7 @@ use Rattle.std.proofs.lemmas.Bool.{and_parts}
 use Rattle.std.proofs.lemmas.Bool.Decides.{nat_tests}
 use Rattle.std.proofs.lemmas.List.{length-map, length-set, length-replicate}
 use Rattle.mix_word.specs.Word.{WordValue}
+use Rattle.mix_word.specs.Uses.{unit_count}
 use Rattle.mix_machine.specs.units.UnitKind.{block_length, has_medium, has_output}
 use Rattle.mix_machine.specs.units.Row.{RowState}
 use Rattle.mix_machine.specs.units.Unit.{UnitState, IsUnit, block_of, with_word, with_blocks, with_row, filled, blocks_in, most_entries, last_delay, last_until}
@@ -56,8 +57,8 @@ is-cut-either u k false o h c = is-cut-rows u k o h c
 pub is-cut : (u : UnitState) (k : ℕ) → IsUnit u → IsTrue (can_cut k u) → IsUnit (cut_to k u)
 is-cut u k h c = is-cut-either u k (has_medium u.kind) (has_output u.kind) h c
 
--- there are 21 units
-pub length-units : (us : UnitsState) → AreUnits us → length us ≡ 21
+-- how many units there are
+pub length-units : (us : UnitsState) → AreUnits us → length us ≡ unit_count
 length-units us h = sym (length-map us (λ u. u.kind)) ∙ ap length h.kinds
 
 all-at : (us : UnitsState) (n : ℕ) → AllUnits us → n < length us → IsUnit (unit_of us n)
@@ -65,7 +66,7 @@ all-at [] n h l = absurd (omega arith)
 all-at (u ∷ us) zero h l = h.0
 all-at (u ∷ us) (suc n) h l = all-at us n h.1 (omega arith)
 
-pub is-unit-at : (us : UnitsState) (n : ℕ) → AreUnits us → n < 21 → IsUnit (unit_of us n)
+pub is-unit-at : (us : UnitsState) (n : ℕ) → AreUnits us → n < unit_count → IsUnit (unit_of us n)
 is-unit-at us n h l = all-at us n h.all (rw (length-units us h) l)
 
 all-with : (us : UnitsState) (n : ℕ) (u : UnitState) → AllUnits us → IsUnit u → AllUnits (with_unit us n u)
@@ -94,32 +95,32 @@ kind-cut u k = kind-cut-either u k (has_medium u.kind) (has_output u.kind)
 
 pub keep-set_place : (us : UnitsState) (n k : ℕ) → AreUnits us → IsTrue (fits_place us n k) → AreUnits (set_place us n k)
 keep-set_place us n k h f =
-    let l : n < 21 = grind (arith, nat_tests) in
+    let l : n < unit_count = grind (arith, nat_tests) in
     keep-with_unit us n _ h (is-with_place (unit_of us n) k (is-unit-at us n h l) (grind (arith, nat_tests))) refl
 
 pub keep-set_length : (us : UnitsState) (n k : ℕ) → AreUnits us → IsTrue (fits_length us n k) → AreUnits (set_length us n k)
 keep-set_length us n k h f =
-    let both = and_parts (nat_lt n 21) (can_cut k (unit_of us n)) f in
-    let l : n < 21 = grind (arith, nat_tests) in
+    let both = and_parts (nat_lt n unit_count) (can_cut k (unit_of us n)) f in
+    let l : n < unit_count = grind (arith, nat_tests) in
     keep-with_unit us n _ h (is-cut (unit_of us n) k (is-unit-at us n h l) both.1) (kind-cut (unit_of us n) k)
 
 pub keep-set_item : (us : UnitsState) (n i j : ℕ) (v : WordValue) → AreUnits us → IsTrue (fits_item us n i j) →
     AreUnits (set_item us n i j v)
 keep-set_item us n i j v h f =
-    let l : n < 21 = grind (arith, nat_tests) in
+    let l : n < unit_count = grind (arith, nat_tests) in
     keep-with_unit us n _ h (is-with_word (unit_of us n) i j v (is-unit-at us n h l)) refl
 
 pub keep-set_until : (us : UnitsState) (n t : ℕ) → AreUnits us → IsTrue (fits_until n t) → AreUnits (set_until us n t)
 keep-set_until us n t h f =
-    let l : n < 21 = grind (arith, nat_tests) in
+    let l : n < unit_count = grind (arith, nat_tests) in
     keep-with_unit us n _ h (is-with_until (unit_of us n) t (is-unit-at us n h l) (grind (arith, nat_tests))) refl
 
-pub keep-add_blocks : (us : UnitsState) (n gap : ℕ) (block : List WordValue) → AreUnits us → n < 21 →
+pub keep-add_blocks : (us : UnitsState) (n gap : ℕ) (block : List WordValue) → AreUnits us → n < unit_count →
     length (unit_of us n).blocks + gap < most_entries → AreUnits (add_blocks us n gap block)
 keep-add_blocks us n gap block h l lt =
     keep-with_unit us n _ h (is-with_blocks (unit_of us n) gap block (is-unit-at us n h l) lt) refl
 
-pub keep-add_row : (us : UnitsState) (n : ℕ) (row : RowState) → AreUnits us → n < 21 → length (unit_of us n).rows < most_entries →
+pub keep-add_row : (us : UnitsState) (n : ℕ) (row : RowState) → AreUnits us → n < unit_count → length (unit_of us n).rows < most_entries →
     AreUnits (add_row us n row)
 keep-add_row us n row h l lt = keep-with_unit us n _ h (is-with_row (unit_of us n) row (is-unit-at us n h l) lt) refl
 
@@ -135,9 +136,9 @@ is-filled u words h le =
     let count = length-blocks (length words / block_length u.kind) (block_length u.kind) words in
     record { place = omega arith; blocks = rw count le; rows = h.rows; delay = h.delay; until = h.until }
 
-pub keep-set_delay : (us : UnitsState) (n t : ℕ) → AreUnits us → n < 21 → t ≤ last_delay → AreUnits (set_delay us n t)
+pub keep-set_delay : (us : UnitsState) (n t : ℕ) → AreUnits us → n < unit_count → t ≤ last_delay → AreUnits (set_delay us n t)
 keep-set_delay us n t h l le = keep-with_unit us n _ h (is-with_delay (unit_of us n) t (is-unit-at us n h l) le) refl
 
-pub keep-fill : (us : UnitsState) (n : ℕ) (words : List WordValue) → AreUnits us → n < 21 →
+pub keep-fill : (us : UnitsState) (n : ℕ) (words : List WordValue) → AreUnits us → n < unit_count →
     length words / block_length (unit_of us n).kind ≤ most_entries → AreUnits (fill us n words)
 keep-fill us n words h l le = keep-with_unit us n _ h (is-filled (unit_of us n) words (is-unit-at us n h l) le) refl

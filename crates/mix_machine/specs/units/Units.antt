@@ -1,6 +1,7 @@
 -- All units of the machine, and the values of them that can be put back.
 use Rattle.std.specs.Prelude.{◌≡◌, ℕ, Bool, ◌&&◌, nat_le, nat_lt, List, [], ◌∷◌, length, map, take, slice_index_or, slice_set, if◌then◌else◌}
 use Rattle.mix_word.specs.Word.{WordValue}
+use Rattle.mix_word.specs.Uses.{unit_count}
 use Rattle.mix_machine.specs.units.UnitKind.{kinds, block_length, has_place, has_medium, has_output}
 use Rattle.mix_machine.specs.units.Row.{RowState}
 use Rattle.mix_machine.specs.units.Unit.{UnitState, IsUnit, empty_unit, word_of, with_word, with_blocks, with_row, filled, last_until}
@@ -14,7 +15,7 @@ abbrev pub AllUnits : UnitsState → Type 0
 AllUnits [] = Unit {0}
 AllUnits (u ∷ us) = IsUnit u × AllUnits us
 
--- what the units of every machine meet: there are 21, each of its kind
+-- what the units of every machine meet: there are unit_count of them, each of its kind
 pub record AreUnits (us : UnitsState) : Type 0 where
   pub kinds : map (λ u. u.kind) us ≡ kinds
   pub all : AllUnits us
@@ -38,7 +39,7 @@ abbrev pub place_at : UnitsState → ℕ → ℕ
 place_at us n = (unit_of us n).place
 
 abbrev pub fits_place : UnitsState → ℕ → ℕ → Bool
-fits_place us n k = nat_lt n 21 && has_place (unit_of us n).kind && nat_le k (length (unit_of us n).blocks)
+fits_place us n k = nat_lt n unit_count && has_place (unit_of us n).kind && nat_le k (length (unit_of us n).blocks)
 
 -- How many blocks a tape or a disk has, or how many rows another unit has written.
 abbrev pub cut_to : ℕ → UnitState → UnitState
@@ -62,7 +63,7 @@ can_cut k u =
     has_output u.kind && nat_le k (length u.rows)
 
 abbrev pub fits_length : UnitsState → ℕ → ℕ → Bool
-fits_length us n k = nat_lt n 21 && can_cut k (unit_of us n)
+fits_length us n k = nat_lt n unit_count && can_cut k (unit_of us n)
 
 -- A word of a block of a tape or a disk.
 abbrev pub set_item : UnitsState → ℕ → ℕ → ℕ → WordValue → UnitsState
@@ -75,7 +76,7 @@ abbrev pub has_item : ℕ → ℕ → UnitState → Bool
 has_item i j u = has_medium u.kind && nat_lt i (length u.blocks) && nat_lt j (block_length u.kind)
 
 abbrev pub fits_item : UnitsState → ℕ → ℕ → ℕ → Bool
-fits_item us n i j = nat_lt n 21 && has_item i j (unit_of us n)
+fits_item us n i j = nat_lt n unit_count && has_item i j (unit_of us n)
 
 -- The time until which the last transfer of a unit takes.
 abbrev pub set_until : UnitsState → ℕ → ℕ → UnitsState
@@ -85,7 +86,7 @@ abbrev pub until_at : UnitsState → ℕ → ℕ
 until_at us n = (unit_of us n).until
 
 abbrev pub fits_until : ℕ → ℕ → Bool
-fits_until n t = nat_lt n 21 && nat_le t last_until
+fits_until n t = nat_lt n unit_count && nat_le t last_until
 
 -- What only grows: blocks at the end of a tape or a disk, and rows.
 abbrev pub add_blocks : UnitsState → ℕ → ℕ → List WordValue → UnitsState

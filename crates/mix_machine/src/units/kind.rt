@@ -3,6 +3,8 @@ ghost use Rattle.std.specs.Prelude.{◌≡◌, ◌<◌, ◌≤◌};
 ghost use Rattle.mix_machine.specs.Part.{is_same_kind};
 ghost use Rattle.mix_machine.specs.units.UnitKind.{kinds, kind_of, block_length, has_place, has_medium, has_output};
 
+use crate::units::number::UnitNo;
+
 /// What a unit is (1.3.1): a tape, a disk, a card reader, a card punch, a printer, a typewriter or a paper tape.
 #[derive(Clone, Copy, PartialEq, Eq)]
 pub enum UnitKind {
@@ -15,8 +17,8 @@ pub enum UnitKind {
     PaperTape,
 }
 
-/// The kind of each unit, 0 to 20.
-pub(crate) const KINDS: [UnitKind; 21] = [
+/// The kind of each unit, by its number.
+pub(crate) const KINDS: [UnitKind; UnitNo::COUNT] = [
     UnitKind::Tape,
     UnitKind::Tape,
     UnitKind::Tape,

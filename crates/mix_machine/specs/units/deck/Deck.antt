@@ -5,6 +5,7 @@ use Rattle.mix_refused.specs.declared.refused.Refused.{Refused}
 use Rattle.mix_refused.specs.declared.refused.Refused.TheVariants.{Fault, Memory}
 use Rattle.mix_lines.specs.Lines.{lines, words}
 use Rattle.mix_word.specs.Word.{WordValue}
+use Rattle.mix_word.specs.Uses.{unit_count}
 use Rattle.mix_machine.specs.units.UnitKind.{block_length}
 use Rattle.mix_machine.specs.units.Unit.{most_entries}
 use Rattle.mix_machine.specs.units.Units.{UnitsState, empty_units, unit_of, set_delay, fill}
@@ -31,7 +32,7 @@ pub record Reading : Type 0 where
 
 -- before the first line
 abbrev pub nothing_read : Reading
-nothing_read = record { units = empty_units; unit = None; words = []; given = replicate 21 false }
+nothing_read = record { units = empty_units; unit = None; words = []; given = replicate unit_count false }
 
 abbrev pub kind_at : Reading → ℕ → UnitKind
 kind_at r n = (unit_of r.units n).kind
@@ -144,7 +145,7 @@ deck_of bytes =
 
 -- no card read, of units that stand
 abbrev pub no_card_read : UnitsState → Reading
-no_card_read us = record { units = us; unit = Some 16; words = []; given = replicate 21 false }
+no_card_read us = record { units = us; unit = Some 16; words = []; given = replicate unit_count false }
 
 -- The units with other cards: each line of a text is a card, also one that begins with %. They stand in place of those that
 -- unit 16 had, of which the first is read next; all else of the units stays.
@@ -159,7 +160,7 @@ room_of us (Some n) = most_entries * block_length (unit_of us n).kind
 
 pub record IsReading (r : Reading) : Type 0 where
   pub words : length r.words ≤ room_of r.units r.unit
-  pub given : length r.given ≡ 21
+  pub given : length r.given ≡ unit_count
 
 -- What a step of the reading answers: the new state where it is accepted, and its fault where that refuses it. A step
 -- that is out of memory promises nothing.

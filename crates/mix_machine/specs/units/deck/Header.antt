@@ -1,9 +1,10 @@
 -- The header of a unit in a deck: `%UNIT 19` or `%UNIT 19 delay 10`.
-use Rattle.std.specs.Prelude.{ℕ, Bool, ◌==◌, nat_le, List, [], ◌∷◌, length, Option, None, Some, codes, if◌then◌else◌}
+use Rattle.std.specs.Prelude.{ℕ, Bool, ◌==◌, nat_le, nat_lt, List, [], ◌∷◌, length, Option, None, Some, codes, if◌then◌else◌}
 use Rattle.std.specs.Option.{option_and_then, option_map}
 use Rattle.std.specs.Str.{str_eq_ignore_ascii_case}
 use Rattle.mix_lines.specs.Lines.{begins_with}
 use Rattle.mix_lines.specs.Number.{number_up_to, decimal_number}
+use Rattle.mix_word.specs.Uses.{unit_count}
 use Rattle.mix_machine.specs.declared.units.deck.header.Header.{Header}
 
 -- a line is a header, good or bad, where its first byte is a percent sign
@@ -12,9 +13,9 @@ is_header text = begins_with (λ byte. byte == 37) text
 
 abbrev pub unit_of_value : Option ℕ → Option ℕ
 unit_of_value None = None
-unit_of_value (Some n) = if nat_le n 20 then Some n else None
+unit_of_value (Some n) = if nat_lt n unit_count then Some n else None
 
--- the number of a unit: one or two digits, 0 to 20
+-- the number of a unit, in one or two digits
 abbrev pub unit_number : List ℕ → Option ℕ
 unit_number text = if nat_le (length text) 2 then unit_of_value (decimal_number text) else None
 

@@ -85,5 +85,5 @@ fn unit_number(text: &[u8]) -> Option<UnitNo>
         return None;
     }
     let n = number(text)?;
-    if n <= 20 { UnitNo::of(n as u8) } else { None }
+    u8::try_from(n).ok().and_then(UnitNo::of)
 }

@@ -29,7 +29,7 @@ pub(crate) struct Reader {
     units: Units,
     unit: Option<UnitNo>,
     words: Vec<Word>,
-    given: [bool; 21],
+    given: [bool; UnitNo::COUNT],
 }
 
 impl Model for Reader {
@@ -55,7 +55,7 @@ impl Reader {
             units,
             unit: None,
             words: Vec::new(alloc),
-            given: [false; 21],
+            given: [false; UnitNo::COUNT],
         })
     }
 
@@ -68,7 +68,7 @@ impl Reader {
             units,
             unit: Some(UnitNo::CARD_READER),
             words: Vec::new(alloc),
-            given: [false; 21],
+            given: [false; UnitNo::COUNT],
         }
     }
 

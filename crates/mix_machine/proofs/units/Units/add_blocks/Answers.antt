@@ -1,4 +1,5 @@
 use Rattle.std.proofs.Common.{◌<◌, ◌∙◌}
+use Rattle.mix_word.specs.Uses.{unit_count}
 use Rattle.mix_machine.specs.units.Unit.{UnitState, with_blocks}
 use Rattle.mix_machine.specs.units.Keep.{keep-add_blocks}
 use Rattle.mix_machine.proofs.UnitsLemmas.{keep-grown}
@@ -7,7 +8,7 @@ use Rattle.mix_machine.proofs.units.Units.add_blocks.Goals as goal
 pub invariant_of-self : goal.invariant_of-self
 invariant_of-self c =
     let us = c.self.inside.list.items in
-    let within : c.args.n < 21 = rw (← c.number.ensures.is) c.number.ensures.bound in
+    let within : c.args.n < unit_count = rw (← c.number.ensures.is) c.number.ensures.bound in
     let kept = keep-add_blocks us c.args.n c.args.gap c.args.words.now c.self.invariant within (rw c.self.view_is c.requires.room) in
     keep-grown us c.args.n _ _ _ (λ (u : UnitState). with_blocks u c.args.gap c.args.words.now) c.add_blocks.result c.self.invariant kept (c.from.ensures ∙ c.number.ensures.is)
     (rw c.from.ensures c.number.ensures.bound) c.index_mut-unit.ensures.value c.add_blocks.ensures.added c.add_blocks.ensures.same

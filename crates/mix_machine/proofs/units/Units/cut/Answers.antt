@@ -1,4 +1,5 @@
 use Rattle.std.proofs.Common.{◌∙◌}
+use Rattle.mix_word.specs.Uses.{unit_count}
 use Rattle.mix_machine.specs.units.Unit.{UnitState}
 use Rattle.mix_machine.specs.units.Units.{can_cut, cut_to, unit_of}
 use Rattle.mix_machine.specs.units.Keep.{keep-set_length}
@@ -12,7 +13,7 @@ cut-requires c =
     let us = c.self.inside.list.items in
     let n = c.args.n in
     let unit = unit-read us n _ _ c.self.invariant (c.from.ensures ∙ c.number.ensures.is) (rw c.from.ensures c.number.ensures.bound) c.index_mut-unit.ensures.value in
-    let both = and_parts (nat_lt n 21) (can_cut c.args.len (unit_of c.args.self.now n)) c.requires in
+    let both = and_parts (nat_lt n unit_count) (can_cut c.args.len (unit_of c.args.self.now n)) c.requires in
     rw (unit, c.self.view_is) both.1
 
 pub invariant_of-self : goal.invariant_of-self
