@@ -9,6 +9,7 @@ use Rattle.std.specs.Bool.{Decides}
 use Rattle.std.specs.Cmp.{booleans_Decides, unsigned_Decides}
 use Rattle.std.specs.List.{filter, range_with_len}
 use Rattle.mix_word.specs.Word.{WordValue, word, zero_word, is_same_sign, is_same_word}
+use Rattle.mix_word.specs.Uses.{unit_count}
 use Rattle.mix_word.specs.declared.word.Cmp.{Cmp}
 use Rattle.mix_word.specs.declared.word.Cmp.TheVariants.{Less, Equal, Greater}
 use Rattle.mix_word.specs.declared.word.Sign.{Sign}
@@ -157,10 +158,10 @@ cells-same v w h k each = ext_get_or zero_word v.cells w.cells (h.cells ∙ sym 
 breaks-same : (v w : WorldState) → IsWorld v → IsWorld w → ((p : ℕ) → p < 4000 → has_break v p ≡ has_break w p) → v.breaks ≡ w.breaks
 breaks-same v w h k each = ext_get_or false v.breaks w.breaks (h.breaks ∙ sym k.breaks) (λ i below. each i (subst (λ (n : ℕ). i < n) h.breaks below))
 
-count-units : (us : UnitsState) → AreUnits us → length us ≡ 21
+count-units : (us : UnitsState) → AreUnits us → length us ≡ unit_count
 count-units us h = sym (length-map us (λ (u : UnitState). u.kind)) ∙ ap length h.kinds
 
-units-same : (v w : WorldState) → IsWorld v → IsWorld w → ((n : ℕ) → n < 21 → unit_at v n ≡ unit_at w n) → v.units ≡ w.units
+units-same : (v w : WorldState) → IsWorld v → IsWorld w → ((n : ℕ) → n < unit_count → unit_at v n ≡ unit_at w n) → v.units ≡ w.units
 units-same v w h k each =
     let own = count-units v.units h.units in
     let other = count-units w.units k.units in

@@ -6,6 +6,7 @@ use Rattle.std.specs.Cmp.Lexicographic.{pointwise}
 use Rattle.std.specs.List.{filter, range_with_len}
 use Rattle.mix_word.specs.Word.{is_same_word}
 use Rattle.mix_word.specs.Register.{all_registers}
+use Rattle.mix_word.specs.Uses.{unit_count}
 use Rattle.mix_machine.specs.World.{WorldState, register_of, cell_of, has_break, unit_at}
 use Rattle.mix_machine.specs.Part.{is_same_indicator, is_same_unit}
 use Rattle.mix_machine.specs.units.Unit.{UnitState, block_of}
@@ -31,7 +32,7 @@ unnumbered = registers_and_flags ++ part.Loc ∷ part.Clock ∷ []
 abbrev pub count_of : Kind → ℕ
 count_of Cells = 4000
 count_of Breaks = 4000
-count_of Units = 21
+count_of Units = unit_count
 
 abbrev pub part_of : Kind → ℕ → Altered
 part_of Cells p = part.Cell p

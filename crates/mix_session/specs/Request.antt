@@ -1,10 +1,11 @@
 -- What a line of the script asks for: its words, in capitals or small letters, or what is wrong with them. A word that is missing,
 -- unknown, bad or too many is reported before a number that is out of range.
-use Rattle.std.specs.Prelude.{◌==◌, ℕ, ℤ, pos, negsuc, List, [], ◌∷◌, codes, Option, Some, None, Result, Ok, Err, nat_lt, ok_or, if◌then◌else◌}
+use Rattle.std.specs.Prelude.{◌==◌, ◌-◌, ℕ, ℤ, pos, negsuc, List, [], ◌∷◌, codes, Option, Some, None, Result, Ok, Err, nat_lt, ok_or, if◌then◌else◌}
 use Rattle.mix_session.specs.Keyword.{is_name, keyword_named, command_name, all_commands, back_name, all_backs, forth_name, all_forths, set_name, all_sets, until_name, all_untils, show_name, all_shows, toggle_name, all_toggles, indicator_name, all_indicators}
 use Rattle.mix_lines.specs.Lines.{words, is_comment}
 use Rattle.mix_lines.specs.Number.{decimal_number}
 use Rattle.mix_word.specs.Word.{WordValue, number_of}
+use Rattle.mix_word.specs.Uses.{unit_count}
 use Rattle.mixal_text.specs.Names.{NamesValue}
 use Rattle.mixal_asm.specs.Program.{ProgramValue}
 use Rattle.mixal_asm.specs.Source.{cell_from}
@@ -139,7 +140,7 @@ one_place names here words = do
 
 -- the number of the last unit
 abbrev pub last_unit : ℕ
-last_unit = 20
+last_unit = unit_count - 1
 
 -- the unit that the only word names
 abbrev pub one_unit : List (List ℕ) → Result ℕ Refusal

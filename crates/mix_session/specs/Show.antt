@@ -4,6 +4,7 @@ use Rattle.std.specs.Fmt.{decimal}
 use Rattle.mix_word.specs.Word.{WordValue, is_plus}
 use Rattle.mix_word.specs.Text.{word_text, short_text}
 use Rattle.mix_word.specs.Register.{all_registers, name_of_register}
+use Rattle.mix_word.specs.Uses.{unit_count}
 use Rattle.mix_word.specs.declared.register.Reg.{Reg}
 use Rattle.mix_word.specs.declared.register.Reg.TheVariants as reg
 use Rattle.mix_machine.specs.World.{WorldState, register_of, cell_of, has_break, unit_at}
@@ -83,7 +84,7 @@ was_used u = is_used u || nat_lt 0 u.until
 abbrev pub used_unit_text : WorldState → ℕ → List ℕ
 used_unit_text w n = if is_used (unit_at w n) then unit_text w n else []
 
--- the reply of `show all`: the registers, the cells 0 to 3999 that hold another word than +0, the breakpoints, and the units 0 to 20 that
+-- the reply of `show all`: the registers, the cells 0 to 3999 that hold another word than +0, the breakpoints, and the units that
 -- have something to show
 unfoldable pub all_text : WorldState → List ℕ
-all_text w = registers_text w ++ texts (filled_cell_text w) 0 4000 ++ breaks_text w ++ texts (used_unit_text w) 0 21
+all_text w = registers_text w ++ texts (filled_cell_text w) 0 4000 ++ breaks_text w ++ texts (used_unit_text w) 0 unit_count

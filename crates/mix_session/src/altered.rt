@@ -6,10 +6,10 @@ ghost use Rattle.mix_session.specs.Altered.{count_of, part_of, numbered, with_nu
 
 pub(crate) mod unit;
 
-use crate::show::all::{UNITS, unit_at};
+use crate::show::all::unit_at;
 use crate::show::cells::place_at;
 use mix_machine::{Change, Part, Place, Reg, UnitNo, World};
-use mix_word::CELLS;
+use mix_word::{CELLS, UNITS};
 use std::alloc::{AllocError, Global};
 use undo_core::Memory;
 
@@ -51,7 +51,7 @@ impl Kind {
     {
         match self {
             Kind::Cells | Kind::Breaks => CELLS,
-            Kind::Units => UNITS,
+            Kind::Units => u16::from(UNITS),
         }
     }
 

@@ -1,6 +1,7 @@
 //! What `show all` writes of the machine: its registers, the cells that are not +0, its breakpoints, and the units that hold something.
 
 ghost use Rattle.std.specs.Prelude.{◌≡◌, ◌<◌, IfOk, string_bytes};
+ghost use Rattle.mix_word.specs.Uses.{unit_count};
 ghost use Rattle.mix_session.specs.Show.{is_used, was_used, used_unit_text, all_text};
 
 use crate::show::cells::{Breakpoints, Cells, FilledCells};
@@ -8,12 +9,9 @@ use crate::show::each::{Each, Numbered};
 use crate::show::unit::UnitLines;
 use crate::show::{Flags, Registers};
 use mix_machine::{Unit, UnitNo, World};
-use mix_word::CELLS;
+use mix_word::{CELLS, UNITS};
 use std::alloc::{AllocError, Global};
 use std::fmt;
-
-/// How many units there are.
-pub(crate) const UNITS: u16 = 21;
 
 /// The lines of `show all`.
 #[tactic(auto, unfolding(crate::specs::Show::all_text, crate::specs::Show::registers_text))]
@@ -23,7 +21,7 @@ pub(super) fn all_lines(alloc: Global, world: &World) -> Result<String, AllocErr
     let (registers, flags) = (Registers(world), Flags(world));
     let cells = Each::<Cells<FilledCells>>::between(world, 0, CELLS);
     let breaks = Each::<Cells<Breakpoints>>::between(world, 0, CELLS);
-    let units = Each::<UsedUnits>::between(world, 0, UNITS);
+    let units = Each::<UsedUnits>::between(world, 0, u16::from(UNITS));
     let text = format!(in alloc; "{registers}{flags}{cells}breaks{breaks}\n{units}")?;
     Ok(text)
 }
@@ -48,7 +46,7 @@ struct UsedUnits;
 impl Numbered for UsedUnits {
     type Of = World;
 
-    ghost count = { λ _. 21 };
+    ghost count = { λ _. unit_count };
 
     ghost text = { used_unit_text };
 
@@ -64,7 +62,7 @@ impl Numbered for UsedUnits {
 }
 
 pub(crate) fn unit_at(number: u8) -> UnitNo
-    requires { number < 21 }
+    requires { number < unit_count }
     ensures { result ≡ number }
 {
     UnitNo::of(number).unwrap()
