@@ -4,6 +4,7 @@ use Rattle.std.specs.Fmt.{decimal}
 use Rattle.undo_core.specs.Replay.{replay}
 use Rattle.mix_word.specs.Instruction.{instruction_text}
 use Rattle.mix_word.specs.Register.{name_of_register}
+use Rattle.mix_word.specs.Text.{location_text}
 use Rattle.mix_machine.specs.World.{WorldState, cell_of}
 use Rattle.mix_machine.specs.Do.{does}
 use Rattle.mix_machine.specs.declared.old.Change.{Change}
@@ -12,7 +13,6 @@ use Rattle.mix_session.specs.Altered.{altered_by}
 use Rattle.mix_session.specs.Columns.{left_in, right_in}
 use Rattle.mix_session.specs.Differences.{columns_text, differences}
 use Rattle.mix_session.specs.Each.{texts}
-use Rattle.mix_session.specs.Reply.{location_text}
 use Rattle.mix_session.specs.Timeline.{Timeline, world_of}
 
 -- all changes, those done and those ahead

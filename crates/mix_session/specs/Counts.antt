@@ -1,6 +1,7 @@
 -- What `show counts` writes: how often each instruction was executed, and how long that took.
 use Rattle.std.specs.Prelude.{ℕ, zero, suc, ◌+◌, ◌-◌, ◌==◌, ◌&&◌, not, Bool, true, false, List, [], ◌∷◌, ◌++◌, codes, length, Option, Some, None, if◌then◌else◌}
 use Rattle.std.specs.Fmt.{decimal}
+use Rattle.mix_word.specs.Text.{location_text}
 use Rattle.mix_machine.specs.World.{WorldState}
 use Rattle.mix_machine.specs.declared.old.Change.{Change}
 use Rattle.mix_machine.specs.declared.old.Change.TheVariants.{Step}
@@ -10,7 +11,6 @@ use Rattle.mixal_asm.specs.Source.{source_at, is_instruction}
 use Rattle.mix_session.specs.Change.{world_at, change_at}
 use Rattle.mix_session.specs.Columns.{right_in}
 use Rattle.mix_session.specs.Each.{texts}
-use Rattle.mix_session.specs.Reply.{location_text}
 use Rattle.mix_session.specs.ShowCode.{is_overwritten, line_text}
 use Rattle.mix_session.specs.Timeline.{Timeline, world_of}
 use Rattle.mix_session.specs.declared.tally.Tally.{Tally}

@@ -1,6 +1,7 @@
 -- The replies of the commands: lines of bytes, in a form of this project's own.
 use Rattle.std.specs.Prelude.{ℕ, ◌/◌, ◌%◌, List, [], ◌∷◌, ◌++◌, codes}
 use Rattle.std.specs.Fmt.{decimal}
+use Rattle.mix_word.specs.Text.{location_text}
 use Rattle.mix_machine.specs.Fault.{fault_line}
 use Rattle.mix_session.specs.Fault.{refusal_text}
 use Rattle.mix_session.specs.declared.fault.Refusal.{Refusal}
@@ -23,10 +24,6 @@ told_of_end (Fault f) = Refused
 abbrev pub told_of_both : Told → Told → Told
 told_of_both Accepted next = next
 told_of_both Refused next = Refused
-
--- a location, in four digits
-unfoldable pub location_text : ℕ → List ℕ
-location_text n = decimal (n / 1000) ++ decimal (n / 100 % 10) ++ decimal (n / 10 % 10) ++ decimal (n % 10)
 
 -- where the machine stands: the location and the clock
 unfoldable pub position_text : ℕ → ℕ → List ℕ

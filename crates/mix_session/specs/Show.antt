@@ -2,7 +2,7 @@
 use Rattle.std.specs.Prelude.{ℕ, ◌+◌, ◌-◌, ◌==◌, ◌||◌, ◌&&◌, Bool, nat_lt, List, [], ◌∷◌, ◌++◌, codes, replicate, length, flat_map, if◌then◌else◌}
 use Rattle.std.specs.Fmt.{decimal}
 use Rattle.mix_word.specs.Word.{WordValue, is_plus}
-use Rattle.mix_word.specs.Text.{word_text, short_text}
+use Rattle.mix_word.specs.Text.{location_text, word_text, short_text}
 use Rattle.mix_word.specs.Register.{all_registers, name_of_register}
 use Rattle.mix_word.specs.Uses.{unit_count}
 use Rattle.mix_word.specs.declared.register.Reg.{Reg}
@@ -11,7 +11,7 @@ use Rattle.mix_machine.specs.World.{WorldState, register_of, cell_of, has_break,
 use Rattle.mix_machine.specs.units.Unit.{UnitState}
 use Rattle.mix_session.specs.Each.{texts}
 use Rattle.mix_session.specs.Keyword.{toggle_name, indicator_name}
-use Rattle.mix_session.specs.Reply.{location_text, position_text}
+use Rattle.mix_session.specs.Reply.{position_text}
 use Rattle.mix_session.specs.ShowUnit.{unit_text}
 
 -- the toggle, the indicator, the location and the clock

@@ -1,7 +1,7 @@
 -- What `show value` writes: a word as its bytes, as its number and in characters.
 use Rattle.std.specs.Prelude.{ℕ, ◌+◌, List, [], ◌∷◌, ◌++◌, codes, flat_map}
 use Rattle.mix_word.specs.Word.{WordValue, byte_of}
-use Rattle.mix_word.specs.Text.{word_text, short_text}
+use Rattle.mix_word.specs.Text.{location_text, word_text, short_text}
 use Rattle.mix_word.specs.Characters.{character_of}
 use Rattle.mix_word.specs.Instruction.{number_text}
 use Rattle.mix_word.specs.Register.{all_registers, name_of_register}
@@ -9,7 +9,6 @@ use Rattle.mix_word.specs.declared.register.Reg.{Reg}
 use Rattle.mix_word.specs.declared.register.Reg.TheVariants as reg
 use Rattle.mix_machine.specs.World.{WorldState, register_of, cell_of}
 use Rattle.mix_session.specs.Columns.{left_in, right_in}
-use Rattle.mix_session.specs.Reply.{location_text}
 use Rattle.mix_session.specs.Each.{texts}
 use Rattle.mix_session.specs.ShowUnit.{letters_text}
 

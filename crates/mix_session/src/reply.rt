@@ -1,10 +1,11 @@
 //! The lines of the replies, and what they tell.
 
 ghost use Rattle.std.specs.Prelude.{◌≡◌, Some, IfOk, string_bytes};
-ghost use Rattle.mix_session.specs.Reply.{told_of_end, told_of_both, location_text, position_text, end_text, ran_text, moved_text, ok_text, refused_text};
+ghost use Rattle.mix_session.specs.Reply.{told_of_end, told_of_both, position_text, end_text, ran_text, moved_text, ok_text, refused_text};
 
 use crate::fault::Refusal;
 use mix_machine::{MixFault, World};
+use mix_word::Location;
 use std::alloc::{AllocError, Global};
 use std::fmt;
 
@@ -72,21 +73,6 @@ impl fmt::Display for End {
             End::Start => write!(f, "start"),
             End::Fault(fault) => write!(f, "fault {fault}"),
         }
-    }
-}
-
-/// A location, in four digits.
-#[derive(Clone, Copy)]
-pub(crate) struct Location(pub u16);
-
-impl fmt::Display for Location {
-    ghost output = { λ l. Some (location_text l.0) };
-
-    #[tactic(auto, unfolding(crate::specs::Reply::location_text))]
-    fn fmt<W: fmt::Write>(&self, f: &mut fmt::Formatter<W>) -> fmt::Result {
-        let n = self.0;
-        let (thousands, hundreds, tens, ones) = (n / 1000, n / 100 % 10, n / 10 % 10, n % 10);
-        write!(f, "{thousands}{hundreds}{tens}{ones}")
     }
 }
 

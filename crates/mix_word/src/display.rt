@@ -1,9 +1,10 @@
-//! How words are written: the sign, and each byte as two digits after a blank. Operations and registers are written by name.
+//! How words are written: the sign, and each byte as two digits after a blank. Operations and registers are written by name,
+//! and locations in four digits.
 ghost use Rattle.std.specs.Prelude.{Some, ◌≡◌, ◌<◌, ◌≤◌};
 ghost use Rattle.mix_word.specs.Word.{byte_of};
 ghost use Rattle.mix_word.specs.Names.{name_of};
 ghost use Rattle.mix_word.specs.Register.{name_of_register};
-ghost use Rattle.mix_word.specs.Text.{sign_text, byte_text, word_text, short_text};
+ghost use Rattle.mix_word.specs.Text.{sign_text, byte_text, location_text, word_text, short_text};
 
 use crate::operation::Operation;
 use crate::register::Reg;
@@ -22,6 +23,21 @@ impl fmt::Display for Sign {
             Sign::Plus => f.write_str("+"),
             Sign::Minus => f.write_str("-"),
         }
+    }
+}
+
+/// A location, or the number of a cell, in four digits: `0042`.
+#[derive(Clone, Copy)]
+pub struct Location(pub u16);
+
+impl fmt::Display for Location {
+    ghost output = { λ l. Some (location_text l.0) };
+
+    #[tactic(auto, unfolding(crate::specs::Text::location_text))]
+    fn fmt<W: fmt::Write>(&self, f: &mut fmt::Formatter<W>) -> fmt::Result {
+        let n = self.0;
+        let (thousands, hundreds, tens, ones) = (n / 1000, n / 100 % 10, n / 10 % 10, n % 10);
+        write!(f, "{thousands}{hundreds}{tens}{ones}")
     }
 }
 

@@ -25,7 +25,7 @@ pub use characters::{char_of, code_of};
 pub use comparison::compare;
 pub use conversion::{num, to_char};
 pub use decoding::{Decoded, decode};
-pub use display::Short;
+pub use display::{Location, Short};
 pub use field::Field;
 pub use instruction::{Instruction, Number};
 pub use laws::{decode_law, long_name_law};

@@ -1,7 +1,7 @@
 -- The listing of an assembled source: a row for each line, what was inserted before END, and the symbols.
 use Rattle.std.specs.Prelude.{ℕ, ◌-◌, ◌/◌, ◌%◌, Bool, true, false, List, [], ◌∷◌, ◌++◌, length, replicate, slice_get, count_by, Option, Some, None, Result, Ok, Err, codes, decimal}
 use Rattle.mix_word.specs.Word.{WordValue}
-use Rattle.mix_word.specs.Text.{word_text}
+use Rattle.mix_word.specs.Text.{location_text, word_text}
 use Rattle.mix_refused.specs.declared.refused.Refused.{Refused}
 use Rattle.mix_refused.specs.declared.refused.Refused.TheVariants.{Fault, Memory}
 use Rattle.mixal_asm.specs.declared.key.Key.{Key}
@@ -14,23 +14,19 @@ use Rattle.mixal_asm.specs.Program.{ProgramValue}
 abbrev pub blanks : ℕ → List ℕ
 blanks n = replicate n 32
 
--- a place, in four digits
-unfoldable pub place_text : ℕ → List ℕ
-place_text n = decimal (n / 1000) ++ decimal (n / 100 % 10) ++ decimal (n / 10 % 10) ++ decimal (n % 10)
-
 -- ---- a row: 22 places, two blanks, five places for the number, two blanks, and the text
 
 -- a word at its place
 abbrev pub placed_word : Option (ℕ × WordValue) → List ℕ
 placed_word None = blanks 22
-placed_word (Some word) = place_text word.0 ++ blanks 2 ++ word_text word.1
+placed_word (Some word) = location_text word.0 ++ blanks 2 ++ word_text word.1
 
 -- the 22 places
 unfoldable pub shown_text : ProgramValue → Shows → List ℕ
 shown_text program Nothing = blanks 22
 shown_text program (Value value) = blanks 6 ++ word_text value
 shown_text program (Word i) = placed_word (slice_get program.words i)
-shown_text program Start = place_text program.start ++ blanks 18
+shown_text program Start = location_text program.start ++ blanks 18
 
 -- the number of a line, right in its five places
 unfoldable pub number_text : ℕ → List ℕ

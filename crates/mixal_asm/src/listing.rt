@@ -4,7 +4,7 @@ ghost use Rattle.std.specs.Io.KnownBytes.{Appends, Keeps};
 ghost use Rattle.mix_stream.specs.Stream.{AppendsFront, CountsFailure};
 ghost use Rattle.mixal_asm.specs.PassOne.{Line};
 ghost use Rattle.mixal_asm.specs.Row.{row_value, source_value};
-ghost use Rattle.mixal_asm.specs.Listing.{blanks, place_text, shown_text, source_text, row_text, rows_text, symbols_line, symbol_text, name_text, names_text, symbols_text, listing, IsFault};
+ghost use Rattle.mixal_asm.specs.Listing.{blanks, shown_text, source_text, row_text, rows_text, symbols_line, symbol_text, name_text, names_text, symbols_text, listing, IsFault};
 
 use crate::key::Key;
 use crate::names::NameTable;
@@ -12,7 +12,7 @@ use crate::program::Program;
 use crate::row::{Row, Shows, Source};
 use mix_refused::{Memory, Refused};
 use mix_stream::{Failed, Out, write_all};
-use mix_word::{Place, Word};
+use mix_word::{Location, Place, Word};
 use mixal_text::Symbol;
 use std::alloc::Global;
 use std::fmt;
@@ -193,7 +193,7 @@ impl fmt::Display for Shown<'_, '_> {
                 write!(f, "{placed}")
             }
             Shows::Start => {
-                let start = Location(program.start);
+                let start = Location(program.start.number());
                 write!(f, "{start}                  ")
             }
         }
@@ -212,25 +212,10 @@ impl fmt::Display for Placed {
     fn fmt<W: fmt::Write>(&self, f: &mut fmt::Formatter<W>) -> fmt::Result {
         match self.0 {
             Some((place, word)) => {
-                let location = Location(place);
+                let location = Location(place.number());
                 write!(f, "{location}  {word}")
             }
             None => write!(f, "                      "),
         }
-    }
-}
-
-/// A place, in four digits.
-#[derive(Clone, Copy)]
-struct Location(Place);
-
-impl fmt::Display for Location {
-    ghost output = { λ l. Some (place_text l.0) };
-
-    #[tactic(auto, unfolding(crate::specs::Listing::place_text))]
-    fn fmt<W: fmt::Write>(&self, f: &mut fmt::Formatter<W>) -> fmt::Result {
-        let n = self.0.number();
-        let (thousands, hundreds, tens, ones) = (n / 1000, n / 100 % 10, n / 10 % 10, n % 10);
-        write!(f, "{thousands}{hundreds}{tens}{ones}")
     }
 }

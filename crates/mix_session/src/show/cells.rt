@@ -5,9 +5,9 @@ ghost use Rattle.std.specs.Fmt.{WritesOnOk};
 ghost use Rattle.mix_machine.specs.World.{WorldState};
 ghost use Rattle.mix_session.specs.Show.{cell_line, break_text, is_plus_zero, filled_cell_text};
 
-use crate::reply::Location;
 use crate::show::each::Numbered;
 use mix_machine::{Place, Sign, Word, World};
+use mix_word::Location;
 use std::fmt;
 use std::marker::PhantomData;
 

@@ -9,12 +9,11 @@ ghost use Rattle.mix_session.specs.Change.{change_at, change_text, change_column
 ghost use Rattle.mix_session.specs.Differences.{differences};
 
 use crate::altered::{Worlds, alterations, altered_by};
-use crate::reply::Location;
 use crate::show::columns::{add_left, add_right};
 use crate::show::differences::{add_item_columns, add_item_lines};
 use crate::timeline::{earlier, unwind, world_at, world_of};
 use mix_machine::{Change, Old, Place, World};
-use mix_word::Instruction;
+use mix_word::{Instruction, Location};
 use std::alloc::{AllocError, Global};
 use undo_core::{Journal, Memory, Values};
 

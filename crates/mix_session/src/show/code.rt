@@ -5,12 +5,11 @@ ghost use Rattle.mixal_asm.specs.Row.{source_value};
 ghost use Rattle.mixal_asm.specs.Source.{source_at};
 ghost use Rattle.mix_session.specs.ShowCode.{is_overwritten, mark_text, line_number, line_bytes, line_text, code_text, code_line, codes_text};
 
-use crate::reply::Location;
 use crate::show::cells::place_at;
 use crate::show::columns::{add_blanks, add_left, add_right};
 use crate::show::lines::{Lines, add_lines};
 use mix_machine::{Place, Word, World};
-use mix_word::Instruction;
+use mix_word::{Instruction, Location};
 use mixal_asm::{Program, Source};
 use std::alloc::{AllocError, Global};
 

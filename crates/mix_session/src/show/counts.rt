@@ -6,7 +6,6 @@ ghost use Rattle.mix_session.specs.ShowCode.{is_overwritten};
 ghost use Rattle.mix_session.specs.Counts.{tally_columns, source_text, is_code, tally_line, count_line, total_line, counts_text};
 ghost use Rattle.mix_session.specs.Tally.{tally_in};
 
-use crate::reply::Location;
 use crate::show::cells::place_at;
 use crate::show::code::{add_line, is_overwritten};
 use crate::show::columns::add_right;
@@ -14,7 +13,7 @@ use crate::show::lines::{Lines, add_lines};
 use crate::tally::{Tally, tallies_of, tally_in};
 use crate::timeline::world_of;
 use mix_machine::{Place, World};
-use mix_word::CELLS;
+use mix_word::{CELLS, Location};
 use mixal_asm::Program;
 use std::alloc::{AllocError, Global};
 use undo_core::{Journal, Memory};

@@ -8,8 +8,8 @@ mod part;
 
 use crate::altered::unit::{UnitDifference, unit_differences};
 use crate::altered::{Altered, Worlds};
-use crate::reply::Location;
 use mix_machine::Place;
+use mix_word::Location;
 pub use part::Held;
 use part::Name;
 use std::alloc::{AllocError, Global};

@@ -3,13 +3,12 @@
 ghost use Rattle.std.specs.Prelude.{◌≡◌, ◌++◌, OnOk, IfOk};
 ghost use Rattle.mix_session.specs.ShowValue.{columns_text, value_line, short_letters, short_line, register_columns, register_values, cell_values, values_text, cell_values_text};
 
-use crate::reply::Location;
 use crate::show::cells::place_at;
 use crate::show::columns::{add_left, add_right};
 use crate::show::lines::{Lines, add_lines};
 use crate::show::words::{Letters, ShortLetters};
 use mix_machine::{Place, Reg, World};
-use mix_word::{Number, Short, Word};
+use mix_word::{Location, Number, Short, Word};
 use std::alloc::{AllocError, Global};
 
 /// The line of one word.

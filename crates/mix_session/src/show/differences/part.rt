@@ -5,9 +5,9 @@ ghost use Rattle.mix_session.specs.Differences.{part_text, held_text};
 
 use crate::altered::Altered;
 use crate::keyword::Keyword;
-use crate::reply::Location;
 use crate::show::Register;
 use mix_machine::World;
+use mix_word::Location;
 use std::fmt;
 
 /// A part by its name.
