@@ -5,7 +5,7 @@ ghost use Rattle.mix_machine.specs.World.{unit_at};
 ghost use Rattle.mix_machine.specs.UnitAction.{transfer_start, transfer_end, marks_page};
 ghost use Rattle.mix_machine.specs.Write.{fits, each, from_block, from_cell, place_after, input_writes, replace_writes, append_writes, row_writes, output_writes, control_writes};
 ghost use Rattle.mix_machine.specs.units.UnitKind.{block_length, has_place, has_medium};
-ghost use Rattle.mix_machine.specs.units.Unit.{last_until};
+ghost use Rattle.mix_machine.specs.units.Unit.{most_entries, last_until};
 ghost use Rattle.mix_machine.specs.units.Units.{fits_item};
 ghost use Rattle.mix_machine.specs.law.Plans.{InputFits, OutputFits, ControlFits};
 ghost use Rattle.mix_machine.specs.law.Wrote.{HasRoom, Wrote, Tried};
@@ -166,7 +166,7 @@ impl World {
 
     // The place after the block, where the unit has one.
     fn move_on(&mut self, kind: UnitKind, t: Transfer, kept: &mut Kept<Old>)
-        requires few { t.block < 1000 }
+        requires few { t.block < most_entries }
         requires fits { has_place kind ≡ true → IsTrue (fits self.old (Old.At t.unit (t.block + 1))) }
         requires room { HasRoom kept.old (place_after kind t) }
         ensures { Wrote (place_after kind t) self.old self.new kept.old kept.new }

@@ -14,6 +14,9 @@ use std::alloc::Global;
 use std::marker::Model;
 use undo_core::Memory;
 
+/// The most blocks that a unit may have, and the most rows that it may have written.
+pub(crate) const MOST_ENTRIES: u16 = 1000;
+
 /// A unit (1.3.1): the blocks that it reads and the place of the next one, the rows that it has written, its delay, and the time until
 /// which its last transfer takes.
 // The blocks lie side by side in one list of words.

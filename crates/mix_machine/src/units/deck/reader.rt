@@ -12,14 +12,13 @@ use crate::units::deck::header::{Header, header_of, is_header};
 use crate::units::deck_fault::DeckKind;
 use crate::units::kind::UnitKind;
 use crate::units::number::UnitNo;
+use crate::units::unit::MOST_ENTRIES;
 use mix_lines::{Words, next_word};
 use mix_word::Word;
 use std::alloc::Global;
 use std::marker::Model;
 use std::mem;
 use undo_core::{Memory, Refused};
-
-const MAX_BLOCKS: usize = 1000;
 
 /// What is read of a deck so far: the units, up to the last header; the unit of that header; the words read for it; and of each unit
 /// whether a header named it.
@@ -195,7 +194,7 @@ impl Reader {
         requires { room_of self.old.units self.old.unit ≡ most_entries * block_length kind }
         ensures { Gives (line_of_words kind self.old text.now) self.new result }
     {
-        let room = MAX_BLOCKS * usize::from(kind.block_length()) - self.words.len();
+        let room = usize::from(MOST_ENTRIES) * usize::from(kind.block_length()) - self.words.len();
         if has_more_words(text, room) {
             return Err(Refused::Fault(DeckKind::TooManyBlocks));
         }
@@ -209,7 +208,9 @@ impl Reader {
     {
         let length = kind.block_length();
         let columns = 5 * usize::from(length);
-        if self.words.len() + usize::from(length) > MAX_BLOCKS * usize::from(length) {
+        if self.words.len() + usize::from(length)
+            > usize::from(MOST_ENTRIES) * usize::from(length)
+        {
             return Err(Refused::Fault(DeckKind::TooManyBlocks));
         }
         if is_too_long(text, columns) {
