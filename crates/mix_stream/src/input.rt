@@ -59,7 +59,8 @@ impl From<Failed> for Refused<Failed> {
     }
 }
 
-const CHUNK: usize = 4096;
+/// How many bytes are asked of a reader at once.
+pub const CHUNK: usize = 4096;
 
 /// The bytes of a reader up to its end or up to a limit; it never takes more than that from the reader. It fails where memory is
 /// refused, and at the first failed read.

@@ -7,5 +7,5 @@ mod input;
 mod output;
 
 pub use counted::{Counted, Failed};
-pub use input::{In, read_up_to};
+pub use input::{CHUNK, In, read_up_to};
 pub use output::{Out, write_all};
