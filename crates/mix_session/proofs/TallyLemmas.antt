@@ -4,7 +4,7 @@ use Rattle.std.proofs.lemmas.List.{get_or_default, take-append-le, get_or-set_sa
 use Rattle.std.proofs.lemmas.Bool.Decides.{nat_tests}
 use Rattle.std.proofs.Math.Seq.{take-length}
 use Rattle.std.specs.List.{range_with_len}
-use Rattle.undo_core.specs.Replay.{replay, put_back, TakesBack}
+use Rattle.undo_core.specs.Replay.{replay, TakesBack}
 use Rattle.mix_machine.specs.World.{WorldState, IsWorld}
 use Rattle.mix_machine.specs.Do.{does}
 use Rattle.mix_machine.specs.Part.{IsPart, mark_of, mark_before}
@@ -12,7 +12,6 @@ use Rattle.mix_machine.specs.Write.{put_value}
 use Rattle.mix_machine.specs.declared.old.Change.{Change}
 use Rattle.mix_machine.specs.declared.old.Change.TheVariants.{Step}
 use Rattle.mix_machine.specs.declared.old.Old.{Old}
-use Rattle.mix_machine.specs.declared.part.Part.{Part}
 use Rattle.mix_machine.specs.declared.part.Part.TheVariants.{Loc, Clock}
 use Rattle.mix_machine.specs.declared.part.Mark.{Mark}
 use Rattle.mixal_asm.specs.Program.{ProgramValue}
@@ -22,16 +21,8 @@ use Rattle.mix_session.specs.Tally.{HasRoom, no_tally, tally_in, with_one, locat
 use Rattle.mix_session.specs.Each.{texts}
 use Rattle.mix_session.specs.Timeline.{Timeline, world_of}
 use Rattle.mix_session.specs.declared.tally.Tally.{Tally}
+use Rattle.mix_session.proofs.ConditionLemmas.{BeforeLaw, WorldLaw}
 use Rattle.mix_session.proofs.ShowLemmas.{flat_map-range_next}
-
--- values that are put back say the marks of the state before, and that is one of the machine
-abbrev pub BeforeLaw : Type 0
-BeforeLaw =
-    (olds : List Old) (w v : WorldState) (part : Part) → IsWorld w → IsPart part → put_back put_value olds w ≡ Some v →
-    mark_before olds part (mark_of w part) ≡ mark_of v part
-
-abbrev pub WorldLaw : Type 0
-WorldLaw = (olds : List Old) (w v : WorldState) → IsWorld w → put_back put_value olds w ≡ Some v → IsWorld v
 
 -- the first n of the changes done lead to the machine after n changes of all
 pub record Stands (t : Timeline) (n : ℕ) : Type 0 where

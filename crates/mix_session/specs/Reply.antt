@@ -1,5 +1,5 @@
 -- The replies of the commands: lines of bytes, in a form of this project's own.
-use Rattle.std.specs.Prelude.{ℕ, ◌/◌, ◌%◌, List, [], ◌∷◌, ◌++◌, codes}
+use Rattle.std.specs.Prelude.{ℕ, List, [], ◌∷◌, ◌++◌, codes}
 use Rattle.std.specs.Fmt.{decimal}
 use Rattle.mix_word.specs.Text.{location_text}
 use Rattle.mix_machine.specs.Fault.{fault_line}

@@ -1,5 +1,5 @@
 -- The listing of an assembled source: a row for each line, what was inserted before END, and the symbols.
-use Rattle.std.specs.Prelude.{ℕ, ◌-◌, ◌/◌, ◌%◌, Bool, true, false, List, [], ◌∷◌, ◌++◌, length, replicate, slice_get, count_by, Option, Some, None, Result, Ok, Err, codes, decimal}
+use Rattle.std.specs.Prelude.{ℕ, ◌-◌, Bool, true, false, List, [], ◌∷◌, ◌++◌, length, replicate, slice_get, count_by, Option, Some, None, Result, Ok, Err, codes, decimal}
 use Rattle.mix_word.specs.Word.{WordValue}
 use Rattle.mix_word.specs.Text.{location_text, word_text}
 use Rattle.mix_refused.specs.declared.refused.Refused.{Refused}
