@@ -1,19 +1,20 @@
 -- The scopes of variables, by their references, and which part of the machine a variable of a scope is.
-use Rattle.std.specs.Prelude.{ℕ, ◌-◌, ◌/◌, ◌==◌, ◌&&◌, List, codes, Option, None, Some, nat_lt, option_and_then, if◌then◌else◌}
+use Rattle.std.specs.Prelude.{ℕ, ◌+◌, ◌-◌, ◌/◌, ◌==◌, ◌&&◌, List, codes, Option, None, Some, nat_lt, option_and_then, if◌then◌else◌}
 use Rattle.std.specs.Option.{option_map}
 use Rattle.std.specs.Str.{bytes_eq}
 use Rattle.mix_lines.specs.Number.{decimal_number}
 use Rattle.mix_word.specs.Register.{register_named}
+use Rattle.mix_word.specs.Uses.{unit_count}
 use Rattle.mix_machine.specs.declared.part.Part.{Part}
 use Rattle.mix_machine.specs.declared.part.Part.TheVariants as part
 use Rattle.mix_dap.specs.declared.scope.Scope.{Scope}
 use Rattle.mix_dap.specs.declared.scope.Scope.TheVariants as scope
 
--- 1 the registers, 2 the flags, 3 the units, 4 the memory, 100 to 120 what a unit has written, 1000 to 1039 a hundred cells each
+-- 1 the registers, 2 the flags, 3 the units, 4 the memory, 100 and more what unit 0 and those after it have written, 1000 to 1039 a hundred cells each
 unfoldable pub scope_of : ℕ → Option Scope
 scope_of n =
     if n == 1 then Some scope.Registers else if n == 2 then Some scope.Flags else if n == 3 then Some scope.Units else if n == 4 then Some scope.Memory else
-    if nat_lt 99 n && nat_lt n 121 then Some (scope.Unit (n - 100)) else if nat_lt 999 n && nat_lt n 1040 then Some (scope.Page (n - 1000)) else None
+    if nat_lt 99 n && nat_lt n (100 + unit_count) then Some (scope.Unit (n - 100)) else if nat_lt 999 n && nat_lt n 1040 then Some (scope.Page (n - 1000)) else None
 
 -- the flags by their names, and with them the location and the clock
 abbrev pub flag_named : List ℕ → Option Part
@@ -26,7 +27,7 @@ abbrev pub cell_of_page : ℕ → ℕ → Option Part
 cell_of_page page n = if nat_lt n 4000 && n / 100 == page then Some (part.Cell n) else None
 
 abbrev pub unit_numbered : ℕ → Option Part
-unit_numbered n = if nat_lt n 21 then Some (part.Unit n) else None
+unit_numbered n = if nat_lt n unit_count then Some (part.Unit n) else None
 
 -- the part of the machine that the variable of a scope with a name is
 unfoldable pub part_of : Scope → List ℕ → Option Part

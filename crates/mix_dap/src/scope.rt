@@ -1,6 +1,7 @@
 //! The scopes of variables, by their references, and which part of the machine a variable is.
 
-ghost use Rattle.std.specs.Prelude.{◌≡◌};
+ghost use Rattle.std.specs.Prelude.{◌≡◌, Some, None, nat_lt, if◌then◌else◌};
+ghost use Rattle.mix_word.specs.Uses.{unit_count};
 ghost use Rattle.mix_dap.specs.Scope.{scope_of, flag_named, cell_of_page, unit_numbered, part_of};
 
 use mix_lines::number;
@@ -48,9 +49,8 @@ pub(crate) fn scope_of(reference: u64) -> Option<Scope>
         FLAGS => Some(Scope::Flags),
         ALL_UNITS => Some(Scope::Units),
         MEMORY => Some(Scope::Memory),
-        100..=120 => Some(Scope::Unit(UnitNo::of((reference - UNITS) as u8)?)),
         1000..=1039 => Some(Scope::Page((reference - PAGES) as u16)),
-        _ => None,
+        _ => Some(Scope::Unit(unit_of(reference.checked_sub(UNITS)?)?)),
     }
 }
 
@@ -100,6 +100,12 @@ fn cell_of_page(page: u16, number: u64) -> Option<Part>
 fn unit_numbered(number: u64) -> Option<Part>
     ensures { result ≡ unit_numbered number }
 {
-    let unit = u8::try_from(number).ok().and_then(UnitNo::of)?;
-    Some(Part::Unit(unit))
+    Some(Part::Unit(unit_of(number)?))
+}
+
+// The unit of this number.
+fn unit_of(number: u64) -> Option<UnitNo>
+    ensures { result ≡ (if nat_lt number unit_count then Some number else None) }
+{
+    u8::try_from(number).ok().and_then(UnitNo::of)
 }
