@@ -66,9 +66,28 @@ impl Undo for World {
 }
 
 impl World {
-    // The same before a header: the cells of its row where they may all be taken off, or else one value.
+    // The same before a header. Its kind is asked once: a row is one of the kinds.
     #[inline(always)]
     fn restore_by(&mut self, header: u32, units: &mut Vec<u32>, most: usize) -> usize
+        requires room { vec_len units.old < vec_capacity units.old }
+        requires most { 0 < most }
+        requires some { 0 < length (said (units.old.items ++ header ∷ [])) }
+        requires fits { IsSome (put_back put_value (drop (length (said (units.old.items ++ header ∷ [])) - 1) (said (units.old.items ++ header ∷ []))) self.old) }
+        ensures restored { Restored (said (units.old.items ++ header ∷ [])) (said units.new.items) self.old self.new result }
+        ensures within { result ≤ most }
+    {
+        match Kind::of(header) {
+            Some(Kind::Row) => self.restore_cells(header, units, most),
+            _ => {
+                self.restore_before(header, units);
+                1
+            }
+        }
+    }
+
+    // The same of a row: its cells where they may all be taken off, or else the last one.
+    #[inline(always)]
+    fn restore_cells(&mut self, header: u32, units: &mut Vec<u32>, most: usize) -> usize
         requires room { vec_len units.old < vec_capacity units.old }
         requires most { 0 < most }
         requires some { 0 < length (said (units.old.items ++ header ∷ [])) }

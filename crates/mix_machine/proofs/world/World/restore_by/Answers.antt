@@ -1,4 +1,4 @@
--- A header is that of a row, or the last value is that of the header.
+-- The last value is that of the header.
 use Rattle.std.proofs.Common.{◌≡◌, ◌++◌, ◌∷◌, [], ◌∙◌, List, reverse, ap, sym, refl}
 use Rattle.std.proofs.lemmas.List.{reverse-reverse}
 use Rattle.mix_machine.specs.Pack.{said}
@@ -17,8 +17,8 @@ restore_before-requires-clause-fits c =
     let last = header-value _ c.args.units.now.items c.args.header refl c.requires.some in
     rw last.1 (fits-alone c.args.self.now _ last.0.value (last-dropped _ _ last.0.value last.2) c.requires.fits)
 
-pub returns-in-None-clause-restored : goal.returns-in-None-clause-restored
-returns-in-None-clause-restored c =
+pub returns-in_default-clause-restored : goal.returns-in_default-clause-restored
+returns-in_default-clause-restored c =
     let last = header-value _ c.args.units.now.items c.args.header refl c.requires.some in
     let done = rw last.1 at c.restore_before.ensures in
     let units = c.restore_before.new.units.items in
