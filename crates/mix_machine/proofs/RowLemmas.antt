@@ -1,12 +1,12 @@
 -- A row of cells says the values of its cells, and putting its words back puts these back.
-use Rattle.std.proofs.Common.{ℕ, zero, suc, true, nat_lt, ◌≡◌, ◌+◌, ◌-◌, ◌*◌, ◌%◌, ◌<◌, ◌≤◌, ◌∙◌, List, [], ◌∷◌, ◌++◌, length, length-append, append_assoc, take, drop, get_or, reverse, Some, IsSome, ap, sym, refl, arith}
+use Rattle.std.proofs.Common.{ℕ, zero, suc, true, nat_lt, ◌≡◌, ◌+◌, ◌-◌, ◌*◌, ◌/◌, ◌%◌, ◌<◌, ◌≤◌, ◌∙◌, List, [], ◌∷◌, ◌++◌, length, length-append, append_assoc, take, drop, get_or, reverse, Some, IsSome, IsTrue, ap, sym, refl, arith}
 use Rattle.std.specs.Option.{option_and_then}
 use Rattle.std.proofs.lemmas.Bool.Decides.{nat_tests}
 use Rattle.std.proofs.lemmas.List.{length-take-le, length-drop, length-map, reverse-append, take-append-drop, take_all, take_more, take_at, drop_at, map_push}
 use Rattle.undo_core.specs.Replay.{put_back}
 use Rattle.mix_word.specs.Word.{WordValue}
 use Rattle.mix_machine.specs.World.{WorldState}
-use Rattle.mix_machine.specs.Write.{put_value, set_value}
+use Rattle.mix_machine.specs.Write.{put_value, set_value, fits}
 use Rattle.mix_machine.specs.Cells.{cell_values, words_of, with_words, IsRow}
 use Rattle.mix_machine.specs.law.Restored.{Restored}
 use Rattle.mix_machine.specs.declared.old.Old.{Old}
@@ -14,7 +14,7 @@ use Rattle.mix_machine.specs.declared.old.Old.TheVariants as old
 use Rattle.mix_machine.specs.declared.pack.kind.Kind.TheVariants as kind
 use Rattle.mix_machine.specs.Pack.{header_of, last_of, last_value, long_word, said, value_by}
 use Rattle.mix_machine.proofs.CopyLemmas.{length-cell_values}
-use Rattle.mix_machine.proofs.PackLemmas.{said-last, last-header, row-header, last-dropped, last-left, put-alone}
+use Rattle.mix_machine.proofs.PackLemmas.{said-last, said-one, last-header, row-header, last-dropped, last-left, put-alone, fits-alone}
 
 -- the header of a row of one cell
 lone-header : (n place bits : ℕ) (us : List ℕ) → n % 4096 ≡ place → place < 4000 → n < 8192 →
@@ -132,3 +132,34 @@ one-restored all left value w v is fits done = record {
   back = put-alone w v (drop (length all - 1) all) value (last-dropped all left value is) fits done;
   cut = sym (last-left all left value is);
 }
+
+-- units that end in the headers of a location and of a clock
+pub moment-said : (units rest : List ℕ) (location clock : ℕ) → units ≡ (rest ++ location ∷ []) ++ clock ∷ [] → location % 16 ≡ 0 → location / 16 ≤ 4000 →
+    clock % 16 ≡ 1 → said units ≡ said rest ++ old.Loc (location / 16) ∷ old.Clock (clock / 16) ∷ []
+moment-said units rest location clock is first place second =
+    let low : location / 16 % 65536 ≡ location / 16 = omega (arith, place) in
+    let header : location ≡ header_of kind.Location (location / 16) = omega (arith, first) in
+    let time : clock ≡ header_of kind.Clock (clock / 16) = omega (arith, second) in
+    said-one (rest ++ location ∷ []) units kind.Clock (clock / 16) clock (old.Clock (clock / 16)) time is refl
+    ∙ ap (λ (vs : List Old). vs ++ old.Clock (clock / 16) ∷ [])
+    (said-one rest (rest ++ location ∷ []) kind.Location (location / 16) location (old.Loc (location / 16)) header refl (rw low refl))
+    ∙ append_assoc (said rest) (old.Loc (location / 16) ∷ []) (old.Clock (clock / 16) ∷ [])
+
+-- the last of two values fits, which is put back first
+pub second-fits : (all left : List Old) (one two : Old) (w : WorldState) → all ≡ left ++ one ∷ two ∷ [] →
+    IsSome (put_back put_value (drop (length all - 1) all) w) → IsTrue (fits w two)
+second-fits all left one two w is some =
+    fits-alone w _ two (last-dropped all (left ++ one ∷ []) two (is ∙ sym (append_assoc left (one ∷ []) (two ∷ [])))) some
+
+-- two values put back
+pub two-restored : (all left : List Old) (one two : Old) (w v : WorldState) → all ≡ left ++ one ∷ two ∷ [] → IsTrue (fits w two) →
+    IsTrue (fits (set_value w two) one) → v ≡ set_value (set_value w two) one → Restored all left w v 2
+two-restored all left one two w v is second first done =
+    let len : length left ≡ length all - 2 = omega (arith, ap length is, length-append left (one ∷ two ∷ [])) in
+    let last : drop (length all - 2) all ≡ one ∷ two ∷ [] = ap (drop (length all - 2)) is ∙ drop_at left (one ∷ two ∷ []) _ len in
+    let put : put_back put_value (one ∷ two ∷ []) w ≡ Some (set_value (set_value w two) one) = rw (second, first) refl in
+    record {
+      some = omega arith;
+      back = ap (λ (os : List Old). put_back put_value os w) last ∙ put ∙ ap Some (sym done);
+      cut = sym (ap (take (length all - 2)) is ∙ take_at left (one ∷ two ∷ []) _ len);
+    }

@@ -1,6 +1,6 @@
 -- How old values stand in units of 32 bits. A value takes one to three of them, and the last is its header: the kind of the value in the
 -- lowest four bits, and 28 bits of the value itself, the payload. So units are read from the last one backwards.
-use Rattle.std.specs.Prelude.{ℕ, ◌+◌, ◌-◌, ◌*◌, ◌/◌, ◌%◌, ◌^◌, Bool, true, false, cond, nat_eq, nat_lt, zero, suc, List, [], ◌∷◌, ◌++◌, length, take, reverse, Option, None, Some, slice_get}
+use Rattle.std.specs.Prelude.{ℕ, ◌≡◌, ◌≤◌, ◌+◌, ◌-◌, ◌*◌, ◌/◌, ◌%◌, ◌^◌, Bool, true, false, cond, nat_eq, nat_lt, zero, suc, List, [], ◌∷◌, ◌++◌, length, take, reverse, Option, None, Some, slice_get}
 use Rattle.std.specs.Option.{option_map, option_map_or, option_and_then}
 use Rattle.mix_word.specs.Word.{WordValue, word}
 use Rattle.mix_word.specs.Register.{all_registers}
@@ -144,6 +144,11 @@ said units = values_before (length units) (reverse units)
 -- the last value as it is read from units before the header: the first ones of them are left, and maybe one more
 abbrev pub seen : List ℕ → Last Old → LastValue
 seen before last = last_of last.value (reverse (take last.left before ++ unit_list last.more))
+
+-- Units end in a location and a clock, and so many units before them say the other values. The machine has such a location.
+pub record IsMoment (units : List ℕ) (loc time left : ℕ) : Type 0 where
+  pub says : said units ≡ said (take left units) ++ old.Loc loc ∷ old.Clock time ∷ []
+  pub cell : loc ≤ 4000
 
 -- whether a kind is not one of those that a step has most of
 abbrev pub is_rare : Kind → Bool

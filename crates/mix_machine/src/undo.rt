@@ -3,7 +3,7 @@ ghost use Rattle.std.specs.Prelude.{◌≡◌, ◌-◌, ◌<◌, ◌≤◌, ◌+
 ghost use Rattle.undo_core.specs.Replay.{put_back};
 ghost use Rattle.mix_machine.specs.World.{IsWorld};
 ghost use Rattle.mix_machine.specs.Write.{put_value, set_value, fits};
-ghost use Rattle.mix_machine.specs.Pack.{last_value, said};
+ghost use Rattle.mix_machine.specs.Pack.{last_value, said, IsMoment};
 ghost use Rattle.mix_machine.specs.Cells.{IsRow};
 ghost use Rattle.mix_machine.specs.law.Restored.{Restored};
 ghost use Rattle.mix_machine.specs.Do.{does, kept_values, IsReal};
@@ -12,7 +12,7 @@ ghost use Rattle.mix_machine.specs.law.Undone.{undone-does};
 use crate::cells::put_words;
 use crate::fault::MixFault;
 use crate::old::{Change, Old};
-use crate::pack::{Kind, row_of, take_before, time};
+use crate::pack::{Kind, Moment, moment_of, register, row_of, short, take_before, time};
 use crate::world::World;
 use undo_core::{Kept, Refused, Undo};
 
@@ -53,9 +53,13 @@ impl Undo for World {
         self.set_value(old);
     }
 
-    /// Takes the last values of units off, and puts them back: the cells of a row, or one value. It takes no memory.
+    /// Takes the last values of units off, and puts them back: the location and the clock of a step, the cells of a row, or one value. It takes no memory.
     #[inline(always)]
     fn restore_some(&mut self, units: &mut Vec<u32>, most: usize) -> usize {
+        if let Some(moment) = moment_of(units, most) {
+            self.restore_moment(moment, units);
+            return 2;
+        }
         match units.pop() {
             Some(header) => self.restore_by(header, units, most),
             None => unreachable!(),
@@ -66,6 +70,18 @@ impl Undo for World {
 }
 
 impl World {
+    // Takes off and puts back the clock and the location in which units end.
+    #[inline(always)]
+    fn restore_moment(&mut self, moment: Moment, units: &mut Vec<u32>)
+        requires moment { IsMoment units.old.items moment.loc moment.time moment.left }
+        requires fits { IsSome (put_back put_value (drop (length (said units.old.items) - 1) (said units.old.items)) self.old) }
+        ensures { Restored (said units.old.items) (said units.new.items) self.old self.new 2 }
+    {
+        units.truncate(moment.left);
+        self.set_value(Old::Clock(time(moment.time, 0)));
+        self.set_value(Old::Loc(moment.loc));
+    }
+
     // The same before a header. Its kind is asked once: a row is one of the kinds.
     #[inline(always)]
     fn restore_by(&mut self, header: u32, units: &mut Vec<u32>, most: usize) -> usize
@@ -121,7 +137,7 @@ impl World {
         units.truncate(left);
     }
 
-    // Puts back the last value of units, before their header. A location and a clock, which each step keeps, are put back by their kind at once.
+    // Puts back the last value of units, before their header. What steps keep most is put back by its kind at once.
     #[inline(always)]
     fn restore_before(&mut self, header: u32, units: &mut Vec<u32>)
         requires room { vec_len units.old < vec_capacity units.old }
@@ -133,6 +149,10 @@ impl World {
         match Kind::of(header) {
             Some(Kind::Location) => self.set_value(Old::Loc((payload % 65536) as u16)),
             Some(Kind::Clock) => self.set_value(Old::Clock(time(payload, 0))),
+            Some(Kind::Register) => match register(payload % 16, short(payload / 16)) {
+                Some(held) => self.set_value(held),
+                None => unreachable!(),
+            },
             _ => match take_before(header, units) {
                 Some(value) => self.set_value(value),
                 None => unreachable!(),

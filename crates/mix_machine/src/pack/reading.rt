@@ -187,7 +187,8 @@ fn alone(value: Old, rest: &[u32]) -> Last<Old>
 }
 
 // The last two units, and those before them.
-fn last_two(units: &[u32]) -> Option<(u32, u32, &[u32])>
+#[inline(always)]
+pub(crate) fn last_two(units: &[u32]) -> Option<(u32, u32, &[u32])>
     ensures none { (says : ℕ → ℕ → Option Old) → MatchOption result (in_three says (reverse units.now) ≡ None) (λ _. Unit {0}) }
     ensures some { MatchOption result (Unit {0}) (λ r. units.now ≡ (r.2.now ++ r.0 ∷ []) ++ r.1 ∷ []) }
 {
@@ -205,7 +206,7 @@ pub(crate) fn time(low: u32, high: u32) -> Time
 
 // A word whose magnitude is below 2^23.
 #[inline(always)]
-fn short(bits: u32) -> Word
+pub(crate) fn short(bits: u32) -> Word
     ensures { result ≡ short_word bits }
 {
     let sign = if bits < 0x80_0000 {
@@ -229,7 +230,7 @@ pub(crate) fn long(bits: u32) -> Word
 }
 
 #[inline(always)]
-fn register(number: u32, word: Word) -> Option<Old>
+pub(crate) fn register(number: u32, word: Word) -> Option<Old>
     ensures { result ≡ register_value number word }
 {
     match reg(number) {

@@ -8,20 +8,20 @@ use Rattle.mix_machine.proofs.undo.WorldUndo.restore_some.Goals as goal
 
 pub restore_by-requires-clause-some : goal.restore_by-requires-clause-some
 restore_by-requires-clause-some c =
-    let same = ap length (ap said c.in-Some.ensures.items) in
+    let same = ap length (ap said c.in-Some-pop.ensures.items) in
     omega (arith, c.requires.some, c.requires.within, same)
 
 pub restore_by-requires-clause-fits : goal.restore_by-requires-clause-fits
 restore_by-requires-clause-fits c =
-    subst (λ (vs : List Old). IsSome (put_back put_value (drop (length vs - 1) vs) c.args.self.now)) (ap said c.in-Some.ensures.items) c.requires.fits
+    subst (λ (vs : List Old). IsSome (put_back put_value (drop (length vs - 1) vs) c.args.self.now)) (ap said c.in-Some-pop.ensures.items) c.requires.fits
 
 pub returns-clause-back : goal.returns-clause-back
 returns-clause-back c =
     let n = c.restore_by.result in
-    subst (λ (vs : List Old). put_back put_value (drop (length vs - n) vs) c.args.self.now ≡ Some c.restore_by.new.self) (sym (ap said c.in-Some.ensures.items))
+    subst (λ (vs : List Old). put_back put_value (drop (length vs - n) vs) c.args.self.now ≡ Some c.restore_by.new.self) (sym (ap said c.in-Some-pop.ensures.items))
     c.restore_by.ensures.restored.back
 
 pub returns-clause-cut : goal.returns-clause-cut
 returns-clause-cut c =
     let n = c.restore_by.result in
-    c.restore_by.ensures.restored.cut ∙ ap (λ (vs : List Old). take (length vs - n) vs) (sym (ap said c.in-Some.ensures.items))
+    c.restore_by.ensures.restored.cut ∙ ap (λ (vs : List Old). take (length vs - n) vs) (sym (ap said c.in-Some-pop.ensures.items))
