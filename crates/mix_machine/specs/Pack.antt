@@ -4,6 +4,7 @@ use Rattle.std.specs.Prelude.{ℕ, ◌≡◌, ◌≤◌, ◌+◌, ◌-◌, ◌*�
 use Rattle.std.specs.Option.{option_map, option_map_or, option_and_then}
 use Rattle.mix_word.specs.Word.{WordValue, word}
 use Rattle.mix_word.specs.Register.{all_registers}
+use Rattle.mix_word.specs.Uses.{unit_count}
 use Rattle.mix_word.specs.declared.word.Sign.TheVariants.{Plus, Minus}
 use Rattle.mix_word.specs.declared.word.Cmp.{Cmp}
 use Rattle.mix_word.specs.declared.word.Cmp.TheVariants as cmp
@@ -82,7 +83,7 @@ breakpoint_value n = value_if (nat_lt (n % 4096) 4000) (old.Break (n % 4096) (na
 
 -- a value of an input-output unit, if there is one of this number
 abbrev pub unit_value : ℕ → Old → Option Old
-unit_value unit v = value_if (nat_lt unit 21) v
+unit_value unit v = value_if (nat_lt unit unit_count) v
 
 -- a value that stands in its header alone, if it is one
 abbrev pub in_one : Option Old → List ℕ → Option LastValue

@@ -2,6 +2,7 @@
 ghost use Rattle.std.specs.Prelude.{◌≡◌, ◌<◌, ◌≤◌, ℕ, ◌^◌, ◌++◌, [], ◌∷◌, Option, Some, None, cond, nat_lt, IfSome, IsTrue, MatchOption, length, take, reverse, slice_get, vec_len, vec_capacity};
 ghost use Rattle.std.specs.Option.{option_map};
 ghost use Rattle.mix_word.specs.Register.{all_registers};
+ghost use Rattle.mix_word.specs.Uses.{unit_count};
 ghost use Rattle.undo_core.specs.Pack.{unit_list};
 ghost use Rattle.mix_machine.specs.declared.old.Old.{Old};
 ghost use Rattle.mix_machine.specs.declared.pack.kind.Kind.TheVariants as kind;
@@ -11,7 +12,7 @@ use crate::old::Old;
 use crate::pack::kind::Kind;
 use crate::time::Time;
 use crate::units::UnitNo;
-use mix_word::{Cmp, Place, Reg, Sign, Word};
+use mix_word::{Cmp, Place, Reg, Sign, UNITS, Word};
 use undo_core::Last;
 
 /// Takes off the last value of units, before their header, if there is one.
@@ -275,9 +276,9 @@ fn breakpoint(payload: u32) -> Option<Old>
 }
 
 fn unit_of(number: u32) -> Option<UnitNo>
-    ensures { result ≡ cond (nat_lt number 21) (Some number) None }
+    ensures { result ≡ cond (nat_lt number unit_count) (Some number) None }
 {
-    if number < 21 {
+    if number < u32::from(UNITS) {
         UnitNo::of(number as u8)
     } else {
         None

@@ -1,5 +1,6 @@
 //! IN, OUT, IOC, JBUS and JRED (1.3.1, "Input-output operators"): what they ask of the unit F, and what they move.
 ghost use Rattle.std.specs.Prelude.{◌≡◌, ◌<◌, ◌≤◌, ◌↔◌, ◌==◌, not, ◌||◌, ◌&&◌, Ok, Err, IsTrue, IsSome, IfSome, length, nat_lt, nat_le, true, false, if◌then◌else◌};
+ghost use Rattle.mix_word.specs.Uses.{unit_count};
 ghost use Rattle.mix_machine.specs.World.{unit_at};
 ghost use Rattle.mix_machine.specs.UnitAction.{is_busy, block_at, names_block, wound, bad_order};
 ghost use Rattle.mix_machine.specs.Effects.{effects};
@@ -14,12 +15,9 @@ use crate::fault::MixFault;
 use crate::plan::{Effects, Outcome, Transfer, Writes};
 use crate::step::move_words::is_row;
 use crate::step::transfer::goes_on;
-use crate::units::{Unit, UnitKind, UnitNo};
+use crate::units::{MOST_ENTRIES, Unit, UnitKind, UnitNo};
 use crate::world::World;
 use mix_word::{Operation, Reg, Sign};
-
-// The most blocks, and the most rows, that a unit holds.
-const MOST_ENTRIES: u16 = 1000;
 
 impl World {
     /// JBUS: a jump if the last transfer of the unit is not over at this clock.
@@ -171,7 +169,7 @@ impl World {
 
 // The number of the unit F.
 fn unit_number(f: u8) -> Result<UnitNo, MixFault>
-    ensures { result ≡ (if nat_lt 20 f then Err NoUnit else Ok f) }
+    ensures { result ≡ (if nat_le unit_count f then Err NoUnit else Ok f) }
 {
     match UnitNo::of(f) {
         None => Err(MixFault::NoUnit),

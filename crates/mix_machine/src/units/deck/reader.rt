@@ -6,13 +6,12 @@ ghost use Rattle.mix_machine.specs.units.Unit.{most_entries};
 ghost use Rattle.mix_machine.specs.units.deck.Block.{deck_words, words_from};
 ghost use Rattle.mix_machine.specs.units.deck.Deck.{Gives, nothing_read, no_card_read, reads_nothing, end_unit, begin_unit, header_line, blank_or, with_words, line_of_words, line_of_text, line_of_unit, line_below, line_read, kind_at, room_of};
 
-use crate::units::Units;
 use crate::units::deck::block::{deck_word, has_codes, has_more_words, is_too_long, word_at};
 use crate::units::deck::header::{Header, header_of, is_header};
 use crate::units::deck_fault::DeckKind;
 use crate::units::kind::UnitKind;
 use crate::units::number::UnitNo;
-use crate::units::unit::MOST_ENTRIES;
+use crate::units::{MOST_ENTRIES, Units};
 use mix_lines::{Words, next_word};
 use mix_word::Word;
 use std::alloc::Global;
