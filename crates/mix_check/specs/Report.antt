@@ -1,5 +1,5 @@
 -- What is wrong with a source, as a compiler reports it: `FILE:LINE:COLUMN: error: A7 undefined symbol`, the line, and a mark.
-use Rattle.std.specs.Prelude.{ℕ, ◌-◌, nat_lt, Bool, List, [], ◌∷◌, ◌++◌, length, take, slice_get, flat_map, Option, None, Some, Result, Ok, codes, decimal, if◌then◌else◌}
+use Rattle.std.specs.Prelude.{ℕ, ◌-◌, nat_lt, Bool, List, [], ◌∷◌, ◌++◌, length, take, slice_get, flat_map, Option, None, Some, option_map, Result, Ok, codes, decimal, if◌then◌else◌}
 use Rattle.mix_lines.specs.Lines.{lines}
 use Rattle.mixal_text.specs.declared.fault.TextFault.{TextFault}
 use Rattle.mixal_text.specs.declared.fault.TextFault.TheVariants.{NoSuchLocalSymbol}
@@ -64,18 +64,27 @@ abbrev pub column_line : List ℕ → AsmFault → ℕ → List ℕ
 column_line name fault column =
     name ++ 58 ∷ decimal fault.line ++ 58 ∷ decimal column ++ codes ": error: " ++ kind_line fault.kind ++ 10 ∷ []
 
-abbrev pub with_span : List ℕ → AsmFault → List ℕ → Option Span → List ℕ
-with_span name fault line None = headline name fault
-with_span name fault line (Some span) = column_line name fault (column_after (take span.from line)) ++ marked line span
+-- a line, and the bytes of it that a diagnostic is about
+abbrev pub Shown : Type 0
+Shown = List ℕ × Span
 
 -- no line is shown that is longer than a source may be
-abbrev pub with_line : List ℕ → AsmFault → Option (List ℕ) → List ℕ
-with_line name fault None = headline name fault
-with_line name fault (Some line) =
-    if nat_lt max_source_bytes (length line) then headline name fault else with_span name fault line (fault_span line fault.kind)
+abbrev pub shown_in : AsmFault → Option (List ℕ) → Option Shown
+shown_in fault None = None
+shown_in fault (Some line) =
+    if nat_lt max_source_bytes (length line) then None else option_map (λ span. (line, span)) (fault_span line fault.kind)
+
+-- the line of a fault, and the bytes of it that the fault is about, if it is about some
+abbrev pub shown_of : List ℕ → AsmFault → Option Shown
+shown_of source fault = shown_in fault (slice_get (lines source) (fault.line - 1))
+
+abbrev pub with_shown : List ℕ → AsmFault → Option Shown → List ℕ
+with_shown name fault None = headline name fault
+with_shown name fault (Some place) =
+    column_line name fault (column_after (take place.1.from place.0)) ++ marked place.0 place.1
 
 unfoldable pub fault_text : List ℕ → List ℕ → AsmFault → List ℕ
-fault_text name source fault = with_line name fault (slice_get (lines source) (fault.line - 1))
+fault_text name source fault = with_shown name fault (shown_of source fault)
 
 -- ---- a source
 

@@ -1,8 +1,12 @@
-//! What is wrong with a source, as a compiler reports it: each fault with its file, line and column, the line, and a mark.
+//! What is wrong with a source, as a compiler reports it: each fault with its file, line and column, the line, and a mark; or as
+//! one JSON object a line.
 #![tactic(auto)]
 
+mod json;
 mod mark;
+mod place;
 mod report;
 mod span;
 
+pub use json::add_json_report;
 pub use report::add_report;

@@ -1,14 +1,12 @@
 //! What is wrong with a source, as a compiler reports it.
 
-ghost use Rattle.std.specs.Prelude.{◌≡◌, ◌≤◌, ◌-◌, ◌++◌, IfOk, OnOk, length, option_map, slice_get};
-ghost use Rattle.mix_lines.specs.Lines.{lines};
-ghost use Rattle.mix_check.specs.Report.{column_line, fault_span, fault_text, has_faults, headline, report, with_span};
+ghost use Rattle.std.specs.Prelude.{◌≡◌, ◌++◌, IfOk, OnOk};
+ghost use Rattle.mix_check.specs.Report.{column_line, fault_text, has_faults, headline, report};
 
 use crate::mark::{add_marked, column_after};
-use crate::span::fault_span;
-use mix_lines::split_line;
+use crate::place::shown_of;
 use mix_refused::Memory;
-use mixal_asm::{AsmFault, MAX_SOURCE_BYTES, faults_of};
+use mixal_asm::{AsmFault, faults_of};
 use std::alloc::Global;
 
 /// Appends what is wrong with a source to a text, and says whether anything is: of each fault `FILE:LINE:COLUMN: error: A7
@@ -43,42 +41,8 @@ fn add_fault(
 ) -> Result<(), Memory>
     ensures { OnOk result (text.new.items ≡ text.old.items ++ fault_text name.now source.now fault) }
 {
-    match line_at(source, fault.line) {
-        Some(line) if line.len() <= MAX_SOURCE_BYTES => add_at(alloc, name, line, fault, text),
-        _ => add_headline(alloc, name, fault, text),
-    }
-}
-
-// The line of this number, counted from 1, if there is one.
-fn line_at(source: &[u8], number: u32) -> Option<&[u8]>
-    ensures { option_map (λ line. line.now) result ≡ slice_get (lines source.now) (number - 1) }
-{
-    let mut rest = source;
-    let mut left = number;
-    while !rest.is_empty() {
-        let (line, after) = split_line(rest);
-        if left <= 1 {
-            return Some(line);
-        }
-        left -= 1;
-        rest = after;
-    }
-    None
-}
-
-// Appends a fault at its line.
-fn add_at(
-    alloc: Global,
-    name: &str,
-    line: &[u8],
-    fault: AsmFault,
-    text: &mut Vec<u8>,
-) -> Result<(), Memory>
-    requires { length line.now ≤ 1048576 }
-    ensures { OnOk result (text.new.items ≡ text.old.items ++ with_span name.now fault line.now (fault_span line.now fault.kind)) }
-{
-    match fault_span(line, fault.kind) {
-        Some(span) => {
+    match shown_of(source, fault) {
+        Some((line, span)) => {
             let column = column_after(&line[..span.from]);
             add_column_line(alloc, name, fault, column, text)?;
             add_marked(text, line, span)?;

@@ -1,7 +1,7 @@
 use Rattle.std.proofs.Common.{◌≡◌, ◌-◌, length}
 use Rattle.std.specs.Prelude.{slice_get}
 use Rattle.mix_lines.specs.Lines.{lines}
-use Rattle.mix_check.proofs.report.line_at.Given as goal
+use Rattle.mix_check.proofs.place.line_at.Given as goal
 
 -- the line is that of a smaller number among those that are left
 abbrev pub invariant-loop-rest : goal.invariant-loop-rest
