@@ -40,7 +40,7 @@ first-append : {A : Type 0} (xs ys : List A) → slice_get (xs ++ ys) 0 ≡ opti
 first-append [] ys = refl
 first-append (x ∷ xs) ys = refl
 
-lookup-append : {K X : Type 0} (test : K → Bool) (xs ys : List (K × X)) → lookup test (xs ++ ys) ≡ option_or (lookup test xs) (lookup test ys)
+pub lookup-append : {K X : Type 0} (test : K → Bool) (xs ys : List (K × X)) → lookup test (xs ++ ys) ≡ option_or (lookup test xs) (lookup test ys)
 lookup-append test [] ys = refl
 lookup-append test (entry ∷ xs) ys =
     let P : Bool → Type 0 = λ b.

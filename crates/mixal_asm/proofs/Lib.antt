@@ -1,5 +1,6 @@
 pub mod TableLemmas
 pub mod ChainLemmas
+pub mod DiagnoseLemmas
 pub mod DraftLemmas
 pub mod IndexLemmas
 pub mod InsertLemmas

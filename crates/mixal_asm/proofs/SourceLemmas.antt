@@ -8,7 +8,7 @@ use Rattle.mixal_asm.specs.PassOne.{Before, number_after}
 use Rattle.mixal_asm.specs.Assembly.{program_from, fault_at}
 use Rattle.mixal_asm.specs.Faults.{program_with}
 
-nothing_in : (text : List ℕ) → (length text == 0) ≡ true → text ≡ []
+pub nothing_in : (text : List ℕ) → (length text == 0) ≡ true → text ≡ []
 nothing_in [] empty = refl
 nothing_in (byte ∷ text) empty = absurd (omega (arith, eqb-true _ _ empty))
 

@@ -12,3 +12,4 @@ pub mod Fed
 pub mod Listing
 pub mod Source
 pub mod Index
+pub mod Diagnose

@@ -190,8 +190,12 @@ fn lines_of(alloc: Global, rows: &[Row<'_>]) -> Result<IndexMap<Symbol, u32>, Me
     Ok(lines)
 }
 
-// One definition more, unless the symbol has one.
-fn note_line(lines: &mut IndexMap<Symbol, u32>, symbol: Symbol, number: u32) -> Result<(), Memory>
+/// One symbol more with its line, unless it is there.
+pub(crate) fn note_line(
+    lines: &mut IndexMap<Symbol, u32>,
+    symbol: Symbol,
+    number: u32,
+) -> Result<(), Memory>
     ensures { (other : List ℕ) → OnOk result (lookup (bytes_eq other) lines.new.entries ≡ lookup (bytes_eq other) (lines.old.entries ++ (symbol, number) ∷ [])) }
 {
     if !lines.contains_key(&symbol) {
@@ -229,7 +233,7 @@ fn symbol_of_line(line: Line<'_>) -> Option<Symbol>
     }
 }
 
-fn symbol_of_loc(loc: Option<Label>) -> Option<Symbol>
+pub(crate) fn symbol_of_loc(loc: Option<Label>) -> Option<Symbol>
     ensures { result ≡ symbol_of_loc loc }
 {
     match loc {

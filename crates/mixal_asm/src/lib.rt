@@ -3,6 +3,8 @@
 
 mod assembler;
 mod code;
+mod diagnosis;
+mod diagnostic;
 mod draft;
 mod end;
 mod fault;
@@ -14,6 +16,7 @@ mod key;
 mod lines;
 mod listing;
 mod mended;
+mod mentions;
 mod names;
 mod program;
 mod read;
@@ -24,6 +27,8 @@ mod symbols;
 mod words;
 
 pub use assembler::Assembler;
+pub use diagnosis::diagnose;
+pub use diagnostic::{Diagnostic, Finding, Warning};
 pub use fault::{AsmFault, AsmKind};
 pub use faults::{MAX_FAULTS, faults_of};
 pub use fed::Fed;

@@ -17,3 +17,4 @@ pub mod Span
 pub mod Address
 pub mod ExpressionSpan
 pub mod AddressSpan
+pub mod Slips

@@ -1,0 +1,150 @@
+-- What there is to say of a source (1.3.2): its faults, and what is allowed in it and hardly meant.
+use Rattle.std.specs.Prelude.{ℕ, ◌+◌, ◌==◌, ◌&&◌, ◌||◌, nat_eq, nat_lt, not, Bool, true, false, List, [], ◌∷◌, ◌++◌, length, insert, is_none, Option, Some, None, Result, Ok, Err, codes, if◌then◌else◌}
+use Rattle.std.specs.List.{position_or_len}
+use Rattle.std.specs.Map.{lookup}
+use Rattle.std.specs.Str.{bytes_eq}
+use Rattle.mix_lines.specs.Lines.{lines, is_comment}
+use Rattle.mixal_text.specs.declared.fault.TextFault.{TextFault}
+use Rattle.mixal_text.specs.declared.label.Label.{Label}
+use Rattle.mixal_text.specs.declared.op.Mnemonic.{Mnemonic}
+use Rattle.mixal_text.specs.declared.op.Mnemonic.TheVariants.{Machine, Equ, Orig, Con, Alf, End}
+use Rattle.mixal_text.specs.declared.slips.Slip.{Slip}
+use Rattle.mixal_text.specs.declared.slips.Slip.TheVariants.{OperationAsLabel, AlfCut, BlankInAddress}
+use Rattle.mixal_text.specs.Line.{loc_of_line, op_of_line}
+use Rattle.mixal_text.specs.Slips.{has_slip, symbol_used}
+use Rattle.mixal_asm.specs.declared.fault.AsmFault.{AsmFault}
+use Rattle.mixal_asm.specs.declared.diagnostic.Diagnostic.{Diagnostic}
+use Rattle.mixal_asm.specs.declared.diagnostic.Finding.{Finding}
+use Rattle.mixal_asm.specs.declared.diagnostic.Finding.TheVariants as finding
+use Rattle.mixal_asm.specs.declared.diagnostic.Warning.{Warning}
+use Rattle.mixal_asm.specs.declared.diagnostic.Warning.TheVariants as warning
+use Rattle.mixal_asm.specs.declared.mentions.Role.{Role}
+use Rattle.mixal_asm.specs.declared.mentions.Role.TheVariants as role
+use Rattle.mixal_asm.specs.Source.{is_that, symbol_of_loc}
+use Rattle.mixal_asm.specs.Assembly.{max_source_bytes}
+use Rattle.mixal_asm.specs.Faults.{faults_of}
+
+-- ---- the lines up to END, that of END included
+
+abbrev pub is_end_op : Result Mnemonic TextFault → Bool
+is_end_op (Ok (Machine operation)) = false
+is_end_op (Ok Equ) = false
+is_end_op (Ok Orig) = false
+is_end_op (Ok Con) = false
+is_end_op (Ok Alf) = false
+is_end_op (Ok End) = true
+is_end_op (Err fault) = false
+
+abbrev pub is_end : List ℕ → Bool
+is_end text = not (is_comment text) && is_end_op (op_of_line text)
+
+abbrev pub up_to_end : List (List ℕ) → List (List ℕ)
+up_to_end [] = []
+up_to_end (text ∷ more) = text ∷ (if is_end text then [] else up_to_end more)
+
+-- ---- the symbols that lines mention, each with the number of its line
+
+abbrev pub symbol_of_read_loc : Result (Option Label) TextFault → Option (List ℕ)
+symbol_of_read_loc (Ok loc) = symbol_of_loc loc
+symbol_of_read_loc (Err fault) = None
+
+-- the LOC of a line, whatever the rest of it is, or the A-part of its instruction
+abbrev pub symbol_in : Role → List ℕ → Option (List ℕ)
+symbol_in role.Definition text = symbol_of_read_loc (loc_of_line text)
+symbol_in role.Use text = symbol_used text
+
+abbrev pub with_number : ℕ → Option (List ℕ) → List (List ℕ × ℕ)
+with_number n None = []
+with_number n (Some symbol) = (symbol, n) ∷ []
+
+-- in lines the first of which has this number
+abbrev pub mentions_from : Role → ℕ → List (List ℕ) → List (List ℕ × ℕ)
+mentions_from r n [] = []
+mentions_from r n (text ∷ more) = with_number n (symbol_in r text) ++ mentions_from r (n + 1) more
+
+-- the first line that mentions a symbol
+abbrev pub first_line : List (List ℕ × ℕ) → List ℕ → Option ℕ
+first_line mentions symbol = lookup (bytes_eq symbol) mentions
+
+-- ---- warnings
+
+abbrev pub warning_at : ℕ → Warning → List Diagnostic
+warning_at n w = record { line = n; finding = finding.Warning w } ∷ []
+
+-- a symbol that this line is the first to use, and that is the LOC of no line
+abbrev pub undefined_at : List (List ℕ × ℕ) → List (List ℕ × ℕ) → ℕ → Option (List ℕ) → List Diagnostic
+undefined_at uses definitions n None = []
+undefined_at uses definitions n (Some symbol) =
+    if is_that n (first_line uses symbol) && is_none (first_line definitions symbol) then warning_at n (warning.UndefinedSymbol symbol) else []
+
+abbrev pub slip_at : ℕ → List ℕ → Slip → List Diagnostic
+slip_at n text slip = if has_slip text slip then warning_at n (warning.Slip slip) else []
+
+-- what comes first, and then the slips of a line
+abbrev pub with_slips : ℕ → List ℕ → List Diagnostic → List Diagnostic
+with_slips n text first = first ++ slip_at n text OperationAsLabel ++ slip_at n text AlfCut ++ slip_at n text BlankInAddress
+
+-- the warnings of a line, by the symbols that lines use and define
+unfoldable pub line_warnings : List (List ℕ × ℕ) → List (List ℕ × ℕ) → ℕ → List ℕ → List Diagnostic
+line_warnings uses definitions n text = with_slips n text (undefined_at uses definitions n (symbol_used text))
+
+abbrev pub warnings_from : List (List ℕ × ℕ) → List (List ℕ × ℕ) → ℕ → List (List ℕ) → List Diagnostic
+warnings_from uses definitions n [] = []
+warnings_from uses definitions n (text ∷ more) =
+    line_warnings uses definitions n text ++ warnings_from uses definitions (n + 1) more
+
+abbrev pub warnings_in : List (List ℕ) → List Diagnostic
+warnings_in texts = warnings_from (mentions_from role.Use 1 texts) (mentions_from role.Definition 1 texts) 1 texts
+
+-- the warnings of a source, in the order of its lines. One of too many bytes is not looked at
+abbrev pub warnings_of : List ℕ → List Diagnostic
+warnings_of source = if nat_lt max_source_bytes (length source) then [] else warnings_in (up_to_end (lines source))
+
+-- ---- faults among warnings
+
+abbrev pub is_warning : Finding → Bool
+is_warning (finding.Fault kind) = false
+is_warning (finding.Warning w) = true
+
+-- whether a diagnostic goes after a fault that is put among those before: it is of a later line, or a warning of the same
+abbrev pub goes_after : AsmFault → Diagnostic → Bool
+goes_after fault d = nat_lt fault.line d.line || (fault.line == d.line && is_warning d.finding)
+
+abbrev pub of_fault : AsmFault → Diagnostic
+of_fault fault = record { line = fault.line; finding = finding.Fault fault.kind }
+
+abbrev pub with_fault : List Diagnostic → AsmFault → List Diagnostic
+with_fault ds fault = insert ds (position_or_len (goes_after fault) ds) (of_fault fault)
+
+abbrev pub with_faults : List Diagnostic → List AsmFault → List Diagnostic
+with_faults ds [] = ds
+with_faults ds (fault ∷ faults) = with_faults (with_fault ds fault) faults
+
+-- what there is to say of a source: its faults in their order, put among its warnings by their lines
+unfoldable pub diagnostics_of : List ℕ → List Diagnostic
+diagnostics_of source = with_faults (warnings_of source) (faults_of source)
+
+-- ---- how a warning is written
+
+-- the symbol that it is about, with which its text begins
+abbrev pub warning_subject : Warning → List ℕ
+warning_subject (warning.UndefinedSymbol symbol) = symbol
+warning_subject (warning.Slip slip) = []
+
+abbrev pub slip_name : Slip → List ℕ
+slip_name OperationAsLabel = codes "operation-as-label"
+slip_name AlfCut = codes "alf-cut"
+slip_name BlankInAddress = codes "blank-in-address"
+
+abbrev pub warning_name : Warning → List ℕ
+warning_name (warning.UndefinedSymbol symbol) = codes "undefined-symbol"
+warning_name (warning.Slip slip) = slip_name slip
+
+abbrev pub slip_text : Slip → List ℕ
+slip_text OperationAsLabel = codes "the label is the name of an operation: if that is meant, begin the line with a blank"
+slip_text AlfCut = codes "ALF takes five characters, and its text has more of them, or begins later"
+slip_text BlankInAddress = codes "a blank ends the address: what follows is a remark"
+
+abbrev pub warning_text : Warning → List ℕ
+warning_text (warning.UndefinedSymbol symbol) = codes " is defined nowhere: END makes a cell of 0 for it"
+warning_text (warning.Slip slip) = slip_text slip

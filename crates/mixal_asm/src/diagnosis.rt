@@ -1,0 +1,192 @@
+//! All that there is to say of a source (1.3.2).
+ghost use Rattle.std.specs.Prelude.{◌≡◌, ◌≤◌, ◌++◌, length, position, IfOk, OnOk};
+ghost use Rattle.std.specs.List.{position_or_len};
+ghost use Rattle.mix_lines.specs.Lines.{lines};
+ghost use Rattle.mixal_asm.specs.Diagnose.{diagnostics_of, first_line, goes_after, is_warning, line_warnings, slip_at, undefined_at, up_to_end, warning_at, warnings_from, warnings_in, warnings_of, with_fault, with_faults};
+ghost use Rattle.mixal_text.specs.Slips.{symbol_used};
+ghost use Rattle.mixal_asm.specs.Source.{is_that};
+
+use crate::diagnostic::{Diagnostic, Finding, Warning};
+use crate::fault::AsmFault;
+use crate::faults::faults_of;
+use crate::mentions::{Role, mentions, next_line};
+use crate::source::MAX_SOURCE_BYTES;
+use indexmap::IndexMap;
+use mix_refused::Memory;
+use mixal_text::{Slip, Symbol, has_slip, symbol_used};
+use std::alloc::Global;
+
+/// What there is to say of a source (1.3.2), in the order of its lines: its faults, as `faults_of` has them, and before a later line
+/// its warnings. A warning is no fault: where all are warnings, `assemble` gives a program.
+#[tactic(auto, unfolding(crate::specs::Diagnose::diagnostics_of))]
+pub fn diagnose(alloc: Global, text: &[u8]) -> Result<Vec<Diagnostic>, Memory>
+    ensures diagnostics { IfOk result (λ list. list.items ≡ diagnostics_of text.now) }
+{
+    let faults = faults_of(alloc, text)?;
+    let mut list = warnings_of(alloc, text)?;
+    put_faults(&mut list, &faults)?;
+    Ok(list)
+}
+
+// Puts faults, in their order, among what there is by their lines.
+fn put_faults(list: &mut Vec<Diagnostic>, faults: &[AsmFault]) -> Result<(), Memory>
+    ensures { OnOk result (list.new.items ≡ with_faults list.old.items faults.now) }
+{
+    let mut rest = faults;
+    while let [fault, more @ ..] = rest {
+        put_fault(list, *fault)?;
+        rest = more;
+    }
+    Ok(())
+}
+
+// Puts a fault among what is of its line and of later ones.
+fn put_fault(list: &mut Vec<Diagnostic>, fault: AsmFault) -> Result<(), Memory>
+    ensures { OnOk result (list.new.items ≡ with_fault list.old.items fault) }
+{
+    let at = place_for(list, fault);
+    list.insert(
+        at,
+        Diagnostic {
+            line: fault.line,
+            finding: Finding::Fault(fault.kind),
+        },
+    )?;
+    Ok(())
+}
+
+#[tactic(auto, using(crate::proofs::DiagnoseLemmas::missed))]
+fn place_for(list: &[Diagnostic], fault: AsmFault) -> usize
+    ensures is { result ≡ position_or_len (goes_after fault) list.now }
+    ensures within { result ≤ length list.now }
+{
+    match after(list, fault) {
+        Some(at) => at,
+        None => list.len(),
+    }
+}
+
+fn after(list: &[Diagnostic], fault: AsmFault) -> Option<usize>
+    ensures { result ≡ position (goes_after fault) list.now }
+{
+    list.iter().position(|other| goes_after(fault, other))
+}
+
+fn goes_after(fault: AsmFault, other: &Diagnostic) -> bool
+    ensures { result ≡ goes_after fault other.now }
+{
+    fault.line < other.line || (fault.line == other.line && is_warning(&other.finding))
+}
+
+fn is_warning(finding: &Finding) -> bool
+    ensures { result ≡ is_warning finding.now }
+{
+    matches!(finding, Finding::Warning(_))
+}
+
+// The warnings of a source. One of too many bytes is not looked at.
+fn warnings_of(alloc: Global, text: &[u8]) -> Result<Vec<Diagnostic>, Memory>
+    ensures { IfOk result (λ list. list.items ≡ warnings_of text.now) }
+{
+    if text.len() > MAX_SOURCE_BYTES {
+        return Ok(Vec::new(alloc));
+    }
+    warnings_in(alloc, text)
+}
+
+fn warnings_in(alloc: Global, text: &[u8]) -> Result<Vec<Diagnostic>, Memory>
+    requires { length text.now ≤ 1048576 }
+    ensures { IfOk result (λ list. list.items ≡ warnings_in (up_to_end (lines text.now))) }
+{
+    let uses = mentions(alloc, Role::Use, text)?;
+    let definitions = mentions(alloc, Role::Definition, text)?;
+    let mut list = Vec::new(alloc);
+    add_warnings(&mut list, &uses, &definitions, text)?;
+    Ok(list)
+}
+
+// Appends the warnings of the lines of a text.
+fn add_warnings(
+    list: &mut Vec<Diagnostic>,
+    uses: &IndexMap<Symbol, u32>,
+    definitions: &IndexMap<Symbol, u32>,
+    text: &[u8],
+) -> Result<(), Memory>
+    requires { length text.now ≤ 1048576 }
+    ensures { OnOk result (list.new.items ≡ list.old.items ++ warnings_from uses.now.entries definitions.now.entries 1 (up_to_end (lines text.now))) }
+{
+    let mut number = 1;
+    let mut rest = text;
+    while let Some((line, after)) = next_line(rest) {
+        add_line_warnings(list, uses, definitions, number, line)?;
+        number += 1;
+        rest = after;
+    }
+    Ok(())
+}
+
+#[tactic(auto, unfolding(crate::specs::Diagnose::line_warnings))]
+fn add_line_warnings(
+    list: &mut Vec<Diagnostic>,
+    uses: &IndexMap<Symbol, u32>,
+    definitions: &IndexMap<Symbol, u32>,
+    number: u32,
+    line: &[u8],
+) -> Result<(), Memory>
+    ensures { OnOk result (list.new.items ≡ list.old.items ++ line_warnings uses.now.entries definitions.now.entries number line.now) }
+{
+    add_undefined(list, uses, definitions, number, line)?;
+    add_slip(list, number, line, Slip::OperationAsLabel)?;
+    add_slip(list, number, line, Slip::AlfCut)?;
+    add_slip(list, number, line, Slip::BlankInAddress)
+}
+
+// A symbol that a line is the first to use, and that is the LOC of no line.
+fn add_undefined(
+    list: &mut Vec<Diagnostic>,
+    uses: &IndexMap<Symbol, u32>,
+    definitions: &IndexMap<Symbol, u32>,
+    number: u32,
+    line: &[u8],
+) -> Result<(), Memory>
+    ensures { OnOk result (list.new.items ≡ list.old.items ++ undefined_at uses.now.entries definitions.now.entries number (symbol_used line.now)) }
+{
+    match symbol_used(line) {
+        Some(symbol) => {
+            if is_first(uses, &symbol, number) && !definitions.contains_key(&symbol) {
+                push_warning(list, number, Warning::UndefinedSymbol(symbol))?;
+            }
+            Ok(())
+        }
+        None => Ok(()),
+    }
+}
+
+// Whether a line is the first one that uses a symbol.
+fn is_first(uses: &IndexMap<Symbol, u32>, symbol: &Symbol, number: u32) -> bool
+    ensures { result ≡ is_that number (first_line uses.now.entries symbol.now) }
+{
+    match uses.get(symbol) {
+        Some(first) => *first == number,
+        None => false,
+    }
+}
+
+fn add_slip(list: &mut Vec<Diagnostic>, number: u32, line: &[u8], slip: Slip) -> Result<(), Memory>
+    ensures { OnOk result (list.new.items ≡ list.old.items ++ slip_at number line.now slip) }
+{
+    if has_slip(line, slip) {
+        push_warning(list, number, Warning::Slip(slip))?;
+    }
+    Ok(())
+}
+
+fn push_warning(list: &mut Vec<Diagnostic>, line: u32, warning: Warning) -> Result<(), Memory>
+    ensures { OnOk result (list.new.items ≡ list.old.items ++ warning_at line warning) }
+{
+    list.push(Diagnostic {
+        line,
+        finding: Finding::Warning(warning),
+    })?;
+    Ok(())
+}

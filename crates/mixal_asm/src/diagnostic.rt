@@ -1,0 +1,83 @@
+//! What there is to say of a source: a fault, or a warning of what is allowed and hardly meant.
+ghost use Rattle.std.specs.Prelude.{◌≡◌};
+ghost use Rattle.mixal_asm.specs.Diagnose.{slip_name, slip_text, warning_name, warning_subject, warning_text};
+
+use crate::fault::AsmKind;
+use mixal_text::{Slip, Symbol};
+
+/// What is allowed in a source and hardly meant (1.3.2).
+#[derive(Drop)]
+pub enum Warning {
+    /// The first use of a symbol that is the LOC of no line, so that END makes a cell of 0 for it.
+    UndefinedSymbol(Symbol),
+    /// A slip of the line.
+    Slip(Slip),
+}
+
+/// A fault, or a warning.
+#[derive(Drop)]
+pub enum Finding {
+    Fault(AsmKind),
+    Warning(Warning),
+}
+
+/// What there is to say of a line of a source (1.3.2), by its number, counted from 1.
+#[derive(Drop)]
+pub struct Diagnostic {
+    pub line: u32,
+    pub finding: Finding,
+}
+
+impl Warning {
+    /// The name by which it is known, as `undefined-symbol`.
+    pub fn name(&self) -> &'static str
+        ensures { result.now ≡ warning_name self.now }
+    {
+        match self {
+            Warning::UndefinedSymbol(_) => "undefined-symbol",
+            Warning::Slip(slip) => slip_name(*slip),
+        }
+    }
+
+    /// The symbol that it is about, with which its text begins, or nothing.
+    pub fn subject(&self) -> &[u8]
+        ensures { result.now ≡ warning_subject self.now }
+    {
+        match self {
+            Warning::UndefinedSymbol(symbol) => symbol.name(),
+            Warning::Slip(_) => &[],
+        }
+    }
+
+    /// Its text after that.
+    pub fn text(&self) -> &'static str
+        ensures { result.now ≡ warning_text self.now }
+    {
+        match self {
+            Warning::UndefinedSymbol(_) => " is defined nowhere: END makes a cell of 0 for it",
+            Warning::Slip(slip) => slip_text(*slip),
+        }
+    }
+}
+
+fn slip_name(slip: Slip) -> &'static str
+    ensures { result.now ≡ slip_name slip }
+{
+    match slip {
+        Slip::OperationAsLabel => "operation-as-label",
+        Slip::AlfCut => "alf-cut",
+        Slip::BlankInAddress => "blank-in-address",
+    }
+}
+
+fn slip_text(slip: Slip) -> &'static str
+    ensures { result.now ≡ slip_text slip }
+{
+    match slip {
+        Slip::OperationAsLabel => {
+            "the label is the name of an operation: if that is meant, begin the line with a blank"
+        }
+        Slip::AlfCut => "ALF takes five characters, and its text has more of them, or begins later",
+        Slip::BlankInAddress => "a blank ends the address: what follows is a remark",
+    }
+}

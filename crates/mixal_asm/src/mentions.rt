@@ -1,0 +1,98 @@
+//! The symbols that the lines of a source define and use, each with its first line (1.3.2).
+ghost use Rattle.std.specs.Prelude.{◌≡◌, ◌<◌, ◌≤◌, ◌+◌, ◌++◌, ◌∷◌, [], ℕ, List, length, MatchOption, IfSome, IfOk, OnOk};
+ghost use Rattle.std.specs.Map.{lookup};
+ghost use Rattle.std.specs.Str.{bytes_eq};
+ghost use Rattle.mix_lines.specs.Lines.{lines};
+ghost use Rattle.mixal_asm.specs.Diagnose.{is_end, mentions_from, symbol_in, symbol_of_read_loc, up_to_end, with_number};
+ghost use Rattle.mixal_text.specs.Line.{loc_of_line};
+
+use crate::index::{note_line, symbol_of_loc};
+use indexmap::IndexMap;
+use mix_lines::{is_comment, split_line};
+use mix_refused::Memory;
+use mixal_text::{Mnemonic, Symbol, line_loc, line_op, symbol_used};
+use std::alloc::Global;
+
+/// What a line does with a symbol: it is its LOC, or the A-part of its instruction.
+#[derive(Clone, Copy)]
+pub(crate) enum Role {
+    Definition,
+    Use,
+}
+
+/// The next line of a text, and the text after it, which is empty after END.
+pub(crate) fn next_line(text: &[u8]) -> Option<(&[u8], &[u8])>
+    ensures line { MatchOption result
+        (up_to_end (lines text.now) ≡ [])
+        (λ next. up_to_end (lines text.now) ≡ next.0.now ∷ up_to_end (lines next.1.now)) }
+    ensures shorter { IfSome result (λ next. length next.1.now < length text.now) }
+{
+    if text.is_empty() {
+        return None;
+    }
+    let (line, rest) = split_line(text);
+    if is_end(line) {
+        Some((line, &[]))
+    } else {
+        Some((line, rest))
+    }
+}
+
+fn is_end(line: &[u8]) -> bool
+    ensures { result ≡ is_end line.now }
+{
+    !is_comment(line) && matches!(line_op(line), Ok(Mnemonic::End))
+}
+
+/// The symbols that the lines of a text mention in this role, each with the number of its first line.
+pub(crate) fn mentions(
+    alloc: Global,
+    role: Role,
+    text: &[u8],
+) -> Result<IndexMap<Symbol, u32>, Memory>
+    requires { length text.now ≤ 1048576 }
+    ensures { (symbol : List ℕ) → IfOk result (λ found. lookup (bytes_eq symbol) found.entries ≡ lookup (bytes_eq symbol) (mentions_from role 1 (up_to_end (lines text.now)))) }
+{
+    let mut found = IndexMap::new(alloc);
+    let mut number = 1;
+    let mut rest = text;
+    while let Some((line, after)) = next_line(rest) {
+        note_mention(&mut found, role, number, line)?;
+        number += 1;
+        rest = after;
+    }
+    Ok(found)
+}
+
+// The symbol that a line mentions, unless one before has.
+fn note_mention(
+    found: &mut IndexMap<Symbol, u32>,
+    role: Role,
+    number: u32,
+    line: &[u8],
+) -> Result<(), Memory>
+    ensures { (other : List ℕ) → OnOk result (lookup (bytes_eq other) found.new.entries ≡ lookup (bytes_eq other) (found.old.entries ++ with_number number (symbol_in role line.now))) }
+{
+    match symbol_in(role, line) {
+        Some(symbol) => note_line(found, symbol, number),
+        None => Ok(()),
+    }
+}
+
+fn symbol_in(role: Role, line: &[u8]) -> Option<Symbol>
+    ensures { result ≡ symbol_in role line.now }
+{
+    match role {
+        Role::Definition => symbol_defined(line),
+        Role::Use => symbol_used(line),
+    }
+}
+
+fn symbol_defined(line: &[u8]) -> Option<Symbol>
+    ensures { result ≡ symbol_of_read_loc (loc_of_line line.now) }
+{
+    match line_loc(line) {
+        Ok(loc) => symbol_of_loc(loc),
+        Err(_) => None,
+    }
+}
