@@ -2,11 +2,11 @@
 //! one JSON object a line.
 #![tactic(auto)]
 
-mod json;
 mod mark;
+mod objects;
 mod place;
 mod report;
 mod span;
 
-pub use json::add_json_report;
+pub use objects::add_json_report;
 pub use report::add_report;
