@@ -4,7 +4,9 @@ use crate::reader::{bytes, number, one_text, three, two};
 use crate::writer::{push, push_bytes, push_value, text};
 use mix_refused::Refused;
 use mix_word::{Place, Word};
-use mixal_asm::{AsmFault, Assembler, Fed, Program, Source, assemble, faults_of};
+use mixal_asm::{
+    AsmFault, Assembler, Diagnostic, Fed, Finding, Program, Source, assemble, diagnose, faults_of,
+};
 use mixal_text::{Names, Symbol};
 use std::alloc::Global;
 use std::fmt::Write;
@@ -18,6 +20,7 @@ pub fn answer(alloc: Global, kind: &str, fields: &[&str]) -> Option<String> {
         "long" => long(alloc, three(fields)?),
         "faults" => faults(alloc, &one_text(alloc, fields)?),
         "many faults" => many_faults(alloc, three(fields)?),
+        "diagnoses" => diagnoses(alloc, &one_text(alloc, fields)?),
         "waiting" => waiting(alloc, &one_text(alloc, fields)?),
         "listing" => listing(alloc, &one_text(alloc, fields)?),
         "failed listing" => failed_listing(alloc, fields),
@@ -123,6 +126,32 @@ fn many_faults(alloc: Global, parts: (&str, &str, &str)) -> Option<String> {
         None => push(&mut answer, "none")?,
     }
     Some(answer)
+}
+
+// What there is to say of a source: a line, and the number of a fault, or the name of a warning and the symbol that it is about.
+fn diagnoses(alloc: Global, source: &[u8]) -> Option<String> {
+    let mut answer = String::new(alloc);
+    for told in &diagnose(alloc, source).ok()? {
+        push_diagnostic(&mut answer, told)?;
+    }
+    Some(answer)
+}
+
+fn push_diagnostic(answer: &mut String, told: &Diagnostic) -> Option<()> {
+    match &told.finding {
+        Finding::Fault(kind) => push_fault(
+            answer,
+            AsmFault {
+                line: told.line,
+                kind: *kind,
+            },
+        ),
+        Finding::Warning(warning) => {
+            write!(answer, "{} {} ", told.line, warning.name()).ok()?;
+            push_bytes(answer, warning.subject())?;
+            push(answer, ", ")
+        }
+    }
 }
 
 // How many future references wait after each line, up to END.
