@@ -156,7 +156,7 @@ export class App extends Desk {
   }
 
   // Puts a program in, with its deck; does the lines of the script that are done, and shows those that are left.
-  open({ source, deck }, { done, left, breaks }) {
+  open({ source, deck }, { done, left, breaks, bars }) {
     clearTimeout(this.timer);
     this.timer = 0;
     this.queue.drop();
@@ -174,6 +174,7 @@ export class App extends Desk {
       this.talk.setScript([...done, ...left]);
       this.talk.show([]);
       await this.begin();
+      if (this.session) this.views.bars.open(bars, [...done, ...left]);
       if (this.session && done.length > 0) await this.actScript(done);
       this.isEdited = false;
     });
@@ -184,6 +185,6 @@ export class App extends Desk {
     const { source, deck } = this.texts();
     const done = this.session ? this.session.log.map(({ command }) => command) : [];
     const breaks = [...this.listing.breaks].sort((a, b) => a - b);
-    return { source, deck, script: scriptOf({ done, left: this.talk.lines, breaks, lesson }) };
+    return { source, deck, script: scriptOf({ done, left: this.talk.lines, breaks, bars: this.views.bars.kept, lesson }) };
   }
 }

@@ -5,6 +5,7 @@ const HEADER_OF_CARDS = /^%unit[ \t]+0?16(?![0-9])/i;
 const KEPT = "* Kept by the page, and no commands:";
 const LESSON = "* lesson: ";
 const BREAKS = "* breakpoints at lines: ";
+const BARS = "* bars: ";
 const LEFT = "* still to do: ";
 
 export const linesOf = (text) => text.replace(/\r\n?/g, "\n").split("\n");
@@ -41,10 +42,11 @@ export function isBundle(text) {
 }
 
 // A script of the commands that were done, and behind them, as remarks, what else the page holds.
-export function scriptOf({ done, left, breaks, lesson }) {
+export function scriptOf({ done, left, breaks, bars, lesson }) {
   const kept = [];
   if (lesson) kept.push(LESSON + lesson);
   if (breaks.length > 0) kept.push(BREAKS + breaks.join(" "));
+  if (bars) kept.push(BARS + bars);
   kept.push(...left.map((line) => LEFT + line));
   if (kept.length > 0) kept.unshift(KEPT);
   return [...done, ...kept].map((line) => `${line}\n`).join("");
@@ -60,6 +62,7 @@ export function keptIn(script) {
     done: at < 0 ? lines : lines.slice(0, at),
     left: after(LEFT),
     breaks: after(BREAKS).join(" ").split(" ").map(Number).filter((line) => line > 0),
+    bars: after(BARS)[0] || "",
     lesson: after(LESSON)[0] || "",
   };
 }

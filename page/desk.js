@@ -1,6 +1,6 @@
 // The texts, the session of what they say, and the views of where it is. What is asked for is done one after another.
 
-import { $, counted, put } from "./dom.js";
+import { $, copied, counted, put } from "./dom.js";
 import { withCards } from "./bundle.js";
 import { showRefusal } from "./faults.js";
 import { Listing } from "./listing.js";
@@ -41,6 +41,7 @@ export class Desk {
       ask,
       look: () => this.enqueue(async () => this.show(await this.session.look(this.session.done), "")),
       values: (expressions) => this.enqueue(() => this.session.values(expressions)),
+      copy: (text, name) => this.copy(text, name),
     });
   }
 
@@ -141,6 +142,12 @@ export class Desk {
     $("status").classList.toggle("fault", isFault);
     put($("did"), did);
     put($("next"), next);
+  }
+
+  // Copies a text, and says so.
+  async copy(text, name) {
+    const isDone = await copied(text);
+    this.tell(isDone ? `${name} is copied.` : "This browser does not let the page copy.", !isDone);
   }
 
   // Begins anew with the texts as they are.

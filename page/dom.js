@@ -23,6 +23,31 @@ export function mark(element, name, value) {
   if (element.getAttribute(name) !== String(value)) element.setAttribute(name, value);
 }
 
+// Saves a text as a file.
+export function saved(text, type, name) {
+  const link = make("a", { href: URL.createObjectURL(new Blob([text], { type })), download: name });
+  link.click();
+  setTimeout(() => URL.revokeObjectURL(link.href), 60000);
+}
+
+// Copies a text; whether the browser has done it.
+export async function copied(text) {
+  try {
+    await navigator.clipboard.writeText(text);
+    return true;
+  } catch {
+    const focused = document.activeElement;
+    const box = make("textarea", { class: "unseen" });
+    box.value = text;
+    (document.querySelector("dialog[open]") || document.body).append(box);
+    box.select();
+    const isDone = document.execCommand("copy");
+    box.remove();
+    focused.focus();
+    return isDone;
+  }
+}
+
 // Calls back when an element has another size. It is done in the next frame, since a frame that alters a size again in answer to one is an error.
 export function onResize(element, work) {
   new ResizeObserver(() => requestAnimationFrame(work)).observe(element);

@@ -1,6 +1,6 @@
 // Lessons, opening, saving and sharing.
 
-import { $, put } from "./dom.js";
+import { $, copied, put, saved } from "./dom.js";
 import { bundleOf, keptIn, partsOf } from "./bundle.js";
 import { bundleIn, fragmentOf } from "./share.js";
 import { tooLarge } from "./source.js";
@@ -63,7 +63,7 @@ export class Keep {
     this.setLesson(lesson);
     const parts = partsOf(bundle);
     const { done, left } = keptIn(parts.script);
-    await this.app.open(parts, { done: [], left: [...done, ...left], breaks: [] });
+    await this.app.open(parts, { done: [], left: [...done, ...left], breaks: [], bars: "" });
   }
 
   async openAnswer() {
@@ -74,7 +74,7 @@ export class Keep {
     if (!(await this.isFree())) return;
     this.setLesson(null);
     const source = "* What the program does\n        ORIG 1000\nSTART   ENTA 5            put 5 into rA\n        HLT\n        END  START\n";
-    await this.app.open({ source, deck: "" }, { done: [], left: [], breaks: [] });
+    await this.app.open({ source, deck: "" }, { done: [], left: [], breaks: [], bars: "" });
   }
 
   // Opens a bundle that was saved or shared: what was done is done, the rest waits.
@@ -128,11 +128,7 @@ export class Keep {
   }
 
   save() {
-    const link = document.createElement("a");
-    link.href = URL.createObjectURL(new Blob([this.bundle], { type: "text/plain" }));
-    link.download = `${this.lesson ? this.lesson.name.replace("/", "_") : "program"}.mix`;
-    link.click();
-    setTimeout(() => URL.revokeObjectURL(link.href), 60000);
+    saved(this.bundle, "text/plain", `${this.lesson ? this.lesson.name.replace("/", "_") : "program"}.mix`);
     this.app.isEdited = false;
   }
 
@@ -148,12 +144,8 @@ export class Keep {
   }
 
   async copy() {
+    const isDone = await copied($("link-text").value);
     $("link-text").select();
-    try {
-      await navigator.clipboard.writeText($("link-text").value);
-      put($("link-note"), "Copied.");
-    } catch {
-      put($("link-note"), document.execCommand("copy") ? "Copied." : "The link is marked: copy it by Ctrl C.");
-    }
+    put($("link-note"), isDone ? "Copied." : "The link is marked: copy it by Ctrl C.");
   }
 }

@@ -1,6 +1,6 @@
 // Beside each line of the source its location, its word and how often it was executed; a band over the line that is next, and one at a fault.
 
-import { $, fourDigits, make, mark, put } from "./dom.js";
+import { $, fourDigits, make, mark, onResize, put } from "./dom.js";
 import { Source } from "./source.js";
 
 const NO_WORD = "+ 00 00 00 00 00";
@@ -28,6 +28,7 @@ export class Listing {
     });
     $("gutter").addEventListener("click", (event) => this.clicked(event));
     $("gutter").addEventListener("keydown", (event) => this.walked(event));
+    onResize($("listing"), () => this.reveal(this.marked));
     window.addEventListener("beforeprint", () => this.rows.forEach((parts, index) => putPart(parts, "source", this.lines[index])));
     this.fit();
   }

@@ -1,26 +1,21 @@
 // Cells of the memory: those around M, the cell that the next step uses; those that are not zero; or a range.
 
 import { $, fourDigits, keepRows, make, mark, put } from "./dom.js";
+import { CELLS, CellRange, upTo } from "./range.js";
 import { beforeOf, showWord, wordCells } from "./registers.js";
-import { ZERO, instructionAt, numberOf } from "./sentence.js";
+import { ZERO, instructionAt } from "./sentence.js";
 
-const CELLS = 4000;
 const CELLS_SHOWN = 500; // rows
 
 export class Memory {
-  // `values` gives the words of W-values, or nothing for one that is refused.
   constructor(asked, values) {
     this.asked = asked;
-    this.values = values;
     this.view = null;
     this.middle = 0; // the cell around which cells are shown
-    this.range = null; // the first and the last cell of the range, where it is one
     this.current = 0; // the cell that the tab key comes to
-    this.isAsked = false; // whether the ends of the range are to be asked for once more
-    this.isAsking = false;
+    this.range = new CellRange("cells", { isWanted: () => $("cells-which").value === "range", values, taken: () => this.shown() });
     $("cells-form").addEventListener("submit", (event) => event.preventDefault());
     $("cells-which").addEventListener("change", () => this.chosen());
-    for (const id of ["cells-from", "cells-to"]) $(id).addEventListener("input", () => this.ask());
     $("cell-rows").addEventListener("keydown", (event) => this.walked(event));
   }
 
@@ -30,48 +25,19 @@ export class Memory {
 
   chosen() {
     $("cells-range").hidden = $("cells-which").value !== "range";
-    this.ask();
+    this.range.ask();
+    this.shown();
+  }
+
+  shown() {
     if (this.view) this.show(this.view);
   }
 
   // Shows the cells from a symbol on.
   showFrom(name) {
     $("cells-which").value = "range";
-    $("cells-from").value = name;
-    $("cells-to").value = `${name}+19`;
+    this.range.ends = [name, `${name}+19`];
     this.chosen();
-  }
-
-  // Asks the engine which cells the ends of the range are; while it answers, what is typed meanwhile waits for one more question.
-  async ask() {
-    this.isAsked = $("cells-which").value === "range";
-    if (this.isAsking) return;
-    this.isAsking = true;
-    while (this.isAsked) {
-      this.isAsked = false;
-      const fields = [$("cells-from"), $("cells-to")];
-      const words = await this.values(fields.map((field) => field.value.trim()));
-      if (words) this.setRange(fields, words);
-    }
-    this.isAsking = false;
-  }
-
-  // Takes a range of which the ends are these words, or says why it is none.
-  setRange(fields, words) {
-    const numbers = words.map((word) => (word === null ? NaN : Number(numberOf(word))));
-    const faults = fields.flatMap((field, index) => {
-      const isCell = numbers[index] >= 0 && numbers[index] < CELLS;
-      mark(field, "aria-invalid", !isCell);
-      if (isCell) return [];
-      const what = field.value.trim() || "nothing";
-      return [Number.isNaN(numbers[index]) ? `“${what}” has no value: write a number or a symbol of the program, as TABLE+1` : `“${what}” is ${numbers[index]}, and cells are 0 to 3999`];
-    });
-    if (faults.length === 0 && numbers[0] > numbers[1]) faults.push(`the range ends at ${numbers[1]}, before it begins at ${numbers[0]}`);
-    $("cells-fault").hidden = faults.length === 0;
-    put($("cells-fault"), faults.length > 0 ? `Not shown: ${faults[0]}.` : "");
-    if (faults.length > 0) return;
-    this.range = numbers;
-    if (this.view) this.show(this.view);
   }
 
   show(view) {
@@ -105,7 +71,7 @@ export class Memory {
   cells(which, filled) {
     if (which === "filled") return [...filled.keys()];
     if (which === "near") return upTo(Math.max(0, this.middle - 8), this.middle + 16);
-    return this.range ? upTo(...this.range) : [];
+    return this.range.cells;
   }
 
   row(cell) {
@@ -137,10 +103,4 @@ export class Memory {
       box.scrollTop = row.offsetTop - box.clientHeight / 3;
     }
   }
-}
-
-function upTo(from, to) {
-  const cells = [];
-  for (let cell = from; cell <= Math.min(to, CELLS - 1); cell += 1) cells.push(cell);
-  return cells;
 }

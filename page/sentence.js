@@ -18,22 +18,24 @@ export function numberOf(word) {
 const told = (word) => (/^[+-]( \d\d)+$/.test(word) && Math.abs(Number(numberOf(word))) < LARGE ? numberOf(word) : word);
 
 // The number of field F of a word.
-function fieldOf(word, f) {
+export function fieldOf(word, f) {
   const [left, right] = [f >> 3, f & 7];
   const [sign, ...bytes] = word.split(" ");
   const chosen = bytes.slice(Math.max(left, 1) - 1, right);
   return numberOf([left === 0 ? sign : "+", ...chosen].join(" "));
 }
 
-// The parts of the instruction at a location: its row of the table, M, F. No row where it is none.
-export function instructionAt({ location, cells, registers }) {
-  const cell = cells.find((found) => found.cell === location) || ZERO;
-  const [sign, a, b, index, f] = cell.word.split(" ");
-  const row = OPERATIONS.get((/^[A-Z0-9]+/.exec(cell.text) || [""])[0]);
+// The parts of the instruction in a cell: its row of the table, its index register, M, F. No row where it is none.
+export function instructionIn({ word, text }, registers) {
+  const [sign, a, b, index, f] = word.split(" ");
+  const row = OPERATIONS.get((/^[A-Z0-9]+/.exec(text) || [""])[0]);
   const register = registers.find(({ name }) => name === `I${Number(index)}`);
   const address = (Number(a) * 64 + Number(b)) * (sign === "-" ? -1 : 1);
-  return { row, text: cell.text, m: address + (register ? Number(register.number) : 0), f: Number(f) };
+  return { row, text, index: register ? register.name : "", m: address + (register ? Number(register.number) : 0), f: Number(f) };
 }
+
+// That at the location.
+export const instructionAt = ({ location, cells, registers }) => instructionIn(cells.find(({ cell }) => cell === location) || ZERO, registers);
 
 const isCell = (m) => m >= 0 && m < 4000;
 const fieldName = (f) => (f === 5 ? "" : `(${f >> 3}:${f & 7})`);

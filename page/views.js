@@ -1,5 +1,6 @@
 // What is seen of the machine: registers, memory, output, units, symbols. And which of it is in view in a narrow window.
 
+import { Bars } from "./bars.js";
 import { $, onResize } from "./dom.js";
 import { Memory } from "./memory.js";
 import { Output } from "./output.js";
@@ -9,10 +10,11 @@ import { Units } from "./units.js";
 
 export class Views {
   // `ask` is called with a part of the machine and its name when somebody asks who wrote it, `look` when more is to be seen of the same moment,
-  // `values` with W-values, of which it gives the words.
-  constructor({ ask, look, values }) {
+  // `values` with W-values, of which it gives the words, `copy` with a text.
+  constructor({ ask, look, values, copy }) {
     this.registers = new Registers(ask);
     this.memory = new Memory(ask, values);
+    this.bars = new Bars({ asked: ask, values, copy });
     this.output = new Output();
     this.units = new Units(look);
     this.symbols = new Symbols((name) => this.memory.showFrom(name));
@@ -41,11 +43,13 @@ export class Views {
     this.units.forget();
     this.output.forget();
     this.memory.forget();
+    this.bars.forget();
   }
 
   setProgram(program, lines) {
     this.warning = this.symbols.show(program, lines);
-    this.memory.ask();
+    this.memory.range.ask();
+    this.bars.setProgram(program);
   }
 
   // Whether what is seen is that of an older program, since the text is refused now.
@@ -54,7 +58,7 @@ export class Views {
   }
 
   show(view) {
-    const parts = [this.registers, this.memory, this.output, this.units];
+    const parts = [this.registers, this.memory, this.bars, this.output, this.units];
     const faults = [];
     for (const part of parts) {
       try {

@@ -4,6 +4,7 @@ import sys
 import time
 import traceback
 
+import bars
 import guards
 import looks
 import repairs
@@ -17,7 +18,7 @@ from firefox import Firefox
 from native import Count, Native
 from webkit import WebKit
 
-USES = (uses.examples, uses.breakpoints, uses.slider, uses.who, uses.faults, uses.cards, uses.share, looks.narrow, looks.keys, looks.names, looks.bounds, *repairs.REPAIRS, *says.SAYS, *guards.GUARDS, *seen.SEEN, seen.contrast, tasks.tasks)
+USES = (uses.examples, uses.breakpoints, uses.slider, uses.who, uses.faults, uses.cards, uses.share, looks.narrow, looks.keys, looks.names, looks.bounds, *repairs.REPAIRS, *says.SAYS, *guards.GUARDS, *seen.SEEN, *bars.BARS, seen.contrast, tasks.tasks)
 IN_CHROMIUM = (looks.names, seen.contrast)  # what asks Chromium itself
 OTHERS = {"--webkit": WebKit, "--firefox": Firefox}
 WALKS = range(1, 13)

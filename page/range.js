@@ -1,0 +1,70 @@
+// A range of cells, whose ends a person writes as W-values: numbers, or symbols of the program.
+
+import { $, mark, put } from "./dom.js";
+import { numberOf } from "./sentence.js";
+
+export const CELLS = 4000;
+
+export function upTo(from, to) {
+  const cells = [];
+  for (let cell = from; cell <= Math.min(to, CELLS - 1); cell += 1) cells.push(cell);
+  return cells;
+}
+
+export class CellRange {
+  // The ids of its fields begin with `name`. It is asked for while `isWanted` says so: `values` gives the words of W-values, or nothing for one that is
+  // refused. `taken` is called when it is another range.
+  constructor(name, { isWanted, values, taken }) {
+    Object.assign(this, { isWanted, values, taken });
+    this.fault = $(`${name}-fault`);
+    this.fields = [$(`${name}-from`), $(`${name}-to`)];
+    this.isAsked = false; // whether the ends are to be asked for once more
+    this.isAsking = false;
+    this.cells = [];
+    for (const field of this.fields) field.addEventListener("input", () => this.ask());
+  }
+
+  get ends() {
+    return this.fields.map((field) => field.value.trim());
+  }
+
+  set ends(ends) {
+    this.fields.forEach((field, index) => {
+      field.value = ends[index];
+    });
+  }
+
+  // Asks the engine which cells the ends are; while it answers, what is typed meanwhile waits for one more question.
+  async ask() {
+    this.isAsked = this.isWanted();
+    if (this.isAsking) return;
+    this.isAsking = true;
+    while (this.isAsked) {
+      this.isAsked = false;
+      const { ends } = this;
+      const words = await this.values(ends);
+      if (words) this.take(ends, words.map(numberIn));
+    }
+    this.isAsking = false;
+  }
+
+  // Takes a range of which the ends have these numbers, or says why it is none.
+  take(ends, numbers) {
+    const faults = ends.flatMap((end, index) => {
+      const isCell = numbers[index] >= 0 && numbers[index] < CELLS;
+      mark(this.fields[index], "aria-invalid", !isCell);
+      if (isCell) return [];
+      const what = end || "nothing";
+      return [Number.isNaN(numbers[index]) ? `“${what}” has no value: write a number or a symbol of the program, as TABLE+1` : `“${what}” is ${numbers[index]}, and cells are 0 to 3999`];
+    });
+    if (faults.length === 0 && numbers[0] > numbers[1]) faults.push(`the range ends at ${numbers[1]}, before it begins at ${numbers[0]}`);
+    this.fault.hidden = faults.length === 0;
+    put(this.fault, faults.length > 0 ? `Not shown: ${faults[0]}.` : "");
+    if (faults.length > 0) return;
+    this.cells = upTo(...numbers);
+    this.taken();
+  }
+}
+
+// The number of a word; NaN where there is none.
+export const numberIn = (word) => (word === null ? NaN : Number(numberOf(word)));

@@ -1,0 +1,66 @@
+// Pictures of cells as SVG, which can be saved as they are: bars, and a strip of moments. Their colours are those of the light page; in the window
+// the style of the page overrides them.
+
+const PLACE = "http://www.w3.org/2000/svg";
+const LETTER = 6.7; // the width of a letter
+const HIGH = 90; // of the highest bar
+const TOP = 30;
+const SMALL = { "font-size": 11, "text-anchor": "middle" };
+
+// An element with attributes and children; a child that is a text stays a text.
+function shape(name, given = {}, ...children) {
+  const element = document.createElementNS(PLACE, name);
+  for (const [key, value] of Object.entries(given)) element.setAttribute(key, typeof value === "number" ? String(Math.round(value * 10) / 10) : value);
+  element.append(...children);
+  return element;
+}
+
+const label = (x, y, text, more = {}) => shape("text", { x, y, fill: "#24211c", ...SMALL, ...more }, text);
+
+// A picture of a size, with its title and its text for those who do not see it.
+function picture({ id, title, text, width, height }, shapes) {
+  const box = { viewBox: `0 0 ${Math.round(width)} ${Math.round(height)}`, width, height, role: "img", "aria-labelledby": `${id}-title ${id}-desc`, "font-family": "ui-monospace, Menlo, Consolas, monospace" };
+  return shape("svg", box, shape("title", { id: `${id}-title` }, title), shape("desc", { id: `${id}-desc` }, text), ...shapes);
+}
+
+// The bars: of each its `cell`, `value`, `text`, `isWritten`, and `was`, the value before the last change. `arrows` have a `name` and a `cell`, which
+// may be the one before the first bar or behind the last.
+export function barsOf({ title, text, bars, arrows }) {
+  const longest = Math.max(...bars.map((bar) => bar.text.length));
+  const pitch = Math.min(Math.max(32, LETTER * longest + 6), Math.max(7, 880 / bars.length));
+  const values = bars.flatMap(({ value, was }) => [value, was]);
+  const [most, least] = [Math.max(0, ...values), Math.min(0, ...values)];
+  const isTold = LETTER * longest <= pitch + 1;
+  const y = (value) => TOP + (HIGH * (most - value)) / (most - least || 1);
+  const x = (cell) => (cell - bars[0].cell + 1.5) * pitch;
+  const foot = TOP + HIGH + (least < 0 ? 28 : 14);
+  const every = Math.ceil((4 * LETTER + 3) / pitch);
+  const bar = ({ cell, value, was, isWritten, text: told }, at) => {
+    const box = (of, more) => shape("rect", { x: x(cell) - pitch * 0.4, width: pitch * 0.8, y: Math.min(y(of), y(0)), height: Math.abs(y(of) - y(0)), ...more });
+    const parts = [box(value, { class: isWritten ? "written" : "bar", fill: isWritten ? "#f6d98a" : "#224a69", stroke: isWritten ? "#96281c" : "none", "stroke-width": 2 })];
+    if (was !== value) parts.push(box(was, { class: "was", fill: "none", stroke: "#5e5648", "stroke-dasharray": "3 2" }));
+    const above = Math.min(y(Math.max(0, value)), isWritten ? y(was) : Infinity);
+    if (isTold) parts.push(label(x(cell), value < 0 ? Math.max(y(value), y(was)) + 12 : above - 4, told, { class: "ink" }));
+    if (isWritten) parts.push(shape("circle", { cx: x(cell), cy: above - (isTold ? 18 : 6), r: 3, class: "mark", fill: "#96281c" }));
+    if (at % every === 0) parts.push(label(x(cell), foot, String(cell).padStart(4, "0"), { class: "soft", fill: "#5e5648", "font-size": 10 }));
+    return shape("g", { "data-cell": cell }, ...parts);
+  };
+  const stacks = new Map();
+  const arrow = ({ name, cell }) => {
+    const under = stacks.get(cell) || 0;
+    stacks.set(cell, under + 1);
+    const tip = shape("path", { d: `M ${x(cell)} ${foot + 4} l 5 9 h -10 z`, class: "mark", fill: "#96281c" });
+    return shape("g", { "data-arrow": name }, ...(under > 0 ? [] : [tip]), label(x(cell), foot + 25 + 12 * under, name, { class: "mark", fill: "#96281c", "font-weight": "bold" }));
+  };
+  const line = shape("line", { x1: pitch * 0.8, x2: (bars.length + 1.2) * pitch, y1: y(0), y2: y(0), class: "axis", stroke: "#5e5648" });
+  const shapes = [...bars.map(bar), line, ...arrows.map(arrow)];
+  const width = Math.max(160, (bars.length + 2) * pitch);
+  return picture({ id: "bars", title, text, width, height: foot + 30 + 12 * Math.max(1, ...stacks.values()) - 12 }, shapes);
+}
+
+// The file of a picture.
+export function fileOf(svg) {
+  const copy = svg.cloneNode(true);
+  for (const element of [copy, ...copy.querySelectorAll("[class]")]) element.removeAttribute("class");
+  return `<?xml version="1.0" encoding="UTF-8"?>\n${new XMLSerializer().serializeToString(copy)}\n`;
+}
