@@ -17,6 +17,7 @@ export class App extends Desk {
       edited: () => this.edited(),
       toggled: (line) => this.toggle(line),
       ask: (part, name) => this.enqueue(() => this.who.open(part, name, this.view)),
+      slide: (moment) => this.slide(moment),
     });
     this.agreed = ""; // what was asked for once, and is done when it is asked for again
     this.wanted = undefined; // the moment that the slider asks for
@@ -27,7 +28,7 @@ export class App extends Desk {
     this.time = new Time({
       go: (name) => this.go(name),
       preview: (moment) => this.preview(moment),
-      slide: (moment) => this.enqueue(async () => this.acted(this.view, await this.session.slide(moment))),
+      slide: (moment) => this.slide(moment),
       goto: (moment) => this.enqueue(() => this.act(`goto ${moment}`)),
       breakpoint: () => this.toggle(this.listing.source.caretLine),
       explain: () => this.tell(this.listing.source.caretExplained || "The cursor is at no operation."),
@@ -120,6 +121,11 @@ export class App extends Desk {
       const before = this.view;
       return move(name, session, listing.breakCells, (command) => this.act(command, before));
     });
+  }
+
+  // Goes to a moment by the slider or the strip.
+  slide(moment) {
+    this.enqueue(async () => this.acted(this.view, await this.session.slide(moment)));
   }
 
   // Shows a moment while the slider is dragged; where more come than can be shown, the last.

@@ -4,6 +4,7 @@ import { $, counted, mark, put, saved } from "./dom.js";
 import { CellRange, numberIn } from "./range.js";
 import { beforeOf } from "./registers.js";
 import { ZERO, fieldOf, instructionIn } from "./sentence.js";
+import { Strip } from "./strip.js";
 import { barsOf, fileOf } from "./svg.js";
 
 const MOST_BARS = 120;
@@ -12,9 +13,11 @@ const SHOWS = /^\s*show\s+(?:cells|values)\s+(\S+)\s+(\S+)\s*$/i;
 const FIELD = /^\s*([0-5]):([0-5])\s*$/;
 
 export class Bars {
-  // `asked` is called with a cell of which somebody asks who wrote it, `values` gives the words of W-values, `copy` copies a text.
-  constructor({ asked, values, copy }) {
+  // `asked` is called with a cell of which somebody asks who wrote it, `values` gives the words of W-values, `copy` copies a text; the others are for
+  // the strip.
+  constructor({ asked, values, copy, ...others }) {
     this.values = values;
+    this.strip = new Strip(others);
     this.view = null;
     this.code = new Set(); // the cells of instructions
     this.range = new CellRange("bars", { isWanted: () => $("bars-box").open, values, taken: () => this.draw() });
@@ -26,17 +29,18 @@ export class Bars {
       const bar = target.closest("[data-cell]");
       if (bar) asked(`cell ${bar.dataset.cell}`, `cell ${bar.dataset.cell}`);
     });
-    $("bars-save").addEventListener("click", () => saved(fileOf(this.svg), "image/svg+xml", "bars.svg"));
-    $("bars-copy").addEventListener("click", () => copy(fileOf(this.svg), "The picture, as SVG,"));
+    $("bars-save").addEventListener("click", () => saved(this.file, "image/svg+xml", "bars.svg"));
+    $("bars-copy").addEventListener("click", () => copy(this.file, "The picture, as SVG,"));
   }
 
-  get svg() {
-    return $("bars").querySelector("svg");
+  get file() {
+    return fileOf([...document.querySelectorAll("#bars svg, #strip:not([hidden]) svg")]);
   }
 
-  // What is kept of it beside the commands: the ends of the range, and by what the bars are drawn. Nothing where none are shown.
+  // What is kept of it beside the commands: the ends of the range, by what the bars are drawn, and whether with the strip. Nothing where none are shown.
   get kept() {
-    return $("bars-box").open ? [...this.range.ends, this.by === "field" ? $("bars-field").value.trim() : this.by].join(" ") : "";
+    const by = this.by === "field" ? $("bars-field").value.trim() : this.by;
+    return $("bars-box").open ? [...this.range.ends, by, ...(this.strip.isOpen ? ["strip"] : [])].join(" ") : "";
   }
 
   get by() {
@@ -45,7 +49,7 @@ export class Bars {
 
   // Another program was opened: the bars that were kept with it, or else the widest range of which its script shows the cells.
   async open(kept, script) {
-    const [from, to, by] = kept.split(" ");
+    const [from, to, by, strip] = kept.split(" ");
     const named = script.map((line) => SHOWS.exec(line)).filter(Boolean).map(([, first, last]) => [first, last]);
     const numbers = kept || named.length === 0 ? [] : (await this.values(named.flat())).map(numberIn);
     const widths = named.map((_, index) => numbers[2 * index + 1] - numbers[2 * index] + 1 || 0);
@@ -53,6 +57,7 @@ export class Bars {
     this.range.ends = kept ? [from, to] : named[widths.indexOf(best)] || ["0", "9"];
     $("bars-by").value = FIELD.test(by) ? "field" : by || "number";
     if (FIELD.test(by)) $("bars-field").value = by;
+    this.strip.toggle(strip === "strip");
     $("bars-box").open = Boolean(kept) || best >= LEAST_BARS;
     await this.range.ask();
   }
@@ -61,6 +66,7 @@ export class Bars {
     $("bars-box").open = false;
     this.range.cells = [];
     $("bars").replaceChildren();
+    this.strip.forget();
   }
 
   setProgram(program) {
@@ -83,11 +89,13 @@ export class Bars {
     if (!isField) return;
     const all = this.range.cells;
     const cells = all.slice(0, MOST_BARS);
-    const bars = this.bars(cells, this.by === "field" ? 8 * field[1] + Number(field[2]) : 5);
+    const f = this.by === "field" ? 8 * field[1] + Number(field[2]) : this.by === "characters" ? 13 : 5;
+    const bars = this.bars(cells, f);
     const arrows = this.arrows(cells[0], cells[cells.length - 1]);
     const { done } = this.view.state;
-    const title = `Cells ${this.range.ends.join(" to ")} by ${this.by}${this.by === "field" ? ` (${field[0].trim()})` : ""}, after ${counted(done, "change")}`;
-    $("bars").replaceChildren(barsOf({ title, text: textOf(bars, arrows), bars, arrows }));
+    const title = `Cells ${this.range.ends.join(" to ")} by ${this.by}${this.by === "field" ? ` (${field[0].trim()})` : ""}`;
+    $("bars").replaceChildren(barsOf({ title: `${title}, after ${counted(done, "change")}`, text: textOf(bars, arrows), bars, arrows }));
+    this.strip.show(cells, (word) => Number(fieldOf(word, f)), title, done);
     $("bars-more").hidden = all.length === cells.length;
     put($("bars-more"), `These are the first ${MOST_BARS} of ${counted(all.length, "cell")}.`);
   }
@@ -97,14 +105,13 @@ export class Bars {
     const { state, change } = this.view;
     const words = new Map(state.cells.map((cell) => [cell.cell, cell]));
     const [altered, before] = [new Set(state.altered), beforeOf(change)];
-    const isText = this.by === "characters";
-    const valueOf = (word) => Number(isText ? fieldOf(word, 13) : fieldOf(word, f));
+    const valueOf = (word) => Number(fieldOf(word, f));
     return cells.map((cell) => {
       const { word, characters } = words.get(cell) || ZERO;
       const value = valueOf(word);
       const isWritten = altered.has(`cell ${cell}`);
       const was = isWritten && before.has(`cell ${cell}`) ? valueOf(before.get(`cell ${cell}`)) : value;
-      return { cell, value, text: isText ? characters.trimEnd() : fieldOf(word, f), isWritten, was };
+      return { cell, value, text: this.by === "characters" ? characters.trimEnd() : fieldOf(word, f), isWritten, was };
     });
   }
 

@@ -16,7 +16,7 @@ const keyOf = (texts) => JSON.stringify([texts.source, texts.deck, texts.cards])
 
 // What is below the buttons. It needs a `talk` and a `time`, which who extends it has.
 export class Desk {
-  constructor(machine, grammar, { edited, toggled, ask }) {
+  constructor(machine, grammar, { edited, toggled, ask, slide }) {
     this.machine = machine;
     this.session = null; // none while the texts are refused
     this.kept = new Map(); // the last sessions of other texts in which something was done, by their texts
@@ -42,6 +42,9 @@ export class Desk {
       look: () => this.enqueue(async () => this.show(await this.session.look(this.session.done), "")),
       values: (expressions) => this.enqueue(() => this.session.values(expressions)),
       copy: (text, name) => this.copy(text, name),
+      session: () => this.session,
+      enqueue: (work) => this.enqueue(work),
+      go: slide,
     });
   }
 

@@ -188,6 +188,14 @@ export class Session {
     return answers.map((answer) => (answer.success ? (/^[+-]( \d\d)+/.exec(answer.body.result) || [null])[0] : null));
   }
 
+  // What cells hold after each of some numbers of changes.
+  async cellsAt(moments, cells) {
+    const path = this.path(this.changes.total);
+    const asked = moments.flatMap((moment) => [repl(`goto ${moment}`), ["mix/state", { cells: [[cells[0], cells[cells.length - 1]]], nonzero: false }]]);
+    const answers = (await this.machine.ask([...path, ...asked])).slice(path.length);
+    return moments.map((_, index) => answers[2 * index + 1].body.cells);
+  }
+
   // What the machine looks like after the first n changes, with or without the counts.
   async look(n, counts = true) {
     const looks = counts ? this.looks : this.looks.map((look) => (look[0] === "mix/counts" ? NO_LOOK : look));

@@ -58,9 +58,40 @@ export function barsOf({ title, text, bars, arrows }) {
   return picture({ id: "bars", title, text, width, height: foot + 30 + 12 * Math.max(1, ...stacks.values()) - 12 }, shapes);
 }
 
-// The file of a picture.
-export function fileOf(svg) {
-  const copy = svg.cloneNode(true);
-  for (const element of [copy, ...copy.querySelectorAll("[class]")]) element.removeAttribute("class");
-  return `<?xml version="1.0" encoding="UTF-8"?>\n${new XMLSerializer().serializeToString(copy)}\n`;
+// The strip: of each column its `moment` and the `values` of the cells; `done` is the moment that is shown.
+export function stripOf({ title, cells, columns, done }) {
+  const [wide, high] = [Math.min(24, 720 / columns.length), Math.max(3, Math.min(12, 160 / cells.length))];
+  const most = Math.max(1, ...columns.flatMap(({ values }) => values.map(Math.abs)));
+  const shapes = [];
+  cells.forEach((_, row) => {
+    for (let from = 0, to = 0; from < columns.length; from = to) {
+      const value = columns[from].values[row];
+      while (to < columns.length && columns[to].values[row] === value) to += 1;
+      const kind = value < 0 ? { class: "mark", fill: "#96281c" } : { class: "bar", fill: "#224a69" };
+      if (value !== 0) shapes.push(shape("rect", { x: from * wide, y: 4 + row * high, width: (to - from) * wide, height: high, "fill-opacity": String(Math.round((100 * Math.abs(value)) / most) / 100), ...kind }));
+    }
+  });
+  const present = columns.reduce((best, { moment }, at) => (moment <= done ? at : best), 0);
+  const height = 8 + cells.length * high;
+  shapes.push(shape("rect", { x: present * wide, y: 1, width: wide, height: height - 2, class: "present", fill: "none", stroke: "#96281c", "stroke-width": 2 }));
+  const told = columns.slice(1).flatMap(({ moment, values }, at) => {
+    const altered = cells.flatMap((cell, row) => (values[row] === columns[at].values[row] ? [] : [`${cell}: ${values[row]}`]));
+    return altered.length > 0 ? [`By change ${moment}: ${altered.join(", ")}.`] : [];
+  });
+  const text = [`At the start: ${columns[0].values.join(" ")}.`, ...told].join(" ");
+  return picture({ id: "strip", title: `${title}, at ${columns.length} moments`, text, width: columns.length * wide, height }, shapes);
+}
+
+// The file of some pictures, one below the other.
+export function fileOf(pictures) {
+  const sizes = pictures.map((svg) => ["width", "height"].map((name) => Number(svg.getAttribute(name))));
+  const width = Math.max(...sizes.map(([size]) => size));
+  const all = shape("svg", { width, height: sizes.reduce((sum, [, size]) => sum + size, 0) });
+  pictures.forEach((svg, index) => {
+    const copy = svg.cloneNode(true);
+    copy.setAttribute("y", sizes.slice(0, index).reduce((sum, [, size]) => sum + size, 0));
+    all.append(copy);
+  });
+  for (const element of all.querySelectorAll("[class]")) element.removeAttribute("class");
+  return `<?xml version="1.0" encoding="UTF-8"?>\n${new XMLSerializer().serializeToString(all)}\n`;
 }

@@ -10,11 +10,11 @@ import { Units } from "./units.js";
 
 export class Views {
   // `ask` is called with a part of the machine and its name when somebody asks who wrote it, `look` when more is to be seen of the same moment,
-  // `values` with W-values, of which it gives the words, `copy` with a text.
-  constructor({ ask, look, values, copy }) {
+  // `values` with W-values, of which it gives the words; the others are for the bars.
+  constructor({ ask, look, values, ...others }) {
     this.registers = new Registers(ask);
     this.memory = new Memory(ask, values);
-    this.bars = new Bars({ asked: ask, values, copy });
+    this.bars = new Bars({ asked: ask, values, ...others });
     this.output = new Output();
     this.units = new Units(look);
     this.symbols = new Symbols((name) => this.memory.showFrom(name));

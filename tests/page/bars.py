@@ -1,5 +1,4 @@
 """Cells as bars: at each moment of a sort those that the algorithm of the book gives, by any field, with the registers that point to them."""
-import pathlib
 import re
 import xml.etree.ElementTree as tree
 
@@ -14,6 +13,8 @@ SAID = "return ['title', 'desc'].map(name => document.querySelector(`#bars svg $
 COPIED = "navigator.clipboard.writeText = (text) => { window.copiedText = text; return Promise.resolve(); }"
 REFUSED = """navigator.clipboard.writeText = () => Promise.reject(new Error('refused'));
     document.execCommand = (name) => { window.copiedText = [name, document.activeElement.value]; return true; }"""
+SAVED = """const { createObjectURL } = URL; URL.createObjectURL = (blob) => { blob.text().then((text) => { window.savedText = text; }); return createObjectURL.call(URL, blob); };
+    const { click } = HTMLAnchorElement.prototype; HTMLAnchorElement.prototype.click = function () { window.savedName = this.download; click.call(this); };"""
 CALLS = """window.calls = 0; const post = Worker.prototype.postMessage;
     Worker.prototype.postMessage = function (...given) { window.calls += 1; return post.apply(this, given); }"""
 SORT = next((TOP / "course").glob("20_*/lesson.mix")).read_text()
@@ -35,21 +36,30 @@ START ST1 TABLE+4(1:1)
 
 
 def insertions(keys):
-    """Straight insertion from the right, as the book describes it: of each write that alters a key its place, the key before it, and all keys then."""
-    keys, found = list(keys), []
+    """Straight insertion from the right, as the book describes it: of each write that alters a key its number among the changes, its place, the key
+    before it, and all keys then; and the number of all changes. Each line of the program that is executed is a change."""
+    keys, found, changes = list(keys), [], 2  # ENT3, ENT1
 
     def write(at, key):
         if keys[at] != key:
             before, keys[at] = keys[at], key
-            found.append((at, before, list(keys)))
+            found.append((changes, at, before, list(keys)))
 
     for first in range(len(keys) - 2, -1, -1):
         key, at = keys[first], first + 1
-        while at < len(keys) and key > keys[at]:
+        changes += 2  # LDA, ENT2
+        while at < len(keys):
+            changes += 2  # CMPA, JLE
+            if key <= keys[at]:
+                break
+            changes += 2  # LDX, STX
             write(at - 1, keys[at])
             at += 1
+            changes += 2  # INC2, J2N
+        changes += 1  # STA
         write(at - 1, key)
-    return found
+        changes += 3  # DEC1, DEC3, J3P
+    return found, changes + 1  # HLT
 
 
 def open_sort(page):
@@ -86,17 +96,62 @@ def sort(page, native, count):
                 count.row(f"bars: the arrow of r{name} at {moment}", False, (arrows, numbers, places))
         if moment > 0:
             page.click("back")
-    wanted = insertions(KEYS)
+    wanted, changes = insertions(KEYS)
     marked = [(moment, keys, marks) for moment, (keys, marks, _) in sorted(seen.items()) if marks]
-    count.same("bars: each write of the sort", [(marks, keys) for _, keys, marks in marked], [([at], keys) for at, _, keys in wanted])
-    count.same("bars: it is sorted", seen[total][0], sorted(KEYS))
+    count.same("bars: each write of the sort", [(moment, marks, keys) for moment, keys, marks in marked], [(moment, [at], keys) for moment, at, _, keys in wanted])
+    count.same("bars: it is sorted", (seen[total][0], total), (sorted(KEYS), changes))
     said = [seen[moment][2] for moment, _, _ in marked]
-    missed = [text for text, (at, before, keys) in zip(said, wanted) if f"{1000 + at}: {keys[at]} (written, was {before})" not in text]
+    missed = [text for text, (_, at, before, keys) in zip(said, wanted) if f"{1000 + at}: {keys[at]} (written, was {before})" not in text]
     count.same("bars: what was written, as a text", missed, [])
     for moment in (marked[3][0], 0, total // 2, marked[-1][0], total):
         page.slide(moment, ends=False)
         count.same(f"bars: the slider at {moment}", ([int(told) for _, told, _, _ in page.script(SHOWN)], page.script(SAID)[1]), (seen[moment][0], seen[moment][2]))
     page.slide(total)
+
+
+def strip(page, native, count):
+    """The strip: the keys at moments of the whole sort; a click on one goes there; no call of the engine as long as the changes are the same."""
+    open_sort(page)
+    page.click("run")
+    page.click("bars-strip")
+    page.wait(lambda: page.all("#strip svg"))
+    wanted, total = insertions(KEYS)
+    moments = [int(total * at / 59 + 0.5) for at in range(60)]
+    columns = [next((keys for moment, _, _, keys in reversed(wanted) if moment <= at), KEYS) for at in moments]
+    width, high = page.script("const b = document.querySelector('#strip svg').viewBox.baseVal; return [b.width, b.height]")
+    boxes = page.script("return [...document.querySelectorAll('#strip rect.bar')].map(r => ['x', 'y', 'width', 'height', 'fill-opacity'].map(n => Number(r.getAttribute(n))))")
+    wide, row = width / 60, (high - 8) / len(KEYS)
+    shown = [[0] * len(KEYS) for _ in moments]
+    for x, y, across, _, shade in boxes:
+        for column in range(round(x / wide), round((x + across) / wide)):
+            shown[column][round((y - 4) / row)] = round(shade * max(KEYS))
+    count.same("strip: the keys at 60 moments", shown, columns)
+    said = page.script("return document.querySelector('#strip desc').textContent")
+    altered = [f"By change {moment}: {', '.join(f'{1000 + at}: {key}' for at, (key, old) in enumerate(zip(keys, before)) if key != old)}." for moment, keys, before in zip(moments[1:], columns[1:], columns) if keys != before]
+    count.same("strip: as a text", said, " ".join([f"At the start: {' '.join(map(str, KEYS))}.", *altered]))
+    page.script(CALLS)
+    page.slide(30, ends=False)
+    page.slide(30)
+    calls = page.script("return window.calls")
+    page.click("bars-strip")
+    page.script("window.calls = 0")
+    page.slide(60, ends=False)
+    page.slide(60)
+    count.same("strip: as many calls of the engine with it as without", calls, page.script("return window.calls"))
+    page.click("bars-strip")
+    page.script("""const svg = document.querySelector('#strip svg'), b = svg.getBoundingClientRect();
+        svg.dispatchEvent(new MouseEvent('click', { bubbles: true, clientX: b.left + b.width * 20.5 / 60, clientY: b.top + 20 }));""")
+    page.idle()
+    count.same("strip: a click goes there", (page.value("moment"), [int(told) for _, told, _, _ in page.script(SHOWN)]), (str(moments[20]), columns[20]))
+    count.same("strip: as one command", [command for command, _ in page.log()], ["run 1000000", f"goto {moments[20]}"])
+    saved = page.save()
+    count.row("strip: kept in the file", b"\n* bars: KEY+1 KEY+N number strip\n" in saved, saved[-300:])
+    page.script(COPIED)
+    page.click("bars-copy")
+    page.wait(lambda: page.script("return Boolean(window.copiedText)"))
+    pictures = tree.fromstring(page.script("return window.copiedText")).findall("{http://www.w3.org/2000/svg}svg")
+    heights = [float(picture.get("height")) for picture in pictures]
+    count.same("strip: in the file below the bars", [float(picture.get("y")) for picture in pictures], [0, heights[0]])
 
 
 def fields(page, native, count):
@@ -173,14 +228,14 @@ def bars_kept(page, native, count):
     page.click("bars-copy")
     page.wait(lambda: page.script("return Boolean(window.copiedText)"))
     count.same("bars: copied by a browser that refuses the first way", page.script("return window.copiedText"), ["copy", copied])
+    page.script(SAVED)
     page.click("bars-save")
-    path = pathlib.Path(page.folder.name) / "bars.svg"
-    page.wait(lambda: path.exists())
-    count.same("bars: the file is what is copied", path.read_text(), copied)
+    page.wait(lambda: page.script("return Boolean(window.savedText)"))
+    count.same("bars: the file is what is copied", page.script("return [window.savedName, window.savedText]"), ["bars.svg", copied])
     root = tree.fromstring(copied)
     texts = [element.text for element in root.iter("{http://www.w3.org/2000/svg}text")]
     count.same("bars: the file has the keys", texts[:2 * len(KEYS):2], [str(key) for key in sorted(KEYS)])
-    count.row("bars: the file has a title, and colours of its own", root.find("{http://www.w3.org/2000/svg}title").text == f"Cells KEY+1 to KEY+N by field (4:5), after {page.text('total')} changes" and "class=" not in copied and "var(" not in copied, copied[:400])
+    count.row("bars: the file has a title, and colours of its own", next(root.iter("{http://www.w3.org/2000/svg}title")).text == f"Cells KEY+1 to KEY+N by field (4:5), after {page.text('total')} changes" and "class=" not in copied and "var(" not in copied, copied[:400])
     shown, saved = page.script(SHOWN), page.save()
     count.row("bars: kept in the file", b"\n* bars: KEY+1 KEY+N 4:5\n" in saved, saved[-300:])
     page.lesson(0)
@@ -191,4 +246,4 @@ def bars_kept(page, native, count):
     count.same("bars: a click on one asks who wrote it", page.text("who-title"), "Who wrote cell 1003?")
 
 
-BARS = (sort, fields, bars_kept)
+BARS = (sort, strip, fields, bars_kept)
