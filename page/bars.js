@@ -81,7 +81,7 @@ export class Bars {
 
   draw() {
     $("bars-field").hidden = this.by !== "field";
-    $("picture").classList.toggle("open", $("bars-box").open);
+    document.querySelector("main").classList.toggle("bars", $("bars-box").open);
     if (!this.view || !$("bars-box").open || this.range.cells.length === 0) return;
     const field = FIELD.exec($("bars-field").value);
     const isField = this.by !== "field" || (field && field[1] <= field[2]);

@@ -24,6 +24,7 @@ export class Desk {
     this.view = null;
     this.refusal = ""; // why there is no session
     this.isEdited = false;
+    this.onShown = () => {}; // called when a moment is shown
     this.timer = 0; // runs while a text is not assembled yet
     this.queue = new Queue({
       changed: () => this.busy(),
@@ -139,6 +140,7 @@ export class Desk {
       }
     });
     if (faults.length > 0) throw faults[0];
+    this.onShown();
   }
 
   tell(did, isFault = false, next = "") {

@@ -1,12 +1,16 @@
 // Lessons, opening, saving and sharing.
 
-import { $, copied, put, saved } from "./dom.js";
+import { $, copied, make, put, saved } from "./dom.js";
 import { bundleOf, keptIn, partsOf } from "./bundle.js";
 import { bundleIn, fragmentOf } from "./share.js";
 import { tooLarge } from "./source.js";
 import { fillMenu, showNotes } from "./notes.js";
 
 const LONG_LINK = 2000; // letters; mail and chats may cut what is longer
+const IN_FRAME = new URLSearchParams(window.location.search).has("embed"); // the page shows the program, the buttons and one picture
+
+// The address of the page with a fragment; `search` is what is between both.
+const addressOf = (fragment, search = "") => window.location.href.split(/[?#]/)[0] + search + fragment;
 
 export class Keep {
   constructor(app, lessons) {
@@ -20,14 +24,17 @@ export class Keep {
     $("save").addEventListener("click", () => this.save());
     $("share").addEventListener("click", () => this.share());
     $("new").addEventListener("click", () => this.openNew());
-    $("link-copy").addEventListener("click", () => this.copy());
+    for (const name of ["link", "frame"]) $(`${name}-copy`).addEventListener("click", () => this.copy(`${name}-text`));
     $("answer-open").addEventListener("click", () => this.openAnswer());
     $("help").addEventListener("click", () => $("help-box").showModal());
     window.addEventListener("beforeprint", () => put($("on-paper"), this.heading));
     window.addEventListener("hashchange", () => this.openLink());
     window.addEventListener("beforeunload", (event) => {
-      if (app.isEdited) event.preventDefault();
+      if (app.isEdited && !IN_FRAME) event.preventDefault();
     });
+    document.body.classList.toggle("embed", IN_FRAME);
+    $("whole").hidden = !IN_FRAME;
+    if (IN_FRAME) app.onShown = () => this.linkWhole();
   }
 
   // Whether what is here may be left: the page asks, if something was done.
@@ -132,9 +139,18 @@ export class Keep {
     this.app.isEdited = false;
   }
 
+  // In a frame a link leads to the whole page, with the same program, commands and moment.
+  async linkWhole() {
+    const { bundle } = this;
+    const fragment = await fragmentOf(bundle);
+    if (bundle === this.bundle) $("whole").href = addressOf(fragment);
+  }
+
   async share() {
-    const link = window.location.href.split("#")[0] + (await fragmentOf(this.bundle));
+    const fragment = await fragmentOf(this.bundle);
+    const link = addressOf(fragment);
     $("link-text").value = link;
+    $("frame-text").value = make("iframe", { src: addressOf(fragment, "?embed"), title: this.lesson ? this.lesson.title : "A program of MIX", width: 800, height: 500 }).outerHTML;
     const notes = [];
     if (window.location.protocol === "file:") notes.push("This page is a file, so the link leads to this file. Behind another address of the page the # and what follows do the same.");
     if (link.length > LONG_LINK) notes.push(`The link has ${link.length.toLocaleString("en")} letters: mail and chats may cut it, so try it or send the file.`);
@@ -143,9 +159,9 @@ export class Keep {
     $("link-text").select();
   }
 
-  async copy() {
-    const isDone = await copied($("link-text").value);
-    $("link-text").select();
-    put($("link-note"), isDone ? "Copied." : "The link is marked: copy it by Ctrl C.");
+  async copy(id) {
+    const isDone = await copied($(id).value);
+    $(id).select();
+    put($("link-note"), isDone ? "Copied." : "The text is marked: copy it by Ctrl C.");
   }
 }

@@ -122,13 +122,14 @@ def names(page, native, count):
 
 
 def alone(page, native, count):
-    """It asks for nothing but itself."""
+    """It asks for nothing but itself; files that a test has written are no requests of the page."""
+    files = pathlib.Path(page.folder.name).as_uri()
     asked = []
     for entry in page.driver.get_log("performance"):
         message = json.loads(entry["message"])["message"]
         if message["method"] == "Network.requestWillBeSent":
             asked.append(message["params"]["request"]["url"])
-    other = [url for url in asked if not url.startswith((page.address.split("#")[0], "blob:", "data:", "about:"))]
+    other = [url for url in asked if not url.startswith((page.address.split("#")[0], files, "blob:", "data:", "about:"))]
     count.row("alone: no request", not other and asked, other or "nothing was seen")
 
 

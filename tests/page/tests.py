@@ -5,6 +5,7 @@ import time
 import traceback
 
 import bars
+import frame
 import guards
 import looks
 import repairs
@@ -18,8 +19,8 @@ from firefox import Firefox
 from native import Count, Native
 from webkit import WebKit
 
-USES = (uses.examples, uses.breakpoints, uses.slider, uses.who, uses.faults, uses.cards, uses.share, looks.narrow, looks.keys, looks.names, looks.bounds, *repairs.REPAIRS, *says.SAYS, *guards.GUARDS, *seen.SEEN, *bars.BARS, seen.contrast, tasks.tasks)
-IN_CHROMIUM = (looks.names, seen.contrast)  # what asks Chromium itself
+USES = (uses.examples, uses.breakpoints, uses.slider, uses.who, uses.faults, uses.cards, uses.share, looks.narrow, looks.keys, looks.names, looks.bounds, *repairs.REPAIRS, *says.SAYS, *guards.GUARDS, *seen.SEEN, *bars.BARS, *frame.FRAME, seen.contrast, tasks.tasks)
+IN_CHROMIUM = (looks.names, seen.contrast, *frame.FRAME)  # what asks Chromium itself
 OTHERS = {"--webkit": WebKit, "--firefox": Firefox}
 WALKS = range(1, 13)
 

@@ -1,0 +1,54 @@
+"""The page in a frame of lecture notes: the program, the buttons and one picture, and a link to the whole page."""
+import pathlib
+import re
+
+from bars import SAID, SHOWN, open_sort
+
+PARTS = ("lessons", "tabs", "notes", "talk", "registers", "memory", "units", "symbols", "output", "bars-form", "bars", "source", "steps", "slider", "status", "whole")
+
+
+def frame(page, native, count):
+    """The frame that Share gives, in pages of others, wide and narrow, also one without rights; then the whole page by its link."""
+    open_sort(page)
+    page.click("run")
+    page.slide(40)
+    state, log = page.state(), page.log()
+    picture, registers = (page.script(SAID), page.script(SHOWN)), page.text("register-rows")
+    page.click("share")
+    given = page.value("frame-text")
+    page.script("document.getElementById('link').close()")
+    count.row("frame: as HTML", re.fullmatch(r'<iframe src="[^"]*\?embed#mix=[\w-]+" title="20\. [^"]*" width="800" height="500"></iframe>', given), given)
+    page.lesson(0)
+    page.click("share")
+    bare = page.value("frame-text")
+    wanted = ["source", "steps", "slider", "status", "whole"]
+    frames = {"wide": given, "narrow": given.replace("800", "360"), "without rights": given.replace("<iframe", '<iframe sandbox="allow-scripts allow-popups"'), "without bars": bare}
+    for name, text in frames.items():
+        path = pathlib.Path(page.folder.name) / "notes.html"
+        path.write_text(f"<!doctype html><title>Notes</title><p>Notes</p>{text}")
+        page.driver.get(path.as_uri())
+        page.driver.switch_to.frame(0)
+        page.idle()
+        shown = [part for part in PARTS if page.one(part).is_displayed()]
+        picked = "registers" if name == "without bars" else "bars"
+        count.same(f"frame: {name}: what is shown", shown, [part for part in PARTS if part in (*wanted, picked)])
+        apart = page.script("const e = document.documentElement; return [e.scrollWidth - e.clientWidth, e.scrollHeight - e.clientHeight]")
+        count.same(f"frame: {name}: all is in the frame", apart, [0, 0])
+        if name != "without bars":
+            count.same(f"frame: {name}: the same moment", (page.text("register-rows"), page.value("moment"), (page.script(SAID), page.script(SHOWN))), (registers, "40", picture))
+        page.click("step")
+        page.click("back")
+        page.wait(lambda: page.one("whole").get_attribute("href"))
+        link = page.one("whole").get_attribute("href")
+        count.same(f"frame: {name}: the link", (link.split("#")[0], page.one("whole").get_attribute("target")), (page.address.split("#")[0], "_blank"))
+        page.driver.switch_to.default_content()
+        if name == "wide":
+            page.go(link)
+            count.same("frame: the whole page", (page.state(), page.log()[:-2], [command for command, _ in page.log()][-2:]), (state, log, ["forth 1", "back 1"]))
+            count.row("frame: the whole page is whole", page.one("lessons").is_displayed() and not page.one("whole").is_displayed())
+            count.same("frame: the whole page has the picture", (page.script(SAID), page.script(SHOWN)), picture)
+            page.driver.get("about:blank")
+            page.leave()
+
+
+FRAME = (frame,)
