@@ -43,6 +43,11 @@ export class Bars {
     return $("bars-box").open ? [...this.range.ends, by, ...(this.strip.isOpen ? ["strip"] : [])].join(" ") : "";
   }
 
+  // The cells that are drawn.
+  get cells() {
+    return $("bars-box").open ? this.range.cells.slice(0, MOST_BARS) : [];
+  }
+
   get by() {
     return $("bars-by").value;
   }
@@ -82,13 +87,12 @@ export class Bars {
   draw() {
     $("bars-field").hidden = this.by !== "field";
     document.querySelector("main").classList.toggle("bars", $("bars-box").open);
-    if (!this.view || !$("bars-box").open || this.range.cells.length === 0) return;
+    const { cells } = this;
+    if (!this.view || cells.length === 0) return;
     const field = FIELD.exec($("bars-field").value);
     const isField = this.by !== "field" || (field && field[1] <= field[2]);
     mark($("bars-field"), "aria-invalid", !isField);
     if (!isField) return;
-    const all = this.range.cells;
-    const cells = all.slice(0, MOST_BARS);
     const f = this.by === "field" ? 8 * field[1] + Number(field[2]) : this.by === "characters" ? 13 : 5;
     const bars = this.bars(cells, f);
     const arrows = this.arrows(cells[0], cells[cells.length - 1]);
@@ -96,8 +100,9 @@ export class Bars {
     const title = `Cells ${this.range.ends.join(" to ")} by ${this.by}${this.by === "field" ? ` (${field[0].trim()})` : ""}`;
     $("bars").replaceChildren(barsOf({ title: `${title}, after ${counted(done, "change")}`, text: textOf(bars, arrows), bars, arrows }));
     this.strip.show(cells, (word) => Number(fieldOf(word, f)), title, done);
-    $("bars-more").hidden = all.length === cells.length;
-    put($("bars-more"), `These are the first ${MOST_BARS} of ${counted(all.length, "cell")}.`);
+    const all = this.range.cells.length;
+    $("bars-more").hidden = all === cells.length;
+    put($("bars-more"), `These are the first ${MOST_BARS} of ${counted(all, "cell")}.`);
   }
 
   // What is drawn of each cell: its value in a field, and before the last change, if that wrote it.

@@ -4,6 +4,7 @@ import { $, copied, make, put, saved } from "./dom.js";
 import { bundleOf, keptIn, partsOf } from "./bundle.js";
 import { bundleIn, fragmentOf } from "./share.js";
 import { tooLarge } from "./source.js";
+import { momentOf } from "./moment.js";
 import { fillMenu, showNotes } from "./notes.js";
 
 const LONG_LINK = 2000; // letters; mail and chats may cut what is longer
@@ -25,6 +26,7 @@ export class Keep {
     $("share").addEventListener("click", () => this.share());
     $("new").addEventListener("click", () => this.openNew());
     for (const name of ["link", "frame"]) $(`${name}-copy`).addEventListener("click", () => this.copy(`${name}-text`));
+    $("moment-copy").addEventListener("click", () => this.copyMoment());
     $("answer-open").addEventListener("click", () => this.openAnswer());
     $("help").addEventListener("click", () => $("help-box").showModal());
     window.addEventListener("beforeprint", () => put($("on-paper"), this.heading));
@@ -157,6 +159,13 @@ export class Keep {
     put($("link-note"), notes.join(" "));
     $("link").showModal();
     $("link-text").select();
+  }
+
+  // The moment as a text, with what it is of, as on paper.
+  copyMoment() {
+    const { session, view, views, listing, refusal } = this.app;
+    if (!session) this.app.tell(`${refusal}. Nothing was copied.`, true);
+    else this.app.copy(`${this.heading}\n${momentOf(view, views.cells, listing.lineOf)}`, "The moment, as a text,");
   }
 
   async copy(id) {

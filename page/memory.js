@@ -13,6 +13,7 @@ export class Memory {
     this.view = null;
     this.middle = 0; // the cell around which cells are shown
     this.current = 0; // the cell that the tab key comes to
+    this.shownCells = [];
     this.range = new CellRange("cells", { isWanted: () => $("cells-which").value === "range", values, taken: () => this.shown() });
     $("cells-form").addEventListener("submit", (event) => event.preventDefault());
     $("cells-which").addEventListener("change", () => this.chosen());
@@ -51,6 +52,7 @@ export class Memory {
     const which = $("cells-which").value;
     const all = this.cells(which, cells);
     const shown = all.slice(0, CELLS_SHOWN);
+    this.shownCells = shown;
     const altered = new Set(state.altered);
     const before = beforeOf(change);
     if (!shown.includes(this.current)) this.current = shown.includes(this.middle) ? this.middle : shown[0];

@@ -30,6 +30,14 @@ export function showWord(row, { word, number, characters }, isAltered, before, s
   put(row.querySelector(".unseen"), said);
 }
 
+// Flags, location and clock: of each its name, the part that may be asked for, and what it holds.
+export const flagsOf = (state) => [
+  { name: "overflow", part: "over", text: state.over ? "on" : "off" },
+  { name: "comparison", part: "cmp", text: COMPARED[state.cmp] },
+  { name: "location", part: "", text: fourDigits(state.location) },
+  { name: "clock", part: "", text: `${state.clock} u` },
+];
+
 export class Registers {
   // `ask` is called with what stands after `until` in a command, and a name for people.
   constructor(ask) {
@@ -39,17 +47,11 @@ export class Registers {
   show({ state, change }) {
     const altered = new Set(state.altered);
     const before = beforeOf(change);
-    const flags = [
-      { name: "overflow", part: "over", text: state.over ? "on" : "off" },
-      { name: "comparison", part: "cmp", text: COMPARED[state.cmp] },
-      { name: "location", part: "", text: fourDigits(state.location) },
-      { name: "clock", part: "", text: `${state.clock} u` },
-    ];
     keepRows($("register-rows"), state.registers, ({ name }) => name, (register) => this.row(register), (row, register) => {
       const isAltered = altered.has(register.name);
       showWord(row, register, isAltered, before.get(register.name), isAltered ? "altered" : "");
     });
-    keepRows($("flags"), flags, ({ name }) => name, (flag) => this.flag(flag), (row, { part, text }) => {
+    keepRows($("flags"), flagsOf(state), ({ name }) => name, (flag) => this.flag(flag), (row, { part, text }) => {
       put(row.lastChild, text);
       row.classList.toggle("altered", altered.has(part));
     });

@@ -46,6 +46,11 @@ export class Views {
     this.bars.forget();
   }
 
+  // The cells that are shown, in a list or as bars, each once.
+  get cells() {
+    return [...new Set([...this.memory.shownCells, ...this.bars.cells])].sort((a, b) => a - b);
+  }
+
   setProgram(program, lines) {
     this.warning = this.symbols.show(program, lines);
     this.memory.range.ask();

@@ -8,6 +8,7 @@ import bars
 import frame
 import guards
 import looks
+import moment
 import repairs
 import says
 import seen
@@ -19,7 +20,7 @@ from firefox import Firefox
 from native import Count, Native
 from webkit import WebKit
 
-USES = (uses.examples, uses.breakpoints, uses.slider, uses.who, uses.faults, uses.cards, uses.share, looks.narrow, looks.keys, looks.names, looks.bounds, *repairs.REPAIRS, *says.SAYS, *guards.GUARDS, *seen.SEEN, *bars.BARS, *frame.FRAME, seen.contrast, tasks.tasks)
+USES = (uses.examples, uses.breakpoints, uses.slider, uses.who, uses.faults, uses.cards, uses.share, looks.narrow, looks.keys, looks.names, looks.bounds, *repairs.REPAIRS, *says.SAYS, *guards.GUARDS, *seen.SEEN, *bars.BARS, *frame.FRAME, *moment.MOMENT, seen.contrast, tasks.tasks)
 IN_CHROMIUM = (looks.names, seen.contrast, *frame.FRAME)  # what asks Chromium itself
 OTHERS = {"--webkit": WebKit, "--firefox": Firefox}
 WALKS = range(1, 13)
