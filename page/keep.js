@@ -8,7 +8,7 @@ import { momentOf } from "./moment.js";
 import { fillMenu, showNotes } from "./notes.js";
 
 const LONG_LINK = 2000; // letters; mail and chats may cut what is longer
-const IN_FRAME = new URLSearchParams(window.location.search).has("embed"); // the page shows the program, the buttons and one picture
+export const IN_FRAME = new URLSearchParams(window.location.search).has("embed"); // the page shows the program, the buttons and one picture
 
 // The address of the page with a fragment; `search` is what is between both.
 const addressOf = (fragment, search = "") => window.location.href.split(/[?#]/)[0] + search + fragment;

@@ -3,9 +3,10 @@
 import { App } from "./app.js";
 import { fillCard } from "./card.js";
 import { Grammar } from "./colours.js";
-import { Keep } from "./keep.js";
+import { IN_FRAME, Keep } from "./keep.js";
 import { Machine } from "./machine.js";
 import { bytesOfBlock, textOfBlock } from "./share.js";
+import { NO_TOUR, Tour } from "./tour.js";
 
 async function begin() {
   const [worker, module, lessons, grammar] = await Promise.all([textOfBlock("worker-block"), bytesOfBlock("engine-block"), textOfBlock("lessons-block"), textOfBlock("grammar-block")]);
@@ -15,7 +16,10 @@ async function begin() {
   window.addEventListener("error", ({ message }) => told(message));
   fillCard();
   const keep = new Keep(app, JSON.parse(lessons));
-  if (!(await keep.openLink())) await keep.openLesson(keep.lessons[0]);
+  const tour = new Tour((name) => app.views.choose(name));
+  if (await keep.openLink()) return;
+  await keep.openLesson(keep.lessons[0]);
+  if (!IN_FRAME && window.location.hash !== NO_TOUR) tour.go(0);
 }
 
 begin().catch((reason) => {

@@ -57,9 +57,10 @@ class Page:
         self.command("Emulation.setDeviceMetricsOverride", width=width, height=height, deviceScaleFactor=1, mobile=False)
 
     def go(self, address):
+        """Opens an address, without the tour for who opens the page first."""
         self.driver.get("about:blank")
         self.leave()
-        self.driver.get(address)
+        self.driver.get(address if "#" in address else f"{address}#no-tour")
         self.idle()
 
     def leave(self):

@@ -1,0 +1,69 @@
+// A tour of six steps for who opens the page first: a card in the corner, and a frame around what it speaks of. It takes no key and no click from the
+// page, and goes away when something else is done before its second step. An address that ends in #no-tour, as it does after it was closed, opens
+// without it.
+
+import { $, put } from "./dom.js";
+
+export const NO_TOUR = "#no-tour";
+
+export class Tour {
+  // `choose` shows a tab of a narrow window.
+  constructor(choose) {
+    this.choose = choose;
+    this.steps = [...document.querySelectorAll("#tour-steps li")];
+    this.at = 0;
+    $("tour-open").addEventListener("click", (event) => {
+      event.stopPropagation();
+      $("help-box").close();
+      this.go(0);
+      $("tour-next").focus();
+    });
+    $("tour-next").addEventListener("click", () => this.go(this.at + 1));
+    $("tour-back").addEventListener("click", () => this.go(this.at - 1));
+    $("tour-close").addEventListener("click", () => this.close());
+    document.addEventListener("keydown", ({ key }) => {
+      if (key === "Escape" && !$("tour").hidden) this.close();
+    });
+    for (const name of ["click", "input"]) {
+      document.addEventListener(name, ({ target }) => {
+        if (this.at === 0 && !$("tour").contains(target)) this.hide();
+      });
+    }
+  }
+
+  // Shows a step; behind the last the tour is over.
+  go(at) {
+    if (!this.steps[at]) {
+      this.close();
+      return;
+    }
+    this.at = at;
+    $("tour").hidden = false;
+    this.steps.forEach((step, index) => {
+      step.hidden = index !== at;
+    });
+    put($("tour-title"), `Tour, ${at + 1} of ${this.steps.length}`);
+    put($("tour-next"), at + 1 < this.steps.length ? "Next" : "Done");
+    $("tour-back").disabled = at === 0;
+    this.frame(this.steps[at].dataset);
+  }
+
+  frame({ part, tab }) {
+    for (const framed of document.querySelectorAll(".toured")) framed.classList.remove("toured");
+    if (tab) this.choose(tab);
+    if (!part) return;
+    $(part).classList.add("toured");
+    $(part).scrollIntoView({ block: "nearest" });
+  }
+
+  hide() {
+    this.frame({});
+    if ($("tour").contains(document.activeElement)) $("step").focus();
+    $("tour").hidden = true;
+  }
+
+  close() {
+    this.hide();
+    if (window.location.hash === "") window.history.replaceState(null, "", NO_TOUR);
+  }
+}
