@@ -1,6 +1,6 @@
 // The page: what a person asks for, by buttons, keys, commands and the slider.
 
-import { $, counted } from "./dom.js";
+import { $, counted, fourDigits } from "./dom.js";
 import { cardsApart, isBundle, keptIn, partsOf, scriptOf } from "./bundle.js";
 import { Desk } from "./desk.js";
 import { move } from "./moves.js";
@@ -115,7 +115,7 @@ export class App extends Desk {
       if (session.isHalted && (name === "step" || name === "run") && this.agreed !== asked) {
         this.agreed = asked;
         const button = name === "run" ? "Run" : "Step";
-        this.tell(`The program has halted. ${button} once more goes on after the HLT, at location ${String(this.view.state.location).padStart(4, "0")}.`);
+        this.tell(`The program has halted. ${button} once more goes on after the HLT, at location ${fourDigits(this.view.state.location)}.`);
         return undefined;
       }
       const before = this.view;

@@ -1,6 +1,6 @@
 // A range of cells as bars, with the index registers that point into it, at each moment. All of it comes from the view of the moment.
 
-import { $, counted, mark, put, saved } from "./dom.js";
+import { $, counted, mark, note, saved } from "./dom.js";
 import { CellRange, numberIn } from "./range.js";
 import { beforeOf } from "./registers.js";
 import { ZERO, fieldOf, instructionIn } from "./sentence.js";
@@ -21,7 +21,10 @@ export class Bars {
     this.view = null;
     this.code = new Set(); // the cells of instructions
     this.range = new CellRange("bars", { isWanted: () => $("bars-box").open, values, taken: () => this.draw() });
-    $("bars-box").addEventListener("toggle", () => this.range.ask());
+    $("bars-box").addEventListener("toggle", () => {
+      this.draw();
+      this.range.ask();
+    });
     $("bars-form").addEventListener("submit", (event) => event.preventDefault());
     $("bars-by").addEventListener("change", () => this.draw());
     $("bars-field").addEventListener("input", () => this.draw());
@@ -40,7 +43,8 @@ export class Bars {
   // What is kept of it beside the commands: the ends of the range, by what the bars are drawn, and whether with the strip. Nothing where none are shown.
   get kept() {
     const by = this.by === "field" ? $("bars-field").value.trim() : this.by;
-    return $("bars-box").open ? [...this.range.ends, by, ...(this.strip.isOpen ? ["strip"] : [])].join(" ") : "";
+    const kept = [...this.range.ends, by, ...(this.strip.isOpen ? ["strip"] : [])];
+    return $("bars-box").open && kept.every((word) => /^\S+$/.test(word)) ? kept.join(" ") : "";
   }
 
   // The cells that are drawn.
@@ -56,11 +60,13 @@ export class Bars {
   async open(kept, script) {
     const [from, to, by, strip] = kept.split(" ");
     const named = script.map((line) => SHOWS.exec(line)).filter(Boolean).map(([, first, last]) => [first, last]);
-    const numbers = kept || named.length === 0 ? [] : (await this.values(named.flat())).map(numberIn);
+    const words = kept || named.length === 0 ? [] : await this.values(named.flat());
+    if (!words) return; // another program was opened meanwhile
+    const numbers = words.map(numberIn);
     const widths = named.map((_, index) => numbers[2 * index + 1] - numbers[2 * index] + 1 || 0);
     const best = Math.max(0, ...widths.filter((width) => width <= MOST_BARS));
     this.range.ends = kept ? [from, to] : named[widths.indexOf(best)] || ["0", "9"];
-    $("bars-by").value = FIELD.test(by) ? "field" : by || "number";
+    $("bars-by").value = FIELD.test(by) ? "field" : by === "characters" ? by : "number";
     if (FIELD.test(by)) $("bars-field").value = by;
     this.strip.toggle(strip === "strip");
     $("bars-box").open = Boolean(kept) || best >= LEAST_BARS;
@@ -101,8 +107,7 @@ export class Bars {
     $("bars").replaceChildren(barsOf({ title: `${title}, after ${counted(done, "change")}`, text: textOf(bars, arrows), bars, arrows }));
     this.strip.show(cells, (word) => Number(fieldOf(word, f)), title, done);
     const all = this.range.cells.length;
-    $("bars-more").hidden = all === cells.length;
-    put($("bars-more"), `These are the first ${MOST_BARS} of ${counted(all, "cell")}.`);
+    note("bars-more", all > cells.length ? `These are the first ${MOST_BARS} of ${counted(all, "cell")}.` : "");
   }
 
   // What is drawn of each cell: its value in a field, and before the last change, if that wrote it.

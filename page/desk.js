@@ -1,6 +1,6 @@
 // The texts, the session of what they say, and the views of where it is. What is asked for is done one after another.
 
-import { $, copied, counted, put } from "./dom.js";
+import { $, copied, counted, doAll, put } from "./dom.js";
 import { withCards } from "./bundle.js";
 import { showRefusal } from "./faults.js";
 import { Listing } from "./listing.js";
@@ -115,7 +115,7 @@ export class Desk {
     const { state, change } = view;
     this.view = view;
     let line = 0;
-    const draw = [
+    doAll([
       () => {
         line = listing.show(view, state.halted ? (change ? change.location : state.location - 1) : state.location);
       },
@@ -129,17 +129,7 @@ export class Desk {
         view.did = last;
         this.tell(did, isFault, next);
       },
-    ];
-    // What can be drawn is drawn, also where one of them has a fault.
-    const faults = draw.flatMap((part) => {
-      try {
-        part();
-        return [];
-      } catch (fault) {
-        return [fault];
-      }
-    });
-    if (faults.length > 0) throw faults[0];
+    ]);
     this.onShown();
   }
 

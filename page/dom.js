@@ -23,6 +23,33 @@ export function mark(element, name, value) {
   if (element.getAttribute(name) !== String(value)) element.setAttribute(name, value);
 }
 
+// Shows a sentence, or nothing where it is empty.
+export function note(id, text) {
+  $(id).hidden = text === "";
+  put($(id), text);
+}
+
+// Does all of some works, also where one of them has a fault; the first fault is thrown then.
+export function doAll(works) {
+  const faults = works.flatMap((work) => {
+    try {
+      work();
+      return [];
+    } catch (fault) {
+      return [fault];
+    }
+  });
+  if (faults.length > 0) throw faults[0];
+}
+
+// Where a key leads from a place in a list of so many; undefined where it leads nowhere. A page of the list has so many.
+export function walked(event, at, count, page) {
+  const step = { ArrowUp: -1, ArrowDown: 1, PageUp: -page, PageDown: page, Home: -Infinity, End: Infinity }[event.key];
+  if (!step || count === 0) return undefined;
+  event.preventDefault();
+  return Math.max(0, Math.min(count - 1, at + step));
+}
+
 // Saves a text as a file.
 export function saved(text, type, name) {
   const link = make("a", { href: URL.createObjectURL(new Blob([text], { type })), download: name });

@@ -1,6 +1,6 @@
 // A text that is refused: the fault is told at its line, of the source, of the deck or of the cards, with what is mostly the cause.
 
-import { $, put } from "./dom.js";
+import { $, note } from "./dom.js";
 import { cardOnLine } from "./bundle.js";
 import { OPERATIONS, PSEUDO } from "./operations.js";
 
@@ -14,8 +14,7 @@ export function showRefusal(refusal, texts, listing) {
   if (isSource) listing.reveal(Number(line));
   const told = refusal ? `${placeOf(text, Number(line), texts)}: ${what}${cause ? `. ${cause}` : ""}` : "";
   const isDeck = Boolean(refusal) && !isSource;
-  $("deck-fault").hidden = !isDeck;
-  put($("deck-fault"), isDeck ? told : "");
+  note("deck-fault", isDeck ? told : "");
   if (isDeck) $("given").open = true;
   return told;
 }

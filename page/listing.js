@@ -1,6 +1,6 @@
 // Beside each line of the source its location, its word and how often it was executed; a band over the line that is next, and one at a fault.
 
-import { $, fourDigits, make, mark, onResize, put } from "./dom.js";
+import { $, fourDigits, make, mark, onResize, put, walked } from "./dom.js";
 import { Source } from "./source.js";
 
 const NO_WORD = "+ 00 00 00 00 00";
@@ -190,10 +190,8 @@ export class Listing {
 
   // Arrow keys walk from line to line.
   walked(event) {
-    const step = { ArrowUp: -1, ArrowDown: 1, PageUp: -15, PageDown: 15, Home: -Infinity, End: Infinity }[event.key];
-    if (!step) return;
-    event.preventDefault();
-    const index = Math.max(0, Math.min(this.rows.length - 1, this.focused + step));
+    const index = walked(event, this.focused, this.rows.length, 15);
+    if (index === undefined) return;
     this.focus(index);
     this.rows[index].button.focus();
   }

@@ -1,6 +1,6 @@
 // Cells of the memory: those around M, the cell that the next step uses; those that are not zero; or a range.
 
-import { $, fourDigits, keepRows, make, mark, put } from "./dom.js";
+import { $, fourDigits, keepRows, make, mark, note, walked } from "./dom.js";
 import { CELLS, CellRange, upTo } from "./range.js";
 import { beforeOf, showWord, wordCells } from "./registers.js";
 import { ZERO, instructionAt } from "./sentence.js";
@@ -63,8 +63,7 @@ export class Memory {
       mark(element.querySelector("button"), "tabindex", cell === this.current ? "0" : "-1");
     });
     const more = all.length - shown.length;
-    $("cells-more").hidden = more === 0 && all.length > 0;
-    put($("cells-more"), more > 0 ? `${more} more are not shown: choose a range.` : all.length === 0 ? "All cells are zero." : "");
+    note("cells-more", more > 0 ? `${more} more are not shown: choose a range.` : all.length === 0 ? "All cells are zero." : "");
     const written = state.altered.find((part) => part.startsWith("cell "));
     this.reveal(written && shown.includes(Number(written.slice(5))) ? Number(written.slice(5)) : used);
   }
@@ -84,12 +83,10 @@ export class Memory {
 
   // Arrow keys walk from cell to cell.
   walked(event) {
-    const step = { ArrowUp: -1, ArrowDown: 1, PageUp: -10, PageDown: 10, Home: -Infinity, End: Infinity }[event.key];
-    if (!step) return;
-    event.preventDefault();
     const buttons = [...$("cell-rows").querySelectorAll("button")];
     const at = buttons.findIndex((button) => button.tabIndex === 0);
-    const next = buttons[Math.max(0, Math.min(buttons.length - 1, at + step))];
+    const next = buttons[walked(event, at, buttons.length, 10)];
+    if (!next) return;
     buttons[at].tabIndex = -1;
     next.tabIndex = 0;
     this.current = Number(next.closest("tr").dataset.cell);

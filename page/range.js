@@ -1,6 +1,6 @@
 // A range of cells, whose ends a person writes as W-values: numbers, or symbols of the program.
 
-import { $, mark, put } from "./dom.js";
+import { $, mark, note } from "./dom.js";
 import { numberOf } from "./sentence.js";
 
 export const CELLS = 4000;
@@ -16,7 +16,7 @@ export class CellRange {
   // refused. `taken` is called when it is another range.
   constructor(name, { isWanted, values, taken }) {
     Object.assign(this, { isWanted, values, taken });
-    this.fault = $(`${name}-fault`);
+    this.fault = `${name}-fault`;
     this.fields = [$(`${name}-from`), $(`${name}-to`)];
     this.isAsked = false; // whether the ends are to be asked for once more
     this.isAsking = false;
@@ -58,8 +58,7 @@ export class CellRange {
       return [Number.isNaN(numbers[index]) ? `“${what}” has no value: write a number or a symbol of the program, as TABLE+1` : `“${what}” is ${numbers[index]}, and cells are 0 to 3999`];
     });
     if (faults.length === 0 && numbers[0] > numbers[1]) faults.push(`the range ends at ${numbers[1]}, before it begins at ${numbers[0]}`);
-    this.fault.hidden = faults.length === 0;
-    put(this.fault, faults.length > 0 ? `Not shown: ${faults[0]}.` : "");
+    note(this.fault, faults.length > 0 ? `Not shown: ${faults[0]}.` : "");
     if (faults.length > 0) return;
     this.cells = upTo(...numbers);
     this.taken();

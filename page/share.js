@@ -17,13 +17,7 @@ async function through(stream, bytes, most = Infinity) {
     }
     parts.push(value);
   }
-  const all = new Uint8Array(length);
-  let at = 0;
-  for (const part of parts) {
-    all.set(part, at);
-    at += part.length;
-  }
-  return all;
+  return new Uint8Array(await new Blob(parts).arrayBuffer());
 }
 
 export const inflate = (bytes, most) => through(new DecompressionStream("deflate-raw"), bytes, most);

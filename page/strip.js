@@ -2,7 +2,6 @@
 // of the engine gives all of it; it is asked again only where the changes or the cells are others.
 
 import { $, mark } from "./dom.js";
-import { ZERO } from "./sentence.js";
 import { stripOf } from "./svg.js";
 
 const COLUMNS = 60;
@@ -48,19 +47,20 @@ export class Strip {
     const { total } = session.changes;
     const key = JSON.stringify([cells, session.changes.first(total), session.texts]);
     if (this.key !== key) this.enqueue(() => this.ask(session, key, cells, total));
-    if (this.columns.length === 0) return;
     const columns = this.columns.map(({ moment, words }) => ({ moment, values: words.map(valueOf) }));
-    $("strip").replaceChildren(stripOf({ title, cells: this.cells, columns, done }));
+    $("strip").replaceChildren(...(columns.length > 0 ? [stripOf({ title, cells: this.cells, columns, done })] : []));
   }
 
   async ask(session, key, cells, total) {
     if (this.key === key || session !== this.session()) return;
     const count = Math.min(COLUMNS, total + 1);
     const moments = Array.from({ length: count }, (_, index) => Math.round((total * index) / Math.max(1, count - 1)));
-    const found = await session.cellsAt(moments, cells);
-    this.key = key;
-    this.cells = cells;
-    this.columns = found.map((words, index) => ({ moment: moments[index], words: words.map(({ word }) => word || ZERO.word) }));
-    if (this.shown) this.show(...this.shown);
+    Object.assign(this, { key, cells, columns: [] }); // what fails, or is stopped, is not asked for again
+    try {
+      const found = await session.cellsAt(moments, cells);
+      this.columns = found.map((words, index) => ({ moment: moments[index], words: words.map(({ word }) => word) }));
+    } finally {
+      if (this.shown) this.show(...this.shown);
+    }
   }
 }

@@ -1,6 +1,8 @@
 // Pictures of cells as SVG, which can be saved as they are: bars, and a strip of moments. Their colours are those of the light page; in the window
 // the style of the page overrides them.
 
+import { fourDigits } from "./dom.js";
+
 const PLACE = "http://www.w3.org/2000/svg";
 const LETTER = 6.7; // the width of a letter
 const HIGH = 90; // of the highest bar
@@ -42,7 +44,7 @@ export function barsOf({ title, text, bars, arrows }) {
     const above = Math.min(y(Math.max(0, value)), isWritten ? y(was) : Infinity);
     if (isTold) parts.push(label(x(cell), value < 0 ? Math.max(y(value), y(was)) + 12 : above - 4, told, { class: "ink" }));
     if (isWritten) parts.push(shape("circle", { cx: x(cell), cy: above - (isTold ? 18 : 6), r: 3, class: "mark", fill: "#96281c" }));
-    if (at % every === 0) parts.push(label(x(cell), foot, String(cell).padStart(4, "0"), { class: "soft", fill: "#5e5648", "font-size": 10 }));
+    if (at % every === 0) parts.push(label(x(cell), foot, fourDigits(cell), { class: "soft", fill: "#5e5648", "font-size": 10 }));
     return shape("g", { "data-cell": cell }, ...parts);
   };
   const stacks = new Map();

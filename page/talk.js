@@ -1,6 +1,6 @@
 // The commands with their replies, the line for one more, and the script that came with a program.
 
-import { $, make, put } from "./dom.js";
+import { $, make, note } from "./dom.js";
 
 const LETTERS_SHOWN = 200000; // letters of a reply that are shown
 
@@ -38,8 +38,7 @@ export class Talk {
   // Says why a command was not done, and gives it back to the line.
   answer(command, text) {
     if (command) $("command").value = command;
-    $("command-note").hidden = text === "";
-    put($("command-note"), text);
+    note("command-note", text);
   }
 
   // The first lines of the script that is still to be done, with so many commands; comments and blank lines are none.

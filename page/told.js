@@ -1,7 +1,7 @@
 // The status: two lines, of what was done and of what comes next.
 
 import { STEPS } from "./changes.js";
-import { counted } from "./dom.js";
+import { counted, fourDigits } from "./dom.js";
 import { faultOf } from "./moves.js";
 import { didOf, nextOf } from "./sentence.js";
 
@@ -22,7 +22,7 @@ export function toldOf({ reply, before, view, isBreak, lineOf, lines }) {
   const next = state.halted ? "" : `Next: ${nextOf(state, lineOf, lines)}.`;
   const was = before ? before.state.done : state.done;
   const line = lineOf.get(state.location);
-  const at = line ? `line ${line}` : `location ${String(state.location).padStart(4, "0")}`;
+  const at = line ? `line ${line}` : `location ${fourDigits(state.location)}`;
   const did = change && change.number === state.done ? didOf(change, state, lineOf, lines) : "";
   const fault = faultOf(reply);
   if (fault) {

@@ -1,7 +1,7 @@
 // What is seen of the machine: registers, memory, output, units, symbols. And which of it is in view in a narrow window.
 
 import { Bars } from "./bars.js";
-import { $, onResize } from "./dom.js";
+import { $, doAll, onResize } from "./dom.js";
 import { Memory } from "./memory.js";
 import { Output } from "./output.js";
 import { Registers } from "./registers.js";
@@ -63,15 +63,6 @@ export class Views {
   }
 
   show(view) {
-    const parts = [this.registers, this.memory, this.bars, this.output, this.units];
-    const faults = [];
-    for (const part of parts) {
-      try {
-        part.show(view);
-      } catch (fault) {
-        faults.push(fault);
-      }
-    }
-    if (faults.length > 0) throw faults[0];
+    doAll([this.registers, this.memory, this.bars, this.output, this.units].map((part) => () => part.show(view)));
   }
 }

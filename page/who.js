@@ -1,6 +1,6 @@
 // Who wrote this? What the last change of a register, a cell or a flag was, the ways there, and a field to set it.
 
-import { $, counted, put } from "./dom.js";
+import { $, counted, fourDigits, note, put } from "./dom.js";
 import { wordOf } from "./registers.js";
 import { numberOf } from "./sentence.js";
 
@@ -66,8 +66,7 @@ export class Who {
     if (!change) return `Change ${this.written}.`;
     if (/^(set|break|clear) /i.test(change.text)) return `Change ${this.written}, a command: ${change.text}.`;
     const line = this.lineOf(change.location);
-    const location = String(change.location).padStart(4, "0");
-    return `Change ${this.written}: ${change.text} at location ${location}${line ? `, line ${line}` : ""}.`;
+    return `Change ${this.written}: ${change.text} at location ${fourDigits(change.location)}${line ? `, line ${line}` : ""}.`;
   }
 
   // Sets the part, if the command is accepted; else the box says why not.
@@ -86,8 +85,7 @@ export class Who {
   }
 
   refuse(text) {
-    $("who-fault").hidden = text === "";
-    put($("who-fault"), text);
+    note("who-fault", text);
     $("who-value").setAttribute("aria-invalid", String(text !== ""));
   }
 }

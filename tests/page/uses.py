@@ -9,6 +9,7 @@ from selenium.webdriver.common.keys import Keys
 TOP = pathlib.Path(__file__).resolve().parents[2]
 EXAMPLES = sorted((TOP / "examples").glob("*.mix"))
 FIRST = EXAMPLES[0].read_text()
+BARS = {"07_inverse": "* bars: X+1 X+COUNT number\n"}  # what is shown of an example whose script shows five cells or more
 
 
 def kept(saved, what="still to do"):
@@ -50,7 +51,7 @@ def examples(page, native, count):
         count.same(f"{path.name}: the machine then", page.log()[-1][1], ran.split("\n", 1)[1])
         saved = page.save()
         more = "" if ran.startswith("ran 1 ") else "forth all\n"
-        done = f"%SCRIPT\nrun 1000000\nback all\nforth 1\n{more}show all\n* Kept by the page, and no commands:\n* lesson: {path.stem}\n"
+        done = f"%SCRIPT\nrun 1000000\nback all\nforth 1\n{more}show all\n* Kept by the page, and no commands:\n* lesson: {path.stem}\n{BARS.get(path.stem, '')}"
         count.same(f"{path.name}: saved, and run natively", native.bundle(saved), page.replies())
         count.row(f"{path.name}: saved with what was done", saved.decode().endswith(done), saved[-200:])
 
