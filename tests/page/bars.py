@@ -242,7 +242,7 @@ def bars_kept(page, native, count):
     count.same("bars: another program begins without them", page.script("return document.getElementById('bars-box').open"), False)
     page.go(link_of(page, saved))
     count.same("bars: the same by a link", page.script(SHOWN), shown)
-    page.tap(page.all("#bars [data-cell]")[3])
+    page.tap(page.all("#bars [data-cell='1003'] rect")[0])
     count.same("bars: a click on one asks who wrote it", page.text("who-title"), "Who wrote cell 1003?")
 
 
