@@ -87,11 +87,12 @@ export function stripOf({ title, cells, columns, done }) {
 // The file of some pictures, one below the other.
 export function fileOf(pictures) {
   const sizes = pictures.map((svg) => ["width", "height"].map((name) => Number(svg.getAttribute(name))));
-  const width = Math.max(...sizes.map(([size]) => size));
-  const all = shape("svg", { width, height: sizes.reduce((sum, [, size]) => sum + size, 0) });
+  const heightOf = (count) => sizes.slice(0, count).reduce((sum, [, size]) => sum + size, 0);
+  const [width, height] = [Math.max(...sizes.map(([size]) => size)), heightOf(sizes.length)];
+  const all = shape("svg", { viewBox: `0 0 ${width} ${height}`, width, height });
   pictures.forEach((svg, index) => {
     const copy = svg.cloneNode(true);
-    copy.setAttribute("y", sizes.slice(0, index).reduce((sum, [, size]) => sum + size, 0));
+    copy.setAttribute("y", heightOf(index));
     all.append(copy);
   });
   for (const element of all.querySelectorAll("[class]")) element.removeAttribute("class");

@@ -149,9 +149,12 @@ def strip(page, native, count):
     page.script(COPIED)
     page.click("bars-copy")
     page.wait(lambda: page.script("return Boolean(window.copiedText)"))
-    pictures = tree.fromstring(page.script("return window.copiedText")).findall("{http://www.w3.org/2000/svg}svg")
+    root = tree.fromstring(page.script("return window.copiedText"))
+    pictures = root.findall("{http://www.w3.org/2000/svg}svg")
     heights = [float(picture.get("height")) for picture in pictures]
     count.same("strip: in the file below the bars", [float(picture.get("y")) for picture in pictures], [0, heights[0]])
+    widest = max(float(picture.get("width")) for picture in pictures)
+    count.same("strip: the file is as large as both", [float(size) for size in root.get("viewBox").split()], [0, 0, widest, sum(heights)])
 
 
 def fields(page, native, count):
