@@ -1,11 +1,14 @@
--- What is wrong with a source, as one JSON object a line:
+-- What there is to say of a source, as one JSON object a line:
 -- `{"file":"t.mixal","line":1,"column":7,"endColumn":8,"severity":"error","code":"A7","text":"undefined symbol"}`.
 use Rattle.std.specs.Prelude.{ℕ, List, [], ◌∷◌, ◌++◌, take, flat_map, option_map, Option, None, Some, codes, decimal}
+use Rattle.std.specs.Str.Lossy.{utf8_lossy}
 use Rattle.json.specs.Token.{Token, begin_object, end_object, key, string, number}
 use Rattle.json.specs.Print.{print}
-use Rattle.mixal_asm.specs.declared.fault.AsmFault.{AsmFault}
+use Rattle.mixal_asm.specs.declared.diagnostic.Diagnostic.{Diagnostic}
+use Rattle.mixal_asm.specs.declared.diagnostic.Finding.{Finding}
+use Rattle.mixal_asm.specs.declared.diagnostic.Finding.TheVariants.{Fault, Warning as AWarning}
 use Rattle.mixal_asm.specs.Fault.{kind_number, kind_text}
-use Rattle.mixal_asm.specs.Faults.{faults_of}
+use Rattle.mixal_asm.specs.Diagnose.{diagnostics_of, warning_name, warning_subject, warning_text}
 use Rattle.mix_check.specs.Mark.{column_after}
 use Rattle.mix_check.specs.Report.{Shown, shown_of}
 
@@ -29,33 +32,43 @@ abbrev pub column_members : Option Columns → List Token
 column_members None = []
 column_members (Some columns) = number_member (codes "column") columns.0 ++ number_member (codes "endColumn") columns.1
 
--- ---- a fault
+-- ---- a diagnostic
 
--- its number with its letter, as `A7`
-abbrev pub fault_code : AsmFault → List ℕ
-fault_code fault = codes "A" ++ decimal (kind_number fault.kind)
+abbrev pub severity : Finding → List ℕ
+severity (Fault kind) = codes "error"
+severity (AWarning warning) = codes "warning"
+
+-- the number of a fault with its letter, as `A7`, or the name of a warning
+abbrev pub code : Finding → List ℕ
+code (Fault kind) = codes "A" ++ decimal (kind_number kind)
+code (AWarning warning) = warning_name warning
+
+-- its text, as characters
+abbrev pub meaning : Finding → List ℕ
+meaning (Fault kind) = kind_text kind
+meaning (AWarning warning) = utf8_lossy (warning_subject warning ++ warning_text warning)
 
 abbrev pub place_members : List ℕ → ℕ → Option Columns → List Token
 place_members name line columns =
     text_member (codes "file") name ++ number_member (codes "line") line ++ column_members columns
 
-abbrev pub meaning_members : AsmFault → List Token
-meaning_members fault =
-    text_member (codes "severity") (codes "error") ++ text_member (codes "code") (fault_code fault)
-    ++ text_member (codes "text") (kind_text fault.kind)
+abbrev pub meaning_members : Finding → List Token
+meaning_members finding =
+    text_member (codes "severity") (severity finding) ++ text_member (codes "code") (code finding)
+    ++ text_member (codes "text") (meaning finding)
 
-abbrev pub fault_members : List ℕ → AsmFault → Option Columns → List Token
-fault_members name fault columns = place_members name fault.line columns ++ meaning_members fault
+abbrev pub members : List ℕ → Diagnostic → Option Columns → List Token
+members name d columns = place_members name d.line columns ++ meaning_members d.finding
 
 -- its object, and a line feed
-unfoldable pub json_line : List ℕ → AsmFault → Option Columns → List ℕ
-json_line name fault columns = print (begin_object ∷ fault_members name fault columns ++ end_object ∷ []) ++ 10 ∷ []
+unfoldable pub json_line : List ℕ → Diagnostic → Option Columns → List ℕ
+json_line name d columns = print (begin_object ∷ members name d columns ++ end_object ∷ []) ++ 10 ∷ []
 
-abbrev pub json_fault : List ℕ → List ℕ → AsmFault → List ℕ
-json_fault name source fault = json_line name fault (option_map columns_of (shown_of source fault))
+abbrev pub json_diagnostic : List ℕ → List ℕ → Diagnostic → List ℕ
+json_diagnostic name source d = json_line name d (option_map columns_of (shown_of source d))
 
 -- ---- a source
 
--- all faults, one after the other
+-- all diagnostics, one after the other
 unfoldable pub json_report : List ℕ → List ℕ → List ℕ
-json_report name source = flat_map (json_fault name source) (faults_of source)
+json_report name source = flat_map (json_diagnostic name source) (diagnostics_of source)

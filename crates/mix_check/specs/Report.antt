@@ -1,10 +1,13 @@
--- What is wrong with a source, as a compiler reports it: `FILE:LINE:COLUMN: error: A7 undefined symbol`, the line, and a mark.
-use Rattle.std.specs.Prelude.{ℕ, ◌-◌, nat_lt, Bool, List, [], ◌∷◌, ◌++◌, length, take, slice_get, flat_map, Option, None, Some, option_map, Result, Ok, codes, decimal, if◌then◌else◌}
+-- What there is to say of a source, as a compiler reports it: `FILE:LINE:COLUMN: error: A7 undefined symbol`, the line, and a mark.
+use Rattle.std.specs.Prelude.{ℕ, ◌-◌, nat_lt, Bool, not, List, [], ◌∷◌, ◌++◌, length, take, slice_get, flat_map, Option, None, Some, option_map, Result, Ok, codes, decimal, if◌then◌else◌}
+use Rattle.std.specs.List.{list_any}
 use Rattle.mix_lines.specs.Lines.{lines}
 use Rattle.mixal_text.specs.declared.fault.TextFault.{TextFault}
 use Rattle.mixal_text.specs.declared.fault.TextFault.TheVariants.{NoSuchLocalSymbol}
 use Rattle.mixal_text.specs.declared.op.Mnemonic.{Mnemonic}
 use Rattle.mixal_text.specs.declared.op.Mnemonic.TheVariants.{Orig, End}
+use Rattle.mixal_text.specs.declared.slips.Slip.{Slip}
+use Rattle.mixal_text.specs.declared.slips.Slip.TheVariants.{OperationAsLabel, AlfCut, BlankInAddress}
 use Rattle.mixal_text.specs.declared.span.Span.{Span}
 use Rattle.mixal_text.specs.declared.span.Part.{Part}
 use Rattle.mixal_text.specs.declared.span.Part.TheVariants as part
@@ -12,10 +15,14 @@ use Rattle.mixal_text.specs.Line.{op_of_line}
 use Rattle.mixal_text.specs.Span.{part_span, span_of}
 use Rattle.mixal_asm.specs.declared.fault.AsmKind.{AsmKind}
 use Rattle.mixal_asm.specs.declared.fault.AsmKind.TheVariants.{Text, DefinedTwice, AddressTooLarge, LocationOutOfRange, NoEnd, StartOutOfRange, SourceTooLong}
-use Rattle.mixal_asm.specs.declared.fault.AsmFault.{AsmFault}
+use Rattle.mixal_asm.specs.declared.diagnostic.Diagnostic.{Diagnostic}
+use Rattle.mixal_asm.specs.declared.diagnostic.Finding.{Finding}
+use Rattle.mixal_asm.specs.declared.diagnostic.Finding.TheVariants.{Fault, Warning as AWarning}
+use Rattle.mixal_asm.specs.declared.diagnostic.Warning.{Warning}
+use Rattle.mixal_asm.specs.declared.diagnostic.Warning.TheVariants.{UndefinedSymbol, Slip as OfSlip}
 use Rattle.mixal_asm.specs.Assembly.{max_source_bytes}
 use Rattle.mixal_asm.specs.Fault.{kind_line}
-use Rattle.mixal_asm.specs.Faults.{faults_of}
+use Rattle.mixal_asm.specs.Diagnose.{diagnostics_of, is_warning, warning_name, warning_subject, warning_text}
 use Rattle.mix_check.specs.Mark.{column_after, marked}
 
 -- ---- what a fault is about
@@ -53,44 +60,69 @@ fault_span line NoEnd = None
 fault_span line StartOutOfRange = Some (part_span line part.Address)
 fault_span line SourceTooLong = None
 
--- ---- a fault
+-- ---- what a warning is about
 
--- without a column
-abbrev pub headline : List ℕ → AsmFault → List ℕ
-headline name fault = name ++ 58 ∷ decimal fault.line ++ codes ": error: " ++ kind_line fault.kind ++ 10 ∷ []
+abbrev pub slip_part : Slip → Part
+slip_part OperationAsLabel = part.Label
+slip_part AlfCut = part.Address
+slip_part BlankInAddress = part.Address
 
--- with the column of the first byte
-abbrev pub column_line : List ℕ → AsmFault → ℕ → List ℕ
-column_line name fault column =
-    name ++ 58 ∷ decimal fault.line ++ 58 ∷ decimal column ++ codes ": error: " ++ kind_line fault.kind ++ 10 ∷ []
+abbrev pub warning_part : Warning → Part
+warning_part (UndefinedSymbol symbol) = part.Address
+warning_part (OfSlip slip) = slip_part slip
+
+-- the bytes of a line that a diagnostic is about, if it is about some
+abbrev pub finding_span : List ℕ → Finding → Option Span
+finding_span line (Fault kind) = fault_span line kind
+finding_span line (AWarning warning) = Some (part_span line (warning_part warning))
 
 -- a line, and the bytes of it that a diagnostic is about
 abbrev pub Shown : Type 0
 Shown = List ℕ × Span
 
 -- no line is shown that is longer than a source may be
-abbrev pub shown_in : AsmFault → Option (List ℕ) → Option Shown
-shown_in fault None = None
-shown_in fault (Some line) =
-    if nat_lt max_source_bytes (length line) then None else option_map (λ span. (line, span)) (fault_span line fault.kind)
+abbrev pub shown_in : Finding → Option (List ℕ) → Option Shown
+shown_in finding None = None
+shown_in finding (Some line) =
+    if nat_lt max_source_bytes (length line) then None else option_map (λ span. (line, span)) (finding_span line finding)
 
--- the line of a fault, and the bytes of it that the fault is about, if it is about some
-abbrev pub shown_of : List ℕ → AsmFault → Option Shown
-shown_of source fault = shown_in fault (slice_get (lines source) (fault.line - 1))
+-- the line of a diagnostic, and the bytes of it that the diagnostic is about, if it is about some
+abbrev pub shown_of : List ℕ → Diagnostic → Option Shown
+shown_of source d = shown_in d.finding (slice_get (lines source) (d.line - 1))
 
-abbrev pub with_shown : List ℕ → AsmFault → Option Shown → List ℕ
-with_shown name fault None = headline name fault
-with_shown name fault (Some place) =
-    column_line name fault (column_after (take place.1.from place.0)) ++ marked place.0 place.1
+-- ---- a diagnostic
 
-unfoldable pub fault_text : List ℕ → List ℕ → AsmFault → List ℕ
-fault_text name source fault = with_shown name fault (shown_of source fault)
+abbrev pub column_text : Option ℕ → List ℕ
+column_text None = []
+column_text (Some column) = 58 ∷ decimal column
+
+-- where it is: the column is that of the first byte that it is about
+abbrev pub place_text : List ℕ → ℕ → Option ℕ → List ℕ
+place_text name line column = name ++ 58 ∷ decimal line ++ column_text column
+
+-- what it says: `error: A7 undefined symbol`, or `warning: X is defined nowhere: .. [undefined-symbol]`
+abbrev pub finding_text : Finding → List ℕ
+finding_text (Fault kind) = codes "error: " ++ kind_line kind
+finding_text (AWarning warning) =
+    codes "warning: " ++ warning_subject warning ++ warning_text warning ++ codes " [" ++ warning_name warning ++ codes "]"
+
+abbrev pub headline : List ℕ → Diagnostic → Option ℕ → List ℕ
+headline name d column = place_text name d.line column ++ codes ": " ++ finding_text d.finding ++ 10 ∷ []
+
+abbrev pub with_shown : List ℕ → Diagnostic → Option Shown → List ℕ
+with_shown name d None = headline name d None
+with_shown name d (Some place) =
+    headline name d (Some (column_after (take place.1.from place.0))) ++ marked place.0 place.1
+
+unfoldable pub diagnostic_text : List ℕ → List ℕ → Diagnostic → List ℕ
+diagnostic_text name source d = with_shown name d (shown_of source d)
 
 -- ---- a source
 
--- all faults, one after the other
+-- all diagnostics, one after the other
 unfoldable pub report : List ℕ → List ℕ → List ℕ
-report name source = flat_map (fault_text name source) (faults_of source)
+report name source = flat_map (diagnostic_text name source) (diagnostics_of source)
 
+-- whether one of them is a fault
 abbrev pub has_faults : List ℕ → Bool
-has_faults source = nat_lt 0 (length (faults_of source))
+has_faults source = list_any (λ d. not (is_warning d.finding)) (diagnostics_of source)

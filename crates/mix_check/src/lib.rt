@@ -1,5 +1,5 @@
-//! What is wrong with a source, as a compiler reports it: each fault with its file, line and column, the line, and a mark; or as
-//! one JSON object a line.
+//! What there is to say of a source, as a compiler reports it: each fault and each warning with its file, line and column, the line,
+//! and a mark; or as one JSON object a line.
 #![tactic(auto)]
 
 mod mark;

@@ -1,19 +1,21 @@
-//! What is wrong with a source, as one JSON object a line.
+//! What there is to say of a source, as one JSON object a line.
 
-ghost use Rattle.std.specs.Prelude.{◌≡◌, ◌++◌, IfOk, OnOk, option_map};
-ghost use Rattle.mix_check.specs.Json.{column_members, columns_of, json_fault, json_line, json_report, meaning_members, number_member, place_members, text_member};
+ghost use Rattle.std.specs.Prelude.{◌≡◌, ◌++◌, IfOk, OnOk, option_map, string_bytes};
+ghost use Rattle.mix_check.specs.Json.{column_members, columns_of, json_diagnostic, json_line, json_report, meaning, meaning_members, number_member, place_members, text_member};
 ghost use Rattle.mix_check.specs.Report.{has_faults, shown_of};
+ghost use Rattle.mixal_asm.specs.declared.diagnostic.Finding.TheVariants.{Warning as AWarning};
 
 use crate::mark::column_after;
 use crate::place::shown_of;
+use crate::report::has_fault;
 use json::Writer;
 use mix_refused::Memory;
-use mixal_asm::{AsmFault, faults_of};
+use mixal_asm::{Diagnostic, Finding, Warning, diagnose};
 use std::alloc::{AllocError, Global};
 
-/// Appends what is wrong with a source to a text as `add_report` does, but as JSON, and says whether anything is: of each fault
-/// one object a line, with its file, its line, the column of its first byte and that of what follows its last byte, its severity,
-/// its number and its text (1.3.2). A fault that is about no part of a line, as A13, has no columns.
+/// Appends what there is to say of a source to a text as `add_report` does, but as JSON, and says whether it has a fault: of each
+/// fault and of each warning one object a line, with its file, its line, the column of its first byte and that of what follows its
+/// last byte, its severity, its number or name, and its text (1.3.2). A fault that is about no part of a line, as A13, has no columns.
 #[tactic(auto, unfolding(crate::specs::Json::json_report))]
 pub fn add_json_report(
     alloc: Global,
@@ -24,32 +26,32 @@ pub fn add_json_report(
     ensures report { OnOk result (text.new.items ≡ text.old.items ++ json_report name.now source.now) }
     ensures faulty { IfOk result (λ faulty. faulty ≡ has_faults source.now) }
 {
-    let faults = faults_of(alloc, source)?;
-    for fault in faults.iter() {
-        add_fault(alloc, name, source, *fault, text)?;
+    let diagnostics = diagnose(alloc, source)?;
+    for diagnostic in diagnostics.iter() {
+        add_diagnostic(alloc, name, source, diagnostic, text)?;
     }
-    Ok(!faults.is_empty())
+    Ok(has_fault(&diagnostics))
 }
 
-// Appends a fault of a source.
-fn add_fault(
+// Appends a diagnostic of a source.
+fn add_diagnostic(
     alloc: Global,
     name: &str,
     source: &[u8],
-    fault: AsmFault,
+    diagnostic: &Diagnostic,
     text: &mut Vec<u8>,
 ) -> Result<(), Memory>
-    ensures { OnOk result (text.new.items ≡ text.old.items ++ json_fault name.now source.now fault) }
+    ensures { OnOk result (text.new.items ≡ text.old.items ++ json_diagnostic name.now source.now diagnostic.now) }
 {
-    let columns = columns_in(source, fault);
-    add_line(alloc, name, fault, columns, text)
+    let columns = columns_in(source, diagnostic);
+    add_line(alloc, name, diagnostic, columns, text)
 }
 
-// The column of the first byte that a fault is about, and that of what follows the last one.
-fn columns_in(source: &[u8], fault: AsmFault) -> Option<(u64, u64)>
-    ensures { result ≡ option_map columns_of (shown_of source.now fault) }
+// The column of the first byte that a diagnostic is about, and that of what follows the last one.
+fn columns_in(source: &[u8], diagnostic: &Diagnostic) -> Option<(u64, u64)>
+    ensures { result ≡ option_map columns_of (shown_of source.now diagnostic.now) }
 {
-    match shown_of(source, fault) {
+    match shown_of(source, diagnostic) {
         Some((line, span)) => Some((
             column_after(&line[..span.from]),
             column_after(&line[..span.to]),
@@ -58,21 +60,21 @@ fn columns_in(source: &[u8], fault: AsmFault) -> Option<(u64, u64)>
     }
 }
 
-// Appends the object of a fault, and a line feed.
+// Appends the object of a diagnostic, and a line feed.
 #[tactic(auto, unfolding(crate::specs::Json::json_line))]
 fn add_line(
     alloc: Global,
     name: &str,
-    fault: AsmFault,
+    diagnostic: &Diagnostic,
     columns: Option<(u64, u64)>,
     text: &mut Vec<u8>,
 ) -> Result<(), Memory>
-    ensures { OnOk result (text.new.items ≡ text.old.items ++ json_line name.now fault columns) }
+    ensures { OnOk result (text.new.items ≡ text.old.items ++ json_line name.now diagnostic.now columns) }
 {
     let mut writer = Writer::new(Vec::new(alloc));
     writer.begin_object()?;
-    write_place(&mut writer, name, fault.line, columns)?;
-    write_meaning(&mut writer, alloc, fault)?;
+    write_place(&mut writer, name, diagnostic.line, columns)?;
+    write_meaning(&mut writer, alloc, &diagnostic.finding)?;
     writer.end_object()?;
     let line = writer.into_inner();
     text.extend_from_slice(line.as_slice())?;
@@ -107,14 +109,39 @@ fn write_columns(writer: &mut Writer, columns: Option<(u64, u64)>) -> Result<(),
     }
 }
 
-fn write_meaning(writer: &mut Writer, alloc: Global, fault: AsmFault) -> Result<(), AllocError>
-    ensures tokens { OnOk result (writer.new.tokens ≡ writer.old.tokens ++ meaning_members fault) }
+fn write_meaning(writer: &mut Writer, alloc: Global, finding: &Finding) -> Result<(), AllocError>
+    ensures tokens { OnOk result (writer.new.tokens ≡ writer.old.tokens ++ meaning_members finding.now) }
     ensures before { writer.new.before ≡ writer.old.before }
 {
-    write_text(writer, "severity", "error")?;
-    let code = format!(in alloc; "A{}", fault.kind.number())?;
-    write_text(writer, "code", code.as_str())?;
-    write_text(writer, "text", fault.kind.text())
+    match finding {
+        Finding::Fault(kind) => {
+            write_text(writer, "severity", "error")?;
+            let code = format!(in alloc; "A{}", kind.number())?;
+            write_text(writer, "code", code.as_str())?;
+            write_text(writer, "text", kind.text())
+        }
+        Finding::Warning(warning) => write_warning(writer, alloc, warning),
+    }
+}
+
+fn write_warning(writer: &mut Writer, alloc: Global, warning: &Warning) -> Result<(), AllocError>
+    ensures tokens { OnOk result (writer.new.tokens ≡ writer.old.tokens ++ meaning_members (AWarning warning.now)) }
+    ensures before { writer.new.before ≡ writer.old.before }
+{
+    write_text(writer, "severity", "warning")?;
+    write_text(writer, "code", warning.name())?;
+    let text = characters(alloc, warning)?;
+    write_text(writer, "text", text.as_str())
+}
+
+// The text of a warning, as characters.
+fn characters(alloc: Global, warning: &Warning) -> Result<String, AllocError>
+    ensures { IfOk result (λ s. string_bytes s ≡ meaning (AWarning warning.now)) }
+{
+    let mut text = Vec::new(alloc);
+    text.extend_from_slice(warning.subject())?;
+    text.extend_from_slice(warning.text().as_bytes())?;
+    String::from_utf8_lossy(alloc, text.as_slice())
 }
 
 fn write_text(writer: &mut Writer, name: &str, value: &str) -> Result<(), AllocError>

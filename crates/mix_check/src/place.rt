@@ -1,30 +1,30 @@
-//! The line of a fault, and the bytes of it that the fault is about.
+//! The line of a diagnostic, and the bytes of it that the diagnostic is about.
 
 ghost use Rattle.std.specs.Prelude.{◌≡◌, ◌≤◌, ◌-◌, IfSome, length, option_map, slice_get};
 ghost use Rattle.mix_lines.specs.Lines.{lines};
 ghost use Rattle.mix_check.specs.Report.{shown_in, shown_of};
 
-use crate::span::fault_span;
+use crate::span::finding_span;
 use mix_lines::split_line;
-use mixal_asm::{AsmFault, MAX_SOURCE_BYTES};
+use mixal_asm::{Diagnostic, Finding, MAX_SOURCE_BYTES};
 use mixal_text::Span;
 
-/// The line of a fault, and the bytes of it that the fault is about, if it is about some.
-pub(crate) fn shown_of(source: &[u8], fault: AsmFault) -> Option<(&[u8], Span)>
-    ensures is { option_map (λ place. (place.0.now, place.1)) result ≡ shown_of source.now fault }
+/// The line of a diagnostic, and the bytes of it that the diagnostic is about, if it is about some.
+pub(crate) fn shown_of<'s>(source: &'s [u8], diagnostic: &Diagnostic) -> Option<(&'s [u8], Span)>
+    ensures is { option_map (λ place. (place.0.now, place.1)) result ≡ shown_of source.now diagnostic.now }
     ensures order { IfSome result (λ place. place.1.from ≤ place.1.to) }
     ensures within { IfSome result (λ place. place.1.to ≤ length place.0.now) }
     ensures bound { IfSome result (λ place. length place.0.now ≤ 1048576) }
 {
-    match line_at(source, fault.line) {
-        Some(line) => shown_in(fault, line),
+    match line_at(source, diagnostic.line) {
+        Some(line) => shown_in(&diagnostic.finding, line),
         None => None,
     }
 }
 
 // The same of a line.
-fn shown_in(fault: AsmFault, line: &[u8]) -> Option<(&[u8], Span)>
-    ensures is { option_map (λ place. (place.0.now, place.1)) result ≡ shown_in fault (Some line.now) }
+fn shown_in<'s>(finding: &Finding, line: &'s [u8]) -> Option<(&'s [u8], Span)>
+    ensures is { option_map (λ place. (place.0.now, place.1)) result ≡ shown_in finding.now (Some line.now) }
     ensures order { IfSome result (λ place. place.1.from ≤ place.1.to) }
     ensures within { IfSome result (λ place. place.1.to ≤ length place.0.now) }
     ensures bound { IfSome result (λ place. length place.0.now ≤ 1048576) }
@@ -32,7 +32,7 @@ fn shown_in(fault: AsmFault, line: &[u8]) -> Option<(&[u8], Span)>
     if line.len() > MAX_SOURCE_BYTES {
         return None;
     }
-    match fault_span(line, fault.kind) {
+    match finding_span(line, finding) {
         Some(span) => Some((line, span)),
         None => None,
     }

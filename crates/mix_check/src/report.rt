@@ -1,18 +1,21 @@
-//! What is wrong with a source, as a compiler reports it.
+//! What there is to say of a source, as a compiler reports it.
 
-ghost use Rattle.std.specs.Prelude.{◌≡◌, ◌++◌, IfOk, OnOk};
-ghost use Rattle.mix_check.specs.Report.{column_line, fault_text, has_faults, headline, report};
+ghost use Rattle.std.specs.Prelude.{◌≡◌, ◌++◌, IfOk, OnOk, not};
+ghost use Rattle.std.specs.List.{list_any};
+ghost use Rattle.mixal_asm.specs.Diagnose.{is_warning};
+ghost use Rattle.mixal_asm.specs.declared.diagnostic.Finding.TheVariants.{Warning as AWarning};
+ghost use Rattle.mix_check.specs.Report.{column_text, diagnostic_text, finding_text, has_faults, headline, place_text, report};
 
 use crate::mark::{add_marked, column_after};
 use crate::place::shown_of;
 use mix_refused::Memory;
-use mixal_asm::{AsmFault, faults_of};
+use mixal_asm::{Diagnostic, Finding, Warning, diagnose};
 use std::alloc::Global;
 
-/// Appends what is wrong with a source to a text, and says whether anything is: of each fault `FILE:LINE:COLUMN: error: A7
-/// undefined symbol`, the line, and a mark under what is at fault (1.3.2). The columns are counted from 1, with tab stops at each
-/// eighth. A fault that is about no part of a line, as A13, has neither a column nor the line. Control characters of the source
-/// are shown as question marks.
+/// Appends what there is to say of a source to a text, and says whether it has a fault: of each fault `FILE:LINE:COLUMN: error: A7
+/// undefined symbol`, of each warning `FILE:LINE:COLUMN: warning: X is defined nowhere: .. [undefined-symbol]`, the line, and a mark
+/// under what that is about (1.3.2). The columns are counted from 1, with tab stops at each eighth. A fault that is about no part of
+/// a line, as A13, has neither a column nor the line. Control characters of the source are shown as question marks.
 #[tactic(auto, unfolding(crate::specs::Report::report))]
 pub fn add_report(
     alloc: Global,
@@ -23,58 +26,106 @@ pub fn add_report(
     ensures report { OnOk result (text.new.items ≡ text.old.items ++ report name.now source.now) }
     ensures faulty { IfOk result (λ faulty. faulty ≡ has_faults source.now) }
 {
-    let faults = faults_of(alloc, source)?;
-    for fault in faults.iter() {
-        add_fault(alloc, name, source, *fault, text)?;
+    let diagnostics = diagnose(alloc, source)?;
+    for diagnostic in diagnostics.iter() {
+        add_diagnostic(alloc, name, source, diagnostic, text)?;
     }
-    Ok(!faults.is_empty())
+    Ok(has_fault(&diagnostics))
 }
 
-// Appends a fault of a source.
-#[tactic(auto, unfolding(crate::specs::Report::fault_text))]
-fn add_fault(
+/// Whether one of some diagnostics is a fault.
+pub(crate) fn has_fault(diagnostics: &[Diagnostic]) -> bool
+    ensures { result ≡ list_any (λ d. not (is_warning d.finding)) diagnostics.now }
+{
+    diagnostics.iter().any(|diagnostic| matches!(diagnostic.finding, Finding::Fault(_)))
+}
+
+// Appends a diagnostic of a source.
+#[tactic(auto, unfolding(crate::specs::Report::diagnostic_text))]
+fn add_diagnostic(
     alloc: Global,
     name: &str,
     source: &[u8],
-    fault: AsmFault,
+    diagnostic: &Diagnostic,
     text: &mut Vec<u8>,
 ) -> Result<(), Memory>
-    ensures { OnOk result (text.new.items ≡ text.old.items ++ fault_text name.now source.now fault) }
+    ensures { OnOk result (text.new.items ≡ text.old.items ++ diagnostic_text name.now source.now diagnostic.now) }
 {
-    match shown_of(source, fault) {
+    match shown_of(source, diagnostic) {
         Some((line, span)) => {
             let column = column_after(&line[..span.from]);
-            add_column_line(alloc, name, fault, column, text)?;
+            add_headline(alloc, name, diagnostic, Some(column), text)?;
             add_marked(text, line, span)?;
             Ok(())
         }
-        None => add_headline(alloc, name, fault, text),
+        None => add_headline(alloc, name, diagnostic, None, text),
     }
 }
 
 fn add_headline(
     alloc: Global,
     name: &str,
-    fault: AsmFault,
+    diagnostic: &Diagnostic,
+    column: Option<u64>,
     text: &mut Vec<u8>,
 ) -> Result<(), Memory>
-    ensures { OnOk result (text.new.items ≡ text.old.items ++ headline name.now fault) }
+    ensures { OnOk result (text.new.items ≡ text.old.items ++ headline name.now diagnostic.now column) }
 {
-    let line = format!(in alloc; "{name}:{}: error: {}\n", fault.line, fault.kind)?;
-    text.extend_from_slice(line.as_bytes())?;
+    add_place(alloc, name, diagnostic.line, column, text)?;
+    text.extend_from_slice(b": ")?;
+    add_finding(alloc, &diagnostic.finding, text)?;
+    text.push(b'\n')?;
     Ok(())
 }
 
-fn add_column_line(
+fn add_place(
     alloc: Global,
     name: &str,
-    fault: AsmFault,
-    column: u64,
+    line: u32,
+    column: Option<u64>,
     text: &mut Vec<u8>,
 ) -> Result<(), Memory>
-    ensures { OnOk result (text.new.items ≡ text.old.items ++ column_line name.now fault column) }
+    ensures { OnOk result (text.new.items ≡ text.old.items ++ place_text name.now line column) }
 {
-    let line = format!(in alloc; "{name}:{}:{column}: error: {}\n", fault.line, fault.kind)?;
-    text.extend_from_slice(line.as_bytes())?;
+    let place = format!(in alloc; "{name}:{line}")?;
+    text.extend_from_slice(place.as_bytes())?;
+    add_column(alloc, column, text)
+}
+
+fn add_column(alloc: Global, column: Option<u64>, text: &mut Vec<u8>) -> Result<(), Memory>
+    ensures { OnOk result (text.new.items ≡ text.old.items ++ column_text column) }
+{
+    match column {
+        Some(column) => {
+            let number = format!(in alloc; ":{column}")?;
+            text.extend_from_slice(number.as_bytes())?;
+            Ok(())
+        }
+        None => Ok(()),
+    }
+}
+
+fn add_finding(alloc: Global, finding: &Finding, text: &mut Vec<u8>) -> Result<(), Memory>
+    ensures { OnOk result (text.new.items ≡ text.old.items ++ finding_text finding.now) }
+{
+    match finding {
+        Finding::Fault(kind) => {
+            let fault = format!(in alloc; "error: {kind}")?;
+            text.extend_from_slice(fault.as_bytes())?;
+            Ok(())
+        }
+        Finding::Warning(warning) => add_warning(warning, text),
+    }
+}
+
+fn add_warning(warning: &Warning, text: &mut Vec<u8>) -> Result<(), Memory>
+    ensures { OnOk result (text.new.items ≡ text.old.items ++ finding_text (AWarning warning.now)) }
+{
+    text.extend_from_slice(b"warning: ")?;
+    text.extend_from_slice(warning.subject())?;
+    text.extend_from_slice(warning.text().as_bytes())?;
+    text.extend_from_slice(b" [")?;
+    text.extend_from_slice(warning.name().as_bytes())?;
+    text.push(b']')?;
     Ok(())
 }

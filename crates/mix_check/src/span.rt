@@ -1,13 +1,43 @@
-//! The bytes of a line that a fault is about.
+//! The bytes of a line that a fault or a warning is about.
 
 ghost use Rattle.std.specs.Prelude.{◌≡◌, ◌≤◌, IfSome, length};
-ghost use Rattle.mix_check.specs.Report.{fault_span, location_part, part_of_end, text_part, text_span};
+ghost use Rattle.mix_check.specs.Report.{fault_span, finding_span, location_part, part_of_end, slip_part, text_part, text_span, warning_part};
 
-use mixal_asm::AsmKind;
-use mixal_text::{Mnemonic, Part, Span, TextFault, line_op, part_span};
+use mixal_asm::{AsmKind, Finding, Warning};
+use mixal_text::{Mnemonic, Part, Slip, Span, TextFault, line_op, part_span};
 
-/// The bytes of a line that a fault is about, if it is about some.
-pub(crate) fn fault_span(line: &[u8], kind: AsmKind) -> Option<Span>
+/// The bytes of a line that a diagnostic is about, if it is about some.
+pub(crate) fn finding_span(line: &[u8], finding: &Finding) -> Option<Span>
+    ensures is { result ≡ finding_span line.now finding.now }
+    ensures order { IfSome result (λ span. span.from ≤ span.to) }
+    ensures within { IfSome result (λ span. span.to ≤ length line.now) }
+{
+    match finding {
+        Finding::Fault(kind) => fault_span(line, *kind),
+        Finding::Warning(warning) => Some(part_span(line, warning_part(warning))),
+    }
+}
+
+fn warning_part(warning: &Warning) -> Part
+    ensures { result ≡ warning_part warning.now }
+{
+    match warning {
+        Warning::UndefinedSymbol(_) => Part::Address,
+        Warning::Slip(slip) => slip_part(*slip),
+    }
+}
+
+fn slip_part(slip: Slip) -> Part
+    ensures { result ≡ slip_part slip }
+{
+    match slip {
+        Slip::OperationAsLabel => Part::Label,
+        Slip::AlfCut | Slip::BlankInAddress => Part::Address,
+    }
+}
+
+// The bytes of a line that a fault is about.
+fn fault_span(line: &[u8], kind: AsmKind) -> Option<Span>
     ensures is { result ≡ fault_span line.now kind }
     ensures order { IfSome result (λ span. span.from ≤ span.to) }
     ensures within { IfSome result (λ span. span.to ≤ length line.now) }

@@ -1,6 +1,6 @@
 use Rattle.std.proofs.Common.{◌≡◌, ◌++◌, take, flat_map}
-use Rattle.mix_check.specs.Report.{fault_text}
+use Rattle.mix_check.specs.Report.{diagnostic_text}
 use Rattle.mix_check.proofs.report.add_report.Given as goal
 
-abbrev pub invariant-loop-fault : goal.invariant-loop-fault
-invariant-loop-fault l = l.text.items ≡ l.initial.text.items ++ flat_map (fault_text l.name l.source) (take l.fault-index l.fault-items)
+abbrev pub invariant-loop-diagnostic : goal.invariant-loop-diagnostic
+invariant-loop-diagnostic l = l.text.items ≡ l.initial.text.items ++ flat_map (diagnostic_text l.name l.source) (take l.diagnostic-index l.diagnostic-items)
