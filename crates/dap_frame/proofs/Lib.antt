@@ -1,2 +1,3 @@
+pub mod Growing
 mod HeaderLemmas
 mod ReadsBack
