@@ -1,0 +1,132 @@
+-- What is heard of the bytes that were read is heard of all bytes.
+use Rattle.std.proofs.Common.{◌≡◌, ◌≢◌, ℕ, ◌+◌, ◌<◌, ◌≤◌, Bool, true, false, cond, Option, None, Some, Result, Ok, Err, List, [], ◌∷◌, ◌++◌, length, take, refl, sym, ap, subst, ◌∙◌, append_assoc, append-nil, arith}
+use Rattle.std.specs.Prelude.{option_and_then, IsUtf8}
+use Rattle.std.specs.Str.{is_utf8}
+use Rattle.std.specs.Io.KnownBytes.{Consumes, IsAtEnd, Keeps, prepend_known}
+use Rattle.std.proofs.KnownBytes.{Keeps-refl, Keeps-trans}
+use Rattle.std.proofs.lemmas.Str.{IsUtf8-from_is_utf8, is_utf8-from_IsUtf8}
+use Rattle.serde_json.specs.Data.{Data}
+use Rattle.serde_json.specs.Read.{read}
+use Rattle.serde_json.specs.View.{view}
+use Rattle.mix_refused.specs.declared.refused.Memory.{Memory}
+use Rattle.mix_refused.specs.declared.refused.Refused.TheVariants as refused
+use Rattle.dap_frame.specs.Frame.{First, whole, without_length, partial, too_long, first_frame, max_body, max_header}
+use Rattle.dap_frame.specs.Longer.{Longer}
+use Rattle.dap_frame.proofs.Growing.{longer, partial-short}
+use Rattle.dap_message.specs.Members.{request_seq}
+use Rattle.dap_message.specs.Reads.{ReadsAs, Says}
+use Rattle.dap_message.specs.declared.request.MessageFault.{MessageFault}
+use Rattle.dap_message.specs.declared.request.MessageFault.TheVariants.{NotJson, NotRequest}
+use Rattle.dap_message.specs.declared.request.Request.{Request}
+use Rattle.dap_stream.specs.Asked.{Asked, asked, asked_by, asked_in, message_in}
+use Rattle.dap_stream.specs.Heard.{BeginsWith, Hears}
+use Rattle.dap_stream.specs.Hearing.{HearsAs, FirstAs, IsOver, IsNotOver, OnlyBegins}
+use Rattle.dap_stream.specs.declared.hear.Heard.{Heard}
+use Rattle.dap_stream.specs.declared.hear.Heard.TheVariants as heard
+
+-- ---- a body
+
+says : (body : List ℕ) (message : Data) → Says body message → message_in body ≡ Some message
+says body message is = rw (is_utf8-from_IsUtf8 body is.0) is.1
+
+-- what is read as a request asks for what it asks for
+pub body-request : (body : List ℕ) (request : Request) → Says body (view request.message) × (request_seq (view request.message) ≡ Some request.seq)
+    → Some (asked request) ≡ asked_by body
+body-request body request is =
+    sym (ap (option_and_then asked_in) (says body (view request.message) is.0) ∙ rw is.1 refl)
+
+not-json : (body : List ℕ) (b : Bool) → is_utf8 body ≡ b → (IsUtf8 body → read body ≡ None) → cond b (read body) None ≡ None
+not-json body true is none = none (IsUtf8-from_is_utf8 body is)
+not-json body false is none = refl
+
+pub body-no_json : (body : List ℕ) → (IsUtf8 body → read body ≡ None) → None ≡ asked_by body
+body-no_json body none = sym (ap (option_and_then asked_in) (not-json body (is_utf8 body) refl none))
+
+pub body-no_request : (body : List ℕ) → ((message : Data) × Says body message × (request_seq message ≡ None)) → None ≡ asked_by body
+body-no_request body is = sym (ap (option_and_then asked_in) (says body is.0 is.1) ∙ rw is.2 refl)
+
+pub body-fault : (body : List ℕ) (fault : MessageFault) → ReadsAs body (Err (refused.Fault fault)) → None ≡ asked_by body
+body-fault body NotJson is = body-no_json body is
+body-fault body NotRequest is = body-no_request body is
+
+pub ruleset bodies = (body-request, body-fault)
+
+-- ---- the bytes that were read, and those that follow
+
+known-first : (text rest more : List ℕ) (frame : Option Asked) (next : First) → next ≡ first_frame (text ++ more) → BeginsWith next frame (rest ++ more)
+    → Hears (Some (text ++ more)) (frame ∷ []) (Some (rest ++ more))
+known-first text rest more frame next e is = (rest ++ more, subst (λ n. BeginsWith n frame (rest ++ more)) e is, refl)
+
+-- a whole frame is heard
+pub hears-body : (text body rest : List ℕ) (frame : Option Asked) → first_frame text ≡ whole body rest → frame ≡ asked_by body
+    → (more : Option (List ℕ)) → Hears (prepend_known text more) (frame ∷ []) (prepend_known rest more)
+hears-body text body rest frame is same None = tt
+hears-body text body rest frame is same (Some more) =
+    let next = subst (λ f. Longer f more (first_frame (text ++ more))) is (longer text more) in
+    known-first text rest more frame (whole body (rest ++ more)) (sym next) (same, refl)
+
+pub hears-no_length : (text rest : List ℕ) → first_frame text ≡ without_length rest
+    → (more : Option (List ℕ)) → Hears (prepend_known text more) (None ∷ []) (prepend_known rest more)
+hears-no_length text rest is None = tt
+hears-no_length text rest is (Some more) =
+    let next = subst (λ f. Longer f more (first_frame (text ++ more))) is (longer text more) in
+    known-first text rest more None (without_length (rest ++ more)) (sym next) (refl, refl)
+
+pub hears-too_long : (text : List ℕ) → first_frame text ≡ too_long → (more : Option (List ℕ)) → OnlyBegins too_long (prepend_known text more)
+hears-too_long text is None = tt
+hears-too_long text is (Some more) = subst (λ f. Longer f more (first_frame (text ++ more))) is (longer text more)
+
+-- ---- more bytes are read
+
+-- the bytes that are still to be heard are the same after a read
+pub read-keeps : (bytes part : List ℕ) (old new : Option (List ℕ)) → Consumes old new part → Keeps (prepend_known bytes old) (prepend_known (bytes ++ part) new)
+read-keeps bytes part None new is = tt
+read-keeps bytes part (Some all) None is = absurd is
+read-keeps bytes part (Some all) (Some left) is = append_assoc bytes part left ∙ ap (λ l. bytes ++ l) (sym is)
+
+hears-kept : (a b c : Option (List ℕ)) (frames : List (Option Asked)) → Keeps a b → Hears b frames c → Hears a frames c
+hears-kept None b c frames same is = tt
+hears-kept (Some text) None c frames same is = absurd same
+hears-kept (Some text) (Some same_text) None frames same is = is
+hears-kept (Some text) (Some same_text) (Some left) frames same is = subst (λ t. Hears (Some t) frames (Some left)) same is
+
+only-kept : (first : First) (a b : Option (List ℕ)) → Keeps a b → OnlyBegins first b → OnlyBegins first a
+only-kept first None b same is = tt
+only-kept first (Some text) None same is = absurd same
+only-kept first (Some text) (Some same_text) same is = ap first_frame (sym same) ∙ is
+
+over-kept : (a b : Option (List ℕ)) → Keeps a b → IsOver b → IsOver a
+over-kept None b same is = tt
+over-kept (Some text) None same is = absurd same
+over-kept (Some text) (Some same_text) same is = sym same ∙ is
+
+not_over-kept : (a b : Option (List ℕ)) → Keeps a b → IsNotOver b → IsNotOver a
+not_over-kept None b same is = tt
+not_over-kept (Some text) None same is = absurd same
+not_over-kept (Some text) (Some same_text) same is = λ e. is (same ∙ e)
+
+-- what is heard after a read is heard before it
+pub heard-kept : (result : Result Heard Memory) (a b c : Option (List ℕ)) → Keeps a b → HearsAs result b c → HearsAs result a c
+heard-kept (Ok (heard.Request request)) a b c same is = hears-kept a b c _ same is
+heard-kept (Ok (heard.Unclear fault)) a b c same is = hears-kept a b c _ same is
+heard-kept (Ok heard.End) a b c same is = (over-kept a b same is.0, hears-kept a b c _ same is.1)
+heard-kept (Ok heard.Cut) a b c same is = (only-kept partial a b same is.0, not_over-kept a b same is.1)
+heard-kept (Ok heard.TooLong) a b c same is = only-kept too_long a b same is
+heard-kept (Ok heard.Failed) a b c same is = tt
+heard-kept (Err refused) a b c same is = tt
+
+-- ---- the end
+
+pub end-known : (bytes part : List ℕ) (old new : Option (List ℕ)) → Consumes old new part → part ≡ [] → IsAtEnd new
+    → (P : Option (List ℕ) → Option (List ℕ) → Type 0) → ((other : Option (List ℕ)) → P None other) → P (Some bytes) (Some bytes)
+    → P (prepend_known bytes old) (prepend_known bytes new)
+end-known bytes part None new is none end P unknown known = unknown _
+end-known bytes part (Some all) None is none end P unknown known = absurd is
+end-known bytes part (Some all) (Some left) is none end P unknown known =
+    let nothing : all ≡ [] = is ∙ ap (λ l. l ++ left) none ∙ end in
+    rw (nothing, end, append-nil) known
+
+
+pub ruleset frames = (hears-body, hears-no_length, hears-too_long)
+
+pub ruleset hearing = (Keeps-refl, Keeps-trans, read-keeps, heard-kept)

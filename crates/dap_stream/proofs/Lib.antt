@@ -1,0 +1,3 @@
+mod HearLemmas
+mod SendLemmas
+pub mod Talking

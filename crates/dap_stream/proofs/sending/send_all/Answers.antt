@@ -1,0 +1,14 @@
+-- One message more is sent.
+use Rattle.std.proofs.Common.{◌≡◌, ◌<◌, ◌∙◌, length, arith}
+use Rattle.serde_json.specs.View.{view}
+use Rattle.dap_stream.proofs.SendLemmas.{sends-step}
+use Rattle.dap_stream.proofs.sending.send_all.Goals as goal
+
+pub loop-message-preserved : goal.loop-message-preserved
+loop-message-preserved g c =
+    let below : c.loop-message.message-index < length c.args.messages.now = omega arith in
+    record {
+      sent = sends-step view c.args.messages.now c.loop-message.message-index c.message-item.result _ _ _ below c.message-item.is
+          c.loop-message.invariant.sent c.in_ok-send_one.ensures.sent;
+      failed = c.in_ok-send_one.ensures.failed.1 (λ e. e) ∙ c.loop-message.invariant.failed;
+    }

@@ -1,0 +1,5 @@
+pub mod Asked
+pub mod Heard
+pub mod Hearing
+pub mod Sent
+pub mod Talk

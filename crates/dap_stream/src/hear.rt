@@ -1,0 +1,125 @@
+//! Requests, heard one by one from what a client sends.
+
+ghost use Rattle.std.specs.Prelude.{◌≡◌, ◌≢◌, ◌<◌, ◌+◌, ◌-◌, ◌^◌, List, ℕ, Option, [], None, Some, Ok, IfOk, length};
+ghost use Rattle.dap_frame.specs.Frame.{first_frame, max_body, max_header, partial};
+ghost use Rattle.dap_stream.specs.Hearing.{BodyAs, FirstAs, HearsAs, kept, unheard};
+ghost use Rattle.dap_stream.specs.declared.hear.Heard.TheVariants as heard;
+ghost use Rattle.mix_stream.specs.Stream.{CountsFailure};
+
+use dap_frame::{MAX_BODY, MAX_HEADER, Next, next_frame};
+use dap_message::{MessageFault, Request};
+use mix_refused::{Memory, Refused};
+use mix_stream::In;
+use std::alloc::Global;
+
+// How many bytes are read at once.
+const CHUNK: usize = 4096;
+
+/// What was heard.
+#[derive(Drop)]
+pub enum Heard {
+    /// A request.
+    Request(Request),
+    /// A frame that is no request: why its body is none, or none where its header gives no length of a body.
+    Unclear(Option<MessageFault>),
+    /// The end, where a frame ends.
+    End,
+    /// The end within a frame.
+    Cut,
+    /// A frame that is longer than it may be.
+    TooLong,
+    /// A read failed.
+    Failed,
+}
+
+/// The bytes that were read and not yet heard.
+#[derive(Drop)]
+pub struct Ear {
+    alloc: Global,
+    bytes: Vec<u8>,
+}
+
+impl Ear {
+    /// Nothing is read yet.
+    pub fn new(alloc: Global) -> Ear
+        ensures { kept result ≡ [] }
+    {
+        Ear {
+            alloc,
+            bytes: Vec::new(alloc),
+        }
+    }
+
+    /// The next frame, which is waited for. `Memory` where there is no room for it.
+    #[tactic(auto, using(crate::proofs::HearLemmas::hearing))]
+    pub fn hear<R: In>(&mut self, input: &mut R) -> Result<Heard, Memory>
+        requires { R.failed input.old < 2 ^ 64 - 1 }
+        ensures heard { HearsAs result (unheard self.old (R.rest input.old)) (unheard self.new (R.rest input.new)) }
+        ensures failed { CountsFailure (result ≡ Ok heard.Failed) (R.failed input.old) (R.failed input.new) }
+    {
+        let mut buffer = [0; CHUNK];
+        'reads: while self.bytes.len() < MAX_HEADER + MAX_BODY {
+            if let Some(heard) = self.first()? {
+                return Ok(heard);
+            }
+            let Ok(count) = input.read(&mut buffer) else {
+                return Ok(Heard::Failed);
+            };
+            if count == 0 {
+                return Ok(self.end());
+            }
+            self.bytes.extend_from_slice(&buffer[..count])?;
+        }
+        match self.first()? {
+            Some(heard) => Ok(heard),
+            None => unreachable!(),
+        }
+    }
+
+    // What the end of the input is.
+    fn end(&self) -> Heard
+        requires { first_frame (kept self.now) ≡ partial }
+        ensures end { HearsAs (Ok result) (Some (kept self.now)) (Some (kept self.now)) }
+        ensures read { result ≢ heard.Failed }
+    {
+        if self.bytes.is_empty() {
+            Heard::End
+        } else {
+            Heard::Cut
+        }
+    }
+
+    // The frame that the bytes begin with, if it is whole; it is taken off them.
+    #[tactic(auto, using(crate::proofs::HearLemmas::frames))]
+    fn first(&mut self) -> Result<Option<Heard>, Memory>
+        ensures { FirstAs result (kept self.old) (kept self.new) }
+    {
+        match next_frame(self.bytes.as_slice()) {
+            Next::Partial => Ok(None),
+            Next::TooLong => Ok(Some(Heard::TooLong)),
+            Next::NoLength(rest) => {
+                let rest = Vec::from_slice(self.alloc, rest)?;
+                self.bytes = rest;
+                Ok(Some(Heard::Unclear(None)))
+            }
+            Next::Body(body, rest) => {
+                let heard = request_of(self.alloc, body)?;
+                let rest = Vec::from_slice(self.alloc, rest)?;
+                self.bytes = rest;
+                Ok(Some(heard))
+            }
+        }
+    }
+}
+
+// The request that a body is.
+#[tactic(auto, using(crate::proofs::HearLemmas::bodies))]
+fn request_of(alloc: Global, body: &[u8]) -> Result<Heard, Memory>
+    ensures { IfOk result (λ heard. BodyAs heard body.now) }
+{
+    match Request::read(alloc, body) {
+        Ok(request) => Ok(Heard::Request(request)),
+        Err(Refused::Fault(fault)) => Ok(Heard::Unclear(Some(fault))),
+        Err(Refused::Memory) => Err(Memory),
+    }
+}

@@ -1,0 +1,8 @@
+//! A debug adapter over a stream: requests that are heard frame by frame, and messages that are sent, each in its frame.
+#![tactic(auto)]
+
+mod hear;
+mod sending;
+
+pub use hear::{Ear, Heard};
+pub use sending::send;
