@@ -71,7 +71,7 @@ within : (given : Option ℕ) (end : ℕ) (lines : List (List ℕ)) (h : Option 
 within given end [] h e = absurd (cc)
 within given end (line ∷ lines) h e =
     within-step given end (length line) (total lines) (header_in (option_or (length_in (text_of_line line)) given) (end + length line) lines) h
-        (within (option_or (length_in (text_of_line line)) given) (end + length line) lines h) (is_ended line) (nat_eq (length (text_of_line line)) 0) e
+    (within (option_or (length_in (text_of_line line)) given) (end + length line) lines h) (is_ended line) (nat_eq (length (text_of_line line)) 0) e
 
 goes-step : (found : Option (Option ℕ × ℕ)) (more next : Option (Option ℕ × ℕ)) (h : Option ℕ × ℕ) → (more ≡ Some h → next ≡ Some h)
     → (a b : Bool) → cond a (cond b found more) None ≡ Some h → cond a (cond b found next) None ≡ Some h
@@ -101,10 +101,11 @@ cut-goes : (text more : List ℕ) → (b : Bool) → nat_lt (length text) max_he
     → (rest : List ℕ) × (take max_header (text ++ more) ≡ take max_header text ++ rest)
 cut-goes text more true short =
     let less = ltb-true (length text) max_header short in
-    let room : max_header ≡ length text + (max_header - length text) = omega arith in
-    (take (max_header - length text) more,
-        ap (λ n. take n (text ++ more)) room ∙ take-append-add text more (max_header - length text)
-        ∙ ap (λ t. t ++ take (max_header - length text) more) (sym (take_all max_header text (omega arith))))
+    let room : max_header ≡ length text + (max_header - length text) = omega arith in (
+      take (max_header - length text) more,
+      ap (λ n. take n (text ++ more)) room ∙ take-append-add text more (max_header - length text)
+          ∙ ap (λ t. t ++ take (max_header - length text) more) (sym (take_all max_header text (omega arith))),
+    )
 cut-goes text more false long =
     let most = ltb-false (length text) max_header long in
     ([], take-append-le max_header text more most ∙ sym (append-nil (take max_header text)))
@@ -126,7 +127,7 @@ header-within text h e =
 
 body-step : (n : ℕ) (text more : List ℕ) (b : Bool) → nat_lt (length text) n ≡ b
     → Longer (cond b partial (whole (take n text) (drop n text))) more
-        (cond (nat_lt (length (text ++ more)) n) partial (whole (take n (text ++ more)) (drop n (text ++ more))))
+    (cond (nat_lt (length (text ++ more)) n) partial (whole (take n (text ++ more)) (drop n (text ++ more))))
 body-step n text more true short = tt
 body-step n text more false long =
     let most = ltb-false (length text) n long in
@@ -135,7 +136,7 @@ body-step n text more false long =
 
 body-long : (n : ℕ) (text more : List ℕ) (b : Bool)
     → Longer (cond b too_long (cond (nat_lt (length text) n) partial (whole (take n text) (drop n text)))) more
-        (cond b too_long (cond (nat_lt (length (text ++ more)) n) partial (whole (take n (text ++ more)) (drop n (text ++ more)))))
+    (cond b too_long (cond (nat_lt (length (text ++ more)) n) partial (whole (take n (text ++ more)) (drop n (text ++ more)))))
 body-long n text more true = refl
 body-long n text more false = body-step n text more (nat_lt (length text) n) refl
 

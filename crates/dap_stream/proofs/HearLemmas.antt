@@ -126,7 +126,6 @@ end-known bytes part (Some all) (Some left) is none end P unknown known =
     let nothing : all ≡ [] = is ∙ ap (λ l. l ++ left) none ∙ end in
     rw (nothing, end, append-nil) known
 
-
 pub ruleset frames = (hears-body, hears-no_length, hears-too_long)
 
 pub ruleset hearing = (Keeps-refl, Keeps-trans, read-keeps, heard-kept)

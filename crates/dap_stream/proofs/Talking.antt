@@ -112,28 +112,52 @@ always (Some text) P p = p
 -- nothing is heard and nothing is told
 pub talks-none : (a told : Option (List ℕ)) (w : List Data) → Talks false a a told told w w
 talks-none a told w = record {
-  heard = []; more = []; sent = []; hears = hears-none a; sends = sends-none told; waits = append-nil w; answers = refl;
+  heard = [];
+  more = [];
+  sent = [];
+  hears = hears-none a;
+  sends = sends-none told;
+  waits = append-nil w;
+  answers = refl;
   done = always a _ refl;
 }
 
 -- a frame that is no request is told by events
 pub talks-unclear : (a b told : Option (List ℕ)) (w x : List Data) → Hears a (None ∷ []) b → Events w x → Talks false a b told told w x
 talks-unclear a b told w x h e = record {
-  heard = None ∷ []; more = e.more; sent = []; hears = h; sends = sends-none told; waits = sym e.told; answers = answered-events e.more e.events;
+  heard = None ∷ [];
+  more = e.more;
+  sent = [];
+  hears = h;
+  sends = sends-none told;
+  waits = sym e.told;
+  answers = answered-events e.more e.events;
   done = always a _ refl;
 }
 
 -- events alone
 pub talks-events : (a told : Option (List ℕ)) (w x : List Data) → Events w x → Talks false a a told told w x
 talks-events a told w x e = record {
-  heard = []; more = e.more; sent = []; hears = hears-none a; sends = sends-none told; waits = sym e.told; answers = answered-events e.more e.events;
+  heard = [];
+  more = e.more;
+  sent = [];
+  hears = hears-none a;
+  sends = sends-none told;
+  waits = sym e.told;
+  answers = answered-events e.more e.events;
   done = always a _ refl;
 }
 
 -- what waits is sent
 pub talks-sent : (a told now : Option (List ℕ)) (w x : List Data) → SendsAll w told now → x ≡ [] → Talks false a a told now w x
 talks-sent a told now w x s none = record {
-  heard = []; more = []; sent = w; hears = hears-none a; sends = s; waits = ap (λ l. w ++ l) (sym none); answers = refl;
+  heard = [];
+  more = [];
+  sent = w;
+  hears = hears-none a;
+  sends = s;
+  waits = ap (λ l. w ++ l) (sym none);
+  answers = refl;
   done = always a _ refl;
 }
 
@@ -141,7 +165,12 @@ talks-sent a told now w x s none = record {
 pub talks-answered : (a b told : Option (List ℕ)) (w x : List Data) (response : Response) → Hears a (Some (asked_of response) ∷ []) b
     → Answers response w x → is_last (asked_of response) ≡ false → Talks false a b told told w x
 talks-answered a b told w x response h e on = record {
-  heard = Some (asked_of response) ∷ []; more = e.first ∷ e.more; sent = []; hears = h; sends = sends-none told; waits = sym e.told;
+  heard = Some (asked_of response) ∷ [];
+  more = e.first ∷ e.more;
+  sent = [];
+  hears = h;
+  sends = sends-none told;
+  waits = sym e.told;
   answers = answered-response e.first e.more response e.answer e.events;
   done = always a _ (ap (λ b. not b && true) on);
 }
@@ -150,7 +179,12 @@ talks-answered a b told w x response h e on = record {
 pub talks-last : (a b told : Option (List ℕ)) (w x : List Data) (response : Response) → Hears a (Some (asked_of response) ∷ []) b
     → Answers response w x → is_last (asked_of response) ≡ true → Talks true a b told told w x
 talks-last a b told w x response h e last = record {
-  heard = Some (asked_of response) ∷ []; more = e.first ∷ e.more; sent = []; hears = h; sends = sends-none told; waits = sym e.told;
+  heard = Some (asked_of response) ∷ [];
+  more = e.first ∷ e.more;
+  sent = [];
+  hears = h;
+  sends = sends-none told;
+  waits = sym e.told;
   answers = answered-response e.first e.more response e.answer e.events;
   done = always a _ (ap (λ l. cond l true (is_at_end b)) last);
 }
@@ -163,7 +197,13 @@ over-known (Some text) (Some left) over h = ap (λ t. nat_eq (length t) 0) (h �
 -- the input is at its end
 pub talks-end : (a b told : Option (List ℕ)) (w : List Data) → IsOver a → Hears a [] b → Talks true a b told told w w
 talks-end a b told w over h = record {
-  heard = []; more = []; sent = []; hears = h; sends = sends-none told; waits = append-nil w; answers = refl;
+  heard = [];
+  more = [];
+  sent = [];
+  hears = h;
+  sends = sends-none told;
+  waits = append-nil w;
+  answers = refl;
   done = over-known a b over h;
 }
 
@@ -171,16 +211,25 @@ talks-end a b told w over h = record {
 pub talks-and-sent : (over : Bool) (a b told mid now : Option (List ℕ)) (w x y : List Data) → Talks over a b told mid w x → SendsAll x mid now → y ≡ []
     → Talks over a b told now w y
 talks-and-sent over a b told mid now w x y p s none = record {
-  heard = p.heard; more = p.more; sent = p.sent ++ x; hears = p.hears; sends = sends-then p.sent x told mid now p.sends s;
+  heard = p.heard;
+  more = p.more;
+  sent = p.sent ++ x;
+  hears = p.hears;
+  sends = sends-then p.sent x told mid now p.sends s;
   waits = p.waits ∙ sym (append-nil (p.sent ++ x)) ∙ ap (λ l. (p.sent ++ x) ++ l) (sym none);
-  answers = p.answers; done = p.done;
+  answers = p.answers;
+  done = p.done;
 }
 
 -- a whole talk
 pub talk-whole : (text : List ℕ) (new told now : Option (List ℕ)) (x : List Data) → Talks true (Some text) new told now [] x → x ≡ [] → Talk text told now
 talk-whole text None told now x p none = absurd p.hears
 talk-whole text (Some rest) told now x p none = record {
-  heard = p.heard; rest = rest; sent = p.sent; hears = p.hears; sends = p.sends;
+  heard = p.heard;
+  rest = rest;
+  sent = p.sent;
+  hears = p.hears;
+  sends = p.sends;
   answers = ap answered (sym (append-nil p.sent) ∙ ap (λ l. p.sent ++ l) (sym none) ∙ sym p.waits) ∙ p.answers;
   done = p.done;
 }

@@ -15,11 +15,7 @@ use serde_json::Value;
 use std::alloc::Global;
 
 /// Sends all messages that wait, one after the other, and then none waits. Where memory is refused or a write fails, some may be sent, and all wait.
-pub fn send<W: Out>(
-    alloc: Global,
-    outbox: &mut Outbox,
-    out: &mut W,
-) -> Result<(), Refused<Failed>>
+pub fn send<W: Out>(alloc: Global, outbox: &mut Outbox, out: &mut W) -> Result<(), Refused<Failed>>
     requires { W.failed out.old < 2 ^ 64 - 1 }
     ensures sent { OnOk result (SendsAll (waits outbox.old) (W.told out.old) (W.told out.new)) }
     ensures none { OnOk result (waits outbox.new ≡ []) }
@@ -31,11 +27,7 @@ pub fn send<W: Out>(
 }
 
 #[tactic(auto, using(crate::proofs::SendLemmas::nothing))]
-fn send_all<W: Out>(
-    alloc: Global,
-    messages: &[Value],
-    out: &mut W,
-) -> Result<(), Refused<Failed>>
+fn send_all<W: Out>(alloc: Global, messages: &[Value], out: &mut W) -> Result<(), Refused<Failed>>
     requires { W.failed out.old < 2 ^ 64 - 1 }
     ensures sent { OnOk result (SendsAll (map view messages.now) (W.told out.old) (W.told out.new)) }
     ensures failed { CountsFailure (IsFault result) (W.failed out.old) (W.failed out.new) }
