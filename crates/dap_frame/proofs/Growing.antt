@@ -1,6 +1,6 @@
 -- The first frame of a text is the same when more bytes follow, once it is whole; and until then the text is short.
-use Rattle.std.proofs.Common.{◌≡◌, ◌⊎◌, inl, inr, ℕ, suc, ◌+◌, ◌-◌, ◌<◌, ◌≤◌, min, Bool, true, false, cond, Option, None, Some, List, [], ◌∷◌, ◌++◌, length, take, drop, get_or, nat_eq, refl, sym, ap, subst, ◌∙◌, append_assoc, arith}
-use Rattle.std.proofs.lemmas.Bool.{ltb-true, ltb-false, lt-ltb, le-ltb}
+use Rattle.std.proofs.Common.{◌≡◌, ◌⊎◌, inl, inr, ℕ, ◌+◌, ◌-◌, ◌<◌, ◌≤◌, Bool, true, false, cond, Option, None, Some, List, [], ◌∷◌, ◌++◌, length, take, drop, nat_eq, refl, sym, ap, subst, ◌∙◌, arith}
+use Rattle.std.proofs.lemmas.Bool.{ltb-true, ltb-false, le-ltb}
 use Rattle.std.proofs.lemmas.Grind.{common_steps}
 use Rattle.std.proofs.lemmas.List.{length-append, length-take, length-drop, take-append-le, drop-append-le, take_all, append-nil}
 use Rattle.std.proofs.Math.Seq.{take-append-add}
@@ -8,7 +8,7 @@ use Rattle.std.specs.List.{onto_first}
 use Rattle.std.specs.Prelude.{nat_lt}
 use Rattle.mix_lines.specs.Lines.{is_line_feed, whole_lines, text_of_line}
 use Rattle.std.specs.Option.{option_or}
-use Rattle.dap_frame.specs.Frame.{First, whole, without_length, partial, too_long, is_ended, length_in, header_in, body_in, after_header, max_header, max_body, first_frame}
+use Rattle.dap_frame.specs.Frame.{whole, partial, too_long, is_ended, length_in, header_in, body_in, after_header, max_header, max_body, first_frame}
 use Rattle.dap_frame.specs.Longer.{Longer}
 
 -- ---- lines that more bytes follow

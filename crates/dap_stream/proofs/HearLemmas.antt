@@ -1,5 +1,5 @@
 -- What is heard of the bytes that were read is heard of all bytes.
-use Rattle.std.proofs.Common.{◌≡◌, ◌≢◌, ℕ, ◌+◌, ◌<◌, ◌≤◌, Bool, true, false, cond, Option, None, Some, Result, Ok, Err, List, [], ◌∷◌, ◌++◌, length, take, refl, sym, ap, subst, ◌∙◌, append_assoc, append-nil, arith}
+use Rattle.std.proofs.Common.{◌≡◌, ℕ, Bool, true, false, cond, Option, None, Some, Result, Ok, Err, List, [], ◌∷◌, ◌++◌, refl, sym, ap, subst, ◌∙◌, append_assoc, append-nil}
 use Rattle.std.specs.Prelude.{option_and_then, IsUtf8}
 use Rattle.std.specs.Str.{is_utf8}
 use Rattle.std.specs.Io.KnownBytes.{Consumes, IsAtEnd, Keeps, prepend_known}
@@ -10,9 +10,9 @@ use Rattle.serde_json.specs.Read.{read}
 use Rattle.serde_json.specs.View.{view}
 use Rattle.mix_refused.specs.declared.refused.Memory.{Memory}
 use Rattle.mix_refused.specs.declared.refused.Refused.TheVariants as refused
-use Rattle.dap_frame.specs.Frame.{First, whole, without_length, partial, too_long, first_frame, max_body, max_header}
+use Rattle.dap_frame.specs.Frame.{First, whole, without_length, partial, too_long, first_frame}
 use Rattle.dap_frame.specs.Longer.{Longer}
-use Rattle.dap_frame.proofs.Growing.{longer, partial-short}
+use Rattle.dap_frame.proofs.Growing.{longer}
 use Rattle.dap_message.specs.Members.{request_seq}
 use Rattle.dap_message.specs.Reads.{ReadsAs, Says}
 use Rattle.dap_message.specs.declared.request.MessageFault.{MessageFault}
@@ -20,7 +20,7 @@ use Rattle.dap_message.specs.declared.request.MessageFault.TheVariants.{NotJson,
 use Rattle.dap_message.specs.declared.request.Request.{Request}
 use Rattle.dap_stream.specs.Asked.{Asked, asked, asked_by, asked_in, message_in}
 use Rattle.dap_stream.specs.Heard.{BeginsWith, Hears}
-use Rattle.dap_stream.specs.Hearing.{HearsAs, FirstAs, IsOver, IsNotOver, OnlyBegins}
+use Rattle.dap_stream.specs.Hearing.{HearsAs, IsOver, IsNotOver, OnlyBegins}
 use Rattle.dap_stream.specs.declared.hear.Heard.{Heard}
 use Rattle.dap_stream.specs.declared.hear.Heard.TheVariants as heard
 

@@ -6,7 +6,6 @@ use Rattle.std.proofs.lemmas.List.{map-append, take_more}
 use Rattle.std.proofs.KnownBytes.{Appends-nil, Appends-trans}
 use Rattle.serde_json.specs.Data.{Data}
 use Rattle.dap_frame.specs.Frame.{frame_of}
-use Rattle.dap_message.specs.Message.{IsTextOf}
 use Rattle.dap_stream.specs.Sent.{AreTextsOf, Sends, SendsAll, frames_of}
 
 pub sends-none : (told : Option (List ℕ)) → SendsAll [] told told

@@ -1,14 +1,13 @@
 -- Parts of a talk, one after the other.
-use Rattle.std.proofs.Common.{◌≡◌, ℕ, ◌+◌, ◌&&◌, Bool, true, false, cond, not, nat_eq, Option, None, Some, IfSome, is_none, List, [], ◌∷◌, ◌++◌, length, refl, sym, ap, subst, ◌∙◌, append_assoc, append-nil, arith}
+use Rattle.std.proofs.Common.{◌≡◌, ℕ, ◌&&◌, Bool, true, false, cond, not, nat_eq, Option, None, Some, IfSome, is_none, List, [], ◌∷◌, ◌++◌, length, refl, sym, ap, subst, ◌∙◌, append_assoc, append-nil}
 use Rattle.std.specs.List.{list_all}
 use Rattle.std.specs.Option.{option_map}
 use Rattle.std.proofs.lemmas.Bool.{and_parts, and_from}
 use Rattle.std.proofs.lemmas.List.Folds.{list_all-append}
-use Rattle.std.proofs.KnownBytes.{Appends-nil}
 use Rattle.serde_json.specs.Data.{Data}
 use Rattle.dap_message.specs.Told.{Answers, Events, Response, are_events, response_in}
 use Rattle.dap_stream.specs.Asked.{Asked, answered, asked_of, before, is_last, requests}
-use Rattle.dap_stream.specs.Heard.{BeginsWith, Hears, Holds}
+use Rattle.dap_stream.specs.Heard.{Hears, Holds}
 use Rattle.dap_stream.specs.Hearing.{IsOver}
 use Rattle.dap_stream.specs.Sent.{SendsAll}
 use Rattle.dap_stream.specs.Talk.{IsDone, Talk, Talks, is_at_end, is_done}

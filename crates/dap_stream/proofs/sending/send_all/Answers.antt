@@ -1,5 +1,5 @@
 -- One message more is sent.
-use Rattle.std.proofs.Common.{◌≡◌, ◌<◌, ◌∙◌, length, arith}
+use Rattle.std.proofs.Common.{◌<◌, ◌∙◌, length, arith}
 use Rattle.serde_json.specs.View.{view}
 use Rattle.dap_stream.proofs.SendLemmas.{sends-step}
 use Rattle.dap_stream.proofs.sending.send_all.Goals as goal

@@ -1,5 +1,5 @@
 -- As many bytes as a frame may have are no beginning of one.
-use Rattle.std.proofs.Common.{◌≡◌, ◌<◌, ◌+◌, Ok, subst, length, arith}
+use Rattle.std.proofs.Common.{◌<◌, ◌+◌, Ok, subst, length, arith}
 use Rattle.dap_frame.specs.Frame.{max_body, max_header}
 use Rattle.dap_frame.proofs.Growing.{partial-short}
 use Rattle.dap_stream.specs.Hearing.{FirstAs, kept}
