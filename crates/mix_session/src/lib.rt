@@ -32,4 +32,5 @@ pub use request::{Request, Topic};
 pub use session::Session;
 pub use show::all::was_used;
 pub use show::differences::Held;
+pub use show::words::{Characters, Letters, ShortLetters};
 pub use tally::{Tallies, Tally};

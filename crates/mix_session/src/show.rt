@@ -16,7 +16,7 @@ mod each;
 mod lines;
 pub(crate) mod unit;
 mod values;
-mod words;
+pub(crate) mod words;
 
 use crate::keyword::Keyword;
 use crate::reply::position_of;

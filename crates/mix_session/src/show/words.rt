@@ -113,7 +113,7 @@ fn letter_of(word: Word, i: u8) -> Letter
 
 /// The five characters of a word.
 #[derive(Clone, Copy)]
-pub(super) struct Letters(pub Word);
+pub struct Letters(pub Word);
 
 impl fmt::Display for Letters {
     ghost output = { λ w. Some (letters_text w.0) };
@@ -134,7 +134,7 @@ impl fmt::Display for Letters {
 
 /// The two characters of an index register.
 #[derive(Clone, Copy)]
-pub(super) struct ShortLetters(pub Word);
+pub struct ShortLetters(pub Word);
 
 impl fmt::Display for ShortLetters {
     ghost output = { λ w. Some (short_letters w.0) };
@@ -147,7 +147,7 @@ impl fmt::Display for ShortLetters {
 
 /// The characters of some words.
 #[derive(Clone, Copy)]
-pub(super) struct Characters<'a>(pub &'a [Word]);
+pub struct Characters<'a>(pub &'a [Word]);
 
 impl fmt::Display for Characters<'_> {
     ghost output = { λ c. Some (characters_text c.0.now) };
