@@ -1,1 +1,3 @@
 mod WrittenLemmas
+pub mod LayoutLemmas
+pub mod ListLemmas

@@ -4,9 +4,16 @@ pub mod Fault
 pub mod Kind
 pub mod Launch
 pub mod Launched
+pub mod Layout
 pub mod Leaves
+pub mod List
+pub mod Look
 pub mod Runs
 pub mod Scope
 pub mod Sent
+pub mod State
 pub mod Told
+pub mod Value
+pub mod Variables
+pub mod View
 pub mod Written

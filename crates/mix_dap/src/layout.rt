@@ -1,24 +1,39 @@
 //! The memory as bytes: a cell is six, its sign (0 for +, 1 for -) and its five bytes of 0 to 63; cell N begins at byte 6N.
 
-use mix_machine::{Place, Sign, Word};
+ghost use Rattle.std.specs.Prelude.{◌≡◌, ◌<◌, ◌≤◌, IfOk, IfSome, string_bytes};
+ghost use Rattle.mix_dap.specs.Layout.{byte_reference, reference_of, sign_byte, cell_byte, memory_byte};
+
+use crate::value::place_at;
+use mix_machine::{Place, Sign, Word, World};
 use mix_refused::Memory;
 use std::alloc::Global;
 
 /// How many bytes a cell has.
 pub(crate) const CELL_BYTES: u64 = 6;
 
-/// How many bytes the memory has.
-pub(crate) const MEMORY_BYTES: u64 = 24_000;
-
 /// The reference of a cell: where it begins, in hexadecimal digits.
-pub(crate) fn reference_of(alloc: Global, number: u16) -> Result<String, Memory> {
-    let start = u64::from(number) * CELL_BYTES;
-    let text = format!(in alloc; "0x{start:04x}")?;
+pub(crate) fn reference_of(alloc: Global, number: u16) -> Result<String, Memory>
+    ensures { IfOk result (λ s. string_bytes s ≡ reference_of number) }
+{
+    byte_reference(alloc, u64::from(number) * CELL_BYTES)
+}
+
+/// The reference of a byte, in hexadecimal digits.
+#[tactic(auto, using(crate::proofs::LayoutLemmas::written_in_four_digits), unfolding(crate::specs::Layout::byte_reference))]
+pub(crate) fn byte_reference(alloc: Global, byte: u64) -> Result<String, Memory>
+    ensures { IfOk result (λ s. string_bytes s ≡ byte_reference byte) }
+{
+    let text = format!(in alloc; "0x{byte:04x}")?;
     Ok(text)
 }
 
+/// How many bytes the memory has.
+pub(crate) const MEMORY_BYTES: u64 = 24_000;
+
 /// The byte that a reference names, as `0x` and hexadecimal digits or as decimal digits, with an offset in bytes: within the memory or at its end.
-pub(crate) fn byte_of_reference(reference: &str, offset: i64) -> Option<u64> {
+pub(crate) fn byte_of_reference(reference: &str, offset: i64) -> Option<u64>
+    ensures { IfSome result (λ byte. byte ≤ 24000) }
+{
     let start = match reference.strip_prefix("0x") {
         Some(digits) => u64::from_str_radix(digits, 16).ok()?,
         None => reference.parse::<u64>().ok()?,
@@ -40,14 +55,39 @@ pub(crate) fn cell_of_reference(reference: &str, offset: i64) -> Option<Place> {
     u16::try_from(byte / CELL_BYTES).ok().and_then(Place::of)
 }
 
-/// The six bytes of a word.
-pub(crate) fn bytes_of(word: Word) -> [u8; 6] {
-    let sign = match word.sign() {
+/// A byte of the memory.
+pub(crate) fn memory_byte(world: &World, at: u64) -> u8
+    requires { at < 24000 }
+    ensures { result ≡ memory_byte world.now at }
+{
+    let word = world.cell(place_at((at / CELL_BYTES) as u16));
+    cell_byte(word, (at % CELL_BYTES) as u8)
+}
+
+// A byte of a cell: its sign, and its five bytes.
+fn cell_byte(word: Word, i: u8) -> u8
+    requires { i < 6 }
+    ensures { result ≡ cell_byte word i }
+{
+    match i {
+        0 => sign_byte(word.sign()),
+        _ => word.byte(i),
+    }
+}
+
+fn sign_byte(sign: Sign) -> u8
+    ensures { result ≡ sign_byte sign }
+{
+    match sign {
         Sign::Plus => 0,
         Sign::Minus => 1,
-    };
+    }
+}
+
+/// The six bytes of a word.
+pub(crate) fn bytes_of(word: Word) -> [u8; 6] {
     [
-        sign,
+        sign_byte(word.sign()),
         word.byte(1),
         word.byte(2),
         word.byte(3),

@@ -10,6 +10,7 @@ mod hear;
 mod kind;
 mod launch;
 mod layout;
+mod list;
 mod look;
 mod memory;
 mod points;

@@ -1,6 +1,14 @@
 //! What is looked at: the one thread, its one frame, and the scopes.
 
+ghost use Rattle.std.specs.Prelude.{◌≡◌, IfOk, OnOk, string_bytes};
+ghost use Rattle.serde_json.specs.View.{view};
+ghost use Rattle.dap_message.specs.Fields.{members_in};
+ghost use Rattle.mixal_asm.specs.Row.{source_value};
+ghost use Rattle.mix_session.specs.Timeline.{world_of};
+ghost use Rattle.mix_dap.specs.Look.{threads, source, line_for, line_of, line_at, frame_name, put_line, frame_members, frame, stack_trace, scope_members, scopes};
+
 use crate::layout::reference_of;
+use crate::list::{add, list_alone};
 use crate::scope::{ALL_UNITS, FLAGS, MEMORY, REGISTERS};
 use crate::value::{cell_at, cell_name};
 use dap_message::{Fields, Request};
@@ -8,7 +16,7 @@ use mix_machine::World;
 use mix_refused::Memory;
 use mix_session::Session;
 use mix_word::Instruction;
-use mixal_asm::Source;
+use mixal_asm::{Program, Source};
 use serde_json::Value;
 use std::alloc::Global;
 
@@ -16,32 +24,31 @@ use std::alloc::Global;
 pub(crate) const THREAD: u64 = 1;
 
 /// The only thread.
-pub(crate) fn threads(alloc: Global) -> Result<Value, Memory> {
+pub(crate) fn threads(alloc: Global) -> Result<Value, Memory>
+    ensures { IfOk result (λ v. view v ≡ threads) }
+{
     let mut thread = Fields::new(alloc);
     thread.number("id", THREAD)?;
     thread.text("name", "MIX")?;
-    let mut body = Fields::new(alloc);
-    body.list("threads", one(alloc, thread.done())?)?;
-    Ok(body.done())
-}
-
-fn one(alloc: Global, value: Value) -> Result<Vec<Value>, Memory> {
     let mut list = Vec::new(alloc);
-    list.push(value)?;
-    Ok(list)
+    add(&mut list, thread.done())?;
+    list_alone(alloc, "threads", list)
 }
 
 /// The only frame: the instruction at the location, with the line of the source that put the word there.
 pub(crate) fn stack_trace(
     alloc: Global,
     session: &Session,
-    name: &str,
+    name: Name<'_>,
     first: u64,
     request: &Request,
-) -> Result<Value, Memory> {
+) -> Result<Value, Memory>
+    ensures { IfOk result (λ v. view v ≡ stack_trace session.now name.entry.short.now name.entry.whole.now first request.now) }
+{
     let mut frames = Vec::new(alloc);
     if request.number("startFrame").unwrap_or(0) == 0 {
-        frames.push(frame(alloc, session, name, first)?)?;
+        let frame = frame(alloc, session.program(), session.world(), name, first)?;
+        add(&mut frames, frame)?;
     }
     let mut body = Fields::new(alloc);
     body.list("stackFrames", frames)?;
@@ -49,37 +56,79 @@ pub(crate) fn stack_trace(
     Ok(body.done())
 }
 
-fn frame(alloc: Global, session: &Session, name: &str, first: u64) -> Result<Value, Memory> {
-    let loc = session.world().loc();
-    let mut frame = Fields::new(alloc);
-    frame.number("id", 1)?;
-    frame.text("name", frame_name(alloc, session.world())?.as_str())?;
-    frame.text(
-        "instructionPointerReference",
-        reference_of(alloc, loc)?.as_str(),
-    )?;
-    let line = match line_at(session) {
-        Some(line) => {
-            frame.put("source", source(alloc, name)?)?;
-            line.saturating_sub(1 - first.min(1))
-        }
-        None => 0,
-    };
-    frame.number("line", line)?;
+fn frame(
+    alloc: Global,
+    program: &Program,
+    world: &World,
+    name: Name<'_>,
+    first: u64,
+) -> Result<Value, Memory>
+    ensures { IfOk result (λ v. view v ≡ frame program.now world.now name.entry.short.now name.entry.whole.now first) }
+{
+    let mut frame = frame_fields(alloc, world)?;
+    put_line(alloc, &mut frame, name, first, line_at(program, world))?;
     frame.number("column", first)?;
     Ok(frame.done())
 }
 
+fn frame_fields(alloc: Global, world: &World) -> Result<Fields, Memory>
+    ensures { IfOk result (λ f. members_in f ≡ frame_members world.now) }
+{
+    let mut frame = Fields::new(alloc);
+    frame.number("id", 1)?;
+    frame.text("name", frame_name(alloc, world)?.as_str())?;
+    let reference = reference_of(alloc, world.loc())?;
+    frame.text("instructionPointerReference", reference.as_str())?;
+    Ok(frame)
+}
+
+// The line as the client counts it, and the source that it is of; the line 0 where there is none.
+fn put_line(
+    alloc: Global,
+    frame: &mut Fields,
+    name: Name<'_>,
+    first: u64,
+    line: Option<u64>,
+) -> Result<(), Memory>
+    ensures { OnOk result (members_in frame.new ≡ put_line name.entry.short.now name.entry.whole.now first line (members_in frame.old)) }
+{
+    match line {
+        Some(line) => {
+            frame.put("source", source(alloc, name)?)?;
+            frame.number("line", line_for(first, line))
+        }
+        None => frame.number("line", 0),
+    }
+}
+
+/// A line as the client counts it, from 0 or from 1 on.
+pub(crate) fn line_for(first: u64, line: u64) -> u64
+    ensures { result ≡ line_for first line }
+{
+    line.saturating_sub(1u64.saturating_sub(first))
+}
+
 // The line of the source that put the word at the location there.
-fn line_at(session: &Session) -> Option<u64> {
-    let place = cell_at(session.world())?;
-    match session.program().source_at(place)? {
+fn line_at(program: &Program, world: &World) -> Option<u64>
+    ensures { result ≡ line_at program.now world.now }
+{
+    let place = cell_at(world)?;
+    line_of(program.source_at(place)?)
+}
+
+/// The number of a line of the source; none of an inserted line.
+pub(crate) fn line_of(source: &Source) -> Option<u64>
+    ensures { result ≡ line_of (source_value source.now) }
+{
+    match source {
         Source::Line(line, _) => Some(u64::from(*line)),
         Source::Literal(_) | Source::Name(_) => None,
     }
 }
 
-fn frame_name(alloc: Global, world: &World) -> Result<String, Memory> {
+fn frame_name(alloc: Global, world: &World) -> Result<String, Memory>
+    ensures { IfOk result (λ s. string_bytes s ≡ frame_name world.now) }
+{
     let cell = cell_name(alloc, world.loc())?;
     match cell_at(world) {
         Some(place) => {
@@ -92,36 +141,63 @@ fn frame_name(alloc: Global, world: &World) -> Result<String, Memory> {
 }
 
 /// The source, by its name.
-pub(crate) fn source(alloc: Global, name: &str) -> Result<Value, Memory> {
+pub(crate) fn source(alloc: Global, name: Name<'_>) -> Result<Value, Memory>
+    ensures { IfOk result (λ v. view v ≡ source name.entry.short.now name.entry.whole.now) }
+{
     let mut source = Fields::new(alloc);
-    let short = match name.rsplit_once("/") {
-        Some((_, last)) => last,
-        None => name,
-    };
-    source.text("name", short)?;
-    source.text("path", name)?;
+    source.text("name", name.short)?;
+    source.text("path", name.whole)?;
     Ok(source.done())
 }
 
-/// The scopes: registers, flags, units, memory.
-pub(crate) fn scopes(alloc: Global) -> Result<Value, Memory> {
-    let mut list = Vec::new(alloc);
-    list.push(scope_fields(alloc, "Registers", REGISTERS, false)?)?;
-    list.push(scope_fields(alloc, "Flags", FLAGS, false)?)?;
-    list.push(scope_fields(alloc, "Units", ALL_UNITS, true)?)?;
-    list.push(scope_fields(alloc, "Memory", MEMORY, true)?)?;
-    let mut body = Fields::new(alloc);
-    body.list("scopes", list)?;
-    Ok(body.done())
+/// The name of the source as the launch gave it, and what stands behind its last slash.
+#[derive(Clone, Copy)]
+pub(crate) struct Name<'a> {
+    pub short: &'a str,
+    pub whole: &'a str,
 }
 
-fn scope_fields(alloc: Global, name: &str, reference: u64, is_long: bool) -> Result<Value, Memory> {
+impl<'a> Name<'a> {
+    pub(crate) fn of(whole: &'a str) -> Name<'a>
+        ensures { result.whole.now ≡ whole.now }
+    {
+        let short = match whole.rsplit_once("/") {
+            Some((_, last)) => last,
+            None => whole,
+        };
+        Name { short, whole }
+    }
+}
+
+/// The scopes: registers, flags, units, memory.
+pub(crate) fn scopes(alloc: Global) -> Result<Value, Memory>
+    ensures { IfOk result (λ v. view v ≡ scopes) }
+{
+    let mut registers = scope_fields(alloc, "Registers", REGISTERS, false)?;
+    registers.text("presentationHint", "registers")?;
+    let mut list = Vec::new(alloc);
+    add(&mut list, registers.done())?;
+    add(
+        &mut list,
+        scope_fields(alloc, "Flags", FLAGS, false)?.done(),
+    )?;
+    add(
+        &mut list,
+        scope_fields(alloc, "Units", ALL_UNITS, true)?.done(),
+    )?;
+    add(
+        &mut list,
+        scope_fields(alloc, "Memory", MEMORY, true)?.done(),
+    )?;
+    list_alone(alloc, "scopes", list)
+}
+
+fn scope_fields(alloc: Global, name: &str, reference: u64, is_long: bool) -> Result<Fields, Memory>
+    ensures { IfOk result (λ f. members_in f ≡ scope_members name.now reference is_long) }
+{
     let mut scope = Fields::new(alloc);
     scope.text("name", name)?;
     scope.number("variablesReference", reference)?;
     scope.flag("expensive", is_long)?;
-    if reference == REGISTERS {
-        scope.text("presentationHint", "registers")?;
-    }
-    Ok(scope.done())
+    Ok(scope)
 }

@@ -1,19 +1,25 @@
 //! The memory as bytes and as instructions.
 
+ghost use Rattle.std.specs.Prelude.{◌≤◌, IfOk};
+
 use crate::fault::Fault;
-use crate::layout::{CELL_BYTES, MEMORY_BYTES, byte_of_reference, bytes_of, reference_of};
+use crate::layout::{
+    CELL_BYTES, MEMORY_BYTES, byte_of_reference, byte_reference, memory_byte, reference_of,
+};
+use crate::look::{Name, line_for, line_of, source};
 use base64::engine::general_purpose::STANDARD;
 use dap_message::{Fields, Request};
 use mix_machine::{Place, World};
 use mix_refused::{Memory, Refused};
 use mix_session::Session;
 use mix_word::Instruction;
-use mixal_asm::Source;
 use serde_json::Value;
 use std::alloc::Global;
 
 /// The byte that a request about the memory names.
-pub(crate) fn start_of(request: &Request) -> Result<u64, Refused<Fault>> {
+pub(crate) fn start_of(request: &Request) -> Result<u64, Refused<Fault>>
+    ensures { IfOk result (λ start. start ≤ 24000) }
+{
     let Some(reference) = request.text("memoryReference") else {
         return Err(Refused::Fault(Fault::BadArgument));
     };
@@ -38,8 +44,7 @@ pub(crate) fn read_memory(
     }
     let data = STANDARD.encode(alloc, bytes.as_slice())?;
     let mut body = Fields::new(alloc);
-    let address = format!(in alloc; "0x{start:04x}")?;
-    body.text("address", address.as_str())?;
+    body.text("address", byte_reference(alloc, start)?.as_str())?;
     body.text("data", data.as_str())?;
     if there < count {
         body.number("unreadableBytes", count - there)?;
@@ -49,9 +54,10 @@ pub(crate) fn read_memory(
 
 // One byte of the memory, and 0 beyond it.
 fn byte_at(world: &World, at: u64) -> u8 {
-    match u16::try_from(at / CELL_BYTES).ok().and_then(Place::of) {
-        Some(place) => bytes_of(world.cell(place))[(at % CELL_BYTES) as usize],
-        None => 0,
+    if at < MEMORY_BYTES {
+        memory_byte(world, at)
+    } else {
+        0
     }
 }
 
@@ -62,7 +68,7 @@ const MOST: u64 = 8_000;
 pub(crate) fn disassemble(
     alloc: Global,
     session: &Session,
-    name: &str,
+    name: Name<'_>,
     first: u64,
     request: &Request,
 ) -> Result<Value, Refused<Fault>> {
@@ -91,7 +97,7 @@ pub(crate) fn disassemble(
 fn instruction(
     alloc: Global,
     session: &Session,
-    name: &str,
+    name: Name<'_>,
     first: u64,
     place: Place,
 ) -> Result<Value, Memory> {
@@ -103,9 +109,9 @@ fn instruction(
     let shown = Instruction(word);
     let text = format!(in alloc; "{shown}")?;
     fields.text("instruction", text.as_str())?;
-    if let Some(Source::Line(line, _)) = session.program().source_at(place) {
-        fields.number("line", u64::from(*line).saturating_sub(1 - first.min(1)))?;
-        fields.put("location", crate::look::source(alloc, name)?)?;
+    if let Some(line) = session.program().source_at(place).and_then(line_of) {
+        fields.number("line", line_for(first, line))?;
+        fields.put("location", source(alloc, name)?)?;
     }
     Ok(fields.done())
 }

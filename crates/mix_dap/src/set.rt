@@ -6,6 +6,7 @@ ghost use Rattle.mix_dap.specs.Written.{SetsCells};
 
 use crate::fault::Fault;
 use crate::layout::{CELL_BYTES, MEMORY_BYTES, bytes_of, word_of};
+use crate::look::line_for;
 use crate::memory::start_of;
 use crate::points::cell_of_line;
 use crate::value::cell_name;
@@ -36,7 +37,7 @@ pub(crate) fn goto_targets(
         target.number("id", u64::from(cell))?;
         let label = cell_name(alloc, cell)?;
         target.text("label", label.as_str())?;
-        target.number("line", line.saturating_sub(1 - first.min(1)))?;
+        target.number("line", line_for(first, line))?;
         targets.push(target.done())?;
     }
     let mut body = Fields::new(alloc);

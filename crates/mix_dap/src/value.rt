@@ -1,124 +1,79 @@
 //! The values of the machine as texts.
 
-ghost use Rattle.std.specs.Prelude.{◌≤◌};
+ghost use Rattle.std.specs.Prelude.{◌≡◌, ◌<◌, Some, None, IfOk, nat_lt, if◌then◌else◌, string_bytes};
+ghost use Rattle.mix_session.specs.Differences.{held_text};
+ghost use Rattle.mix_dap.specs.Value.{cell_name, word_value, register_value, row_characters};
 
 use crate::deed::{Worth, worth_of};
 use crate::scope::{part_of, scope_of};
 use dap_message::Request;
-use mix_machine::{Cmp, Part, Place, Reg, Word, World};
+use mix_machine::{Part, Place, Reg, Word, World};
 use mix_refused::Memory;
-use mix_session::Session;
-use mix_word::{Number, Short, char_of};
+use mix_session::{Altered, Characters, Held, Session};
+use mix_word::Number;
 use std::alloc::Global;
 
 /// A word: its sign and bytes, and its number.
-pub(crate) fn word_value(alloc: Global, word: Word) -> Result<String, Memory> {
+#[tactic(auto, unfolding(crate::specs::Value::word_value))]
+pub(crate) fn word_value(alloc: Global, word: Word) -> Result<String, Memory>
+    ensures { IfOk result (λ s. string_bytes s ≡ word_value word) }
+{
     let number = Number(word);
     let text = format!(in alloc; "{word} = {number}")?;
     Ok(text)
 }
 
 /// What a register holds: sign and bytes, of which an index register and rJ have two, and the number.
-pub(crate) fn register_value(
-    alloc: Global,
-    world: &World,
-    register: Reg,
-) -> Result<String, Memory> {
-    let word = world.register(register);
-    match register {
-        Reg::A | Reg::X => word_value(alloc, word),
-        Reg::I1 | Reg::I2 | Reg::I3 | Reg::I4 | Reg::I5 | Reg::I6 | Reg::J => {
-            let (short, number) = (Short(word), Number(word));
-            let text = format!(in alloc; "{short} = {number}")?;
-            Ok(text)
-        }
-    }
-}
-
-/// The sign and bytes of what a register holds, of which an index register and rJ have two.
-pub(crate) fn register_bytes(alloc: Global, register: Reg, word: Word) -> Result<String, Memory> {
-    match register {
-        Reg::A | Reg::X => word_bytes(alloc, word),
-        Reg::I1 | Reg::I2 | Reg::I3 | Reg::I4 | Reg::I5 | Reg::I6 | Reg::J => {
-            let short = Short(word);
-            let text = format!(in alloc; "{short}")?;
-            Ok(text)
-        }
-    }
-}
-
-/// The sign and bytes of a word.
-pub(crate) fn word_bytes(alloc: Global, word: Word) -> Result<String, Memory> {
-    let text = format!(in alloc; "{word}")?;
-    Ok(text)
-}
-
-/// The number of a word, with its sign: that of -0 too.
-pub(crate) fn word_number(alloc: Global, word: Word) -> Result<String, Memory> {
-    let number = Number(word);
-    let text = format!(in alloc; "{number}")?;
-    Ok(text)
-}
-
-/// The characters of the bytes of a word from one on, blanks at the end too.
-pub(crate) fn letters(alloc: Global, word: Word, first: u8) -> Result<String, Memory>
-    requires { 1 ≤ first }
+#[tactic(auto, unfolding(crate::specs::Value::register_value))]
+pub(crate) fn register_value(alloc: Global, world: &World, register: Reg) -> Result<String, Memory>
+    ensures { IfOk result (λ s. string_bytes s ≡ register_value world.now register) }
 {
-    let mut text = Vec::new(alloc);
-    for i in first..6 {
-        text.push(char_of(word.byte(i)))?;
-    }
-    Ok(String::from_utf8_lossy(alloc, text.as_slice())?)
-}
-
-/// The first of the bytes that a register has.
-pub(crate) fn first_byte(register: Reg) -> u8
-    ensures { 1 ≤ result }
-{
-    match register {
-        Reg::A | Reg::X => 1,
-        Reg::I1 | Reg::I2 | Reg::I3 | Reg::I4 | Reg::I5 | Reg::I6 | Reg::J => 4,
-    }
-}
-
-/// The comparison indicator by its letter.
-pub(crate) fn indicator(cmp: Cmp) -> &'static str {
-    match cmp {
-        Cmp::Less => "L",
-        Cmp::Equal => "E",
-        Cmp::Greater => "G",
-    }
-}
-
-/// The overflow toggle.
-pub(crate) fn toggle(is_on: bool) -> &'static str {
-    if is_on { "on" } else { "off" }
+    let number = Number(world.register(register));
+    let held = Held(world, Altered::Register(register));
+    let text = format!(in alloc; "{held} = {number}")?;
+    Ok(text)
 }
 
 /// A cell by its number, in four digits.
-pub(crate) fn cell_name(alloc: Global, number: u16) -> Result<String, Memory> {
+#[tactic(auto, using(crate::proofs::LayoutLemmas::written_in_four_digits))]
+pub(crate) fn cell_name(alloc: Global, number: u16) -> Result<String, Memory>
+    ensures { IfOk result (λ s. string_bytes s ≡ cell_name number) }
+{
     let text = format!(in alloc; "{number:04}")?;
     Ok(text)
 }
 
+/// What a part of the machine holds, but for a unit.
+pub(crate) fn held(alloc: Global, world: &World, part: Altered) -> Result<String, Memory>
+    ensures { IfOk result (λ s. string_bytes s ≡ held_text world.now part) }
+{
+    let held = Held(world, part);
+    let text = format!(in alloc; "{held}")?;
+    Ok(text)
+}
+
 /// The characters of words, without the blanks at their end.
-pub(crate) fn characters(alloc: Global, words: &[Word]) -> Result<String, Memory> {
-    let mut text = Vec::new(alloc);
-    for word in words {
-        for i in 1..6 {
-            text.push(char_of(word.byte(i)))?;
-        }
-    }
-    let end = match text.iter().rposition(|byte| *byte != b' ') {
-        Some(last) => last + 1,
-        None => 0,
-    };
-    Ok(String::from_utf8_lossy(alloc, &text[..end])?)
+pub(crate) fn characters(alloc: Global, words: &[Word]) -> Result<String, Memory>
+    ensures { IfOk result (λ s. string_bytes s ≡ row_characters words.now) }
+{
+    let characters = Characters(words);
+    let text = format!(in alloc; "{characters}")?;
+    Ok(String::from_str(alloc, text.as_str().trim_end())?)
 }
 
 /// The cell at the location, if there is one.
-pub(crate) fn cell_at(world: &World) -> Option<Place> {
+pub(crate) fn cell_at(world: &World) -> Option<Place>
+    ensures { result ≡ (if nat_lt world.now.loc 4000 then Some world.now.loc else None) }
+{
     Place::of(world.loc())
+}
+
+/// The cell of a number.
+pub(crate) fn place_at(number: u16) -> Place
+    requires { number < 4000 }
+    ensures { result ≡ number }
+{
+    Place::of(number).unwrap()
 }
 
 /// The value of the variable that a request names, or nothing if there is none.
@@ -142,10 +97,10 @@ pub(crate) fn value_asked(
 fn part_value(alloc: Global, world: &World, part: Part) -> Result<String, Memory> {
     match part {
         Part::Register(register) => register_value(alloc, world, register),
-        Part::Over => Ok(String::from_str(alloc, toggle(world.over()))?),
-        Part::Cmp => Ok(String::from_str(alloc, indicator(world.cmp()))?),
+        Part::Over => held(alloc, world, Altered::Over),
+        Part::Cmp => held(alloc, world, Altered::Cmp),
         Part::Cell(place) => word_value(alloc, world.cell(place)),
-        Part::Loc | Part::Clock => cell_name(alloc, world.loc()),
+        Part::Loc | Part::Clock => held(alloc, world, Altered::Loc),
         Part::Unit(_) => Ok(String::new(alloc)),
     }
 }

@@ -1,38 +1,62 @@
 //! Views: what a page shows of the program, the machine and its changes, as values. They only look.
 
+ghost use Rattle.std.specs.Prelude.{◌≡◌, IfOk, OnOk, codes, string_bytes};
+ghost use Rattle.serde_json.specs.Data.{put, string};
+ghost use Rattle.mix_word.specs.Instruction.{number_text};
+ghost use Rattle.dap_message.specs.Fields.{members_in};
+ghost use Rattle.mix_dap.specs.View.{put_digits, put_word, part_name};
+
 mod change;
 mod counts;
 mod program;
 mod state;
 mod units;
 
-use crate::value::{letters, word_bytes, word_number};
 pub(crate) use change::change_view;
 pub(crate) use counts::counts_view;
 use dap_message::Fields;
 use mix_machine::Word;
 use mix_refused::Memory;
-use mix_session::Altered;
+use mix_session::{Altered, Letters};
+use mix_word::Number;
 pub(crate) use program::program_view;
 pub(crate) use state::state_view;
 use std::alloc::Global;
 pub(crate) use units::units_view;
 
 // A number that may be greater than what a page counts exactly, in decimal digits.
-fn put_digits(alloc: Global, fields: &mut Fields, name: &str, number: u128) -> Result<(), Memory> {
+fn put_digits(alloc: Global, fields: &mut Fields, name: &str, number: u128) -> Result<(), Memory>
+    ensures { OnOk result (members_in fields.new ≡ put_digits name.now number (members_in fields.old)) }
+{
     let digits = format!(in alloc; "{number}")?;
     fields.text(name, digits.as_str())
 }
 
 // A word as its bytes, as its number and in characters.
-fn put_word(alloc: Global, fields: &mut Fields, word: Word) -> Result<(), Memory> {
-    fields.text("word", word_bytes(alloc, word)?.as_str())?;
-    fields.text("number", word_number(alloc, word)?.as_str())?;
-    fields.text("characters", letters(alloc, word, 1)?.as_str())
+fn put_word(alloc: Global, fields: &mut Fields, word: Word) -> Result<(), Memory>
+    ensures { OnOk result (members_in fields.new ≡ put_word word (members_in fields.old)) }
+{
+    let bytes = format!(in alloc; "{word}")?;
+    fields.text("word", bytes.as_str())?;
+    put_number(alloc, fields, word)?;
+    let letters = Letters(word);
+    let characters = format!(in alloc; "{letters}")?;
+    fields.text("characters", characters.as_str())
+}
+
+// The number of a word, with its sign: that of -0 too.
+fn put_number(alloc: Global, fields: &mut Fields, word: Word) -> Result<(), Memory>
+    ensures { OnOk result (members_in fields.new ≡ put (codes "number") (string (number_text word)) (members_in fields.old)) }
+{
+    let number = Number(word);
+    let number = format!(in alloc; "{number}")?;
+    fields.text("number", number.as_str())
 }
 
 // The name of a part of the machine, as after `until` in a command.
-fn part_name(alloc: Global, part: Altered) -> Result<String, Memory> {
+fn part_name(alloc: Global, part: Altered) -> Result<String, Memory>
+    ensures { IfOk result (λ s. string_bytes s ≡ part_name part) }
+{
     let text = match part {
         Altered::Register(register) => format!(in alloc; "{}", register.name())?,
         Altered::Over => format!(in alloc; "over")?,

@@ -4,7 +4,7 @@ ghost use Rattle.std.specs.Prelude.{◌≡◌};
 
 use crate::adapter::Adapter;
 use crate::fault::Fault;
-use crate::look::{scopes, stack_trace, threads};
+use crate::look::{Name, scopes, stack_trace, threads};
 use crate::memory::{disassemble, read_memory};
 use crate::points::breakpoints;
 use crate::set::goto_targets;
@@ -25,13 +25,14 @@ impl Adapter<'_> {
         let alloc = self.alloc;
         let first = self.client.first;
         let session = &self.session;
+        let name = Name::of(self.name);
         match command {
             Command::Threads => Ok(threads(alloc)?),
-            Command::StackTrace => Ok(stack_trace(alloc, session, self.name, first, request)?),
+            Command::StackTrace => Ok(stack_trace(alloc, session, name, first, request)?),
             Command::Scopes => Ok(scopes(alloc)?),
             Command::Variables => variables(alloc, session.world(), request),
             Command::ReadMemory => read_memory(alloc, session.world(), request),
-            Command::Disassemble => disassemble(alloc, session, self.name, first, request),
+            Command::Disassemble => disassemble(alloc, session, name, first, request),
             Command::GotoTargets => goto_targets(alloc, session, first, request),
             Command::DataBreakpointInfo => data_breakpoint_info(alloc, session, request),
             Command::ExceptionInfo => self.exception_info(),

@@ -1,6 +1,6 @@
 //! `mix/program`: what was assembled.
 
-use crate::value::{word_bytes, word_number};
+use crate::view::put_number;
 use dap_message::Fields;
 use mix_machine::{Place, Word};
 use mix_refused::Memory;
@@ -53,7 +53,8 @@ fn symbols(alloc: Global, program: &Program) -> Result<Vec<Value>, Memory> {
 fn one_symbol(alloc: Global, name: &str, value: Word) -> Result<Value, Memory> {
     let mut symbol = Fields::new(alloc);
     symbol.text("name", name)?;
-    symbol.text("value", word_bytes(alloc, value)?.as_str())?;
-    symbol.text("number", word_number(alloc, value)?.as_str())?;
+    let bytes = format!(in alloc; "{value}")?;
+    symbol.text("value", bytes.as_str())?;
+    put_number(alloc, &mut symbol, value)?;
     Ok(symbol.done())
 }

@@ -1,12 +1,27 @@
 //! `mix/state`: the machine as it is.
 
+ghost use Rattle.std.specs.Prelude.{◌≡◌, ◌&&◌, IfOk, OnOk, length, map, false, slice_index_or, string_bytes};
+ghost use Rattle.serde_json.specs.Data.{string};
+ghost use Rattle.serde_json.specs.View.{view};
+ghost use Rattle.mix_word.specs.Register.{all_registers};
+ghost use Rattle.mix_machine.specs.Do.{is_halt_next};
+ghost use Rattle.mix_machine.specs.World.{register_of};
+ghost use Rattle.mix_session.specs.Altered.{alterations};
+ghost use Rattle.mix_session.specs.Timeline.{world_of};
+ghost use Rattle.mix_session.specs.Client.{change_numbered};
+ghost use Rattle.mix_session.specs.Counts.{is_step};
+ghost use Rattle.dap_message.specs.Fields.{members_in};
+ghost use Rattle.mix_dap.specs.State.{put_flags, letters_of, register_shown, cell_shown, cell_if_asked, names_of, put_altered, put_last, put_counts, machine_members, state_of};
+ghost use Rattle.mix_dap.specs.View.{part_name};
+
 use crate::fault::Fault;
-use crate::value::{first_byte, indicator, letters, register_bytes, word_number};
-use crate::view::{part_name, put_digits, put_word};
+use crate::list::{Numbered, add, list_of};
+use crate::value::{held, place_at};
+use crate::view::{part_name, put_digits, put_number, put_word};
 use dap_message::{Fields, Request};
 use mix_machine::{Change, Place, Reg, Sign, Word, World};
 use mix_refused::{Memory, Refused};
-use mix_session::{Session, alterations};
+use mix_session::{Altered, Letters, Session, ShortLetters, alterations};
 use mix_word::{CELLS, Instruction};
 use serde_json::Value;
 use std::alloc::Global;
@@ -17,38 +32,82 @@ pub(crate) fn state_view(
     session: &Session,
     request: &Request,
 ) -> Result<Value, Refused<Fault>> {
-    let world = session.world();
-    let asked = cells_asked(alloc, world, request)?;
-    let mut body = Fields::new(alloc);
-    body.number("done", session.changes().len() as u64)?;
-    body.number("ahead", session.ahead() as u64)?;
-    put_flags(alloc, &mut body, world)?;
-    body.list("registers", registers(alloc, world)?)?;
-    body.list("cells", cells(alloc, world, asked.as_slice())?)?;
+    let asked = cells_asked(alloc, session.world(), request)?;
+    Ok(state(alloc, session, asked.as_slice())?)
+}
+
+fn state(alloc: Global, session: &Session, asked: &[bool]) -> Result<Value, Memory>
+    ensures { IfOk result (λ v. view v ≡ state_of session.now.timeline asked.now) }
+{
+    let mut body = machine(alloc, session, asked)?;
     put_last(alloc, &mut body, session)?;
     Ok(body.done())
 }
 
-fn put_flags(alloc: Global, body: &mut Fields, world: &World) -> Result<(), Memory> {
+fn machine(alloc: Global, session: &Session, asked: &[bool]) -> Result<Fields, Memory>
+    ensures { IfOk result (λ f. members_in f ≡ machine_members session.now.timeline asked.now) }
+{
+    let world = session.world();
+    let mut body = Fields::new(alloc);
+    put_counts(&mut body, session)?;
+    put_flags(alloc, &mut body, world)?;
+    body.list("registers", registers(alloc, world)?)?;
+    body.list("cells", list_of(alloc, &AskedCells { world, asked })?)?;
+    Ok(body)
+}
+
+fn put_counts(body: &mut Fields, session: &Session) -> Result<(), Memory>
+    ensures { OnOk result (members_in body.new ≡ put_counts session.now.timeline (members_in body.old)) }
+{
+    body.number("done", session.changes().len() as u64)?;
+    body.number("ahead", session.ahead() as u64)
+}
+
+fn put_flags(alloc: Global, body: &mut Fields, world: &World) -> Result<(), Memory>
+    ensures { OnOk result (members_in body.new ≡ put_flags world.now (members_in body.old)) }
+{
     body.number("location", u64::from(world.loc()))?;
     put_digits(alloc, body, "clock", u128::from(world.clock()))?;
     body.flag("over", world.over())?;
-    body.text("cmp", indicator(world.cmp()))
+    let indicator = held(alloc, world, Altered::Cmp)?;
+    body.text("cmp", indicator.as_str())
 }
 
-fn registers(alloc: Global, world: &World) -> Result<Vec<Value>, Memory> {
+fn registers(alloc: Global, world: &World) -> Result<Vec<Value>, Memory>
+    ensures { IfOk result (λ list. map view list.items ≡ map (register_shown world.now) all_registers) }
+{
     let mut list = Vec::new(alloc);
     for register in Reg::ALL.iter() {
-        let word = world.register(*register);
-        let first = first_byte(*register);
-        let mut fields = Fields::new(alloc);
-        fields.text("name", register.name())?;
-        fields.text("word", register_bytes(alloc, *register, word)?.as_str())?;
-        fields.text("number", word_number(alloc, word)?.as_str())?;
-        fields.text("characters", letters(alloc, word, first)?.as_str())?;
-        list.push(fields.done())?;
+        add(&mut list, register_shown(alloc, world, *register)?)?;
     }
     Ok(list)
+}
+
+fn register_shown(alloc: Global, world: &World, register: Reg) -> Result<Value, Memory>
+    ensures { IfOk result (λ v. view v ≡ register_shown world.now register) }
+{
+    let mut fields = Fields::new(alloc);
+    fields.text("name", register.name())?;
+    let bytes = held(alloc, world, Altered::Register(register))?;
+    fields.text("word", bytes.as_str())?;
+    put_number(alloc, &mut fields, world.register(register))?;
+    let characters = letters_of(alloc, world, register)?;
+    fields.text("characters", characters.as_str())?;
+    Ok(fields.done())
+}
+
+// The characters of a register: five of rA and rX, two of the others.
+fn letters_of(alloc: Global, world: &World, register: Reg) -> Result<String, Memory>
+    ensures { IfOk result (λ s. string_bytes s ≡ letters_of register (register_of world.now register)) }
+{
+    let word = world.register(register);
+    let text = match register {
+        Reg::A | Reg::X => format!(in alloc; "{}", Letters(word))?,
+        Reg::I1 | Reg::I2 | Reg::I3 | Reg::I4 | Reg::I5 | Reg::I6 | Reg::J => {
+            format!(in alloc; "{}", ShortLetters(word))?
+        }
+    };
+    Ok(text)
 }
 
 // Of each cell, whether it is asked for.
@@ -122,19 +181,43 @@ fn is_plus_zero(word: Word) -> bool {
     }
 }
 
-fn cells(alloc: Global, world: &World, asked: &[bool]) -> Result<Vec<Value>, Memory> {
-    let mut list = Vec::new(alloc);
-    for (number, is_asked) in asked.iter().enumerate() {
-        if *is_asked {
-            if let Some(place) = u16::try_from(number).ok().and_then(Place::of) {
-                list.push(cell(alloc, world, place)?)?;
-            }
-        }
-    }
-    Ok(list)
+/// The cells that are asked for.
+#[derive(Clone, Copy)]
+struct AskedCells<'a> {
+    world: &'a World,
+    asked: &'a [bool],
 }
 
-fn cell(alloc: Global, world: &World, place: Place) -> Result<Value, Memory> {
+impl Numbered for AskedCells<'_> {
+    ghost size = { λ _. 4000 };
+
+    ghost shown = { λ cells. cell_if_asked cells.world.now cells.asked.now };
+
+    fn size(&self) -> u16 {
+        CELLS
+    }
+
+    fn add(&self, alloc: Global, number: u16, list: &mut Vec<Value>) -> Result<(), Memory> {
+        if is_asked(self.asked, number) {
+            add(list, cell_shown(alloc, self.world, place_at(number))?)
+        } else {
+            Ok(())
+        }
+    }
+}
+
+fn is_asked(asked: &[bool], number: u16) -> bool
+    ensures { result ≡ slice_index_or asked.now number false }
+{
+    match asked.get(usize::from(number)) {
+        Some(is_asked) => *is_asked,
+        None => false,
+    }
+}
+
+fn cell_shown(alloc: Global, world: &World, place: Place) -> Result<Value, Memory>
+    ensures { IfOk result (λ v. view v ≡ cell_shown world.now place) }
+{
     let word = world.cell(place);
     let mut fields = Fields::new(alloc);
     fields.number("cell", u64::from(place.number()))?;
@@ -145,23 +228,64 @@ fn cell(alloc: Global, world: &World, place: Place) -> Result<Value, Memory> {
     Ok(fields.done())
 }
 
-// What the last change that stands altered, and whether it was a HLT.
-fn put_last(alloc: Global, body: &mut Fields, session: &Session) -> Result<(), Memory> {
-    let mut names = Vec::new(alloc);
-    let mut halted = false;
+// What the last change that is done altered, and whether it was a HLT.
+fn put_last(alloc: Global, body: &mut Fields, session: &Session) -> Result<(), Memory>
+    ensures { OnOk result (members_in body.new ≡ put_last session.now.timeline (change_numbered session.now.timeline (length session.now.timeline.changes)) (members_in body.old)) }
+{
     let done = session.changes().len();
-    if let Some(change) = session.change_at(done) {
-        let before = session.world_at(alloc, done.saturating_sub(1))?;
-        halted = is_step(change) && before.next_is_halt();
-        for part in alterations(alloc, &before, session.world())?.iter() {
-            let name = part_name(alloc, *part)?;
-            names.push(Value::try_from_str(alloc, name.as_str())?)?;
-        }
-    }
+    let Some(change) = session.change_at(done) else {
+        return put_altered(body, false, Vec::new(alloc));
+    };
+    let before = session.world_at(alloc, done.saturating_sub(1))?;
+    put_change(alloc, body, session, change, &before)
+}
+
+fn put_change(
+    alloc: Global,
+    body: &mut Fields,
+    session: &Session,
+    change: Change,
+    before: &World,
+) -> Result<(), Memory>
+    ensures { OnOk result (members_in body.new ≡ put_altered (names_of (alterations before.now (world_of session.now.timeline))) (is_step change && is_halt_next before.now) (members_in body.old)) }
+{
+    let halted = was_halt(change, before);
+    let parts = alterations(alloc, before, session.world())?;
+    put_altered(body, halted, names_of(alloc, parts.as_slice())?)
+}
+
+fn was_halt(change: Change, before: &World) -> bool
+    ensures { result ≡ (is_step change && is_halt_next before.now) }
+{
+    is_step(change) && before.next_is_halt()
+}
+
+fn put_altered(body: &mut Fields, halted: bool, names: Vec<Value>) -> Result<(), Memory>
+    ensures { OnOk result (members_in body.new ≡ put_altered (map view names.items) halted (members_in body.old)) }
+{
     body.flag("halted", halted)?;
     body.list("altered", names)
 }
 
-fn is_step(change: Change) -> bool {
+fn names_of(alloc: Global, parts: &[Altered]) -> Result<Vec<Value>, Memory>
+    ensures { IfOk result (λ names. map view names.items ≡ names_of parts.now) }
+{
+    let mut names = Vec::new(alloc);
+    for part in parts {
+        add(&mut names, name_of(alloc, *part)?)?;
+    }
+    Ok(names)
+}
+
+fn name_of(alloc: Global, part: Altered) -> Result<Value, Memory>
+    ensures { IfOk result (λ v. view v ≡ string (part_name part)) }
+{
+    let name = part_name(alloc, part)?;
+    Ok(Value::try_from_str(alloc, name.as_str())?)
+}
+
+fn is_step(change: Change) -> bool
+    ensures { result ≡ is_step change }
+{
     matches!(change, Change::Step)
 }

@@ -1,0 +1,91 @@
+-- `mix/state`: the machine as it is, the cells that are asked for, and what the last change altered.
+use Rattle.std.specs.Prelude.{ℕ, ◌-◌, Bool, false, ◌&&◌, List, [], ◌∷◌, codes, Option, None, Some, length, map, slice_index_or, if◌then◌else◌}
+use Rattle.serde_json.specs.Data.{Data, Members, array, boolean, string, number, unsigned, object, no_members, put}
+use Rattle.serde_json.specs.View.{items_of}
+use Rattle.mix_word.specs.Word.{WordValue}
+use Rattle.mix_word.specs.Instruction.{number_text, instruction_text}
+use Rattle.mix_word.specs.Register.{all_registers, name_of_register}
+use Rattle.mix_word.specs.declared.register.Reg.{Reg}
+use Rattle.mix_word.specs.declared.register.Reg.TheVariants as reg
+use Rattle.mix_machine.specs.Do.{is_halt_next}
+use Rattle.mix_machine.specs.World.{WorldState, register_of, cell_of}
+use Rattle.mix_machine.specs.declared.old.Change.{Change}
+use Rattle.mix_session.specs.Altered.{alterations}
+use Rattle.mix_session.specs.Change.{world_at}
+use Rattle.mix_session.specs.Client.{change_numbered}
+use Rattle.mix_session.specs.Counts.{is_step}
+use Rattle.mix_session.specs.Keyword.{indicator_name}
+use Rattle.mix_session.specs.Show.{value_text}
+use Rattle.mix_session.specs.ShowUnit.{letters_text}
+use Rattle.mix_session.specs.ShowValue.{short_letters}
+use Rattle.mix_session.specs.Timeline.{Timeline, world_of}
+use Rattle.mix_session.specs.declared.altered.Altered.{Altered}
+use Rattle.mix_dap.specs.List.{numbered}
+use Rattle.mix_dap.specs.View.{put_digits, put_texts, put_word, part_name}
+
+-- the location, the clock, the toggle and the indicator
+abbrev pub put_flags : WorldState → Members → Members
+put_flags w members =
+    put (codes "cmp") (string (indicator_name w.cmp)) (put (codes "over") (boolean w.over)
+    (put_digits (codes "clock") w.clock (put (codes "location") (number (unsigned w.loc)) members)))
+
+-- the characters of a register: five of rA and rX, two of the others
+abbrev pub letters_of : Reg → WordValue → List ℕ
+letters_of reg.A word = letters_text word
+letters_of reg.X word = letters_text word
+letters_of reg.I1 word = short_letters word
+letters_of reg.I2 word = short_letters word
+letters_of reg.I3 word = short_letters word
+letters_of reg.I4 word = short_letters word
+letters_of reg.I5 word = short_letters word
+letters_of reg.I6 word = short_letters word
+letters_of reg.J word = short_letters word
+
+abbrev pub register_shown : WorldState → Reg → Data
+register_shown w r =
+    let word = register_of w r in
+    object (put_texts (value_text r word) (number_text word) (letters_of r word) (put (codes "name") (string (name_of_register r)) no_members))
+
+-- a cell, with its word as an instruction
+abbrev pub cell_shown : WorldState → ℕ → Data
+cell_shown w p =
+    object (put (codes "text") (string (instruction_text (cell_of w p))) (put_word (cell_of w p) (put (codes "cell") (number (unsigned p)) no_members)))
+
+-- it is shown if it is asked for
+abbrev pub cell_if_asked : WorldState → List Bool → ℕ → List Data
+cell_if_asked w asked p = if slice_index_or asked p false then cell_shown w p ∷ [] else []
+
+-- whether the last change that is done was a HLT, and the names of the parts that it altered; none is done at the beginning
+abbrev pub before_last : Timeline → WorldState
+before_last t = world_at t (length t.changes - 1)
+
+abbrev pub was_halt : Timeline → Option Change → Bool
+was_halt t None = false
+was_halt t (Some change) = is_step change && is_halt_next (before_last t)
+
+abbrev pub names_of : List Altered → List Data
+names_of parts = map (λ part. string (part_name part)) parts
+
+abbrev pub altered_names : Timeline → Option Change → List Data
+altered_names t None = []
+altered_names t (Some change) = names_of (alterations (before_last t) (world_of t))
+
+abbrev pub put_altered : List Data → Bool → Members → Members
+put_altered names halted members = put (codes "altered") (array (items_of names)) (put (codes "halted") (boolean halted) members)
+
+abbrev pub put_last : Timeline → Option Change → Members → Members
+put_last t change members = put_altered (altered_names t change) (was_halt t change) members
+
+-- how many changes are done, and how many were taken back and can be done again
+abbrev pub put_counts : Timeline → Members → Members
+put_counts t members = put (codes "ahead") (number (unsigned (length t.ahead))) (put (codes "done") (number (unsigned (length t.changes))) members)
+
+abbrev pub machine_members : Timeline → List Bool → Members
+machine_members t asked =
+    let w = world_of t in
+    put (codes "cells") (array (items_of (numbered 4000 (cell_if_asked w asked)))) (put (codes "registers") (array (items_of (map (register_shown w) all_registers)))
+    (put_flags w (put_counts t no_members)))
+
+-- the answer, with the cells of which this list says that they are asked for
+abbrev pub state_of : Timeline → List Bool → Data
+state_of t asked = object (put_last t (change_numbered t (length t.changes)) (machine_members t asked))
