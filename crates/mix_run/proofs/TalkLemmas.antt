@@ -1,11 +1,11 @@
 -- The lines of a talk, which come in parts: what is said of the parts holds of the whole.
-use Rattle.std.proofs.Common.{◌≡◌, ◌∙◌, ◌<◌, ◌≤◌, ◌+◌, ◌-◌, ◌||◌, ◌==◌, ℕ, zero, suc, Bool, true, false, cond, List, [], ◌∷◌, ◌++◌, append_assoc, length, map, take, drop, get_or, Option, None, Some, Result, Ok, Err, IfErr, refl, sym, ap, subst, arith, true≢false, eqb}
+use Rattle.std.proofs.Common.{◌≡◌, ◌∙◌, ◌<◌, ◌≤◌, ◌+◌, ◌-◌, ◌||◌, ◌==◌, ℕ, zero, suc, Bool, true, false, cond, List, [], ◌∷◌, ◌++◌, append_assoc, length, map, take, drop, get_or, Option, None, Some, Result, Ok, Err, IfErr, refl, sym, ap, ap₂, subst, arith, true≢false, eqb}
 use Rattle.std.proofs.KnownBytes.{Consumes-trans}
 use Rattle.std.proofs.lemmas.List.{append-nil, length-append, map-append, take_more}
 use Rattle.std.proofs.lemmas.List.Folds.{list_any-append}
 use Rattle.std.specs.List.{list_any, onto_first}
 use Rattle.std.specs.Io.KnownBytes.{Appends, Consumes, IsAtEnd, Keeps}
-use Rattle.mix_lines.specs.Lines.{is_line_feed, lines, lines-nil, text_of_line, whole_lines}
+use Rattle.mix_lines.specs.Lines.{is_line_feed, lines, lines-nil, text_of_line, whole_lines, words}
 use Rattle.mix_session.specs.Session.{SessionState, effect_in}
 use Rattle.mix_run.specs.Fault.{IsMemoryOrWrite}
 use Rattle.mix_session.specs.Command.{after, reply_of}
@@ -16,9 +16,14 @@ use Rattle.mix_run.specs.declared.fault.ToolFault.{ToolFault}
 use Rattle.mix_run.specs.declared.fault.ToolFault.TheVariants as faults
 use Rattle.mix_stream.specs.Stream.{AppendsFront}
 use Rattle.mix_run.specs.Output.{replies}
-use Rattle.mix_run.specs.Talk.{AnswersRead, Talks, after_lines, answers, asked, is_help, is_over, is_quit, is_whole, line_of}
+use Rattle.mix_run.specs.Recall.{RecallState, meant, meant_by, nothing, recalled}
+use Rattle.mix_run.specs.Talk.{AnswersRead, Talks, after_lines, answers, asked, is_over, is_end, is_quit, is_whole, recalled_all}
 use Rattle.mix_run.specs.Hearing.{Begins, Hears}
+use Rattle.mix_run.specs.Person.{kind_of, person_line}
+use Rattle.mix_run.specs.declared.talk.person.Line.{Line}
+use Rattle.mix_run.specs.declared.talk.person.Line.TheVariants as line_kind
 use Rattle.mix_run.specs.declared.talk.aside.Talker.{Talker}
+use Rattle.mix_run.specs.declared.talk.aside.Talker.TheVariants as talkers
 use Rattle.mix_run.proofs.RunLemmas.{both-accepted, both-assoc}
 use Rattle.mix_run.proofs.Written.{Appends-nothing, Appends-then, Appends-same, AppendsFront-after, AppendsFront-all}
 
@@ -78,30 +83,6 @@ pub whole-take : (text : List ℕ) (n : ℕ) → n < length text → get_or text
 whole-take text n within last =
     ap is_whole (take_more text n 0 within ∙ ap (λ b. take n text ++ b ∷ []) last) ∙ whole-last (take n text)
 
--- ---- the commands among lines
-
-asked-append : (talker : Talker) (xs ys : List (List ℕ)) → is_over talker xs ≡ false → asked talker (xs ++ ys) ≡ asked talker xs ++ asked talker ys
-asked-append talker [] ys still = refl
-asked-append talker (line ∷ rest) ys still = go (is_quit talker line) (is_help talker line) still (asked-append talker rest ys)
-  where
-    go : (q h : Bool) → (q || is_over talker rest) ≡ false → (is_over talker rest ≡ false → asked talker (rest ++ ys) ≡ asked talker rest ++ asked talker ys)
-        → cond q [] (cond h (asked talker (rest ++ ys)) (line_of talker line ∷ asked talker (rest ++ ys)))
-        ≡ cond q [] (cond h (asked talker rest) (line_of talker line ∷ asked talker rest)) ++ asked talker ys
-    go true h still later = absurd (true≢false still)
-    go false true still later = later still
-    go false false still later = ap (λ l. line_of talker line ∷ l) (later still)
-
-asked-over : (talker : Talker) (xs ys : List (List ℕ)) → is_over talker xs ≡ true → asked talker (xs ++ ys) ≡ asked talker xs
-asked-over talker [] ys over = absurd (true≢false (sym over))
-asked-over talker (line ∷ rest) ys over = go (is_quit talker line) (is_help talker line) over (asked-over talker rest ys)
-  where
-    go : (q h : Bool) → (q || is_over talker rest) ≡ true → (is_over talker rest ≡ true → asked talker (rest ++ ys) ≡ asked talker rest)
-        → cond q [] (cond h (asked talker (rest ++ ys)) (line_of talker line ∷ asked talker (rest ++ ys)))
-        ≡ cond q [] (cond h (asked talker rest) (line_of talker line ∷ asked talker rest))
-    go true h over later = refl
-    go false true over later = later over
-    go false false over later = ap (λ l. line_of talker line ∷ l) (later over)
-
 -- ---- replies
 
 bytes-append : (s : SessionState) (xs ys : List (List ℕ)) → (replies s (xs ++ ys)).bytes ≡ (replies s xs).bytes ++ (replies (after_lines s xs) ys).bytes
@@ -122,74 +103,183 @@ after-append : (s : SessionState) (xs ys : List (List ℕ)) → after_lines s (x
 after-append s [] ys = refl
 after-append s (line ∷ rest) ys = after-append (record s { timeline = after (effect_in s line) }) rest ys
 
+-- ---- the commands among lines
+
+-- the lines that follow some lines, after which the talk goes on
+asked-append : (s : SessionState) (talker : Talker) (r : RecallState) (xs ys : List (List ℕ)) → is_over talker xs ≡ false
+    → asked s talker r (xs ++ ys) ≡ asked s talker r xs ++ asked (after_lines s (asked s talker r xs)) talker (recalled_all s talker r xs) ys
+asked-append s talker r [] ys still = refl
+asked-append s talker r (line ∷ rest) ys still =
+    go (is_quit talker line) still (asked-append (after_lines s (meant s talker r line)) talker (recalled s talker r line) rest ys)
+  where
+    said : List (List ℕ)
+    said = meant s talker r line
+
+    next : SessionState
+    next = after_lines s said
+
+    later : RecallState
+    later = recalled s talker r line
+
+    more : List (List ℕ)
+    more = asked next talker later rest
+
+    go : (q : Bool) → (q || is_over talker rest) ≡ false
+        → (is_over talker rest ≡ false → asked next talker later (rest ++ ys)
+        ≡ more ++ asked (after_lines next more) talker (recalled_all next talker later rest) ys)
+        → cond q [] (said ++ asked next talker later (rest ++ ys))
+        ≡ cond q [] (said ++ more) ++ asked (after_lines s (cond q [] (said ++ more))) talker (cond q r (recalled_all next talker later rest)) ys
+    go true still first = absurd (true≢false still)
+    go false still first =
+        ap (λ l. said ++ l) (first still)
+        ∙ sym (append_assoc said more (asked (after_lines next more) talker (recalled_all next talker later rest) ys))
+        ∙ ap (λ t. (said ++ more) ++ asked t talker (recalled_all next talker later rest) ys) (sym (after-append s said more))
+
+recalled-append : (s : SessionState) (talker : Talker) (r : RecallState) (xs ys : List (List ℕ)) → is_over talker xs ≡ false
+    → recalled_all s talker r (xs ++ ys) ≡ recalled_all (after_lines s (asked s talker r xs)) talker (recalled_all s talker r xs) ys
+recalled-append s talker r [] ys still = refl
+recalled-append s talker r (line ∷ rest) ys still =
+    go (is_quit talker line) still (recalled-append (after_lines s (meant s talker r line)) talker (recalled s talker r line) rest ys)
+  where
+    said : List (List ℕ)
+    said = meant s talker r line
+
+    next : SessionState
+    next = after_lines s said
+
+    later : RecallState
+    later = recalled s talker r line
+
+    more : List (List ℕ)
+    more = asked next talker later rest
+
+    go : (q : Bool) → (q || is_over talker rest) ≡ false
+        → (is_over talker rest ≡ false → recalled_all next talker later (rest ++ ys)
+        ≡ recalled_all (after_lines next more) talker (recalled_all next talker later rest) ys)
+        → cond q r (recalled_all next talker later (rest ++ ys))
+        ≡ recalled_all (after_lines s (cond q [] (said ++ more))) talker (cond q r (recalled_all next talker later rest)) ys
+    go true still first = absurd (true≢false still)
+    go false still first =
+        first still
+        ∙ ap (λ t. recalled_all t talker (recalled_all next talker later rest) ys) (sym (after-append s said more))
+
+asked-over : (s : SessionState) (talker : Talker) (r : RecallState) (xs ys : List (List ℕ)) → is_over talker xs ≡ true
+    → asked s talker r (xs ++ ys) ≡ asked s talker r xs
+asked-over s talker r [] ys over = absurd (true≢false (sym over))
+asked-over s talker r (line ∷ rest) ys over =
+    go (is_quit talker line) over (asked-over (after_lines s (meant s talker r line)) talker (recalled s talker r line) rest ys)
+  where
+    said : List (List ℕ)
+    said = meant s talker r line
+
+    next : SessionState
+    next = after_lines s said
+
+    later : RecallState
+    later = recalled s talker r line
+
+    go : (q : Bool) → (q || is_over talker rest) ≡ true
+        → (is_over talker rest ≡ true → asked next talker later (rest ++ ys) ≡ asked next talker later rest)
+        → cond q [] (said ++ asked next talker later (rest ++ ys)) ≡ cond q [] (said ++ asked next talker later rest)
+    go true over first = refl
+    go false over first = ap (λ l. said ++ l) (first over)
+
 -- ---- parts of a talk
 
--- the lines of whole lines, and of what follows them, where the talk is not over
-asked-lines : (talker : Talker) (front rest : List ℕ) → is_whole front ≡ true → is_over talker (lines front) ≡ false
-    → asked talker (lines (front ++ rest)) ≡ asked talker (lines front) ++ asked talker (lines rest)
-asked-lines talker front rest whole still = ap (asked talker) (lines-append front rest whole) ∙ asked-append talker (lines front) (lines rest) still
+-- the session and what is recalled after some whole lines
+module _ (s : SessionState) (talker : Talker) (r : RecallState) where
+  abbrev pub session_after : List ℕ → SessionState
+  session_after front = after_lines s (asked s talker r (lines front))
 
--- the replies to whole lines are a beginning of those to a text that begins with them
-front-said : (s : SessionState) (talker : Talker) (front rest : List ℕ) → is_whole front ≡ true
-    → (more : List ℕ) × ((answers s talker (lines (front ++ rest))).bytes ≡ (answers s talker (lines front)).bytes ++ more)
-front-said s talker front rest whole = go (is_over talker (lines front)) refl
-  where
-    go : (v : Bool) → is_over talker (lines front) ≡ v
-        → (more : List ℕ) × ((answers s talker (lines (front ++ rest))).bytes ≡ (answers s talker (lines front)).bytes ++ more)
-    go true over = (
-      [],
-      ap (λ l. (replies s l).bytes) (ap (asked talker) (lines-append front rest whole) ∙ asked-over talker (lines front) (lines rest) over)
-          ∙ sym (append-nil _),
-    )
-    go false still = (
-      (replies (after_lines s (asked talker (lines front))) (asked talker (lines rest))).bytes,
-      ap (λ l. (replies s l).bytes) (asked-lines talker front rest whole still) ∙ bytes-append s (asked talker (lines front)) (asked talker (lines rest)),
-    )
+  abbrev pub recall_after : List ℕ → RecallState
+  recall_after front = recalled_all s talker r (lines front)
+
+  -- the lines of whole lines, and of what follows them, where the talk is not over
+  asked-lines : (front rest : List ℕ) → is_whole front ≡ true → is_over talker (lines front) ≡ false
+      → asked s talker r (lines (front ++ rest)) ≡ asked s talker r (lines front) ++ asked (session_after front) talker (recall_after front) (lines rest)
+  asked-lines front rest whole still = ap (asked s talker r) (lines-append front rest whole) ∙ asked-append s talker r (lines front) (lines rest) still
+
+  recalled-lines : (front rest : List ℕ) → is_whole front ≡ true → is_over talker (lines front) ≡ false
+      → recalled_all s talker r (lines (front ++ rest)) ≡ recalled_all (session_after front) talker (recall_after front) (lines rest)
+  recalled-lines front rest whole still =
+      ap (recalled_all s talker r) (lines-append front rest whole) ∙ recalled-append s talker r (lines front) (lines rest) still
+
+  -- the replies to whole lines are a beginning of those to a text that begins with them
+  front-said : (front rest : List ℕ) → is_whole front ≡ true
+      → (more : List ℕ) × ((answers s talker r (lines (front ++ rest))).bytes ≡ (answers s talker r (lines front)).bytes ++ more)
+  front-said front rest whole = go (is_over talker (lines front)) refl
+    where
+      go : (v : Bool) → is_over talker (lines front) ≡ v
+          → (more : List ℕ) × ((answers s talker r (lines (front ++ rest))).bytes ≡ (answers s talker r (lines front)).bytes ++ more)
+      go true over = (
+        [],
+        ap (λ l. (replies s l).bytes) (ap (asked s talker r) (lines-append front rest whole) ∙ asked-over s talker r (lines front) (lines rest) over)
+            ∙ sym (append-nil _),
+      )
+      go false still = (
+        (answers (session_after front) talker (recall_after front) (lines rest)).bytes,
+        ap (λ l. (replies s l).bytes) (asked-lines front rest whole still)
+            ∙ bytes-append s (asked s talker r (lines front)) (asked (session_after front) talker (recall_after front) (lines rest)),
+      )
 
 -- what was heard before, and what was heard then
-pub Hears-then : (s mid now : SessionState) (talker : Talker) (bytes left part later : List ℕ) (told more : Told) (ends : Bool) (a b c : Option (List ℕ))
-    → Hears s talker bytes left mid told false a b → Hears mid talker (left ++ part) later now more ends b c
-    → Hears s talker (bytes ++ part) later now (told_of_both told more) ends a c
-Hears-then s mid now talker bytes left part later told more ends a b c h k =
-    let xs = asked talker (lines h.front) in
-    let ys = asked talker (lines k.front) in
-    let both = asked-lines talker h.front k.front h.whole (sym h.over) in
+pub Hears-then : (s mid now : SessionState) (talker : Talker) (r between last : RecallState) (bytes left part later : List ℕ) (told more : Told) (ends : Bool)
+    (a b c : Option (List ℕ)) → Hears s talker r bytes left mid between told false a b → Hears mid talker between (left ++ part) later now last more ends b c
+    → Hears s talker r (bytes ++ part) later now last (told_of_both told more) ends a c
+Hears-then s mid now talker r between last bytes left part later told more ends a b c h k =
+    let xs = asked s talker r (lines h.front) in
+    let ys = asked (session_after s talker r h.front) talker (recall_after s talker r h.front) (lines k.front) in
+    let same : asked mid talker between (lines k.front) ≡ ys = ap₂ (λ t u. asked t talker u (lines k.front)) h.session h.recall in
+    let both = asked-lines s talker r h.front k.front h.whole (sym h.over) in
     record {
       front = h.front ++ k.front;
       parts = ap (λ t. t ++ part) h.parts ∙ append_assoc h.front left part ∙ ap (λ t. h.front ++ t) k.parts ∙ sym (append_assoc h.front k.front later);
       whole = whole-append h.front k.front h.whole k.whole;
       part = k.part;
-      session = k.session ∙ ap (λ t. after_lines t ys) h.session ∙ sym (after-append s xs ys) ∙ ap (after_lines s) (sym both);
-      told = ap (λ t. told_of_both t more) h.told ∙ ap (told_of_both (replies s xs).told) (k.told ∙ ap (λ t. (replies t ys).told) h.session)
+      session = k.session ∙ ap₂ after_lines h.session same ∙ sym (after-append s xs ys) ∙ ap (after_lines s) (sym both);
+      recall = k.recall ∙ ap₂ (λ t u. recalled_all t talker u (lines k.front)) h.session h.recall
+          ∙ sym (recalled-lines s talker r h.front k.front h.whole (sym h.over));
+      told = ap (λ t. told_of_both t more) h.told
+          ∙ ap (told_of_both (replies s xs).told) (k.told ∙ ap₂ (λ t l. (replies t l).told) h.session same)
           ∙ sym (told-append s xs ys) ∙ ap (λ l. (replies s l).told) (sym both);
       over = k.over ∙ sym (ap (is_over talker) (lines-append h.front k.front h.whole) ∙ list_any-append (is_quit talker) (lines h.front) (lines k.front)
           ∙ ap (λ v. v || is_over talker (lines k.front)) (sym h.over));
       written = Appends-same a c _ _ (sym (ap (λ l. (replies s l).bytes) both ∙ bytes-append s xs ys))
           (Appends-then a b c (replies s xs).bytes (replies (after_lines s xs) ys).bytes h.written
-          (Appends-same b c _ _ (ap (λ t. (replies t ys).bytes) h.session) k.written));
+          (Appends-same b c _ _ (ap₂ (λ t l. (replies t l).bytes) h.session same) k.written));
     }
 
 -- nothing was heard yet
-pub Hears-nothing : (s : SessionState) (talker : Talker) (left : List ℕ) (told : Told) (a : Option (List ℕ)) → left ≡ [] → told ≡ (replies s []).told
-    → Hears s talker [] left s told false a a
+pub Hears-nothing : (s : SessionState) (talker : Talker) (r last : RecallState) (left : List ℕ) (told : Told) (a : Option (List ℕ)) → last ≡ r → left ≡ []
+    → told ≡ (replies s []).told → Hears s talker r [] left s last told false a a
 unfolding lines
-Hears-nothing s talker left told a none is = record {
+Hears-nothing s talker r last left told a same none is = record {
   front = [];
   parts = sym none;
   whole = refl;
   part = ap (list_any is_line_feed) none;
   session = refl;
+  recall = same;
   told = is;
   over = refl;
   written = Appends-nothing a;
 }
 
 -- a part with no line feed is heard, and nothing is answered
-pub Hears-part : (s : SessionState) (talker : Talker) (left : List ℕ) (told : Told) (a : Option (List ℕ)) → told ≡ (replies s []).told
-    → list_any is_line_feed left ≡ false → Appends a a [] → Hears s talker left left s told false a a
+pub Hears-part : (s : SessionState) (talker : Talker) (r : RecallState) (left : List ℕ) (told : Told) (a : Option (List ℕ)) → told ≡ (replies s []).told
+    → list_any is_line_feed left ≡ false → Appends a a [] → Hears s talker r left left s r told false a a
 unfolding lines
-Hears-part s talker left told a is part nothing =
-    record { front = []; parts = refl; whole = refl; part = part; session = refl; told = is; over = refl; written = nothing }
+Hears-part s talker r left told a is part nothing = record {
+  front = [];
+  parts = refl;
+  whole = refl;
+  part = part;
+  session = refl;
+  recall = refl;
+  told = is;
+  over = refl;
+  written = nothing;
+}
 
 -- ---- one line of a text
 
@@ -197,75 +287,108 @@ pub not_so : (v : Bool) → (v ≡ true → ⊥) → v ≡ false
 not_so true h = absurd (h refl)
 not_so false h = refl
 
-module _ (talker : Talker) (line : List ℕ) (all more : List (List ℕ)) (e : all ≡ line ∷ more) where
-  asked-one : is_quit talker line ≡ false → asked talker all ≡ asked talker (line ∷ []) ++ asked talker more
-  asked-one quit = ap (asked talker) e ∙ asked-append talker (line ∷ []) more (rw quit refl)
+-- a line that ends the talk stands for no line of a script
+quit-meant : (kind : Line) (typed : List ℕ) → is_end kind ≡ true → meant_by kind typed ≡ []
+quit-meant line_kind.Quit typed e = refl
+quit-meant line_kind.Command typed e = absurd (true≢false (sym e))
+quit-meant line_kind.Help typed e = absurd (true≢false (sym e))
+
+quit-said : (s : SessionState) (talker : Talker) (r : RecallState) (line : List ℕ) → is_quit talker line ≡ true → meant s talker r line ≡ []
+quit-said s talkers.Program r line e = absurd (true≢false (sym e))
+quit-said s talkers.Person r line e = quit-meant (kind_of (words line)) (person_line r.again line) e
+
+module _ (s : SessionState) (talker : Talker) (r : RecallState) (line : List ℕ) (all more : List (List ℕ)) (e : all ≡ line ∷ more) where
+  abbrev said-one : List (List ℕ)
+  said-one = meant s talker r line
+
+  abbrev left-after : List (List ℕ)
+  left-after = asked (after_lines s said-one) talker (recalled s talker r line) more
+
+  asked-one : is_quit talker line ≡ false → asked s talker r all ≡ said-one ++ left-after
+  asked-one quit = ap (asked s talker r) e ∙ rw quit refl
 
   pub over-one : is_quit talker line ≡ false → is_over talker all ≡ is_over talker more
   over-one quit = rw (e, quit) refl
 
+  asked-end : is_quit talker line ≡ true → asked s talker r all ≡ []
+  asked-end quit = ap (asked s talker r) e ∙ rw quit refl
+
   -- the replies to a line are a beginning of those to all
-  pub one-front : (s : SessionState) → (rest : List ℕ) × ((answers s talker all).bytes ≡ (answers s talker (line ∷ [])).bytes ++ rest)
-  one-front s = go (is_quit talker line) refl
+  one-front : (rest : List ℕ) × ((answers s talker r all).bytes ≡ (replies s said-one).bytes ++ rest)
+  one-front = go (is_quit talker line) refl
     where
-      go : (v : Bool) → is_quit talker line ≡ v → (rest : List ℕ) × ((answers s talker all).bytes ≡ (answers s talker (line ∷ [])).bytes ++ rest)
-      go true quit = ([], rw (e, quit) refl)
+      go : (v : Bool) → is_quit talker line ≡ v → (rest : List ℕ) × ((answers s talker r all).bytes ≡ (replies s said-one).bytes ++ rest)
+      go true quit =
+          ([], ap (λ l. (replies s l).bytes) (asked-end quit) ∙ sym (ap (λ l. (replies s l).bytes ++ []) (quit-said s talker r line quit)))
       go false quit = (
-        (replies (after_lines s (asked talker (line ∷ []))) (asked talker more)).bytes,
-        ap (λ l. (replies s l).bytes) (asked-one quit) ∙ bytes-append s (asked talker (line ∷ [])) (asked talker more),
+        (replies (after_lines s said-one) left-after).bytes,
+        ap (λ l. (replies s l).bytes) (asked-one quit) ∙ bytes-append s said-one left-after,
       )
 
-  pub begun-one : (s : SessionState) (a b c : Option (List ℕ)) (whole : List ℕ)
-      → (done : List ℕ) × Appends a b done × (whole ≡ done ++ (answers s talker all).bytes) → AppendsFront b c (answers s talker (line ∷ [])).bytes
+  pub begun-one : (a b c : Option (List ℕ)) (whole : List ℕ)
+      → (done : List ℕ) × Appends a b done × (whole ≡ done ++ (answers s talker r all).bytes) → AppendsFront b c (replies s said-one).bytes
       → AppendsFront a c whole
-  begun-one s a b c whole so_far reply =
-      let front = one-front s in
-      AppendsFront-after a b c so_far.0 (answers s talker (line ∷ [])).bytes front.0 whole so_far.1 reply
-      (so_far.2 ∙ ap (λ bytes. so_far.0 ++ bytes) front.1)
+  begun-one a b c whole so_far reply =
+      AppendsFront-after a b c so_far.0 (replies s said-one).bytes one-front.0 whole so_far.1 reply
+      (so_far.2 ∙ ap (λ bytes. so_far.0 ++ bytes) one-front.1)
 
   -- one line more was answered
-  module _ (s next : SessionState) (quit : is_quit talker line ≡ false) (changed : next ≡ after_lines s (asked talker (line ∷ []))) where
-    pub written-one : (a b c : Option (List ℕ)) (whole : List ℕ) → (done : List ℕ) × Appends a b done × (whole ≡ done ++ (answers s talker all).bytes)
-        → Appends b c (answers s talker (line ∷ [])).bytes
-        → (done : List ℕ) × Appends a c done × (whole ≡ done ++ (answers next talker more).bytes)
+  module _ (next : SessionState) (later : RecallState) (quit : is_quit talker line ≡ false) (changed : next ≡ after_lines s said-one)
+      (recalls : later ≡ recalled s talker r line) where
+    asked-next : asked s talker r all ≡ said-one ++ asked next talker later more
+    asked-next = asked-one quit ∙ ap₂ (λ t u. said-one ++ asked t talker u more) (sym changed) (sym recalls)
+
+    pub written-one : (a b c : Option (List ℕ)) (whole : List ℕ) → (done : List ℕ) × Appends a b done × (whole ≡ done ++ (answers s talker r all).bytes)
+        → Appends b c (replies s said-one).bytes
+        → (done : List ℕ) × Appends a c done × (whole ≡ done ++ (answers next talker later more).bytes)
     written-one a b c whole so_far reply =
-        let said = (answers s talker (line ∷ [])).bytes in
-        let left : (answers s talker all).bytes ≡ said ++ (answers next talker more).bytes =
-        ap (λ l. (replies s l).bytes) (asked-one quit) ∙ bytes-append s (asked talker (line ∷ [])) (asked talker more)
-        ∙ ap (λ t. said ++ (replies t (asked talker more)).bytes) (sym changed) in (
+        let said = (replies s said-one).bytes in
+        let left : (answers s talker r all).bytes ≡ said ++ (answers next talker later more).bytes =
+        ap (λ l. (replies s l).bytes) asked-next ∙ bytes-append s said-one (asked next talker later more)
+        ∙ ap (λ t. said ++ (replies t (asked next talker later more)).bytes) (sym changed) in (
           so_far.0 ++ said,
           Appends-then a b c so_far.0 said so_far.1 reply,
-          so_far.2 ∙ ap (λ bytes. so_far.0 ++ bytes) left ∙ sym (append_assoc so_far.0 said (answers next talker more).bytes),
+          so_far.2 ∙ ap (λ bytes. so_far.0 ++ bytes) left ∙ sym (append_assoc so_far.0 said (answers next talker later more).bytes),
         )
 
-    pub told-one : (so_far one whole : Told) → told_of_both so_far (answers s talker all).told ≡ whole → one ≡ (answers s talker (line ∷ [])).told
-        → told_of_both (told_of_both so_far one) (answers next talker more).told ≡ whole
+    pub told-one : (so_far one whole : Told) → told_of_both so_far (answers s talker r all).told ≡ whole → one ≡ (replies s said-one).told
+        → told_of_both (told_of_both so_far one) (answers next talker later more).told ≡ whole
     told-one so_far one whole before here =
-        let left : (answers s talker all).told ≡ told_of_both one (answers next talker more).told =
-        ap (λ l. (replies s l).told) (asked-one quit) ∙ told-append s (asked talker (line ∷ [])) (asked talker more)
-        ∙ ap (λ t. told_of_both (answers s talker (line ∷ [])).told (replies t (asked talker more)).told) (sym changed)
-        ∙ ap (λ t. told_of_both t (answers next talker more).told) (sym here) in
-        both-assoc so_far one (answers next talker more).told ∙ ap (told_of_both so_far) (sym left) ∙ before
+        let left : (answers s talker r all).told ≡ told_of_both one (answers next talker later more).told =
+        ap (λ l. (replies s l).told) asked-next ∙ told-append s said-one (asked next talker later more)
+        ∙ ap (λ t. told_of_both (replies s said-one).told (replies t (asked next talker later more)).told) (sym changed)
+        ∙ ap (λ t. told_of_both t (answers next talker later more).told) (sym here) in
+        both-assoc so_far one (answers next talker later more).told ∙ ap (told_of_both so_far) (sym left) ∙ before
 
-    pub after-one : after_lines s (asked talker all) ≡ after_lines next (asked talker more)
-    after-one = ap (after_lines s) (asked-one quit) ∙ after-append s (asked talker (line ∷ [])) (asked talker more) ∙ ap (λ t. after_lines t (asked talker more)) (sym changed)
+    pub after-one : after_lines s (asked s talker r all) ≡ after_lines next (asked next talker later more)
+    after-one =
+        ap (after_lines s) asked-next ∙ after-append s said-one (asked next talker later more)
+        ∙ ap (λ t. after_lines t (asked next talker later more)) (sym changed)
+
+    pub recall-one : recalled_all s talker r all ≡ recalled_all next talker later more
+    recall-one =
+        ap (recalled_all s talker r) e
+        ∙ rw quit (ap₂ (λ t u. recalled_all t talker u more) (sym changed) (sym recalls))
 
 -- no line is left
-module _ (s : SessionState) (talker : Talker) (rest : List ℕ) (none : rest ≡ []) where
-  nothing-left : asked talker (lines rest) ≡ []
+module _ (s : SessionState) (talker : Talker) (r : RecallState) (rest : List ℕ) (none : rest ≡ []) where
+  nothing-left : asked s talker r (lines rest) ≡ []
   nothing-left = rw (none, lines-nil) refl
 
-  pub all-answered : (a b : Option (List ℕ)) (whole : List ℕ) → (done : List ℕ) × Appends a b done × (whole ≡ done ++ (answers s talker (lines rest)).bytes)
+  pub all-answered : (a b : Option (List ℕ)) (whole : List ℕ) → (done : List ℕ) × Appends a b done × (whole ≡ done ++ (answers s talker r (lines rest)).bytes)
       → Appends a b whole
   all-answered a b whole so_far =
       Appends-same a b so_far.0 whole
       (sym (so_far.2 ∙ ap (λ l. so_far.0 ++ (replies s l).bytes) nothing-left ∙ append-nil so_far.0)) so_far.1
 
-  pub all-reported : (so_far whole : Told) → told_of_both so_far (answers s talker (lines rest)).told ≡ whole → so_far ≡ whole
+  pub all-reported : (so_far whole : Told) → told_of_both so_far (answers s talker r (lines rest)).told ≡ whole → so_far ≡ whole
   all-reported so_far whole before = sym (both-accepted so_far) ∙ ap (λ l. told_of_both so_far (replies s l).told) (sym nothing-left) ∙ before
 
-  pub all-done : after_lines s (asked talker (lines rest)) ≡ s
+  pub all-done : after_lines s (asked s talker r (lines rest)) ≡ s
   all-done = ap (after_lines s) nothing-left
+
+  pub all-recalled : recalled_all s talker r (lines rest) ≡ r
+  all-recalled = rw (none, lines-nil) refl
 
   pub never-over : is_over talker (lines rest) ≡ false
   never-over = rw (none, lines-nil) refl
@@ -278,45 +401,46 @@ err-any (Err e) P h = h
 
 -- no line is whole yet
 module _ (left part front rest : List ℕ) (parts : part ≡ front ++ rest) (line : list_any is_line_feed left ≡ false) where
-  pub Hears-more : (s : SessionState) (talker : Talker) (told : Told) (a : Option (List ℕ)) → front ≡ [] → list_any is_line_feed rest ≡ false
-      → told ≡ (replies s []).told → Appends a a [] → Hears s talker (left ++ part) (left ++ rest) s told false a a
-  Hears-more s talker told a none after is nothing =
+  pub Hears-more : (s : SessionState) (talker : Talker) (r : RecallState) (told : Told) (a : Option (List ℕ)) → front ≡ [] → list_any is_line_feed rest ≡ false
+      → told ≡ (replies s []).told → Appends a a [] → Hears s talker r (left ++ part) (left ++ rest) s r told false a a
+  Hears-more s talker r told a none after is nothing =
       let same : part ≡ rest = parts ∙ ap (λ l. l ++ rest) none in
       let clear : list_any is_line_feed (left ++ rest) ≡ false =
       list_any-append is_line_feed left rest ∙ ap (λ v. v || list_any is_line_feed rest) line ∙ after in
-      subst (λ t. Hears s talker (left ++ t) (left ++ rest) s told false a a) (sym same) (Hears-part s talker (left ++ rest) told a is clear nothing)
+      subst (λ t. Hears s talker r (left ++ t) (left ++ rest) s r told false a a) (sym same) (Hears-part s talker r (left ++ rest) told a is clear nothing)
 
   joined-parts : left ++ part ≡ (left ++ front) ++ rest
   joined-parts = ap (λ t. left ++ t) parts ∙ sym (append_assoc left front rest)
 
   -- the line that was begun, and those that end it
-  module _ (s : SessionState) (talker : Talker) (text : List ℕ) (is : text ≡ left ++ front) (some : 0 < length front) (whole : is_whole front ≡ true) where
+  module _ (s : SessionState) (talker : Talker) (r : RecallState) (text : List ℕ) (is : text ≡ left ++ front) (some : 0 < length front) (whole : is_whole front ≡ true) where
     text-whole : is_whole text ≡ true
     text-whole = ap is_whole is ∙ whole-onto left front some whole
 
     text-parts : left ++ part ≡ text ++ rest
     text-parts = joined-parts ∙ ap (λ t. t ++ rest) (sym is)
 
-    pub Begins-more : (a b : Option (List ℕ)) → AppendsFront a b (answers s talker (lines text)).bytes → Begins s talker (left ++ part) a b
+    pub Begins-more : (a b : Option (List ℕ)) → AppendsFront a b (answers s talker r (lines text)).bytes → Begins s talker r (left ++ part) a b
     Begins-more a b begun = (text, rest, text-parts, text-whole, begun)
 
-    pub Hears-answered : (now : SessionState) (said : Told) (ends : Bool) (later : List ℕ) (a b : Option (List ℕ)) → later ≡ rest
-        → list_any is_line_feed rest ≡ false → now ≡ after_lines s (asked talker (lines text)) → ends ≡ is_over talker (lines text)
-        → (said ≡ (answers s talker (lines text)).told) × Appends a b (answers s talker (lines text)).bytes
-        → Hears s talker (left ++ part) later now said ends a b
-    Hears-answered now said ends later a b same after session over replied = record {
+    pub Hears-answered : (now : SessionState) (last : RecallState) (said : Told) (ends : Bool) (later : List ℕ) (a b : Option (List ℕ)) → later ≡ rest
+        → list_any is_line_feed rest ≡ false → now ≡ after_lines s (asked s talker r (lines text)) → last ≡ recalled_all s talker r (lines text) → ends ≡ is_over talker (lines text)
+        → (said ≡ (answers s talker r (lines text)).told) × Appends a b (answers s talker r (lines text)).bytes
+        → Hears s talker r (left ++ part) later now last said ends a b
+    Hears-answered now last said ends later a b same after session recall over replied = record {
       front = text;
       parts = text-parts ∙ ap (λ t. text ++ t) (sym same);
       whole = text-whole;
       part = ap (list_any is_line_feed) same ∙ after;
       session = session;
+      recall = recall;
       told = replied.0;
       over = over;
       written = replied.1;
     }
 
-pub Begins-nothing : (s : SessionState) (talker : Talker) (bytes : List ℕ) (a : Option (List ℕ)) → Begins s talker bytes a a
-Begins-nothing s talker bytes a = ([], bytes, refl, refl, (0, omega arith, Appends-nothing a))
+pub Begins-nothing : (s : SessionState) (talker : Talker) (r : RecallState) (bytes : List ℕ) (a : Option (List ℕ)) → Begins s talker r bytes a a
+Begins-nothing s talker r bytes a = ([], bytes, refl, refl, (0, omega arith, Appends-nothing a))
 
 pub some-from_length : (xs : List ℕ) → false ≡ eqb (length xs) 0 → 0 < length xs
 some-from_length [] e = absurd (true≢false (sym e))
@@ -353,34 +477,38 @@ pub read-more : (reads n : ℕ) (bytes buffer : List ℕ) → reads ≤ length b
 read-more reads n bytes buffer le some within = omega (arith, length-append bytes (take n buffer), length-take n buffer within)
 
 pub Talks-begun : (s : SessionState) (talker : Talker) (t : List ℕ) (fault : ToolFault) (left old new : Option (List ℕ)) → IsMemoryOrWrite fault
-    → AppendsFront old new (answers s talker (lines t)).bytes → Talks s talker t (Err fault) left old new
+    → AppendsFront old new (answers s talker nothing (lines t)).bytes → Talks s talker t (Err fault) left old new
 Talks-begun s talker t faults.Memory left old new only begun = begun
 Talks-begun s talker t faults.Write left old new only begun = begun
 Talks-begun s talker t faults.Read left old new only begun = absurd only
 Talks-begun s talker t (faults.Deck fault) left old new only begun = absurd only
 Talks-begun s talker t faults.Long left old new only begun = absurd only
 
-module _ (s mid : SessionState) (talker : Talker) (bytes left : List ℕ) (told : Told) (a b : Option (List ℕ)) (h : Hears s talker bytes left mid told false a b) where
+module _ (s mid : SessionState) (talker : Talker) (between : RecallState) (bytes left : List ℕ) (told : Told) (a b : Option (List ℕ))
+    (h : Hears s talker nothing bytes left mid between told false a b) where
   abbrev said-before : List ℕ
-  said-before = (answers s talker (lines h.front)).bytes
+  said-before = (answers s talker nothing (lines h.front)).bytes
 
   text-step : (rest : List ℕ) → bytes ++ rest ≡ h.front ++ (left ++ rest)
   text-step rest = ap (λ t. t ++ rest) h.parts ∙ append_assoc h.front left rest
 
-  asked-step : (rest : List ℕ) → asked talker (lines (bytes ++ rest)) ≡ asked talker (lines h.front) ++ asked talker (lines (left ++ rest))
-  asked-step rest = ap (λ t. asked talker (lines t)) (text-step rest) ∙ asked-lines talker h.front (left ++ rest) h.whole (sym h.over)
+  asked-step : (rest : List ℕ) → asked s talker nothing (lines (bytes ++ rest))
+      ≡ asked s talker nothing (lines h.front) ++ asked mid talker between (lines (left ++ rest))
+  asked-step rest =
+      ap (λ t. asked s talker nothing (lines t)) (text-step rest) ∙ asked-lines s talker nothing h.front (left ++ rest) h.whole (sym h.over)
+      ∙ ap₂ (λ t u. asked s talker nothing (lines h.front) ++ asked t talker u (lines (left ++ rest))) (sym h.session) (sym h.recall)
 
-  bytes-step : (rest : List ℕ) → (answers s talker (lines (bytes ++ rest))).bytes
-      ≡ (answers s talker (lines h.front)).bytes ++ (answers mid talker (lines (left ++ rest))).bytes
+  bytes-step : (rest : List ℕ) → (answers s talker nothing (lines (bytes ++ rest))).bytes
+      ≡ (answers s talker nothing (lines h.front)).bytes ++ (answers mid talker between (lines (left ++ rest))).bytes
   bytes-step rest =
-      let xs = asked talker (lines h.front) in
-      let ys = asked talker (lines (left ++ rest)) in
+      let xs = asked s talker nothing (lines h.front) in
+      let ys = asked mid talker between (lines (left ++ rest)) in
       ap (λ l. (replies s l).bytes) (asked-step rest) ∙ bytes-append s xs ys ∙ ap (λ t. (replies s xs).bytes ++ (replies t ys).bytes) (sym h.session)
 
-  told-step : (rest : List ℕ) → (answers s talker (lines (bytes ++ rest))).told ≡ told_of_both told (answers mid talker (lines (left ++ rest))).told
+  told-step : (rest : List ℕ) → (answers s talker nothing (lines (bytes ++ rest))).told ≡ told_of_both told (answers mid talker between (lines (left ++ rest))).told
   told-step rest =
-      let xs = asked talker (lines h.front) in
-      let ys = asked talker (lines (left ++ rest)) in
+      let xs = asked s talker nothing (lines h.front) in
+      let ys = asked mid talker between (lines (left ++ rest)) in
       ap (λ l. (replies s l).told) (asked-step rest) ∙ told-append s xs ys ∙ ap (λ t. told_of_both (replies s xs).told (replies t ys).told) (sym h.session)
       ∙ ap (λ t. told_of_both t (replies mid ys).told) (sym h.told)
 
@@ -389,64 +517,65 @@ module _ (s mid : SessionState) (talker : Talker) (bytes left : List ℕ) (told 
     last-text : left ++ [] ≡ text
     last-text = append-nil left ∙ sym is
 
-    last-bytes : (answers s talker (lines t)).bytes ≡ (answers s talker (lines h.front)).bytes ++ (answers mid talker (lines text)).bytes
+    last-bytes : (answers s talker nothing (lines t)).bytes ≡ (answers s talker nothing (lines h.front)).bytes ++ (answers mid talker between (lines text)).bytes
     last-bytes =
-        ap (λ l. (answers s talker (lines l)).bytes) e ∙ bytes-step []
-        ∙ ap (λ l. (answers s talker (lines h.front)).bytes ++ (answers mid talker (lines l)).bytes) last-text
+        ap (λ l. (answers s talker nothing (lines l)).bytes) e ∙ bytes-step []
+        ∙ ap (λ l. (answers s talker nothing (lines h.front)).bytes ++ (answers mid talker between (lines l)).bytes) last-text
 
-    last-told : (answers s talker (lines t)).told ≡ told_of_both told (answers mid talker (lines text)).told
-    last-told = ap (λ l. (answers s talker (lines l)).told) e ∙ told-step [] ∙ ap (λ l. told_of_both told (answers mid talker (lines l)).told) last-text
+    last-told : (answers s talker nothing (lines t)).told ≡ told_of_both told (answers mid talker between (lines text)).told
+    last-told = ap (λ l. (answers s talker nothing (lines l)).told) e ∙ told-step [] ∙ ap (λ l. told_of_both told (answers mid talker between (lines l)).told) last-text
 
     pub end-said : (more all : Told) → all ≡ told_of_both told more
-        → (more ≡ (answers mid talker (lines text)).told) × Appends b c (answers mid talker (lines text)).bytes
-        → (all ≡ (answers s talker (lines t)).told) × Appends a c (answers s talker (lines t)).bytes
+        → (more ≡ (answers mid talker between (lines text)).told) × Appends b c (answers mid talker between (lines text)).bytes
+        → (all ≡ (answers s talker nothing (lines t)).told) × Appends a c (answers s talker nothing (lines t)).bytes
     end-said more all both replied = (
       both ∙ ap (told_of_both told) replied.0 ∙ sym last-told,
-      Appends-same a c _ _ (sym last-bytes) (Appends-then a b c said-before (answers mid talker (lines text)).bytes h.written replied.1),
+      Appends-same a c _ _ (sym last-bytes) (Appends-then a b c said-before (answers mid talker between (lines text)).bytes h.written replied.1),
     )
 
-    pub end-begun : AppendsFront b c (answers mid talker (lines text)).bytes → AppendsFront a c (answers s talker (lines t)).bytes
+    pub end-begun : AppendsFront b c (answers mid talker between (lines text)).bytes → AppendsFront a c (answers s talker nothing (lines t)).bytes
     end-begun begun =
-        let ys = (answers mid talker (lines text)).bytes in
-        AppendsFront-after a b c said-before ys [] (answers s talker (lines t)).bytes h.written begun (last-bytes ∙ ap (λ l. said-before ++ l) (sym (append-nil ys)))
+        let ys = (answers mid talker between (lines text)).bytes in
+        AppendsFront-after a b c said-before ys [] (answers s talker nothing (lines t)).bytes h.written begun (last-bytes ∙ ap (λ l. said-before ++ l) (sym (append-nil ys)))
 
-  pub more-begun : (t part rest : List ℕ) (c : Option (List ℕ)) → t ≡ (bytes ++ part) ++ rest → Begins mid talker (left ++ part) b c
-      → AppendsFront a c (answers s talker (lines t)).bytes
+  pub more-begun : (t part rest : List ℕ) (c : Option (List ℕ)) → t ≡ (bytes ++ part) ++ rest → Begins mid talker between (left ++ part) b c
+      → AppendsFront a c (answers s talker nothing (lines t)).bytes
   more-begun t part rest c e k =
       let later = k.1 ++ rest in
-      let front = front-said mid talker k.0 later k.3 in
+      let front = front-said mid talker between k.0 later k.3 in
       let text : left ++ (part ++ rest) ≡ k.0 ++ later =
       sym (append_assoc left part rest) ∙ ap (λ l. l ++ rest) k.2 ∙ append_assoc k.0 k.1 rest in
-      let whole : (answers s talker (lines t)).bytes ≡ said-before ++ ((answers mid talker (lines k.0)).bytes ++ front.0) =
-      ap (λ l. (answers s talker (lines l)).bytes) (e ∙ append_assoc bytes part rest) ∙ bytes-step (part ++ rest)
-      ∙ ap (λ l. said-before ++ (answers mid talker (lines l)).bytes) text ∙ ap (λ l. said-before ++ l) front.1 in
-      AppendsFront-after a b c said-before (answers mid talker (lines k.0)).bytes front.0 (answers s talker (lines t)).bytes h.written k.4 whole
+      let whole : (answers s talker nothing (lines t)).bytes ≡ said-before ++ ((answers mid talker between (lines k.0)).bytes ++ front.0) =
+      ap (λ l. (answers s talker nothing (lines l)).bytes) (e ∙ append_assoc bytes part rest) ∙ bytes-step (part ++ rest)
+      ∙ ap (λ l. said-before ++ (answers mid talker between (lines l)).bytes) text ∙ ap (λ l. said-before ++ l) front.1 in
+      AppendsFront-after a b c said-before (answers mid talker between (lines k.0)).bytes front.0 (answers s talker nothing (lines t)).bytes h.written k.4 whole
 
 -- a line ended the talk
-pub ended : (s now : SessionState) (talker : Talker) (bytes left : List ℕ) (told all : Told) (ends : Bool) (a b : Option (List ℕ))
-    → Hears s talker bytes left now told ends a b → ends ≡ true → all ≡ told
-    → (t rest : List ℕ) → t ≡ bytes ++ rest → (all ≡ (answers s talker (lines t)).told) × Appends a b (answers s talker (lines t)).bytes
-ended s now talker bytes left told all ends a b h over is t rest e =
-    let same : asked talker (lines t) ≡ asked talker (lines h.front) =
-    ap (λ l. asked talker (lines l)) (e ∙ ap (λ l. l ++ rest) h.parts ∙ append_assoc h.front left rest)
-    ∙ ap (asked talker) (lines-append h.front (left ++ rest) h.whole) ∙ asked-over talker (lines h.front) (lines (left ++ rest)) (sym h.over ∙ over) in
+pub ended : (s now : SessionState) (talker : Talker) (last : RecallState) (bytes left : List ℕ) (told all : Told) (ends : Bool) (a b : Option (List ℕ))
+    → Hears s talker nothing bytes left now last told ends a b → ends ≡ true → all ≡ told
+    → (t rest : List ℕ) → t ≡ bytes ++ rest → (all ≡ (answers s talker nothing (lines t)).told) × Appends a b (answers s talker nothing (lines t)).bytes
+ended s now talker last bytes left told all ends a b h over is t rest e =
+    let same : asked s talker nothing (lines t) ≡ asked s talker nothing (lines h.front) =
+    ap (λ l. asked s talker nothing (lines l)) (e ∙ ap (λ l. l ++ rest) h.parts ∙ append_assoc h.front left rest)
+    ∙ ap (asked s talker nothing) (lines-append h.front (left ++ rest) h.whole) ∙ asked-over s talker nothing (lines h.front) (lines (left ++ rest)) (sym h.over ∙ over) in
     (is ∙ h.told ∙ sym (ap (λ l. (replies s l).told) same), Appends-same a b _ _ (sym (ap (λ l. (replies s l).bytes) same)) h.written)
 
 -- no more is read
-pub unread : (s now : SessionState) (talker : Talker) (bytes left : List ℕ) (told : Told) (ends : Bool) (a b new : Option (List ℕ))
-    → Hears s talker bytes left now told ends a b → (t rest : List ℕ) → new ≡ Some rest → t ≡ bytes ++ rest → AnswersRead s talker t new a b
-unread s now talker bytes left told ends a b new h t rest is e =
+pub unread : (s now : SessionState) (talker : Talker) (last : RecallState) (bytes left : List ℕ) (told : Told) (ends : Bool) (a b new : Option (List ℕ))
+    → Hears s talker nothing bytes left now last told ends a b → (t rest : List ℕ) → new ≡ Some rest → t ≡ bytes ++ rest → AnswersRead s talker t new a b
+unread s now talker last bytes left told ends a b new h t rest is e =
     (h.front, left, rest, is, e ∙ ap (λ l. l ++ rest) h.parts ∙ append_assoc h.front left rest, h.whole, h.part, h.written)
 
 -- the talk goes on
-pub Hears-on : (s now : SessionState) (talker : Talker) (bytes left : List ℕ) (told all : Told) (ends : Bool) (a b : Option (List ℕ))
-    → Hears s talker bytes left now told ends a b → ends ≡ false → all ≡ told → Hears s talker bytes left now all false a b
-Hears-on s now talker bytes left told all ends a b h on is = record {
+pub Hears-on : (s now : SessionState) (talker : Talker) (last : RecallState) (bytes left : List ℕ) (told all : Told) (ends : Bool) (a b : Option (List ℕ))
+    → Hears s talker nothing bytes left now last told ends a b → ends ≡ false → all ≡ told → Hears s talker nothing bytes left now last all false a b
+Hears-on s now talker last bytes left told all ends a b h on is = record {
   front = h.front;
   parts = h.parts;
   whole = h.whole;
   part = h.part;
   session = h.session;
+  recall = h.recall;
   told = is ∙ h.told;
   over = sym on ∙ h.over;
   written = h.written;

@@ -18,7 +18,8 @@ use Rattle.mix_session.specs.declared.reply.Told.{Told}
 use Rattle.mix_run.specs.declared.fault.ToolFault.{ToolFault}
 use Rattle.mix_run.specs.declared.fault.ToolFault.TheVariants as faults
 use Rattle.mix_run.specs.Output.{DeckRefused, Ended, Meets, TooLong, max_script_bytes, outcome_of, outcome_of_script, refusal_of, replies, status_of}
-use Rattle.mix_run.specs.Talk.{AnswersRead, Talks, TalksWith, answers, asked, max_line_bytes, status_from}
+use Rattle.mix_run.specs.Talk.{AnswersRead, Talks, TalksWith, after_lines, answers, asked, max_line_bytes, status_from}
+use Rattle.mix_run.specs.Recall.{RecallState, nothing}
 use Rattle.mix_run.specs.UnitsRead.{GivesUnits}
 use Rattle.mix_run.specs.declared.talk.aside.Talker.{Talker}
 use Rattle.mix_run.specs.declared.talk.aside.Talker.TheVariants.{Program}
@@ -83,21 +84,21 @@ TalksWith-units p units some talker t result left old new e talks = subst (λ u.
 
 -- ---- as a script
 
-asked-all : (all : List (List ℕ)) → asked Program all ≡ all
-asked-all [] = refl
-asked-all (line ∷ rest) = ap (λ l. line ∷ l) (asked-all rest)
+asked-all : (s : SessionState) (r : RecallState) (all : List (List ℕ)) → asked s Program r all ≡ all
+asked-all s r [] = refl
+asked-all s r (line ∷ rest) = ap (λ l. line ∷ l) (asked-all (after_lines s (line ∷ [])) r rest)
 
 script-said : (s : SessionState) (t : List ℕ) → length t ≤ max_script_bytes
-    → outcome_of_script s t ≡ Ended (answers s Program (lines t)).bytes (status_of (answers s Program (lines t)).told)
+    → outcome_of_script s t ≡ Ended (answers s Program nothing (lines t)).bytes (status_of (answers s Program nothing (lines t)).told)
 unfolding outcome_of_script
-script-said s t le = rw (le-ltb max_script_bytes (length t) le, asked-all (lines t)) refl
+script-said s t le = rw (le-ltb max_script_bytes (length t) le, asked-all s nothing (lines t)) refl
 
 module _ (s : SessionState) (t : List ℕ) (le : length t ≤ max_script_bytes) (left old new : Option (List ℕ)) where
   -- the bytes and the status of the talk are those of the script
   meets-talk : (talk : Result Told ToolFault) → (status_from talk ≡ Err faults.Read → ⊥) → (status_from talk ≡ Err faults.Long → max_script_bytes < length t)
       → Talks s Program t talk left old new
-      → Meets (Ended (answers s Program (lines t)).bytes (status_of (answers s Program (lines t)).told)) (status_from talk) old new
-  meets-talk (Ok told) read long talks = (ap (λ v. Ended (answers s Program (lines t)).bytes (status_of v)) (sym talks.0), talks.1)
+      → Meets (Ended (answers s Program nothing (lines t)).bytes (status_of (answers s Program nothing (lines t)).told)) (status_from talk) old new
+  meets-talk (Ok told) read long talks = (ap (λ v. Ended (answers s Program nothing (lines t)).bytes (status_of v)) (sym talks.0), talks.1)
   meets-talk (Err faults.Memory) read long talks = talks
   meets-talk (Err faults.Write) read long talks = talks
   meets-talk (Err faults.Read) read long talks = absurd (read refl)
@@ -116,5 +117,5 @@ TalksWith-script (Ok p) (Ok units) talker t result left old new is le read long 
     let same : result ≡ status_from talks.0 = talks.1 in
     let heard : Talks s Program t talks.0 left old new = subst (λ k. Talks s k t talks.0 left old new) is talks.2 in
     let met = meets-talk s t le left old new talks.0 (λ e. read (same ∙ e)) (λ e. long (same ∙ e)) heard in
-    let there = subst (λ r. Meets (Ended (answers s Program (lines t)).bytes (status_of (answers s Program (lines t)).told)) r old new) (sym same) met in
+    let there = subst (λ r. Meets (Ended (answers s Program nothing (lines t)).bytes (status_of (answers s Program nothing (lines t)).told)) r old new) (sym same) met in
     subst (λ o. Meets o result old new) (sym (script-said s t le)) there

@@ -5,22 +5,24 @@ use Rattle.std.specs.Io.KnownBytes.{Appends}
 use Rattle.mix_lines.specs.Lines.{is_line_feed, lines}
 use Rattle.mix_session.specs.Session.{SessionState}
 use Rattle.mix_session.specs.declared.reply.Told.{Told}
-use Rattle.mix_run.specs.Talk.{after_lines, answers, asked, is_over, is_whole}
+use Rattle.mix_run.specs.Talk.{after_lines, answers, asked, is_over, is_whole, recalled_all}
+use Rattle.mix_run.specs.Recall.{RecallState}
 use Rattle.mix_stream.specs.Stream.{AppendsFront}
 use Rattle.mix_run.specs.declared.talk.aside.Talker.{Talker}
 
 -- some bytes were heard: the whole lines among them are answered, and what is left is part of a line
-pub record Hears (s : SessionState) (talker : Talker) (bytes left : List ℕ) (now : SessionState) (said : Told) (ends : Bool) (old new : Option (List ℕ)) : Type 0 where
+pub record Hears (s : SessionState) (talker : Talker) (r : RecallState) (bytes left : List ℕ) (now : SessionState) (later : RecallState) (said : Told) (ends : Bool) (old new : Option (List ℕ)) : Type 0 where
   pub front : List ℕ
   pub parts : bytes ≡ front ++ left
   pub whole : is_whole front ≡ true
   pub part : list_any is_line_feed left ≡ false
-  pub session : now ≡ after_lines s (asked talker (lines front))
-  pub told : said ≡ (answers s talker (lines front)).told
+  pub session : now ≡ after_lines s (asked s talker r (lines front))
+  pub recall : later ≡ recalled_all s talker r (lines front)
+  pub told : said ≡ (answers s talker r (lines front)).told
   pub over : ends ≡ is_over talker (lines front)
-  pub written : Appends old new (answers s talker (lines front)).bytes
+  pub written : Appends old new (answers s talker r (lines front)).bytes
 
 -- a beginning of the replies to the whole lines among some bytes was written
-abbrev pub Begins : SessionState → Talker → List ℕ → Option (List ℕ) → Option (List ℕ) → Type 0
-Begins s talker bytes old new =
-    (front : List ℕ) × (left : List ℕ) × (bytes ≡ front ++ left) × (is_whole front ≡ true) × AppendsFront old new (answers s talker (lines front)).bytes
+abbrev pub Begins : SessionState → Talker → RecallState → List ℕ → Option (List ℕ) → Option (List ℕ) → Type 0
+Begins s talker r bytes old new =
+    (front : List ℕ) × (left : List ℕ) × (bytes ≡ front ++ left) × (is_whole front ≡ true) × AppendsFront old new (answers s talker r (lines front)).bytes

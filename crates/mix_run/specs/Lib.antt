@@ -6,5 +6,6 @@ pub mod Person
 pub mod Print
 pub mod PrintOutput
 pub mod PrintSteps
+pub mod Recall
 pub mod Talk
 pub mod UnitsRead

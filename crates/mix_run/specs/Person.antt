@@ -2,6 +2,8 @@
 use Rattle.std.specs.Prelude.{ℕ, List, [], ◌∷◌, ◌++◌, ◌&&◌, nat_le, length, take, find, Option, None, Some, Bool, codes, if◌then◌else◌}
 use Rattle.std.specs.Str.{str_eq_ignore_ascii_case}
 use Rattle.mix_lines.specs.Lines.{words}
+use Rattle.mix_run.specs.declared.talk.person.Line.{Line}
+use Rattle.mix_run.specs.declared.talk.person.Line.TheVariants as line_kind
 use Rattle.mix_run.specs.declared.talk.person.PersonWord.{PersonWord}
 use Rattle.mix_run.specs.declared.talk.person.PersonWord.TheVariants.{Step, Next, Run, Trace, Break, Back, Forth, Goto, Continue, Clear, Set, Show, Quit, Help, Question}
 
@@ -79,10 +81,23 @@ abbrev pub line_begun : List ℕ → Option PersonWord → List (List ℕ) → L
 line_begun line None rest = line
 line_begun line (Some word) rest = command_of word ++ spaced (after_of word rest)
 
-abbrev pub line_of_words : List ℕ → List (List ℕ) → List ℕ
-line_of_words line [] = line
-line_of_words line (word ∷ rest) = line_begun line (word_begun word) rest
+abbrev pub line_of_words : List ℕ → List ℕ → List (List ℕ) → List ℕ
+line_of_words again line [] = again
+line_of_words again line (word ∷ rest) = line_begun line (word_begun word) rest
 
--- the line of a script that a person's line stands for: itself, where it begins with no word that is known
-unfoldable pub person_line : List ℕ → List ℕ
-person_line line = line_of_words line (words line)
+-- the line of a script that a person's line stands for: itself, where it begins with no word that is known, and this one where it is blank
+unfoldable pub person_line : List ℕ → List ℕ → List ℕ
+person_line again line = line_of_words again line (words line)
+
+-- what a line is that begins with such a word: `quit` alone ends the talk
+abbrev pub kind_of_word : Option PersonWord → List (List ℕ) → Line
+kind_of_word None rest = line_kind.Command
+kind_of_word (Some Help) rest = line_kind.Help
+kind_of_word (Some Question) rest = line_kind.Help
+kind_of_word (Some Quit) [] = line_kind.Quit
+kind_of_word (Some Quit) (word ∷ rest) = line_kind.Command
+kind_of_word (Some other) rest = line_kind.Command
+
+abbrev pub kind_of : List (List ℕ) → Line
+kind_of [] = line_kind.Command
+kind_of (word ∷ rest) = kind_of_word (word_begun word) rest

@@ -1,7 +1,6 @@
 -- A talk: each line is answered before more is read.
 use Rattle.std.specs.Prelude.{◌≡◌, ◌≢◌, ◌||◌, ◌&&◌, Bool, true, false, ℕ, List, [], ◌∷◌, ◌++◌, codes, Option, None, Some, Result, Ok, Err, MatchResult, if◌then◌else◌}
 use Rattle.std.specs.List.{list_any}
-use Rattle.std.specs.Str.{str_eq_ignore_ascii_case}
 use Rattle.std.specs.Io.KnownBytes.{Appends}
 use Rattle.mix_lines.specs.Lines.{is_line_feed, lines, words}
 use Rattle.mixal_asm.specs.Program.{ProgramValue}
@@ -13,7 +12,10 @@ use Rattle.mix_session.specs.Command.{after}
 use Rattle.mix_run.specs.declared.fault.ToolFault.{ToolFault}
 use Rattle.mix_run.specs.declared.fault.ToolFault.TheVariants as faults
 use Rattle.mix_session.specs.declared.reply.Told.{Told}
-use Rattle.mix_run.specs.Person.{person_line}
+use Rattle.mix_run.specs.Person.{kind_of}
+use Rattle.mix_run.specs.Recall.{RecallState, meant, nothing, recalled}
+use Rattle.mix_run.specs.declared.talk.person.Line.{Line}
+use Rattle.mix_run.specs.declared.talk.person.Line.TheVariants as line_kind
 use Rattle.mix_run.specs.Output.{DeckRefused, Meets, Replies, refusal_of, replies, status_of}
 use Rattle.mix_stream.specs.Stream.{AppendsFront}
 use Rattle.mix_run.specs.declared.talk.aside.Talker.{Talker}
@@ -23,48 +25,42 @@ use Rattle.mix_run.specs.declared.talk.aside.Talker.TheVariants.{Program, Person
 abbrev pub max_line_bytes : ℕ
 max_line_bytes = 1048576
 
--- whether these words are `quit`, in capitals or small letters, and whether the first of them is `help`
-abbrev pub are_quit : List (List ℕ) → Bool
-are_quit [] = false
-are_quit (word ∷ []) = str_eq_ignore_ascii_case word (codes "quit")
-are_quit (word ∷ other ∷ rest) = false
+-- whether a line of this kind ends the talk; a program's line never does
+abbrev pub is_end : Line → Bool
+is_end line_kind.Quit = true
+is_end line_kind.Command = false
+is_end line_kind.Help = false
 
-abbrev pub are_help : List (List ℕ) → Bool
-are_help [] = false
-are_help (word ∷ rest) = str_eq_ignore_ascii_case word (codes "help")
-
--- the line of a script that a line stands for: a program's stands for itself
-abbrev pub line_of : Talker → List ℕ → List ℕ
-line_of Program line = line
-line_of Person line = person_line line
-
--- whether a person's line ends the talk, or asks for help; a program's does neither
 abbrev pub is_quit : Talker → List ℕ → Bool
 is_quit Program line = false
-is_quit Person line = are_quit (words (person_line line))
-
-abbrev pub is_help : Talker → List ℕ → Bool
-is_help Program line = false
-is_help Person line = are_help (words (person_line line))
-
--- the lines of a script that are executed: what the lines before the one that ends the talk stand for, except those that ask for help
-abbrev pub asked : Talker → List (List ℕ) → List (List ℕ)
-asked talker [] = []
-asked talker (line ∷ rest) =
-    if is_quit talker line then [] else if is_help talker line then asked talker rest else line_of talker line ∷ asked talker rest
+is_quit Person line = is_end (kind_of (words line))
 
 -- whether one of the lines ends the talk
 abbrev pub is_over : Talker → List (List ℕ) → Bool
 is_over talker = list_any (is_quit talker)
 
--- the replies to the lines that are executed
-abbrev pub answers : SessionState → Talker → List (List ℕ) → Replies
-answers s talker all = replies s (asked talker all)
-
--- the session after some lines, executed one after the other
+-- the session after some lines of a script, executed one after the other
 abbrev pub after_lines : SessionState → List (List ℕ) → SessionState
 after_lines s [] = s
 after_lines s (line ∷ rest) = after_lines (record s { timeline = after (effect_in s line) }) rest
+
+-- the lines of a script that are executed: those that the lines before the one that ends the talk stand for, each read in the session that the
+-- ones before it left, and with what is recalled of them
+abbrev pub asked : SessionState → Talker → RecallState → List (List ℕ) → List (List ℕ)
+asked s talker r [] = []
+asked s talker r (line ∷ rest) =
+    if is_quit talker line then []
+    else (let said = meant s talker r line in said ++ asked (after_lines s said) talker (recalled s talker r line) rest)
+
+-- what is recalled after them
+abbrev pub recalled_all : SessionState → Talker → RecallState → List (List ℕ) → RecallState
+recalled_all s talker r [] = r
+recalled_all s talker r (line ∷ rest) =
+    if is_quit talker line then r else recalled_all (after_lines s (meant s talker r line)) talker (recalled s talker r line) rest
+
+-- the replies to the lines that are executed
+abbrev pub answers : SessionState → Talker → RecallState → List (List ℕ) → Replies
+answers s talker r all = replies s (asked s talker r all)
 
 -- whether a text has whole lines alone: it is empty, or its last byte is a line feed
 abbrev pub is_whole : List ℕ → Bool
@@ -77,16 +73,16 @@ is_whole (byte ∷ next ∷ rest) = is_whole (next ∷ rest)
 abbrev pub AnswersRead : SessionState → Talker → List ℕ → Option (List ℕ) → Option (List ℕ) → Option (List ℕ) → Type 0
 AnswersRead s talker text left old new =
     (front : List ℕ) × (part : List ℕ) × (rest : List ℕ) × (left ≡ Some rest) × (text ≡ front ++ (part ++ rest)) × (is_whole front ≡ true)
-    × (list_any is_line_feed part ≡ false) × Appends old new (answers s talker (lines front)).bytes
+    × (list_any is_line_feed part ≡ false) × Appends old new (answers s talker nothing (lines front)).bytes
 
 -- What a talk over this text answers and writes: at its end the replies to all its commands, and whether each was accepted; where memory is
 -- refused, or a write fails, a beginning of them; where a read fails, or a line is too long, the replies to the lines before that.
 abbrev pub Talks : SessionState → Talker → List ℕ → Result Told ToolFault → Option (List ℕ) → Option (List ℕ) → Option (List ℕ) → Type 0
-Talks s talker text (Ok told) left old new = (told ≡ (answers s talker (lines text)).told) × Appends old new (answers s talker (lines text)).bytes
+Talks s talker text (Ok told) left old new = (told ≡ (answers s talker nothing (lines text)).told) × Appends old new (answers s talker nothing (lines text)).bytes
 Talks s talker text (Err faults.Read) left old new = AnswersRead s talker text left old new
 Talks s talker text (Err faults.Long) left old new = AnswersRead s talker text left old new
-Talks s talker text (Err faults.Memory) left old new = AppendsFront old new (answers s talker (lines text)).bytes
-Talks s talker text (Err faults.Write) left old new = AppendsFront old new (answers s talker (lines text)).bytes
+Talks s talker text (Err faults.Memory) left old new = AppendsFront old new (answers s talker nothing (lines text)).bytes
+Talks s talker text (Err faults.Write) left old new = AppendsFront old new (answers s talker nothing (lines text)).bytes
 Talks s talker text (Err (faults.Deck fault)) left old new = ⊥
 
 -- the status of a talk, and its fault

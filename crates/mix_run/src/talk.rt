@@ -15,11 +15,13 @@ mod aside;
 mod heard;
 mod help;
 mod person;
+mod recall;
 
 use crate::fault::ToolFault;
 use crate::statuses::{refuse_source, status, tell_refusal};
 use crate::talk::aside::greet;
 use crate::talk::heard::talk;
+use crate::talk::recall::Recall;
 use crate::units::read_units;
 pub use aside::Talker;
 use mix_machine::Units;
@@ -71,7 +73,7 @@ fn talk_with<R: In, W: Out, E: Out>(
     } = streams;
     let talker = *talker;
     greet(talker, errors);
-    match talk(alloc, &mut session, talker, input, out, errors) {
+    match talk(&mut session, talker, Recall::new(alloc), input, out, errors) {
         Ok(told) => Ok(status(told)),
         Err(fault) => Err(fault),
     }

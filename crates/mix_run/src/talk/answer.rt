@@ -1,69 +1,73 @@
-//! One line of a talk: the command that it stands for, and its answer.
+//! One line of a talk: the lines of a script that it stands for, and their answer.
 
-ghost use Rattle.std.specs.Prelude.{◌≡◌, ◌<◌, ◌-◌, ◌^◌, ◌∷◌, ◌↔◌, [], None, Err, IfErr, IfOk, IfSome, OnOk, true};
+ghost use Rattle.std.specs.Prelude.{◌≡◌, ◌<◌, ◌-◌, ◌^◌, ◌↔◌, None, Err, IfErr, IfOk, IfSome, OnOk, true};
 ghost use Rattle.std.specs.Io.KnownBytes.{Appends};
 ghost use Rattle.mix_run.specs.Fault.{IsMemoryOrWrite};
-ghost use Rattle.mix_run.specs.Talk.{after_lines, answers, asked, is_quit};
+ghost use Rattle.mix_run.specs.Output.{replies};
+ghost use Rattle.mix_run.specs.Recall.{meant, recalled};
+ghost use Rattle.mix_run.specs.Talk.{after_lines, is_quit};
 ghost use Rattle.mix_stream.specs.Stream.{AppendsFront, CountsFailure};
 
 use crate::fault::ToolFault;
 use crate::run::command;
-use crate::talk::aside::{Line, Talker, after_reply, help, kind_of, tell};
-use crate::talk::person::person_line;
+use crate::talk::aside::{Talker, after_reply, help, tell};
+use crate::talk::person::{Line, kind_of};
+use crate::talk::recall::Recall;
 use mix_session::{Session, Told};
 use mix_stream::Out;
-use std::alloc::Global;
 
 // A person's line: the command that it stands for is executed, and help is given. Whether the command was accepted; none where the line ends
 // the talk.
 fn answer_person<W: Out, E: Out>(
-    alloc: Global,
     session: &mut Session,
+    recall: &mut Recall,
     line: &[u8],
     out: &mut W,
     errors: &mut E,
 ) -> Result<Option<Told>, ToolFault>
     requires { W.failed out.old < 2 ^ 64 - 1 }
     ensures quit { IfOk result (λ answer. (answer ≡ None) ↔ (is_quit Talker.Person line.now ≡ true)) }
-    ensures told { IfOk result (λ answer. IfSome answer (λ told. told ≡ (answers session.old Talker.Person (line.now ∷ [])).told)) }
-    ensures written { OnOk result (Appends (W.told out.old) (W.told out.new) (answers session.old Talker.Person (line.now ∷ [])).bytes) }
-    ensures session { OnOk result (session.new ≡ after_lines session.old (asked Talker.Person (line.now ∷ []))) }
-    ensures begun { AppendsFront (W.told out.old) (W.told out.new) (answers session.old Talker.Person (line.now ∷ [])).bytes }
+    ensures told { IfOk result (λ answer. IfSome answer (λ told. told ≡ (replies session.old (meant session.old Talker.Person recall.old line.now)).told)) }
+    ensures written { OnOk result (Appends (W.told out.old) (W.told out.new) (replies session.old (meant session.old Talker.Person recall.old line.now)).bytes) }
+    ensures session { OnOk result (session.new ≡ after_lines session.old (meant session.old Talker.Person recall.old line.now)) }
+    ensures recall { OnOk result (recall.new ≡ recalled session.old Talker.Person recall.old line.now) }
+    ensures begun { AppendsFront (W.told out.old) (W.told out.new) (replies session.old (meant session.old Talker.Person recall.old line.now)).bytes }
     ensures write { CountsFailure (result ≡ Err ToolFault.Write) (W.failed out.old) (W.failed out.new) }
     ensures only { IfErr result IsMemoryOrWrite }
 {
-    let meant = person_line(alloc, line)?;
-    match kind_of(&meant) {
+    let typed = recall.line(line)?;
+    match kind_of(line) {
         Line::Quit => Ok(None),
         Line::Help => {
-            help(&meant, errors);
+            help(&typed, errors);
             Ok(Some(Told::Accepted))
         }
         Line::Command => {
-            let after = after_reply(session, &meant);
-            let told = command(session, &meant, out)?;
-            tell(after, session, &meant, errors);
+            let after = after_reply(session, &typed);
+            let told = command(session, &typed, out)?;
+            tell(after, session, &typed, errors);
+            recall.keep(after, &typed)?;
             Ok(Some(told))
         }
     }
 }
 
-/// One line: the command that it stands for is executed, and a person is given help. Whether the command was accepted; none where the line ends
-/// the talk.
+/// One line: the commands that it stands for are executed, and a person is given help. Whether each was accepted; none where the line ends the talk.
 pub(crate) fn answer_line<W: Out, E: Out>(
-    alloc: Global,
     session: &mut Session,
     talker: Talker,
+    recall: &mut Recall,
     line: &[u8],
     out: &mut W,
     errors: &mut E,
 ) -> Result<Option<Told>, ToolFault>
     requires { W.failed out.old < 2 ^ 64 - 1 }
     ensures quit { IfOk result (λ answer. (answer ≡ None) ↔ (is_quit talker line.now ≡ true)) }
-    ensures told { IfOk result (λ answer. IfSome answer (λ told. told ≡ (answers session.old talker (line.now ∷ [])).told)) }
-    ensures written { OnOk result (Appends (W.told out.old) (W.told out.new) (answers session.old talker (line.now ∷ [])).bytes) }
-    ensures session { OnOk result (session.new ≡ after_lines session.old (asked talker (line.now ∷ []))) }
-    ensures begun { AppendsFront (W.told out.old) (W.told out.new) (answers session.old talker (line.now ∷ [])).bytes }
+    ensures told { IfOk result (λ answer. IfSome answer (λ told. told ≡ (replies session.old (meant session.old talker recall.old line.now)).told)) }
+    ensures written { OnOk result (Appends (W.told out.old) (W.told out.new) (replies session.old (meant session.old talker recall.old line.now)).bytes) }
+    ensures session { OnOk result (session.new ≡ after_lines session.old (meant session.old talker recall.old line.now)) }
+    ensures recall { OnOk result (recall.new ≡ recalled session.old talker recall.old line.now) }
+    ensures begun { AppendsFront (W.told out.old) (W.told out.new) (replies session.old (meant session.old talker recall.old line.now)).bytes }
     ensures write { CountsFailure (result ≡ Err ToolFault.Write) (W.failed out.old) (W.failed out.new) }
     ensures only { IfErr result IsMemoryOrWrite }
     ensures quiet { talker ≡ Talker.Program → errors.new ≡ errors.old }
@@ -73,6 +77,6 @@ pub(crate) fn answer_line<W: Out, E: Out>(
             let told = command(session, line, out)?;
             Ok(Some(told))
         }
-        Talker::Person => answer_person(alloc, session, line, out, errors),
+        Talker::Person => answer_person(session, recall, line, out, errors),
     }
 }

@@ -1,9 +1,9 @@
 //! What is written beside the replies, on the error output, where a person talks: a greeting, prompts, help, the next instruction after a stop, and
 //! the form of a command that is refused.
 
-ghost use Rattle.std.specs.Prelude.{◌≡◌, ◌↔◌, true, false};
-ghost use Rattle.mix_lines.specs.Lines.{words};
-ghost use Rattle.mix_run.specs.Talk.{are_quit, are_help};
+ghost use Rattle.std.specs.Prelude.{◌≡◌};
+ghost use Rattle.mix_run.specs.Recall.{after_read, after_request};
+ghost use Rattle.mix_session.specs.Session.{request_in};
 
 use crate::talk::help::{form_of, help_on};
 use mix_lines::Words;
@@ -24,48 +24,6 @@ const GREETING: &str =
     "Type a command, such as step, back 1 or show regs; help lists them all, quit ends.\n";
 
 const PROMPT: &str = "(mixrev) ";
-
-/// What the line of a script is that a person's line stands for.
-#[derive(Clone, Copy)]
-pub(crate) enum Line {
-    Command,
-    Help,
-    Quit,
-}
-
-pub(crate) fn kind_of(line: &[u8]) -> Line
-    ensures quit { (result ≡ Line.Quit) ↔ (are_quit (words line.now) ≡ true) }
-    ensures help { result ≡ Line.Help → are_help (words line.now) ≡ true }
-    ensures command { result ≡ Line.Command → are_help (words line.now) ≡ false }
-{
-    if is_quit(line) {
-        Line::Quit
-    } else if is_help(line) {
-        Line::Help
-    } else {
-        Line::Command
-    }
-}
-
-fn is_quit(line: &[u8]) -> bool
-    ensures { result ≡ are_quit (words line.now) }
-{
-    let mut words = Words::of(line);
-    match words.next() {
-        Some(word) => word.eq_ignore_ascii_case(b"quit") && words.is_end(),
-        None => false,
-    }
-}
-
-fn is_help(line: &[u8]) -> bool
-    ensures { result ≡ are_help (words line.now) }
-{
-    let mut words = Words::of(line);
-    match words.next() {
-        Some(word) => word.eq_ignore_ascii_case(b"help"),
-        None => false,
-    }
-}
 
 /// A text is written beside the replies. Where that fails, nothing more is: the talk goes on.
 fn say<E: Out>(text: &str, errors: &mut E) {
@@ -118,46 +76,52 @@ pub(crate) fn help<E: Out>(line: &[u8], errors: &mut E) {
     }
 }
 
-/// What a person is told after the reply to a command.
+/// What follows the reply to a command: a stop, after steps or changes taken back, which a blank line repeats, or another one; nothing; or the form,
+/// if its words are refused.
 #[derive(Clone, Copy)]
 pub(crate) enum After {
     Nothing,
-    Place,
-    Form,
+    Stop,
+    Repeated,
+    Refused,
 }
 
-/// What is told after the reply to a line: where the machine has come to, if the line asks it to go; and the form, if its words are refused.
-pub(crate) fn after_reply(session: &Session, line: &[u8]) -> After {
+/// What follows the reply to a line.
+pub(crate) fn after_reply(session: &Session, line: &[u8]) -> After
+    ensures { result ≡ after_read (request_in session.now line.now) }
+{
     match session.read(line) {
         Ok(request) => after_request(request),
-        Err(_) => After::Form,
+        Err(_) => After::Refused,
     }
 }
 
-fn after_request(request: Request) -> After {
+fn after_request(request: Request) -> After
+    ensures { result ≡ after_request request }
+{
     match request {
         Request::Step(_)
-        | Request::Trace(_)
-        | Request::Run(_)
-        | Request::RunUntil(..)
         | Request::Back(_)
         | Request::BackAll
         | Request::BackBreak
-        | Request::BackUntil(_)
+        | Request::BackUntil(_) => After::Repeated,
+        Request::Trace(_)
+        | Request::Run(_)
+        | Request::RunUntil(..)
         | Request::Forth(_)
         | Request::ForthAll
         | Request::ForthUntil(_)
-        | Request::Goto(_) => After::Place,
+        | Request::Goto(_) => After::Stop,
         Request::Nothing | Request::Change(_) | Request::Show(_) => After::Nothing,
     }
 }
 
-/// Tells what is told after the reply.
+/// A person is told what follows the reply: after a stop the next instruction, and the form of a command that is refused.
 pub(crate) fn tell<E: Out>(after: After, session: &Session, line: &[u8], errors: &mut E) {
     match after {
         After::Nothing => {}
-        After::Place => tell_place(session, errors),
-        After::Form => say(form_of(Words::of(line).next()), errors),
+        After::Stop | After::Repeated => tell_place(session, errors),
+        After::Refused => say(form_of(Words::of(line).next()), errors),
     }
 }
 

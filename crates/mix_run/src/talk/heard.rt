@@ -6,18 +6,19 @@ ghost use Rattle.std.specs.Io.KnownBytes.{Appends};
 ghost use Rattle.mix_lines.specs.Lines.{is_line_feed, lines};
 ghost use Rattle.mix_machine.specs.declared.units.deck_fault.DeckFault.{DeckFault};
 ghost use Rattle.mix_run.specs.Fault.{IsMemoryOrWrite};
-ghost use Rattle.mix_run.specs.Talk.{Talks, after_lines, answers, asked, is_over, is_quit, is_whole, max_line_bytes};
+ghost use Rattle.mix_run.specs.Recall.{nothing};
+ghost use Rattle.mix_run.specs.Talk.{Talks, after_lines, answers, asked, is_over, is_quit, is_whole, max_line_bytes, recalled_all};
 ghost use Rattle.mix_run.specs.Hearing.{Begins, Hears};
 ghost use Rattle.mix_stream.specs.Stream.{AppendsFront, CountsFailure};
 
 use crate::fault::ToolFault;
 use crate::talk::answer::answer_line;
 use crate::talk::aside::{Talker, end_prompt, prompt};
+use crate::talk::recall::Recall;
 use mix_lines::split_line;
 use mix_refused::Memory;
 use mix_session::{Session, Told};
 use mix_stream::{In, Out};
-use std::alloc::Global;
 
 /// The most bytes that a line of a talk may have.
 const MAX_LINE_BYTES: usize = 1_048_576;
@@ -38,19 +39,20 @@ const NOTHING: Heard = Heard {
 
 // The lines of a text, one after the other, up to the one that ends the talk.
 fn answer_lines<W: Out, E: Out>(
-    alloc: Global,
     session: &mut Session,
     talker: Talker,
+    recall: &mut Recall,
     text: &[u8],
     out: &mut W,
     errors: &mut E,
 ) -> Result<Heard, ToolFault>
     requires { W.failed out.old < 2 ^ 64 - 1 }
-    ensures replies { let all = answers session.old talker (lines text.now) in
+    ensures replies { let all = answers session.old talker recall.old (lines text.now) in
         IfOk result (λ heard. (heard.told ≡ all.told) × Appends (W.told out.old) (W.told out.new) all.bytes) }
     ensures over { IfOk result (λ heard. heard.is_over ≡ is_over talker (lines text.now)) }
-    ensures session { IfOk result (λ _. session.new ≡ after_lines session.old (asked talker (lines text.now))) }
-    ensures begun { AppendsFront (W.told out.old) (W.told out.new) (answers session.old talker (lines text.now)).bytes }
+    ensures session { IfOk result (λ _. session.new ≡ after_lines session.old (asked session.old talker recall.old (lines text.now))) }
+    ensures recall { IfOk result (λ _. recall.new ≡ recalled_all session.old talker recall.old (lines text.now)) }
+    ensures begun { AppendsFront (W.told out.old) (W.told out.new) (answers session.old talker recall.old (lines text.now)).bytes }
     ensures write { CountsFailure (result ≡ Err ToolFault.Write) (W.failed out.old) (W.failed out.new) }
     ensures only { IfErr result IsMemoryOrWrite }
     ensures quiet { talker ≡ Talker.Program → errors.new ≡ errors.old }
@@ -59,7 +61,7 @@ fn answer_lines<W: Out, E: Out>(
     let mut rest = text;
     while !rest.is_empty() {
         let (line, after) = split_line(rest);
-        match answer_line(alloc, session, talker, line, out, errors)? {
+        match answer_line(session, talker, recall, line, out, errors)? {
             None => {
                 return Ok(Heard {
                     told,
@@ -109,9 +111,9 @@ fn keep(pending: &mut Vec<u8>, bytes: &[u8]) -> Result<(), Memory>
 
 // Some bytes more: the lines that are whole now are answered, and what stands after them is left.
 fn hear<W: Out, E: Out>(
-    alloc: Global,
     session: &mut Session,
     talker: Talker,
+    recall: &mut Recall,
     pending: &mut Vec<u8>,
     part: &[u8],
     out: &mut W,
@@ -119,9 +121,9 @@ fn hear<W: Out, E: Out>(
 ) -> Result<Heard, ToolFault>
     requires line { list_any is_line_feed pending.old.items ≡ false }
     requires count { W.failed out.old < 2 ^ 64 - 1 }
-    ensures heard { IfOk result (λ heard. Hears session.old talker (pending.old.items ++ part.now) pending.new.items session.new heard.told heard.is_over
+    ensures heard { IfOk result (λ heard. Hears session.old talker recall.old (pending.old.items ++ part.now) pending.new.items session.new recall.new heard.told heard.is_over
         (W.told out.old) (W.told out.new)) }
-    ensures begun { IfErr result (λ _. Begins session.old talker (pending.old.items ++ part.now) (W.told out.old) (W.told out.new)) }
+    ensures begun { IfErr result (λ _. Begins session.old talker recall.old (pending.old.items ++ part.now) (W.told out.old) (W.told out.new)) }
     ensures write { CountsFailure (result ≡ Err ToolFault.Write) (W.failed out.old) (W.failed out.new) }
     ensures only { IfErr result IsMemoryOrWrite }
     ensures quiet { talker ≡ Talker.Program → errors.new ≡ errors.old }
@@ -132,7 +134,7 @@ fn hear<W: Out, E: Out>(
         return Ok(NOTHING);
     }
     keep(pending, whole)?;
-    let heard = answer_lines(alloc, session, talker, pending, out, errors)?;
+    let heard = answer_lines(session, talker, recall, pending, out, errors)?;
     pending.clear();
     keep(pending, rest)?;
     Ok(heard)
@@ -141,15 +143,16 @@ fn hear<W: Out, E: Out>(
 /// Executes the lines of an input as they come, up to its end or to the line that ends the talk. It fails with T1 where memory is refused,
 /// with T2 or T3 where a read or a write fails, and with T6 where a line has over 1,048,576 bytes.
 pub(crate) fn talk<R: In, W: Out, E: Out>(
-    alloc: Global,
     session: &mut Session,
     talker: Talker,
+    mut recall: Recall,
     input: &mut R,
     out: &mut W,
     errors: &mut E,
 ) -> Result<Told, ToolFault>
     requires input_count { R.failed input.old < 2 ^ 64 - 1 }
     requires out_count { W.failed out.old < 2 ^ 64 - 1 }
+    requires recall { recall ≡ nothing }
     ensures talks { (t : List ℕ) → R.rest input.old ≡ Some t
         → Talks session.old talker t result (R.rest input.new) (W.told out.old) (W.told out.new) }
     ensures long { result ≡ Err ToolFault.Long → (t : List ℕ) → R.rest input.old ≡ Some t → max_line_bytes < length t }
@@ -158,7 +161,7 @@ pub(crate) fn talk<R: In, W: Out, E: Out>(
     ensures write { CountsFailure (result ≡ Err ToolFault.Write) (W.failed out.old) (W.failed out.new) }
     ensures quiet { talker ≡ Talker.Program → errors.new ≡ errors.old }
 {
-    let mut pending = Vec::new(alloc);
+    let mut pending = Vec::new(recall.allocator());
     let mut buffer = [0; CHUNK];
     let mut told = Told::Accepted;
     prompt(talker, errors);
@@ -169,13 +172,21 @@ pub(crate) fn talk<R: In, W: Out, E: Out>(
         };
         if count == 0 {
             end_prompt(talker, errors);
-            match answer_lines(alloc, session, talker, &pending, out, errors) {
+            match answer_lines(session, talker, &mut recall, &pending, out, errors) {
                 Ok(heard) => return Ok(told.and(heard.told)),
                 Err(fault) => return Err(fault),
             }
         }
         let part = &buffer[..count];
-        let heard = match hear(alloc, session, talker, &mut pending, part, out, errors) {
+        let heard = match hear(
+            session,
+            talker,
+            &mut recall,
+            &mut pending,
+            part,
+            out,
+            errors,
+        ) {
             Ok(heard) => heard,
             Err(fault) => return Err(fault),
         };

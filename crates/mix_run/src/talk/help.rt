@@ -8,7 +8,7 @@ show                 shows the machine, its code, its past, counts
 quit                 ends the session
 Beginnings will do: s for step, b for break, ba for back, u for until; n is step too, c is run.
 back and forth alone take 1, run alone 1000000.
-help COMMAND explains one, as help back. A blank line and a line that begins with * do nothing.
+help COMMAND explains one, as help back. A blank line repeats the last step or back.
 ";
 
 const STEP: &str = "\

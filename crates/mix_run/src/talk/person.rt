@@ -1,11 +1,20 @@
 //! What a person types at a prompt, read as the line of a script that it stands for.
 
 ghost use Rattle.std.specs.Prelude.{◌≡◌, ◌++◌, ◌∷◌, [], OnOk, IfOk, codes};
-ghost use Rattle.mix_run.specs.Person.{after_of, all_words, changes_of, command_of, is_beginning, limit_of, line_begun, line_of_words, name_of, person_line, spaced, steps_of, until_of, word_begun};
+ghost use Rattle.mix_lines.specs.Lines.{words};
+ghost use Rattle.mix_run.specs.Person.{after_of, all_words, changes_of, command_of, is_beginning, kind_of, kind_of_word, limit_of, line_begun, line_of_words, name_of, person_line, spaced, steps_of, until_of, word_begun};
 
 use mix_lines::Words;
 use mix_refused::Memory;
 use std::alloc::Global;
+
+/// What a person's line is: a command, a question for help, or the end of the talk.
+#[derive(Clone, Copy)]
+pub(crate) enum Line {
+    Command,
+    Help,
+    Quit,
+}
 
 /// A word that a person may begin a line with.
 #[derive(Clone, Copy)]
@@ -166,23 +175,43 @@ fn put_after(text: &mut Vec<u8>, word: PersonWord, words: &mut Words) -> Result<
     }
 }
 
-/// The line of a script that a person's line stands for.
+/// The line of a script that a person's line stands for, which is `again` for a blank line.
 #[tactic(auto, unfolding(crate::specs::Person::person_line))]
-pub(crate) fn person_line(alloc: Global, line: &[u8]) -> Result<Vec<u8>, Memory>
-    ensures { IfOk result (λ text. text.items ≡ person_line line.now) }
+pub(crate) fn person_line(alloc: Global, again: &[u8], line: &[u8]) -> Result<Vec<u8>, Memory>
+    ensures { IfOk result (λ text. text.items ≡ person_line again.now line.now) }
 {
     let mut text = Vec::new(alloc);
     let mut words = Words::of(line);
-    let first = match words.next() {
-        Some(word) => word_begun(word),
-        None => None,
-    };
-    match first {
-        Some(word) => {
-            text.extend_from_slice(word.command().as_bytes())?;
-            put_after(&mut text, word, &mut words)?;
-        }
-        None => text.extend_from_slice(line)?,
+    match words.next() {
+        None => text.extend_from_slice(again)?,
+        Some(word) => match word_begun(word) {
+            None => text.extend_from_slice(line)?,
+            Some(known) => {
+                text.extend_from_slice(known.command().as_bytes())?;
+                put_after(&mut text, known, &mut words)?;
+            }
+        },
     }
     Ok(text)
+}
+
+fn kind_of_word(word: Option<PersonWord>, words: &Words) -> Line
+    ensures { result ≡ kind_of_word word words.now }
+{
+    match word {
+        Some(PersonWord::Help | PersonWord::Question) => Line::Help,
+        Some(PersonWord::Quit) if words.is_end() => Line::Quit,
+        _ => Line::Command,
+    }
+}
+
+/// What a person's line is.
+pub(crate) fn kind_of(line: &[u8]) -> Line
+    ensures { result ≡ kind_of (words line.now) }
+{
+    let mut words = Words::of(line);
+    match words.next() {
+        None => Line::Command,
+        Some(word) => kind_of_word(word_begun(word), &words),
+    }
 }

@@ -1,17 +1,19 @@
 -- One line more: what has been written and what is left to write are the replies to all.
 use Rattle.std.proofs.Common.{sym, ◌∙◌}
 use Rattle.mix_run.proofs.RunLemmas.{nil-from_length}
-use Rattle.mix_run.proofs.TalkLemmas.{after-one, all-answered, all-done, all-reported, begun-one, never-over, not_so, over-one, told-one, written-one}
+use Rattle.mix_run.proofs.TalkLemmas.{after-one, all-answered, all-done, all-recalled, all-reported, begun-one, never-over, not_so, over-one, recall-one, told-one, written-one}
 use Rattle.mix_run.proofs.Written.{AppendsFront-all}
 use Rattle.mix_run.proofs.talk.heard.answer_lines.Goals as goal
 
 pub returns-in_err-answer_line-clause-begun : goal.returns-in_err-answer_line-clause-begun
 returns-in_err-answer_line-clause-begun g c =
-    begun-one c.args.talker _ _ _ c.split_line.ensures.lines c.loop-rest.session _ _ _ _ c.loop-rest.invariant.written c.answer_line.ensures.begun
+    begun-one c.loop-rest.session c.args.talker c.loop-rest.recall _ _ _ c.split_line.ensures.lines _ _ _ _ c.loop-rest.invariant.written
+    c.answer_line.ensures.begun
 
 pub returns-in-None-clause-begun : goal.returns-in-None-clause-begun
 returns-in-None-clause-begun g c =
-    begun-one c.args.talker _ _ _ c.split_line.ensures.lines c.loop-rest.session _ _ _ _ c.loop-rest.invariant.written c.answer_line.ensures.begun
+    begun-one c.loop-rest.session c.args.talker c.loop-rest.recall _ _ _ c.split_line.ensures.lines _ _ _ _ c.loop-rest.invariant.written
+    c.answer_line.ensures.begun
 
 pub loop-rest-preserved : goal.loop-rest-preserved
 loop-rest-preserved g c =
@@ -20,11 +22,14 @@ loop-rest-preserved g c =
     let goes_on = not_so _ (λ e. let none = answer.quit.1 e in let some = c.in-Some.is in cc) in
     let talker = c.args.talker in
     let s = c.loop-rest.session in
+    let r = c.loop-rest.recall in
     record {
-      written = written-one talker _ _ _ split s _ goes_on answer.session _ _ _ _ c.loop-rest.invariant.written answer.written;
-      told = rw c.and-told.ensures (told-one talker _ _ _ split s _ goes_on answer.session _ _ _ c.loop-rest.invariant.told (rw c.in-Some.is at answer.told));
-      over = c.loop-rest.invariant.over ∙ over-one talker _ _ _ split goes_on;
-      session = c.loop-rest.invariant.session ∙ after-one talker _ _ _ split s _ goes_on answer.session;
+      written = written-one s talker r _ _ _ split _ _ goes_on answer.session answer.recall _ _ _ _ c.loop-rest.invariant.written answer.written;
+      told = rw c.and-told.ensures
+          (told-one s talker r _ _ _ split _ _ goes_on answer.session answer.recall _ _ _ c.loop-rest.invariant.told (rw c.in-Some.is at answer.told));
+      over = c.loop-rest.invariant.over ∙ over-one s talker r _ _ _ split goes_on;
+      session = c.loop-rest.invariant.session ∙ after-one s talker r _ _ _ split _ _ goes_on answer.session answer.recall;
+      recall = c.loop-rest.invariant.recall ∙ recall-one s talker r _ _ _ split _ _ goes_on answer.session answer.recall;
       failed = answer.write.1 (λ e. cc) ∙ c.loop-rest.invariant.failed;
       quiet = λ e. c.prompt.ensures e ∙ answer.quiet e ∙ c.loop-rest.invariant.quiet e;
     }
@@ -32,21 +37,26 @@ loop-rest-preserved g c =
 pub returns-clause-replies : goal.returns-clause-replies
 returns-clause-replies g c =
     let none = nil-from_length _ (sym c.loop-rest-test.false ∙ c.is_empty.ensures) in (
-      all-reported c.loop-rest.session c.args.talker _ none _ _ c.loop-rest.invariant.told,
-      all-answered c.loop-rest.session c.args.talker _ none _ _ _ c.loop-rest.invariant.written,
+      all-reported c.loop-rest.session c.args.talker c.loop-rest.recall _ none _ _ c.loop-rest.invariant.told,
+      all-answered c.loop-rest.session c.args.talker c.loop-rest.recall _ none _ _ _ c.loop-rest.invariant.written,
     )
 
 pub returns-clause-over : goal.returns-clause-over
 returns-clause-over g c =
     let none = nil-from_length _ (sym c.loop-rest-test.false ∙ c.is_empty.ensures) in
-    sym (c.loop-rest.invariant.over ∙ never-over c.loop-rest.session c.args.talker _ none)
+    sym (c.loop-rest.invariant.over ∙ never-over c.loop-rest.session c.args.talker c.loop-rest.recall _ none)
 
 pub returns-clause-session : goal.returns-clause-session
 returns-clause-session g c =
     let none = nil-from_length _ (sym c.loop-rest-test.false ∙ c.is_empty.ensures) in
-    sym (c.loop-rest.invariant.session ∙ all-done c.loop-rest.session c.args.talker _ none)
+    sym (c.loop-rest.invariant.session ∙ all-done c.loop-rest.session c.args.talker c.loop-rest.recall _ none)
+
+pub returns-clause-recall : goal.returns-clause-recall
+returns-clause-recall g c =
+    let none = nil-from_length _ (sym c.loop-rest-test.false ∙ c.is_empty.ensures) in
+    sym (c.loop-rest.invariant.recall ∙ all-recalled c.loop-rest.session c.args.talker c.loop-rest.recall _ none)
 
 pub returns-clause-begun : goal.returns-clause-begun
 returns-clause-begun g c =
     let none = nil-from_length _ (sym c.loop-rest-test.false ∙ c.is_empty.ensures) in
-    AppendsFront-all _ _ _ (all-answered c.loop-rest.session c.args.talker _ none _ _ _ c.loop-rest.invariant.written)
+    AppendsFront-all _ _ _ (all-answered c.loop-rest.session c.args.talker c.loop-rest.recall _ none _ _ _ c.loop-rest.invariant.written)

@@ -6,7 +6,7 @@ use Rattle.mix_run.proofs.talk.heard.talk.Goals as goal
 
 pub loop-reads-init : goal.loop-reads-init
 loop-reads-init g c = record {
-  heard = ([], Consumes-nil _, omega arith, Hears-nothing c.args.session.now c.args.talker _ _ _ c.new-pending.ensures.items refl);
+  heard = ([], Consumes-nil _, omega arith, Hears-nothing c.args.session.now c.args.talker _ _ _ _ _ c.requires.recall c.new-pending.ensures.items refl);
   read = refl;
   written = refl;
   quiet = c.prompt.ensures;
@@ -18,7 +18,7 @@ returns-in-Ok-answer_lines-clause-talks g c t e =
     let none = c.if-count-eq0.true in
     let some : 0 < length c.read.new.buf = search rules in
     let all = all-read _ _ _ t _ _ e so_far.1 c.in-Ok.ensures.bytes.0 (ap (λ n. take n c.read.new.buf) none) (c.in-Ok.ensures.bytes.1 none some) in
-    end-said c.args.session.now c.loop-reads.session c.args.talker so_far.0 c.loop-reads.pending.items c.loop-reads.told _ _ so_far.3
+    end-said c.args.session.now c.loop-reads.session c.args.talker c.loop-reads.recall so_far.0 c.loop-reads.pending.items c.loop-reads.told _ _ so_far.3
     t c.deref.result.now all c.deref.ensures.value _ c.in-Ok-answer_lines.heard.told c.and.result c.and.ensures c.in-Ok-answer_lines.ensures.replies
 
 pub returns-in-Err-answer_lines-clause-talks : goal.returns-in-Err-answer_lines-clause-talks
@@ -28,7 +28,7 @@ returns-in-Err-answer_lines-clause-talks g c t e =
     let some : 0 < length c.read.new.buf = search rules in
     let all = all-read _ _ _ t _ _ e so_far.1 c.in-Ok.ensures.bytes.0 (ap (λ n. take n c.read.new.buf) none) (c.in-Ok.ensures.bytes.1 none some) in
     Talks-begun c.args.session.now c.args.talker t c.in-Err-answer_lines.fault _ _ _ c.in-Err-answer_lines.ensures.only
-    (end-begun c.args.session.now c.loop-reads.session c.args.talker so_far.0 c.loop-reads.pending.items c.loop-reads.told _ _ so_far.3
+    (end-begun c.args.session.now c.loop-reads.session c.args.talker c.loop-reads.recall so_far.0 c.loop-reads.pending.items c.loop-reads.told _ _ so_far.3
     t c.deref.result.now all c.deref.ensures.value _ c.in-Err-answer_lines.ensures.begun)
 
 pub returns-in-Err-hear-clause-talks : goal.returns-in-Err-hear-clause-talks
@@ -36,21 +36,21 @@ returns-in-Err-hear-clause-talks g c t e =
     let so_far = c.loop-reads.invariant.heard in
     let known = left-known _ _ t _ e (Consumes-trans _ _ _ _ _ so_far.1 c.in-Ok.ensures.bytes.0) in
     Talks-begun c.args.session.now c.args.talker t c.in-Err-hear.fault _ _ _ c.in-Err-hear.ensures.only
-    (more-begun c.args.session.now c.loop-reads.session c.args.talker so_far.0 c.loop-reads.pending.items c.loop-reads.told _ _ so_far.3
+    (more-begun c.args.session.now c.loop-reads.session c.args.talker c.loop-reads.recall so_far.0 c.loop-reads.pending.items c.loop-reads.told _ _ so_far.3
     t _ known.0 _ known.2 c.in-Err-hear.ensures.begun)
 
 pub returns-then-heard-clause-talks : goal.returns-then-heard-clause-talks
 returns-then-heard-clause-talks g c t e =
     let so_far = c.loop-reads.invariant.heard in
     let known = left-known _ _ t _ e (Consumes-trans _ _ _ _ _ so_far.1 c.in-Ok.ensures.bytes.0) in
-    ended _ _ _ _ _ _ c.and-told.result _ _ _ (Hears-then _ _ _ _ _ _ _ _ _ _ _ _ _ _ so_far.3 c.in-Ok-hear.ensures.heard) c.if-heard.true c.and-told.ensures
+    ended _ _ _ _ _ _ _ c.and-told.result _ _ _ (Hears-then _ _ _ _ _ _ _ _ _ _ _ _ _ _ _ _ _ so_far.3 c.in-Ok-hear.ensures.heard) c.if-heard.true c.and-told.ensures
     t known.0 known.2
 
 pub returns-then-len-gt-MAX_LINE_BYTES-clause-talks : goal.returns-then-len-gt-MAX_LINE_BYTES-clause-talks
 returns-then-len-gt-MAX_LINE_BYTES-clause-talks g c t e =
     let so_far = c.loop-reads.invariant.heard in
     let known = left-known _ _ t _ e (Consumes-trans _ _ _ _ _ so_far.1 c.in-Ok.ensures.bytes.0) in
-    unread _ _ _ _ _ _ _ _ _ _ (Hears-then _ _ _ _ _ _ _ _ _ _ _ _ _ _ so_far.3 c.in-Ok-hear.ensures.heard) t known.0 known.1 known.2
+    unread _ _ _ _ _ _ _ _ _ _ _ (Hears-then _ _ _ _ _ _ _ _ _ _ _ _ _ _ _ _ _ so_far.3 c.in-Ok-hear.ensures.heard) t known.0 known.1 known.2
 
 pub loop-reads-preserved : goal.loop-reads-preserved
 loop-reads-preserved g c =
@@ -60,7 +60,7 @@ loop-reads-preserved g c =
         _,
         Consumes-trans _ _ _ _ _ so_far.1 c.in-Ok.ensures.bytes.0,
         read-more _ _ _ _ so_far.2 (omega (arith, c.if-count-eq0.false)) c.in-Ok.ensures.bound,
-        Hears-on _ _ _ _ _ _ c.and-told.result _ _ _ (Hears-then _ _ _ _ _ _ _ _ _ _ _ _ _ _ so_far.3 c.in-Ok-hear.ensures.heard) c.if-heard.false c.and-told.ensures,
+        Hears-on _ _ _ _ _ _ _ c.and-told.result _ _ _ (Hears-then _ _ _ _ _ _ _ _ _ _ _ _ _ _ _ _ _ so_far.3 c.in-Ok-hear.ensures.heard) c.if-heard.false c.and-told.ensures,
       );
       read = c.in-Ok.ensures.ok ∙ c.loop-reads.invariant.read;
       written = c.in-Ok-hear.ensures.write.1 (λ e. cc) ∙ c.loop-reads.invariant.written;

@@ -1,6 +1,7 @@
 use Rattle.std.proofs.Common.{◌≡◌, ◌≤◌, List, ℕ, length, false}
 use Rattle.std.specs.Io.KnownBytes.{Consumes}
 use Rattle.mix_run.specs.Hearing.{Hears}
+use Rattle.mix_run.specs.Recall.{nothing}
 use Rattle.mix_run.specs.declared.talk.aside.Talker.TheVariants.{Program}
 use Rattle.mix_run.proofs.talk.heard.talk.Given as goal
 
@@ -8,7 +9,7 @@ use Rattle.mix_run.proofs.talk.heard.talk.Given as goal
 abbrev pub invariant-loop-reads : goal.invariant-loop-reads
 invariant-loop-reads g l = record {
   heard : (bytes : List ℕ) × Consumes (g.R.In.rest l.fn.input) (g.R.In.rest l.input) bytes × (l.reads ≤ length bytes)
-      × Hears l.fn.session l.talker bytes l.pending.items l.session l.told false (g.W.Out.told l.fn.out) (g.W.Out.told l.out);
+      × Hears l.fn.session l.talker nothing bytes l.pending.items l.session l.recall l.told false (g.W.Out.told l.fn.out) (g.W.Out.told l.out);
   read : g.R.In.failed l.input ≡ g.R.In.failed l.fn.input;
   written : g.W.Out.failed l.out ≡ g.W.Out.failed l.fn.out;
   quiet : l.talker ≡ Program → l.errors ≡ l.fn.errors;

@@ -1,0 +1,72 @@
+-- What a talk recalls of a person's lines, and the lines of a script that the next one then stands for.
+use Rattle.std.specs.Prelude.{ℕ, List, [], ◌∷◌, Result, Ok, Err}
+use Rattle.mix_lines.specs.Lines.{words}
+use Rattle.mix_session.specs.Session.{SessionState, request_in}
+use Rattle.mix_session.specs.declared.fault.Refusal.{Refusal}
+use Rattle.mix_session.specs.declared.request.Request.{Request}
+use Rattle.mix_session.specs.declared.request.Request.TheVariants as ask
+use Rattle.mix_run.specs.Person.{kind_of, person_line}
+use Rattle.mix_run.specs.declared.talk.aside.After.{After}
+use Rattle.mix_run.specs.declared.talk.aside.After.TheVariants as after
+use Rattle.mix_run.specs.declared.talk.aside.Talker.{Talker}
+use Rattle.mix_run.specs.declared.talk.aside.Talker.TheVariants.{Program, Person}
+use Rattle.mix_run.specs.declared.talk.person.Line.{Line}
+use Rattle.mix_run.specs.declared.talk.person.Line.TheVariants as line_kind
+
+-- the line of a script that a blank line stands for: the last one that took steps, or changes back; an empty one before that
+pub record RecallState : Type 0 where
+  pub again : List ℕ
+
+-- nothing yet
+abbrev pub nothing : RecallState
+nothing = record { again = [] }
+
+-- what a request leads to: a stop after steps or after changes that were taken back, which a blank line repeats; another stop; or none
+abbrev pub after_request : Request → After
+after_request (ask.Step n) = after.Repeated
+after_request (ask.Back n) = after.Repeated
+after_request ask.BackAll = after.Repeated
+after_request ask.BackBreak = after.Repeated
+after_request (ask.BackUntil condition) = after.Repeated
+after_request (ask.Trace n) = after.Stop
+after_request (ask.Run n) = after.Stop
+after_request (ask.RunUntil n condition) = after.Stop
+after_request (ask.Forth n) = after.Stop
+after_request ask.ForthAll = after.Stop
+after_request (ask.ForthUntil condition) = after.Stop
+after_request (ask.Goto n) = after.Stop
+after_request ask.Nothing = after.Nothing
+after_request (ask.Change change) = after.Nothing
+after_request (ask.Show topic) = after.Nothing
+
+-- the same of a line, whose words may be refused
+abbrev pub after_read : Result Request Refusal → After
+after_read (Ok request) = after_request request
+after_read (Err refusal) = after.Refused
+
+-- what is recalled when a line of a script was executed
+abbrev pub recalled_after : After → List ℕ → RecallState → RecallState
+recalled_after after.Repeated typed r = record { again = typed }
+recalled_after after.Stop typed r = r
+recalled_after after.Nothing typed r = r
+recalled_after after.Refused typed r = r
+
+-- and what when a person's line was answered
+abbrev pub recalled_by : SessionState → Line → List ℕ → RecallState → RecallState
+recalled_by s line_kind.Command typed r = recalled_after (after_read (request_in s typed)) typed r
+recalled_by s line_kind.Help typed r = r
+recalled_by s line_kind.Quit typed r = r
+
+abbrev pub recalled : SessionState → Talker → RecallState → List ℕ → RecallState
+recalled s Program r line = r
+recalled s Person r line = recalled_by s (kind_of (words line)) (person_line r.again line) r
+
+-- the lines of a script that a line stands for: a program's stands for itself; help is no command, nor is the end of a talk
+abbrev pub meant_by : Line → List ℕ → List (List ℕ)
+meant_by line_kind.Command typed = typed ∷ []
+meant_by line_kind.Help typed = []
+meant_by line_kind.Quit typed = []
+
+abbrev pub meant : SessionState → Talker → RecallState → List ℕ → List (List ℕ)
+meant s Program r line = line ∷ []
+meant s Person r line = meant_by (kind_of (words line)) (person_line r.again line)
