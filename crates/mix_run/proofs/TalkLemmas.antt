@@ -292,6 +292,7 @@ quit-meant : (kind : Line) (typed : List ℕ) → is_end kind ≡ true → meant
 quit-meant line_kind.Quit typed e = refl
 quit-meant line_kind.Command typed e = absurd (true≢false (sym e))
 quit-meant line_kind.Help typed e = absurd (true≢false (sym e))
+quit-meant line_kind.Listing typed e = absurd (true≢false (sym e))
 
 quit-said : (s : SessionState) (talker : Talker) (r : RecallState) (line : List ℕ) → is_quit talker line ≡ true → meant s talker r line ≡ []
 quit-said s talkers.Program r line e = absurd (true≢false (sym e))

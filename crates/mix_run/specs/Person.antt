@@ -1,11 +1,13 @@
 -- What a person types at a prompt, and the line of a script that it stands for.
-use Rattle.std.specs.Prelude.{ℕ, List, [], ◌∷◌, ◌++◌, ◌&&◌, nat_le, length, take, find, Option, None, Some, Bool, codes, if◌then◌else◌}
+use Rattle.std.specs.Prelude.{ℕ, List, [], ◌∷◌, ◌++◌, ◌&&◌, ◌||◌, ◌==◌, false, nat_le, length, take, find, Option, None, Some, Bool, codes, if◌then◌else◌}
 use Rattle.std.specs.Str.{str_eq_ignore_ascii_case}
+use Rattle.std.specs.List.{list_any}
 use Rattle.mix_lines.specs.Lines.{words}
+use Rattle.mix_word.specs.Register.{all_registers, name_of_register}
 use Rattle.mix_run.specs.declared.talk.person.Line.{Line}
 use Rattle.mix_run.specs.declared.talk.person.Line.TheVariants as line_kind
 use Rattle.mix_run.specs.declared.talk.person.PersonWord.{PersonWord}
-use Rattle.mix_run.specs.declared.talk.person.PersonWord.TheVariants.{Step, Next, Run, Trace, Break, Back, Forth, Goto, Continue, Clear, Set, Show, Quit, Help, Question}
+use Rattle.mix_run.specs.declared.talk.person.PersonWord.TheVariants.{Step, Next, Run, Trace, Break, Back, Forth, Goto, Continue, Clear, Set, Show, Quit, Help, Question, Print, Listing, Where, Until, Examine, Exit}
 
 -- the words that a person may begin a line with
 abbrev pub name_of : PersonWord → List ℕ
@@ -24,17 +26,29 @@ name_of Show = codes "show"
 name_of Quit = codes "quit"
 name_of Help = codes "help"
 name_of Question = codes "?"
+name_of Print = codes "print"
+name_of Listing = codes "list"
+name_of Where = codes "where"
+name_of Until = codes "until"
+name_of Examine = codes "x"
+name_of Exit = codes "exit"
 
 -- in this order: of several that begin in the same way, the first one is meant
 abbrev pub all_words : List PersonWord
 all_words =
-    Step ∷ Next ∷ Run ∷ Trace ∷ Break ∷ Back ∷ Forth ∷ Goto ∷ Continue ∷ Clear ∷ Set ∷ Show ∷ Quit ∷ Help ∷ Question ∷ []
+    Step ∷ Next ∷ Run ∷ Trace ∷ Break ∷ Back ∷ Forth ∷ Goto ∷ Continue ∷ Clear ∷ Set ∷ Show ∷ Quit ∷ Help ∷ Question
+    ∷ Print ∷ Listing ∷ Where ∷ Until ∷ Examine ∷ Exit ∷ []
 
 -- the command that each stands for
 abbrev pub command_of : PersonWord → List ℕ
 command_of Next = codes "step"
 command_of Continue = codes "run"
 command_of Question = codes "help"
+command_of Print = codes "show"
+command_of Where = codes "show"
+command_of Until = codes "run"
+command_of Examine = codes "show"
+command_of Exit = codes "quit"
 command_of word = name_of word
 
 -- whether a word is a beginning of a name, in capitals or small letters
@@ -45,6 +59,25 @@ is_beginning word name = nat_le (length word) (length name) && str_eq_ignore_asc
 abbrev pub word_begun : List ℕ → Option PersonWord
 word_begun word = find (λ known. is_beginning word (name_of known)) all_words
 
+-- whether a word is one of these, in capitals or small letters
+abbrev pub is_one_of : List (List ℕ) → List ℕ → Bool
+is_one_of [] word = false
+is_one_of (name ∷ names) word = str_eq_ignore_ascii_case word name || is_one_of names word
+
+-- whether a word is the name of a register
+abbrev pub is_register : List ℕ → Bool
+is_register word = list_any (λ r. str_eq_ignore_ascii_case word (name_of_register r)) all_registers
+
+-- the name of a register, which the book writes with an r before it; any other word is as it is
+abbrev pub plain : List ℕ → List ℕ
+plain [] = []
+plain (byte ∷ name) = if (byte == 114 || byte == 82) && is_register name then name else byte ∷ name
+
+-- the first word may be a register
+abbrev pub plain_first : List (List ℕ) → List (List ℕ)
+plain_first [] = []
+plain_first (word ∷ rest) = plain word ∷ rest
+
 -- `until` may be begun too
 abbrev pub until_of : List ℕ → List ℕ
 until_of word = if is_beginning word (codes "until") then codes "until" else word
@@ -52,24 +85,68 @@ until_of word = if is_beginning word (codes "until") then codes "until" else wor
 -- what follows the number of steps of `run`
 abbrev pub limit_of : List (List ℕ) → List (List ℕ)
 limit_of [] = []
-limit_of (word ∷ rest) = until_of word ∷ rest
+limit_of (word ∷ rest) = until_of word ∷ plain_first rest
 
 -- what follows `run`: as many steps as one command may do, where no number is said
 abbrev pub steps_of : List (List ℕ) → List (List ℕ)
 steps_of [] = codes "1000000" ∷ []
-steps_of (word ∷ rest) = if is_beginning word (codes "until") then codes "1000000" ∷ codes "until" ∷ rest else word ∷ limit_of rest
+steps_of (word ∷ rest) = if is_beginning word (codes "until") then codes "1000000" ∷ codes "until" ∷ plain_first rest else word ∷ limit_of rest
 
 -- what follows `back` and `forth`: one change, where nothing is said
 abbrev pub changes_of : List (List ℕ) → List (List ℕ)
 changes_of [] = codes "1" ∷ []
-changes_of (word ∷ rest) = until_of word ∷ rest
+changes_of (word ∷ rest) = until_of word ∷ plain_first rest
+
+-- from a cell to a cell: one alone is the first and the last
+abbrev pub last_of : List ℕ → List (List ℕ) → List (List ℕ)
+last_of word [] = word ∷ []
+last_of word (other ∷ rest) = other ∷ rest
+
+abbrev pub range_of : List (List ℕ) → List (List ℕ)
+range_of [] = []
+range_of (word ∷ rest) = word ∷ last_of word rest
+
+-- the words after `show` that show a register, or another part of the machine; else these
+abbrev pub part_of : List ℕ → List (List ℕ) → List (List ℕ)
+part_of word others =
+    if is_register (plain word) then codes "values" ∷ []
+    else if is_one_of (codes "over" ∷ codes "cmp" ∷ codes "loc" ∷ []) word then codes "regs" ∷ []
+    else others
+
+-- the words after `show` that show what follows `print`: the registers, a part of the machine, a cell, or a word by a W-value
+abbrev pub printed_as : List ℕ → List (List ℕ) → List (List ℕ)
+printed_as word [] = part_of word (codes "value" ∷ word ∷ [])
+printed_as word (other ∷ rest) =
+    if str_eq_ignore_ascii_case word (codes "cell") then codes "values" ∷ range_of (other ∷ rest) else codes "value" ∷ word ∷ other ∷ rest
+
+abbrev pub printed : List (List ℕ) → List (List ℕ)
+printed [] = codes "values" ∷ []
+printed (word ∷ rest) = printed_as word rest
+
+-- what follows `show`: a part of the machine, `last` alone, and one cell alone, too
+abbrev pub shown_as : List ℕ → List (List ℕ) → List (List ℕ)
+shown_as word [] = part_of word (if str_eq_ignore_ascii_case word (codes "last") then word ∷ codes "1" ∷ [] else word ∷ [])
+shown_as word (other ∷ rest) =
+    if str_eq_ignore_ascii_case word (codes "cell") then codes "values" ∷ range_of (other ∷ rest)
+    else if is_one_of (codes "cells" ∷ codes "values" ∷ codes "code" ∷ []) word then word ∷ range_of (other ∷ rest)
+    else word ∷ other ∷ rest
+
+abbrev pub shown : List (List ℕ) → List (List ℕ)
+shown [] = []
+shown (word ∷ rest) = shown_as word rest
 
 -- what follows each command
 abbrev pub after_of : PersonWord → List (List ℕ) → List (List ℕ)
 after_of Run rest = steps_of rest
 after_of Continue rest = steps_of rest
+after_of Until rest = codes "1000000" ∷ codes "until" ∷ plain_first rest
 after_of Back rest = changes_of rest
 after_of Forth rest = changes_of rest
+after_of Set rest = plain_first rest
+after_of Show rest = shown rest
+after_of Print rest = printed rest
+after_of Where rest = codes "code" ∷ range_of rest
+after_of Examine rest = codes "values" ∷ range_of rest
 after_of word rest = rest
 
 -- words, each with a blank before it
@@ -94,8 +171,11 @@ abbrev pub kind_of_word : Option PersonWord → List (List ℕ) → Line
 kind_of_word None rest = line_kind.Command
 kind_of_word (Some Help) rest = line_kind.Help
 kind_of_word (Some Question) rest = line_kind.Help
+kind_of_word (Some Listing) rest = line_kind.Listing
 kind_of_word (Some Quit) [] = line_kind.Quit
+kind_of_word (Some Exit) [] = line_kind.Quit
 kind_of_word (Some Quit) (word ∷ rest) = line_kind.Command
+kind_of_word (Some Exit) (word ∷ rest) = line_kind.Command
 kind_of_word (Some other) rest = line_kind.Command
 
 abbrev pub kind_of : List (List ℕ) → Line

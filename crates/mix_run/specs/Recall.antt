@@ -55,16 +55,18 @@ recalled_after after.Refused typed r = r
 abbrev pub recalled_by : SessionState → Line → List ℕ → RecallState → RecallState
 recalled_by s line_kind.Command typed r = recalled_after (after_read (request_in s typed)) typed r
 recalled_by s line_kind.Help typed r = r
+recalled_by s line_kind.Listing typed r = r
 recalled_by s line_kind.Quit typed r = r
 
 abbrev pub recalled : SessionState → Talker → RecallState → List ℕ → RecallState
 recalled s Program r line = r
 recalled s Person r line = recalled_by s (kind_of (words line)) (person_line r.again line) r
 
--- the lines of a script that a line stands for: a program's stands for itself; help is no command, nor is the end of a talk
+-- the lines of a script that a line stands for: a program's stands for itself; help is no command, nor is a listing of the source or the end of a talk
 abbrev pub meant_by : Line → List ℕ → List (List ℕ)
 meant_by line_kind.Command typed = typed ∷ []
 meant_by line_kind.Help typed = []
+meant_by line_kind.Listing typed = []
 meant_by line_kind.Quit typed = []
 
 abbrev pub meant : SessionState → Talker → RecallState → List ℕ → List (List ℕ)

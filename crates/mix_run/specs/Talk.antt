@@ -30,6 +30,7 @@ abbrev pub is_end : Line → Bool
 is_end line_kind.Quit = true
 is_end line_kind.Command = false
 is_end line_kind.Help = false
+is_end line_kind.Listing = false
 
 abbrev pub is_quit : Talker → List ℕ → Bool
 is_quit Program line = false

@@ -12,8 +12,10 @@ ghost use Rattle.mix_stream.specs.Stream.{ConsumesAtMost, CountsFailure};
 
 mod answer;
 mod aside;
+mod follows;
 mod heard;
 mod help;
+mod listing;
 mod person;
 mod recall;
 
@@ -44,6 +46,7 @@ pub struct Streams<R, W, E> {
 // A talk on the machine that a program loads, with its units.
 fn talk_with<R: In, W: Out, E: Out>(
     alloc: Global,
+    source: &[u8],
     program: Program,
     units: Units,
     streams: &mut Streams<R, W, E>,
@@ -73,7 +76,14 @@ fn talk_with<R: In, W: Out, E: Out>(
     } = streams;
     let talker = *talker;
     greet(talker, errors);
-    match talk(&mut session, talker, Recall::new(alloc), input, out, errors) {
+    match talk(
+        &mut session,
+        talker,
+        Recall::new(alloc, source),
+        input,
+        out,
+        errors,
+    ) {
         Ok(told) => Ok(status(told)),
         Err(fault) => Err(fault),
     }
@@ -142,7 +152,7 @@ fn talk_of_source<S: In, D: In, R: In, W: Out, E: Out>(
                 Ok(units) => units,
                 Err(fault) => return Err(fault),
             };
-            talk_with(alloc, program, units, streams)
+            talk_with(alloc, &text, program, units, streams)
         }
     }
 }

@@ -42,6 +42,10 @@ fn answer_person<W: Out, E: Out>(
             help(&typed, errors);
             Ok(Some(Told::Accepted))
         }
+        Line::Listing => {
+            recall.list(session, &typed, errors)?;
+            Ok(Some(Told::Accepted))
+        }
         Line::Command => {
             let after = after_reply(session, &typed);
             let told = command(session, &typed, out)?;

@@ -26,11 +26,12 @@ const GREETING: &str =
 const PROMPT: &str = "(mixrev) ";
 
 /// A text is written beside the replies. Where that fails, nothing more is: the talk goes on.
-fn say<E: Out>(text: &str, errors: &mut E) {
+pub(crate) fn say<E: Out>(text: &str, errors: &mut E) {
     say_bytes(text.as_bytes(), errors);
 }
 
-fn say_bytes<E: Out>(text: &[u8], errors: &mut E) {
+/// The same of bytes.
+pub(crate) fn say_bytes<E: Out>(text: &[u8], errors: &mut E) {
     if errors.failures() == 0 {
         match write_all(errors, text) {
             Ok(()) | Err(_) => {}

@@ -7,7 +7,8 @@ set, break, clear    change the machine, set a breakpoint, take one away
 show                 shows the machine, its code, its past, counts
 quit                 ends the session
 Beginnings will do: s for step, b for break, ba for back, u for until; n is step too, c is run.
-back and forth alone take 1, run alone 1000000.
+back and forth alone take 1, run alone 1000000. Who wrote cell 100? run, then back until cell 100.
+print shows a register, cell E or a word W; list shows the source, where what comes next.
 help COMMAND explains one, as help back. A blank line repeats the last step or back.
 ";
 
@@ -80,6 +81,17 @@ const QUIT: &str = "\
 quit             ends the session, as the end of the input does
 ";
 
+const PRINT: &str = "\
+print A          shows the registers; print alone does too
+print cell E     shows cell E as bytes, as a number and in characters; x E does too
+print W          shows the word W in the same way; a symbol is its cell
+where            shows what comes next, as show code
+list             shows the lines of the source around what comes next
+list LINE        shows those around a line, or around the line of a symbol
+";
+
+const LIST: &str = "list takes the number of a line, a symbol, or nothing\n";
+
 const UNTIL: &str = "\
 COND is a register, over, cmp, cell E, unit N or loc E: a change reaches it by altering what it names,
 or by leading to location E. As: run 1000 until A, back until cell 100.
@@ -118,7 +130,7 @@ pub(crate) fn form_of(word: Option<&[u8]>) -> &'static str {
 
 // Each word that there is help on: what it takes, as a refusal says it, and the help.
 #[rattlefmt::skip]
-static TOPICS: [(&str, &str, &str); 14] = [
+static TOPICS: [(&str, &str, &str); 18] = [
     ("step", "step takes a number, 1 to 1000000, or nothing\n", STEP),
     ("run", "run takes a number, 1 to 1000000, until COND, both or nothing\n", RUN),
     ("trace", "trace takes a number, 1 to 1000000, or nothing\n", TRACE),
@@ -132,5 +144,9 @@ static TOPICS: [(&str, &str, &str); 14] = [
     ("quit", NO_COMMAND, QUIT),
     ("until", NO_COMMAND, UNTIL),
     ("cond", NO_COMMAND, UNTIL),
+    ("print", NO_COMMAND, PRINT),
+    ("x", NO_COMMAND, PRINT),
+    ("where", NO_COMMAND, PRINT),
+    ("list", LIST, PRINT),
     ("help", NO_COMMAND, ALL),
 ];

@@ -1,18 +1,20 @@
 //! What a person types at a prompt, read as the line of a script that it stands for.
 
-ghost use Rattle.std.specs.Prelude.{◌≡◌, ◌++◌, ◌∷◌, [], OnOk, IfOk, codes};
+ghost use Rattle.std.specs.Prelude.{◌≡◌, IfOk, codes};
 ghost use Rattle.mix_lines.specs.Lines.{words};
-ghost use Rattle.mix_run.specs.Person.{after_of, all_words, changes_of, command_of, is_beginning, kind_of, kind_of_word, limit_of, line_begun, line_of_words, name_of, person_line, spaced, steps_of, until_of, word_begun};
+ghost use Rattle.mix_run.specs.Person.{all_words, command_of, is_beginning, kind_of, kind_of_word, line_begun, line_of_words, name_of, person_line, word_begun};
 
+use crate::talk::follows::put_after;
 use mix_lines::Words;
 use mix_refused::Memory;
 use std::alloc::Global;
 
-/// What a person's line is: a command, a question for help, or the end of the talk.
+/// What a person's line is: a command, a question for help, a listing of the source, or the end of the talk.
 #[derive(Clone, Copy)]
 pub(crate) enum Line {
     Command,
     Help,
+    Listing,
     Quit,
 }
 
@@ -34,6 +36,12 @@ pub(crate) enum PersonWord {
     Quit,
     Help,
     Question,
+    Print,
+    Listing,
+    Where,
+    Until,
+    Examine,
+    Exit,
 }
 
 // In this order: of several that begin in the same way, the first one is meant.
@@ -44,7 +52,7 @@ fn all_words() -> &'static [PersonWord]
     &[
         PersonWord::Step, PersonWord::Next, PersonWord::Run, PersonWord::Trace, PersonWord::Break, PersonWord::Back, PersonWord::Forth,
         PersonWord::Goto, PersonWord::Continue, PersonWord::Clear, PersonWord::Set, PersonWord::Show, PersonWord::Quit, PersonWord::Help,
-        PersonWord::Question,
+        PersonWord::Question, PersonWord::Print, PersonWord::Listing, PersonWord::Where, PersonWord::Until, PersonWord::Examine, PersonWord::Exit,
     ]
 }
 
@@ -68,6 +76,12 @@ impl PersonWord {
             PersonWord::Quit => "quit",
             PersonWord::Help => "help",
             PersonWord::Question => "?",
+            PersonWord::Print => "print",
+            PersonWord::Listing => "list",
+            PersonWord::Where => "where",
+            PersonWord::Until => "until",
+            PersonWord::Examine => "x",
+            PersonWord::Exit => "exit",
         }
     }
 
@@ -77,14 +91,17 @@ impl PersonWord {
     {
         match self {
             PersonWord::Next => "step",
-            PersonWord::Continue => "run",
+            PersonWord::Continue | PersonWord::Until => "run",
             PersonWord::Question => "help",
+            PersonWord::Print | PersonWord::Where | PersonWord::Examine => "show",
+            PersonWord::Exit => "quit",
             _ => self.name(),
         }
     }
 }
 
-fn is_beginning(word: &[u8], name: &[u8]) -> bool
+/// Whether a word is a beginning of a name, in capitals or small letters.
+pub(crate) fn is_beginning(word: &[u8], name: &[u8]) -> bool
     ensures { result ≡ is_beginning word.now name.now }
 {
     word.len() <= name.len() && word.eq_ignore_ascii_case(&name[..word.len()])
@@ -97,82 +114,6 @@ fn word_begun(word: &[u8]) -> Option<PersonWord>
         .iter()
         .copied()
         .find(|known| is_beginning(word, known.name().as_bytes()))
-}
-
-fn put(text: &mut Vec<u8>, word: &[u8]) -> Result<(), Memory>
-    ensures { OnOk result (text.new.items ≡ text.old.items ++ spaced (word.now ∷ [])) }
-{
-    text.extend_from_slice(b" ")?;
-    text.extend_from_slice(word)?;
-    Ok(())
-}
-
-// The words that are left.
-fn put_all(text: &mut Vec<u8>, words: &mut Words) -> Result<(), Memory>
-    ensures { OnOk result (text.new.items ≡ text.old.items ++ spaced words.old) }
-{
-    while let Some(word) = words.next() {
-        put(text, word)?;
-    }
-    Ok(())
-}
-
-// A word, read as `until` where it begins that, and the words after it.
-fn put_until(text: &mut Vec<u8>, word: &[u8], words: &mut Words) -> Result<(), Memory>
-    ensures { OnOk result (text.new.items ≡ text.old.items ++ spaced (until_of word.now ∷ words.old)) }
-{
-    put(
-        text,
-        if is_beginning(word, b"until") {
-            b"until"
-        } else {
-            word
-        },
-    )?;
-    put_all(text, words)
-}
-
-fn put_changes(text: &mut Vec<u8>, words: &mut Words) -> Result<(), Memory>
-    ensures { OnOk result (text.new.items ≡ text.old.items ++ spaced (changes_of words.old)) }
-{
-    match words.next() {
-        None => put(text, b"1"),
-        Some(word) => put_until(text, word, words),
-    }
-}
-
-fn put_limit(text: &mut Vec<u8>, words: &mut Words) -> Result<(), Memory>
-    ensures { OnOk result (text.new.items ≡ text.old.items ++ spaced (limit_of words.old)) }
-{
-    match words.next() {
-        None => Ok(()),
-        Some(word) => put_until(text, word, words),
-    }
-}
-
-fn put_steps(text: &mut Vec<u8>, words: &mut Words) -> Result<(), Memory>
-    ensures { OnOk result (text.new.items ≡ text.old.items ++ spaced (steps_of words.old)) }
-{
-    let Some(word) = words.next() else {
-        return put(text, b"1000000");
-    };
-    if is_beginning(word, b"until") {
-        put(text, b"1000000")?;
-        put_until(text, word, words)
-    } else {
-        put(text, word)?;
-        put_limit(text, words)
-    }
-}
-
-fn put_after(text: &mut Vec<u8>, word: PersonWord, words: &mut Words) -> Result<(), Memory>
-    ensures { OnOk result (text.new.items ≡ text.old.items ++ spaced (after_of word words.old)) }
-{
-    match word {
-        PersonWord::Run | PersonWord::Continue => put_steps(text, words),
-        PersonWord::Back | PersonWord::Forth => put_changes(text, words),
-        _ => put_all(text, words),
-    }
 }
 
 /// The line of a script that a person's line stands for, which is `again` for a blank line.
@@ -200,7 +141,8 @@ fn kind_of_word(word: Option<PersonWord>, words: &Words) -> Line
 {
     match word {
         Some(PersonWord::Help | PersonWord::Question) => Line::Help,
-        Some(PersonWord::Quit) if words.is_end() => Line::Quit,
+        Some(PersonWord::Listing) => Line::Listing,
+        Some(PersonWord::Quit | PersonWord::Exit) if words.is_end() => Line::Quit,
         _ => Line::Command,
     }
 }

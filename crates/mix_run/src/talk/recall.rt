@@ -1,23 +1,28 @@
-//! What a talk recalls of a person's lines.
+//! What a talk recalls of a person's lines, and what it reads them with.
 
 ghost use Rattle.std.specs.Prelude.{◌≡◌, IfOk, OnOk};
 ghost use Rattle.mix_run.specs.Recall.{nothing, recalled_after};
 ghost use Rattle.mix_run.specs.Person.{person_line};
 
 use crate::talk::aside::After;
+use crate::talk::listing::list;
 use crate::talk::person::person_line;
 use mix_refused::Memory;
+use mix_session::Session;
+use mix_stream::Out;
 use std::alloc::Global;
 use std::marker::Model;
 
-/// The line of a script that a blank line stands for: the last one that took steps, or changes back; an empty one before that.
+/// The line of a script that a blank line stands for: the last one that took steps, or changes back; an empty one before that. With it the source
+/// whose lines may be listed.
 #[derive(Drop)]
-pub(crate) struct Recall {
+pub(crate) struct Recall<'s> {
     alloc: Global,
+    source: &'s [u8],
     again: Vec<u8>,
 }
 
-impl Model for Recall {
+impl<'s> Model for Recall<'s> {
     ghost use Rattle.mix_run.specs.Recall.{RecallState};
 
     ghost Value = { RecallState };
@@ -25,12 +30,13 @@ impl Model for Recall {
     ghost view = { λ r. record { again = r.again.items } };
 }
 
-impl Recall {
-    pub(crate) fn new(alloc: Global) -> Recall
+impl<'s> Recall<'s> {
+    pub(crate) fn new(alloc: Global, source: &'s [u8]) -> Recall<'s>
         ensures { result ≡ nothing }
     {
         Recall {
             alloc,
+            source,
             again: Vec::new(alloc),
         }
     }
@@ -44,6 +50,16 @@ impl Recall {
         ensures { IfOk result (λ text. text.items ≡ person_line self.now.again line.now) }
     {
         person_line(self.alloc, &self.again, line)
+    }
+
+    /// The lines of the source that a person's line asks for.
+    pub(crate) fn list<E: Out>(
+        &self,
+        session: &Session,
+        line: &[u8],
+        errors: &mut E,
+    ) -> Result<(), Memory> {
+        list(self.alloc, session, self.source, line, errors)
     }
 
     /// A line of a script was executed, and this follows it.
