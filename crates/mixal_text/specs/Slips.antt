@@ -60,7 +60,7 @@ abbrev pub alf_is_cut : List ℕ → List ℕ → Bool
 alf_is_cut [] rest = false
 alf_is_cut (first ∷ text) rest = not (is_quote first) && is_cut (alf_start rest)
 
--- ---- an ADDRESS after which a blank stands, and then what reads on as a part of it
+-- ---- an ADDRESS that one blank ends, and then what reads on as a part of it
 
 -- a comma, or a sign of an operation and a number, or an opening bracket and a digit
 abbrev pub is_sign : ℕ → Bool
@@ -74,7 +74,7 @@ reads_on (byte ∷ rest) =
 -- by the ADDRESS, and by what stands after OP
 abbrev pub address_is_cut : List ℕ → List ℕ → Bool
 address_is_cut [] rest = false
-address_is_cut (byte ∷ address) rest = reads_on (after_blanks (after_word rest))
+address_is_cut (byte ∷ address) rest = reads_on (after_word rest)
 
 -- ---- a line that can be read
 

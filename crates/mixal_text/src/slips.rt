@@ -22,8 +22,8 @@ pub enum Slip {
     OperationAsLabel,
     /// The text of an ALF without quotation marks goes on after its five characters, or begins after them.
     AlfCut,
-    /// A blank ends ADDRESS, and what follows reads as if it belonged to it: a comma, an opening bracket before a digit, or a sign
-    /// of an operation before a number.
+    /// One blank ends ADDRESS, and what follows reads as if it belonged to it: a comma, an opening bracket before a digit, or a
+    /// sign of an operation before a number.
     BlankInAddress,
 }
 
@@ -148,7 +148,7 @@ fn has_cut_address(line: &[u8]) -> bool
 fn address_is_cut(address: &[u8], rest: &[u8]) -> bool
     ensures { result ≡ address_is_cut address.now rest.now }
 {
-    !address.is_empty() && reads_on(skip_blanks(split_word(skip_blanks(rest)).1))
+    !address.is_empty() && reads_on(split_word(skip_blanks(rest)).1)
 }
 
 // Whether what follows a blank reads as if it belonged to the ADDRESS before.
