@@ -1,3 +1,4 @@
+mod CheckLemmas
 mod CutLemmas
 mod PrintLemmas
 mod PrintOutputLemmas

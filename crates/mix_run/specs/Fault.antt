@@ -48,3 +48,11 @@ IsMemoryOrWrite Write = Unit {0}
 IsMemoryOrWrite Read = ⊥
 IsMemoryOrWrite (Deck fault) = ⊥
 IsMemoryOrWrite Long = ⊥
+
+-- the faults that the reading of a source meets: no memory, or a read that failed
+abbrev pub IsMemoryOrRead : ToolFault → Type 0
+IsMemoryOrRead Memory = Unit {0}
+IsMemoryOrRead Read = Unit {0}
+IsMemoryOrRead Write = ⊥
+IsMemoryOrRead (Deck fault) = ⊥
+IsMemoryOrRead Long = ⊥

@@ -1,4 +1,5 @@
 pub mod Bundle
+pub mod Check
 pub mod Fault
 pub mod Hearing
 pub mod Output

@@ -1,8 +1,9 @@
 //! The runs over streams: it cuts a bundle into source, deck and script, assembles the source, and executes the script, lists the source, or runs
-//! the program and writes what it prints.
+//! the program and writes what it prints; or it reports what is wrong with some sources.
 #![tactic(auto)]
 
 mod bundle;
+mod check;
 mod fault;
 mod list;
 mod print;
@@ -12,6 +13,7 @@ mod talk;
 mod units;
 
 pub use bundle::run_bundle;
+pub use check::{Reports, no_reports, report_next, write_reports};
 pub use fault::ToolFault;
 pub use list::run_list;
 pub use mix_machine::MixFault;
