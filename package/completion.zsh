@@ -3,7 +3,7 @@
 local devices='--devices=[what tapes, disks and cards hold]:deck:_files' source='1:source:_files'
 if ((CURRENT == 2)); then
   _arguments '(- *)'{-h,--help}'[writes help]' '(- *)'{-V,--version}'[writes the version]' \
-    '1:command:((run\:"runs a program to its halt" debug\:"executes commands, forwards and backwards" list\:"writes the listing" dap\:"is the debug adapter of an editor"))'
+    '1:command:((run\:"runs a program to its halt" debug\:"executes commands, forwards and backwards" list\:"writes the listing" check\:"reports all faults of sources" dap\:"is the debug adapter of an editor"))'
   return
 fi
 shift words
@@ -15,5 +15,6 @@ case $words[1] in
     ;;
   debug) _arguments '(- *)'{-h,--help}'[writes help]' $devices $source '2:script:_files' ;;
   list) _arguments '(- *)'{-h,--help}'[writes help]' $source ;;
+  check) _arguments '(- *)'{-h,--help}'[writes help]' '--json[writes each fault as one JSON object a line]' '*:source:_files' ;;
   dap) _arguments '(- *)'{-h,--help}'[writes help]' ;;
 esac

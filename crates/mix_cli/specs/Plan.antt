@@ -1,5 +1,5 @@
 -- What the words of a command line ask for.
-use Rattle.std.specs.Prelude.{ℕ, ◌^◌, ◌==◌, ◌&&◌, Bool, true, false, not, List, [], length, nat_le, nat_lt, if◌then◌else◌, Option, Some, None, option_and_then, option_map, unwrap_or, codes, string_bytes}
+use Rattle.std.specs.Prelude.{ℕ, ◌^◌, ◌==◌, ◌&&◌, Bool, true, false, not, List, [], length, map, nat_le, nat_lt, if◌then◌else◌, Option, Some, None, option_and_then, option_map, unwrap_or, codes, string_bytes}
 use Rattle.std.specs.List.{list_all, list_any}
 use Rattle.std.specs.Option.{option_map_or}
 use Rattle.std.specs.Char.{digit_value}
@@ -11,11 +11,12 @@ use Rattle.mix_cli.specs.declared.words.Plan.{Plan}
 use Rattle.mix_cli.specs.declared.words.Plan.TheVariants as plan
 use Rattle.mix_cli.specs.declared.words.Printing.{Printing}
 
--- a bundle; a listing of a source; a session of a source, of a script where it is named, and of a deck where it is named; a run of a source, of
+-- a bundle; a listing of a source; a check of some sources, in JSON or not; a session of a source, of a script where it is named, and of a deck where it is named; a run of a source, of
 -- cards and a deck where they are named, of so many steps at most and of what is printed; the debug adapter
 pub data Planned : Type 0 where
   bundle : Planned
   lists : Text → Planned
+  checks : List Text → Bool → Planned
   debugs : Text → Option Text → Option Text → Planned
   runs : Text → Option Text → Option Text → ℕ → Printing → Planned
   adapts : Planned
@@ -23,6 +24,7 @@ pub data Planned : Type 0 where
 abbrev pub planned_of : Plan → Planned
 planned_of plan.Bundle = bundle
 planned_of (plan.List source) = lists (string_bytes source)
+planned_of (plan.Check sources json) = checks (map string_bytes sources.items) json
 planned_of (plan.Debug source script devices) = debugs (string_bytes source) (option_map string_bytes script) (option_map string_bytes devices)
 planned_of (plan.Run source cards devices steps printing) =
     runs (string_bytes source) (option_map string_bytes cards) (option_map string_bytes devices) steps printing
@@ -50,9 +52,17 @@ prints rows unit = option_map_or (λ texts. list_any (names_unit unit) texts) (a
 abbrev pub printing_of : List Row → Printing
 printing_of rows = record { punch = prints rows 17; printer = prints rows 18; typewriter = prints rows 19; tape = prints rows 20 }
 
+-- whether an option without a value is there: clap holds `true` for it then, and else `false`
+abbrev pub is_set : Text → List Row → Bool
+is_set id rows = option_map_or (λ text. bytes_eq text (codes "true")) (first_of id rows) false
+
 -- of the words after `list`
 abbrev pub list_planned : List Row → Option Planned
 list_planned rows = option_map lists (first_of (codes "SOURCE") rows)
+
+-- of the words after `check`
+abbrev pub check_planned : List Row → Option Planned
+check_planned rows = option_map (λ sources. checks sources (is_set (codes "json") rows)) (all_of (codes "SOURCE") rows)
 
 -- of the words after `debug`
 abbrev pub debug_planned : List Row → Option Planned
@@ -70,6 +80,7 @@ subcommand_planned found =
     if bytes_eq found.0 (codes "run") then run_planned found.1 else
     if bytes_eq found.0 (codes "debug") then debug_planned found.1 else
     if bytes_eq found.0 (codes "list") then list_planned found.1 else
+    if bytes_eq found.0 (codes "check") then check_planned found.1 else
     if bytes_eq found.0 (codes "dap") then Some adapts else None
 
 -- whether so many words mean a bundle: none stands after the program's name, and nobody types at a terminal

@@ -1,9 +1,9 @@
--- The words that the program takes, as clap reads them: `list SOURCE`; `debug SOURCE SCRIPT`, of which SCRIPT may be left out, with the option
--- `--devices FILE`; and `run SOURCE` with options of its own.
+-- The words that the program takes, as clap reads them: `list SOURCE`; `check` with one SOURCE or several, and with `--json`;
+-- `debug SOURCE SCRIPT`, of which SCRIPT may be left out, with the option `--devices FILE`; and `run SOURCE` with options of its own.
 use Rattle.std.specs.Prelude.{ℕ, true, Some, codes}
 use Rattle.clap.specs.Words.{App, Rule, Text, new_app, new_rule, with_rule, with_subcommand}
 use Rattle.clap.specs.Simple.{on_top}
-use Rattle.clap.specs.declared.builder.action.ArgAction.TheVariants.{Append}
+use Rattle.clap.specs.declared.builder.action.ArgAction.TheVariants.{Append, SetTrue}
 use Rattle.clap.specs.declared.builder.value_parser.ValueParser.TheVariants.{Unsigned}
 
 -- how many steps a run may be allowed: a step takes 1u at least, and the clock goes to 10^18
@@ -13,6 +13,10 @@ most_steps = 1000000000000000000
 -- a word that has to be there, in its place
 abbrev pub required_word : Text → Rule
 required_word id = record (new_rule id) { required = true }
+
+-- a word that has to be there, and that others of its kind may follow
+abbrev pub required_words : Text → Rule
+required_words id = record (required_word id) { action = Some Append }
 
 -- an option with one value, which may be left out, as `--devices FILE`
 abbrev pub option_named : Text → Rule
@@ -32,6 +36,10 @@ steps_option = record (option_named (codes "steps")) { parser = Some (Unsigned 1
 abbrev pub unit_option : Rule
 unit_option = record (option_named (codes "unit")) { action = Some Append; parser = Some (Unsigned 17 20) }
 
+-- an option without a value, as `--json`
+abbrev pub flag_named : Text → Rule
+flag_named name = record (new_rule name) { long = Some name; action = Some SetTrue }
+
 -- a command that shows its help where it is given no word
 abbrev pub helpful : App → App
 helpful app = on_top (λ s. record s { arg_required_else_help = true }) app
@@ -42,6 +50,13 @@ of_source name = with_rule (helpful (new_app name)) (required_word (codes "SOURC
 
 abbrev pub list_app : App
 list_app = of_source (codes "list")
+
+-- the first word is a source, and so is each word after it
+abbrev pub of_sources : App
+of_sources = with_rule (helpful (new_app (codes "check"))) (required_words (codes "SOURCE"))
+
+abbrev pub check_app : App
+check_app = with_rule of_sources (flag_named (codes "json"))
 
 -- without a script it is a talk
 abbrev pub debug_app : App
@@ -63,9 +78,9 @@ bare_app =
     on_top (λ s. record s { subcommand_required = true; disable_help_subcommand = true; has_version = true })
     (helpful (new_app (codes "mixrev")))
 
--- the subcommands `run` and `debug`, and then all four
+-- the subcommands `run` and `debug`, and then all five
 abbrev pub with_sources : App
 with_sources = with_subcommand (with_subcommand bare_app run_app.top) debug_app.top
 
 abbrev pub mixrev : App
-mixrev = with_subcommand (with_subcommand with_sources list_app.top) dap_app.top
+mixrev = with_subcommand (with_subcommand (with_subcommand with_sources list_app.top) check_app.top) dap_app.top

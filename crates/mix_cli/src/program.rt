@@ -1,8 +1,8 @@
 //! The words that the program takes, and the help on them.
 
 ghost use Rattle.std.specs.Prelude.{◌≡◌, IfOk, codes, false, true};
-ghost use Rattle.clap.specs.Words.{app_of, new_rule, rule_of, with_rule, with_subcommand};
-ghost use Rattle.mix_cli.specs.Program.{bare_app, cards_option, dap_app, debug_app, devices_option, list_app, mixrev, of_source, option_named, required_word, run_app, run_inputs, steps_option, unit_option, with_sources};
+ghost use Rattle.clap.specs.Words.{app_of, new_app, new_rule, rule_of, with_rule, with_subcommand};
+ghost use Rattle.mix_cli.specs.Program.{bare_app, cards_option, check_app, dap_app, debug_app, devices_option, flag_named, list_app, mixrev, of_source, of_sources, option_named, required_word, required_words, run_app, run_inputs, steps_option, unit_option, with_sources};
 
 use clap::builder::ValueParser;
 use clap::{Arg, ArgAction, Command};
@@ -28,8 +28,9 @@ Examples:
   mixrev debug primes.mix
   mixrev debug primes.mix session.txt --devices tapes.deck
   mixrev list primes.mix
+  mixrev check primes.mix sieve.mix
 
-The status is 0 if all is accepted, 1 if the source is refused, and 3 if a command is refused, a step meets a fault or
+The status is 0 if all is accepted, 1 if a source is refused, and 3 if a command is refused, a step meets a fault or
 the steps of a run are used up. It is 2 if nothing could be run to its end: a mistake in the words, a file that cannot be
 opened or read, a deck that is refused, a text that is too long, an output that takes no more, or no memory.";
 
@@ -47,6 +48,13 @@ location and its word, and then the program's symbols. If the source is refused,
 
 Example:
   mixrev list primes.mix";
+
+const MORE_ON_CHECK: &str = "\
+Nothing is run. Each fault is reported as compilers do, with its file, line and column, the line and a mark; the sources one
+after the other. A source without faults gives nothing. The status is 1 if a source has a fault.
+
+Example:
+  mixrev check primes.mix sieve.mix";
 
 const MORE_ON_DEBUG: &str = "\
 Without a script it is interactive: each line of standard input is a command, which is done and answered before the next is
@@ -87,6 +95,16 @@ fn option_named<'a>(alloc: Global, name: &'a str, value: &'a str, help: &'a str)
         .long(name)
         .value_name(value)
         .help(help)
+}
+
+fn json_option<'a>(alloc: Global) -> Arg<'a>
+    ensures rule { rule_of result ≡ flag_named (codes "json") }
+    ensures local { result.global ≡ false }
+{
+    Arg::new(alloc, "json")
+        .long("json")
+        .action(ArgAction::SetTrue)
+        .help("Writes each fault as one JSON object a line")
 }
 
 fn devices_option<'a>(alloc: Global) -> Arg<'a>
@@ -147,6 +165,28 @@ fn list_command<'a>(alloc: Global) -> Result<Command<'a>, AllocError>
         .about("Writes the listing of a source")
         .after_help(MORE_ON_LIST);
     Ok(command)
+}
+
+// The subcommand `check` with its words, each of which is a source.
+fn of_sources<'a>(alloc: Global) -> Result<Command<'a>, AllocError>
+    ensures app { IfOk result (λ c. app_of c ≡ of_sources) }
+{
+    let sources = Arg::new(alloc, "SOURCE")
+        .required(true)
+        .action(ArgAction::Append)
+        .help("The files with the programs, in the language MIXAL");
+    Command::new(alloc, "check")
+        .arg_required_else_help(true)
+        .arg(sources)
+}
+
+fn check_command<'a>(alloc: Global) -> Result<Command<'a>, AllocError>
+    ensures app { IfOk result (λ c. app_of c ≡ check_app) }
+{
+    of_sources(alloc)?
+        .about("Reports all faults of sources")
+        .after_help(MORE_ON_CHECK)
+        .arg(json_option(alloc))
 }
 
 // The subcommand `debug` with its two words, SOURCE and SCRIPT.
@@ -231,5 +271,7 @@ pub(crate) fn program<'a>(alloc: Global) -> Result<Command<'a>, AllocError>
 {
     let list = list_command(alloc)?;
     let command = with_one(with_sources(alloc)?, list)?;
+    let check = check_command(alloc)?;
+    let command = with_one(command, check)?;
     with_one(command, dap_command(alloc))
 }

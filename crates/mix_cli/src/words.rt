@@ -1,11 +1,11 @@
 //! What a command line asks for.
 
-ghost use Rattle.std.specs.Prelude.{◌≡◌, IfOk, IfErr, IsSome, Some, [], length, map, true, codes, string_bytes, option_map, option_and_then};
+ghost use Rattle.std.specs.Prelude.{◌≡◌, ◌++◌, IfOk, IfErr, IsSome, OnOk, Some, [], length, map, true, codes, string_bytes, option_map, option_and_then};
 ghost use Rattle.std.specs.List.{list_any};
 ghost use Rattle.clap.specs.Words.{FailsBy, all_of, fault_of, first_of, found_of, kind_of, rows_of, subcommand_of, subcommand_rows_of, takes};
 ghost use Rattle.clap.specs.declared.error.kind.ErrorKind.TheVariants.{OutOfMemory};
 ghost use Rattle.mix_cli.specs.Fault.{IsRefusedBy};
-ghost use Rattle.mix_cli.specs.Plan.{debug_planned, line_kinds, list_planned, means_bundle, names_unit, number_of, planned, planned_of, printing_of, prints, run_planned, steps_of, subcommand_planned};
+ghost use Rattle.mix_cli.specs.Plan.{check_planned, debug_planned, is_set, line_kinds, list_planned, means_bundle, names_unit, number_of, planned, planned_of, printing_of, prints, run_planned, steps_of, subcommand_planned};
 ghost use Rattle.mix_cli.specs.Program.{mixrev};
 ghost use Rattle.mix_cli.specs.declared.fault.LineFault.{LineFault};
 
@@ -14,13 +14,17 @@ use crate::program::program;
 use clap::{ArgMatches, Error};
 use std::alloc::{AllocError, Global};
 
-/// What the program is to do: a bundle from standard input; the listing of a source; a session of a source, with a deck where one is named, by a
+/// What the program is to do: a bundle from standard input; the listing of a source; a check of sources, in JSON or not; a session of a source, with a deck where one is named, by a
 /// script or, where none is named, a talk; a run of a source, with cards and a deck where they are named, of so many steps at most, 1 to 10^18;
 /// or to be a debug adapter. The texts are names of files.
 #[derive(Drop)]
 pub enum Plan {
     Bundle,
     List(String),
+    Check {
+        sources: Vec<String>,
+        json: bool,
+    },
     Debug {
         source: String,
         script: Option<String>,
@@ -70,6 +74,25 @@ fn required(alloc: Global, words: &ArgMatches<'_>, id: &str) -> Result<String, A
     String::from_str(alloc, first(words, id).unwrap())
 }
 
+// Some texts, each as a string of its own.
+fn owned(alloc: Global, texts: &[&str]) -> Result<Vec<String>, AllocError>
+    ensures { IfOk result (λ names. map string_bytes names.items ≡ map (λ s. s.now) texts.now) }
+{
+    let mut names = Vec::new(alloc);
+    for text in texts {
+        names.push(String::from_str(alloc, text)?)?;
+    }
+    Ok(names)
+}
+
+// The names of files of which the words have to give one or more.
+fn several(alloc: Global, words: &ArgMatches<'_>, id: &str) -> Result<Vec<String>, AllocError>
+    requires { IsSome (all_of id.now (rows_of (found_of words.now))) }
+    ensures { IfOk result (λ names. all_of id.now (rows_of (found_of words.now)) ≡ Some (map string_bytes names.items)) }
+{
+    owned(alloc, all(words, id).unwrap())
+}
+
 // The name of a file that the words may give.
 fn optional(alloc: Global, words: &ArgMatches<'_>, id: &str) -> Result<Option<String>, AllocError>
     ensures { IfOk result (λ o. first_of id.now (rows_of (found_of words.now)) ≡ option_map string_bytes o) }
@@ -77,6 +100,16 @@ fn optional(alloc: Global, words: &ArgMatches<'_>, id: &str) -> Result<Option<St
     match first(words, id) {
         Some(name) => Ok(Some(String::from_str(alloc, name)?)),
         None => Ok(None),
+    }
+}
+
+// Whether an option without a value is there.
+fn is_set(words: &ArgMatches<'_>, id: &str) -> bool
+    ensures { result ≡ is_set id.now (rows_of (found_of words.now)) }
+{
+    match first(words, id) {
+        Some(text) => text == "true",
+        None => false,
     }
 }
 
@@ -144,6 +177,16 @@ fn list_plan(alloc: Global, words: &ArgMatches<'_>) -> Result<Plan, AllocError>
     Ok(Plan::List(required(alloc, words, "SOURCE")?))
 }
 
+fn check_plan(alloc: Global, words: &ArgMatches<'_>) -> Result<Plan, AllocError>
+    requires { IsSome (check_planned (rows_of (found_of words.now))) }
+    ensures { IfOk result (λ p. check_planned (rows_of (found_of words.now)) ≡ Some (planned_of p)) }
+{
+    Ok(Plan::Check {
+        sources: several(alloc, words, "SOURCE")?,
+        json: is_set(words, "json"),
+    })
+}
+
 fn debug_plan(alloc: Global, words: &ArgMatches<'_>) -> Result<Plan, AllocError>
     requires { IsSome (debug_planned (rows_of (found_of words.now))) }
     ensures { IfOk result (λ p. debug_planned (rows_of (found_of words.now)) ≡ Some (planned_of p)) }
@@ -179,6 +222,8 @@ fn subcommand(alloc: Global, name: &str, words: &ArgMatches<'_>) -> Result<Plan,
         debug_plan(alloc, words)
     } else if name == "list" {
         list_plan(alloc, words)
+    } else if name == "check" {
+        check_plan(alloc, words)
     } else {
         Ok(Plan::Dap)
     }
@@ -210,7 +255,7 @@ fn means_bundle(words: usize, terminal: bool) -> bool
 }
 
 /// The plan of a command line. The words are as `env::args` gives them, the first the program's name: none after it is a bundle,
-/// `list SOURCE` a listing, `debug SOURCE SCRIPT` a session, with a deck by `--devices FILE`, `debug SOURCE` a talk, `run SOURCE` a run, and `dap`
+/// `list SOURCE` a listing, `check SOURCE..` a check, with `--json` in JSON, `debug SOURCE SCRIPT` a session, with a deck by `--devices FILE`, `debug SOURCE` a talk, `run SOURCE` a run, and `dap`
 /// the debug adapter. Where standard input is a terminal no bundle is meant, and help is shown.
 ///
 /// It fails with `Line` where the words are none of these or ask for help or the version, and with `Memory` where memory is refused.

@@ -1,11 +1,12 @@
 -- What a plan does: the files that it opens, in their order, and the run that it makes on their texts.
-use Rattle.std.specs.Prelude.{◌≡◌, ◌≤◌, ℕ, Bool, true, false, not, List, [], ◌++◌, Option, None, Some, option_map, is_some, string_bytes}
+use Rattle.std.specs.Prelude.{◌≡◌, ◌≤◌, ℕ, Bool, true, false, not, List, [], ◌++◌, Option, None, Some, option_map, is_some, map, string_bytes}
 use Rattle.std.specs.Option.{option_map_or}
 use Rattle.mixal_asm.specs.Assembly.{assembly}
 use Rattle.mix_machine.specs.units.deck.Deck.{deck_of}
 use Rattle.mix_cli.specs.declared.words.Plan.{Plan}
 use Rattle.mix_cli.specs.declared.words.Plan.TheVariants as plan
 use Rattle.mix_cli.specs.declared.words.Printing.{Printing}
+use Rattle.mix_run.specs.Check.{Named, check_output}
 use Rattle.mix_run.specs.Output.{bundle_output, list_output, output}
 use Rattle.mix_run.specs.PrintOutput.{print_output}
 use Rattle.mix_run.specs.declared.print.options.PrintOptions.{PrintOptions}
@@ -13,11 +14,11 @@ use Rattle.mix_run.specs.declared.print.options.UnitSet.{UnitSet}
 use Rattle.mix_run.specs.declared.talk.Streams.{Streams}
 use Rattle.mix_run.specs.declared.talk.aside.Talker.{Talker}
 use Rattle.mix_tool.specs.Ending.{PrintRuns, Runs, Seen, TalkRuns, Tells, not_opened}
-use Rattle.mix_tool.specs.Opening.{Files, Missing, missing_of, named, text_of}
+use Rattle.mix_tool.specs.Opening.{Files, Missing, missing_of, named, opened_text, text_of}
 use Rattle.mix_tool.specs.declared.texts.Names.{Names}
 use Rattle.mix_tool.specs.declared.texts.Texts.{Texts}
 
--- the names of the files of a plan: of a source, a deck, cards and a script, each if there is one
+-- the names of the files of a plan: of a source, a deck, cards and a script, each if there is one; a check has a list of its own
 pub record FileNames : Type 0 where
   pub source : Option (List ℕ)
   pub deck : Option (List ℕ)
@@ -27,6 +28,7 @@ pub record FileNames : Type 0 where
 abbrev pub names_of : Plan → FileNames
 names_of plan.Bundle = record { source = None; deck = None; cards = None; script = None }
 names_of (plan.List source) = record { source = Some (string_bytes source); deck = None; cards = None; script = None }
+names_of (plan.Check sources json) = record { source = None; deck = None; cards = None; script = None }
 names_of (plan.Debug source script devices) =
     record { source = Some (string_bytes source); deck = option_map string_bytes devices; cards = None; script = option_map string_bytes script }
 names_of (plan.Run source cards devices steps printing) =
@@ -36,6 +38,19 @@ names_of plan.Dap = record { source = None; deck = None; cards = None; script = 
 -- in the order in which they are opened
 abbrev pub in_order : FileNames → List (List ℕ)
 in_order names = named names.source ++ (named names.deck ++ (named names.cards ++ named names.script))
+
+-- the names of the sources of a check
+abbrev pub sources_of : Plan → List (List ℕ)
+sources_of plan.Bundle = []
+sources_of (plan.List source) = []
+sources_of (plan.Check sources json) = map string_bytes sources.items
+sources_of (plan.Debug source script devices) = []
+sources_of (plan.Run source cards devices steps printing) = []
+sources_of plan.Dap = []
+
+-- all files of a plan, in the order in which they are opened
+abbrev pub files_of : Plan → List (List ℕ)
+files_of p = in_order (names_of p) ++ sources_of p
 
 -- the names as they are in the code
 abbrev pub names_in : Names → FileNames
@@ -60,6 +75,10 @@ given_of all names = record {
   cards = text_of all names.cards;
   script = text_of all names.script;
 }
+
+-- the sources of a check: the text of each name
+abbrev pub named_of : Files → List (List ℕ) → List Named
+named_of all names = map (λ name. record { name = name; text = opened_text (all name) }) names
 
 -- the readers of a plan have these texts; without a reader a text is empty
 abbrev pub rest_of : {R : Type 0} → (R → Option (List ℕ)) → Option R → Option (List ℕ)
@@ -101,30 +120,34 @@ abbrev pub is_talk : {Name : Type 0} → Option Name → Bool
 is_talk (Some script) = false
 is_talk None = true
 
--- the run of a plan on its texts; a client of the debug adapter is served
-abbrev pub RunsOn : Plan → Given → Talker → ℕ → Seen → Seen → Type 0
-RunsOn plan.Bundle given talker status before after = (b : List ℕ) → before.input ≡ Some b → Runs (bundle_output b) status before after
-RunsOn (plan.List source) given talker status before after = Runs (list_output given.source) status before after
-RunsOn (plan.Debug source script devices) given talker status before after = DebugsOn script given talker status before after
-RunsOn (plan.Run source cards devices steps printing) given talker status before after =
+-- the run of a plan on its texts; a check finds its sources in the files; a client of the debug adapter is served
+abbrev pub RunsOn : Files → Plan → Given → Talker → ℕ → Seen → Seen → Type 0
+RunsOn all plan.Bundle given talker status before after = (b : List ℕ) → before.input ≡ Some b → Runs (bundle_output b) status before after
+RunsOn all (plan.List source) given talker status before after = Runs (list_output given.source) status before after
+RunsOn all (plan.Check sources json) given talker status before after =
+    Runs (check_output json (named_of all (map string_bytes sources.items))) status before after
+RunsOn all (plan.Debug source script devices) given talker status before after = DebugsOn script given talker status before after
+RunsOn all (plan.Run source cards devices steps printing) given talker status before after =
     PrintRuns (print_output (options_of cards steps printing) given.source given.deck given.cards) status before after
-RunsOn plan.Dap given talker status before after = status ≤ 2
+RunsOn all plan.Dap given talker status before after = status ≤ 2
 
--- a plan is done: the first of its files that can't be opened is told and why, and the status is 2; where there is none, its run is made
-abbrev pub DoneAfter : Option Missing → Plan → Given → Talker → ℕ → Seen → Seen → Type 0
-DoneAfter None p given talker status before after = RunsOn p given talker status before after
-DoneAfter (Some missing) p given talker status before after =
+-- the first file that can't be opened is told and why, and the status is 2; if there is none, the run is made
+abbrev pub DoneAfter : Option Missing → Type 0 → ℕ → Seen → Seen → Type 0
+DoneAfter None Run status before after = Run
+DoneAfter (Some missing) Run status before after =
     (status ≡ 2) × (after.input ≡ before.input) × (after.out ≡ before.out)
     × Tells (not_opened missing.0 missing.1) before.errors after.errors before.failed after.failed
 
+-- a plan is done
 abbrev pub IsDone : Files → Plan → Talker → ℕ → Seen → Seen → Type 0
 IsDone all p talker status before after =
-    let names = names_of p in DoneAfter (missing_of all (in_order names)) p (given_of all names) talker status before after
+    DoneAfter (missing_of all (files_of p)) (RunsOn all p (given_of all (names_of p)) talker status before after) status before after
 
 -- whether a plan reads the input: a bundle and a talk do
 abbrev pub reads_input : Plan → Bool
 reads_input plan.Bundle = true
 reads_input (plan.List source) = false
+reads_input (plan.Check sources json) = false
 reads_input (plan.Debug source script devices) = is_talk script
 reads_input (plan.Run source cards devices steps printing) = false
 reads_input plan.Dap = false
@@ -133,6 +156,7 @@ reads_input plan.Dap = false
 abbrev pub hears_client : Plan → Bool
 hears_client plan.Bundle = false
 hears_client (plan.List source) = false
+hears_client (plan.Check sources json) = false
 hears_client (plan.Debug source script devices) = false
 hears_client (plan.Run source cards devices steps printing) = false
 hears_client plan.Dap = true
@@ -141,6 +165,7 @@ hears_client plan.Dap = true
 abbrev pub is_quiet : Plan → Bool
 is_quiet plan.Bundle = true
 is_quiet (plan.List source) = true
+is_quiet (plan.Check sources json) = true
 is_quiet (plan.Debug source script devices) = not (is_talk script)
 is_quiet (plan.Run source cards devices steps printing) = false
 is_quiet plan.Dap = true

@@ -1,6 +1,7 @@
 //! The tool: what a plan asks for is done on its files, and a fault is told.
 #![tactic(auto)]
 
+mod check;
 mod ending;
 mod opener;
 mod plan;

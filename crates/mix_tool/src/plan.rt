@@ -1,9 +1,10 @@
 //! A plan is done: its files are opened, and the run is made on their texts.
 
 ghost use Rattle.std.specs.Prelude.{◌≡◌, ◌≢◌, ◌<◌, ◌≤◌, ◌-◌, ◌^◌, Some, true, false};
-ghost use Rattle.mix_tool.specs.Opening.{Asks, Files, asked_of};
-ghost use Rattle.mix_tool.specs.Plan.{AreFresh, DebugsOn, Given, HoldTexts, IsDone, RunsOn, hears_client, in_order, is_quiet, is_talk, names_in, names_of, options_of, reads_input, seen};
+ghost use Rattle.mix_tool.specs.Opening.{Asks, Files, asked_of, missing_of};
+ghost use Rattle.mix_tool.specs.Plan.{AreFresh, DebugsOn, Given, HoldTexts, DoneAfter, IsDone, RunsOn, files_of, given_of, hears_client, in_order, is_quiet, is_talk, names_in, names_of, options_of, reads_input, seen, sources_of};
 
+use crate::check::check_files;
 use crate::ending::{print_status, status, status_beside, tell_not_opened};
 use crate::opener::Opener;
 use crate::texts::{Names, Texts, open_texts};
@@ -21,7 +22,7 @@ fn names_in(plan: &Plan) -> Names<'_>
     ensures { names_in result ≡ names_of plan.now }
 {
     match plan {
-        Plan::Bundle | Plan::Dap => Names {
+        Plan::Bundle | Plan::Check { .. } | Plan::Dap => Names {
             source: None,
             deck: None,
             cards: None,
@@ -111,21 +112,24 @@ fn debug_on<F: In + Drop, R: In, W: Out, E: Out>(
     }
 }
 
-// The run of a plan on its texts; a client of the debug adapter finds others in a library.
-fn run_on<L: Library, F: In + Drop, C: Read, R: In, W: Out, E: Out>(
-    library: &L,
+// The run of a plan on its texts; a check opens its sources, and a client of the debug adapter finds others in a library.
+fn run_on<O: Opener + Library, C: Read, R: In, W: Out, E: Out>(
+    files: &mut O,
     alloc: Global,
     plan: &Plan,
-    texts: Texts<F>,
+    texts: Texts<O::Reader>,
     client: &mut C,
     streams: &mut Streams<R, W, E>,
 ) -> u8
-    requires fresh { AreFresh F.failed texts }
+    requires fresh { AreFresh O.Reader.failed texts }
     requires input_count { R.failed streams.old.input < 2 ^ 64 - 1 }
     requires out_count { W.failed streams.old.out < 2 ^ 64 - 1 }
     requires errors_count { E.failed streams.old.errors < 2 ^ 64 - 1 }
-    ensures runs { (given : Given) → HoldTexts F.rest texts given
-        → RunsOn plan.now given streams.old.talker result (seen R.rest W.told E.told E.failed streams.old) (seen R.rest W.told E.told E.failed streams.new) }
+    ensures opened { (all : Files) → O.holds files.old ≡ Some all → Asks (O.asked files.old) (O.asked files.new) (asked_of all (sources_of plan.now)) }
+    ensures done { (all : Files) (given : Given) → O.holds files.old ≡ Some all → HoldTexts O.Reader.rest texts given
+        → DoneAfter (missing_of all (sources_of plan.now))
+        (RunsOn all plan.now given streams.old.talker result (seen R.rest W.told E.told E.failed streams.old) (seen R.rest W.told E.told E.failed streams.new))
+        result (seen R.rest W.told E.told E.failed streams.old) (seen R.rest W.told E.told E.failed streams.new) }
     ensures input { reads_input plan.now ≡ false → streams.new.input ≡ streams.old.input }
     ensures client { hears_client plan.now ≡ false → client.new ≡ client.old }
     ensures range { result ≤ 3 }
@@ -142,6 +146,7 @@ fn run_on<L: Library, F: In + Drop, C: Read, R: In, W: Out, E: Out>(
             let outcome = run_list(alloc, &mut texts.source, &mut streams.out);
             status(alloc, outcome, &mut streams.errors)
         }
+        Plan::Check { sources, json } => check_files(files, alloc, sources, *json, streams),
         Plan::Debug { source, script, .. } => debug_on(alloc, source, script, texts, streams),
         Plan::Run {
             source,
@@ -158,14 +163,14 @@ fn run_on<L: Library, F: In + Drop, C: Read, R: In, W: Out, E: Out>(
         }
         Plan::Dap => {
             let (out, errors) = (&mut streams.out, &mut streams.errors);
-            serve_from(library, alloc, client, out, errors)
+            serve_from(files, alloc, client, out, errors)
         }
     }
 }
 
-/// Does what a plan asks for: a bundle or a talk from the input, a listing, a run or a session of files, or what a client of the debug adapter asks
+/// Does what a plan asks for: a bundle or a talk from the input, a listing, a check, a run or a session of files, or what a client of the debug adapter asks
 /// for. All go to the output. The files of a plan are opened before any is read, in the order source, deck, cards or script; without a deck all
-/// units are empty.
+/// units are empty. Each source of a check is read before the next is opened, and nothing is written before all were read.
 ///
 /// The status is that of the run. It is 2 where the tool itself fails; then that fault stands on the error output, as
 /// `mixrev: T2 read failed`, or for the first file that cannot be opened `mixrev: T4 not opened: NAME: REASON`. A write there that
@@ -184,7 +189,7 @@ pub fn run_plan<O: Opener + Library, C: Read, R: In, W: Out, E: Out>(
 
     // The files of the plan are opened, each in its turn, up to the first that can't be; no other is.
     ensures opened { (all : Files) → O.holds files.old ≡ Some all
-        → Asks (O.asked files.old) (O.asked files.new) (asked_of all (in_order (names_of plan.now))) }
+        → Asks (O.asked files.old) (O.asked files.new) (asked_of all (files_of plan.now)) }
 
     // That one is told, or else the run of the plan is made on the texts of its files, and its status is answered.
     ensures done { (all : Files) → O.holds files.old ≡ Some all

@@ -119,6 +119,7 @@ pub(crate) fn open_texts<'n, O: Opener>(
         → IfErr result (λ e. Opens all (in_order (names_in names.entry)) (O.asked files.old) (O.asked files.new) (Some (e.name.now, e.reason))) }
     ensures texts { (all : Files) → O.holds files.old ≡ Some all → IfOk result (λ t. HoldTexts O.Reader.rest t (given_of all (names_in names.entry))) }
     ensures fresh { IfOk result (AreFresh O.Reader.failed) }
+    ensures same { O.holds files.new ≡ O.holds files.old }
 {
     let source = open_text(files, names.source)?;
     let deck = open_text(files, names.deck)?;

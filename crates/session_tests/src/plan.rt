@@ -63,6 +63,10 @@ fn plan_of(alloc: Global, words: &str) -> Option<Plan> {
     match words.next()? {
         "bundle" => Some(Plan::Bundle),
         "list" => Some(Plan::List(named(alloc, words.next()?)??)),
+        "check" => Some(Plan::Check {
+            json: words.next()? == "json",
+            sources: all(alloc, words)?,
+        }),
         "debug" => Some(Plan::Debug {
             source: named(alloc, words.next()?)??,
             script: named(alloc, words.next()?)?,
@@ -77,6 +81,15 @@ fn plan_of(alloc: Global, words: &str) -> Option<Plan> {
         }),
         _ => None,
     }
+}
+
+// The names that are left.
+fn all<'w, W: Iterator<Item = &'w str>>(alloc: Global, words: W) -> Option<Vec<String>> {
+    let mut names = Vec::new(alloc);
+    for word in words {
+        names.push(String::from_str(alloc, word).ok()?).ok()?;
+    }
+    Some(names)
 }
 
 fn named(alloc: Global, word: &str) -> Option<Option<String>> {

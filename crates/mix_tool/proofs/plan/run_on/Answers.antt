@@ -1,8 +1,12 @@
 -- The run of a program is that of the texts of the plan.
+use Rattle.mix_tool.proofs.CheckLemmas.{asks-nothing}
 use Rattle.mix_tool.proofs.plan.run_on.Goals as goal
 
-pub returns-in-Run-clause-runs : goal.returns-in-Run-clause-runs
-returns-in-Run-clause-runs g c given holds =
+pub returns-in-Run-clause-opened : goal.returns-in-Run-clause-opened
+returns-in-Run-clause-opened g c all e = rw c.in-Run.is (asks-nothing _)
+
+pub returns-in-Run-clause-done : goal.returns-in-Run-clause-done
+returns-in-Run-clause-done g c all given e holds =
     let texts = c.of_run-texts.ensures in
     let prints = c.run_printed-outcome.ensures.output given.source given.deck given.cards
     (rw texts holds.source) (rw texts holds.deck) (rw texts holds.cards) in
