@@ -18,6 +18,7 @@ mod help;
 mod listing;
 mod person;
 mod recall;
+mod shown;
 
 use crate::fault::ToolFault;
 use crate::statuses::{refuse_source, status, tell_refusal};
