@@ -1,11 +1,13 @@
 -- The lines of a talk, which come in parts: what is said of the parts holds of the whole.
-use Rattle.std.proofs.Common.{◌≡◌, ◌∙◌, ◌<◌, ◌≤◌, ◌+◌, ◌-◌, ◌||◌, ◌==◌, ℕ, zero, suc, Bool, true, false, cond, List, [], ◌∷◌, ◌++◌, append_assoc, length, map, take, drop, get_or, Option, None, Some, Result, Ok, Err, IfErr, refl, sym, ap, ap₂, subst, arith, true≢false, eqb}
+use Rattle.std.proofs.Common.{◌≡◌, ◌∙◌, ◌<◌, ◌≤◌, ◌+◌, ◌-◌, ◌||◌, ◌==◌, ℕ, zero, suc, Bool, true, false, cond, List, [], ◌∷◌, ◌++◌, append_assoc, length, map, take, drop, get_or, slice_index, Option, None, Some, Result, Ok, Err, IfErr, refl, sym, ap, ap₂, subst, arith, true≢false, eqb}
 use Rattle.std.proofs.KnownBytes.{Consumes-trans}
 use Rattle.std.proofs.lemmas.List.{append-nil, length-append, map-append, take_more}
 use Rattle.std.proofs.lemmas.List.Folds.{list_any-append}
 use Rattle.std.specs.List.{list_any, onto_first}
 use Rattle.std.specs.Io.KnownBytes.{Appends, Consumes, IsAtEnd, Keeps}
-use Rattle.mix_lines.specs.Lines.{is_line_feed, lines, lines-nil, text_of_line, whole_lines, words}
+use Rattle.mix_lines.specs.Lines.{is_line_feed, lines, lines-nil, strip_line_feed, text_of_line, whole_lines, words}
+use Rattle.std.specs.Str.Lines.{strip_carriage_return}
+use Rattle.std.proofs.lemmas.Bool.{lt-ltb}
 use Rattle.mix_session.specs.Session.{SessionState, effect_in}
 use Rattle.mix_run.specs.Fault.{IsMemoryOrWrite}
 use Rattle.mix_session.specs.Command.{after, reply_of}
@@ -17,7 +19,7 @@ use Rattle.mix_run.specs.declared.fault.ToolFault.TheVariants as faults
 use Rattle.mix_stream.specs.Stream.{AppendsFront}
 use Rattle.mix_run.specs.Output.{replies}
 use Rattle.mix_run.specs.Recall.{RecallState, meant, meant_by, nothing, recalled}
-use Rattle.mix_run.specs.Talk.{AnswersRead, Talks, after_lines, answers, asked, is_over, is_end, is_quit, is_whole, recalled_all}
+use Rattle.mix_run.specs.Talk.{AnswersRead, Talks, after_lines, answers, asked, is_over, is_end, is_quit, is_too_long, is_whole, max_line_bytes, recalled_all}
 use Rattle.mix_run.specs.Hearing.{Begins, Hears}
 use Rattle.mix_run.specs.Person.{kind_of, person_line}
 use Rattle.mix_run.specs.declared.talk.person.Line.{Line}
@@ -59,6 +61,72 @@ pub lines-append : (front rest : List ℕ) → is_whole front ≡ true → lines
 unfolding lines
 lines-append front rest whole =
     ap (map text_of_line) (whole_lines-append front rest whole) ∙ map-append text_of_line (whole_lines front) (whole_lines rest)
+
+-- ---- lines that are too long
+
+parts-clear : (a b : Bool) → (a || b) ≡ false → (a ≡ false) × (b ≡ false)
+parts-clear true b h = absurd (true≢false h)
+parts-clear false b h = (refl, h)
+
+step-first : (byte : ℕ) (v : Bool) (ls : List (List ℕ)) (line : List ℕ) (more : List (List ℕ)) → v ≡ false → ls ≡ line ∷ more
+    → cond v ((byte ∷ []) ∷ ls) (onto_first byte ls) ≡ (byte ∷ line) ∷ more
+step-first byte true ls line more h e = absurd (true≢false h)
+step-first byte false ls line more h e = ap (onto_first byte) e
+
+-- a line that begins with some bytes, of which none is a line feed
+first-line : (part rest : List ℕ) → list_any is_line_feed part ≡ false → 0 < length part
+    → (line : List ℕ) × (more : List (List ℕ)) × (whole_lines (part ++ rest) ≡ line ∷ more) × (length part ≤ length line)
+first-line [] rest clear some = absurd (omega arith)
+first-line (byte ∷ []) rest clear some = go (is_line_feed byte) (whole_lines rest) (parts-clear (is_line_feed byte) false clear).0
+  where
+    go : (v : Bool) (ls : List (List ℕ)) → v ≡ false
+        → (line : List ℕ) × (more : List (List ℕ)) × (cond v ((byte ∷ []) ∷ ls) (onto_first byte ls) ≡ line ∷ more) × (1 ≤ length line)
+    go true ls h = absurd (true≢false h)
+    go false [] h = (byte ∷ [], [], refl, omega arith)
+    go false (line ∷ ls) h = (byte ∷ line, ls, refl, omega arith)
+first-line (byte ∷ next ∷ part) rest clear some =
+    let clears = parts-clear (is_line_feed byte) (list_any is_line_feed (next ∷ part)) clear in
+    let later = first-line (next ∷ part) rest clears.1 (omega arith) in (
+      byte ∷ later.0,
+      later.1,
+      step-first byte (is_line_feed byte) (whole_lines ((next ∷ part) ++ rest)) later.0 later.1 clears.0 later.2,
+      (let longer = later.3 in omega (arith, longer)),
+    )
+
+length-front : (n : ℕ) (xs : List ℕ) → n ≤ length xs → length (take n xs) ≡ n
+length-front zero xs le = refl
+length-front (suc n) [] le = absurd (omega arith)
+length-front (suc n) (x ∷ xs) le = ap suc (length-front n xs (omega arith))
+
+one-less : (v : Bool) (line : List ℕ) → length line ≤ length (cond v (take (length line - 1) line) line) + 1
+one-less true line = let same = length-front (length line - 1) line (omega arith) in omega (arith, same)
+one-less false line = omega arith
+
+-- the end of a line has two bytes at most
+end-of-two : (line : List ℕ) → length line ≤ length (text_of_line line) + 2
+end-of-two line =
+    let bare = strip_line_feed line in
+    let feed : length line ≤ length bare + 1 = one-less (is_line_feed (slice_index line (length line - 1))) line in
+    let return : length bare ≤ length (strip_carriage_return bare) + 1 = one-less (eqb (get_or bare (length bare - 1) 0) 13) bare in
+    omega (arith, feed, return)
+
+or-true : (v : Bool) → (v || true) ≡ true
+or-true true = refl
+or-true false = refl
+
+any-first : (line : List ℕ) (more : List (List ℕ)) → max_line_bytes < length line → list_any is_too_long (line ∷ more) ≡ true
+any-first line more over = rw (lt-ltb max_line_bytes (length line) over) refl
+
+-- the line that such a part begins is too long, if the part is longer than a line may be with its end
+long-first : (part rest : List ℕ) → list_any is_line_feed part ≡ false → max_line_bytes + 2 < length part
+    → list_any is_too_long (lines (part ++ rest)) ≡ true
+unfolding lines
+long-first part rest clear over =
+    let first = first-line part rest clear (omega (arith, over)) in
+    let longer = first.3 in
+    let ends = end-of-two first.0 in
+    ap (λ l. list_any is_too_long (map text_of_line l)) first.2
+    ∙ any-first (text_of_line first.0) (map text_of_line first.1) (omega (arith, over, longer, ends))
 
 pub whole-append : (front rest : List ℕ) → is_whole front ≡ true → is_whole rest ≡ true → is_whole (front ++ rest) ≡ true
 whole-append [] rest h k = k
@@ -550,6 +618,17 @@ module _ (s mid : SessionState) (talker : Talker) (between : RecallState) (bytes
       ap (λ l. (answers s talker nothing (lines l)).bytes) (e ∙ append_assoc bytes part rest) ∙ bytes-step (part ++ rest)
       ∙ ap (λ l. said-before ++ (answers mid talker between (lines l)).bytes) text ∙ ap (λ l. said-before ++ l) front.1 in
       AppendsFront-after a b c said-before (answers mid talker between (lines k.0)).bytes front.0 (answers s talker nothing (lines t)).bytes h.written k.4 whole
+
+-- a part of a line that is longer than a line may be
+pub too-long : (s now : SessionState) (talker : Talker) (last : RecallState) (bytes left : List ℕ) (told : Told) (ends : Bool) (a b : Option (List ℕ))
+    → Hears s talker nothing bytes left now last told ends a b → max_line_bytes + 2 < length left → (t rest : List ℕ) → t ≡ bytes ++ rest
+    → list_any is_too_long (lines t) ≡ true
+too-long s now talker last bytes left told ends a b h over t rest e =
+    let same : t ≡ h.front ++ (left ++ rest) = e ∙ ap (λ l. l ++ rest) h.parts ∙ append_assoc h.front left rest in
+    ap (λ l. list_any is_too_long (lines l)) same
+    ∙ ap (list_any is_too_long) (lines-append h.front (left ++ rest) h.whole)
+    ∙ list_any-append is_too_long (lines h.front) (lines (left ++ rest))
+    ∙ ap (λ v. list_any is_too_long (lines h.front) || v) (long-first left rest h.part over) ∙ or-true (list_any is_too_long (lines h.front))
 
 -- a line ended the talk
 pub ended : (s now : SessionState) (talker : Talker) (last : RecallState) (bytes left : List ℕ) (told all : Told) (ends : Bool) (a b : Option (List ℕ))

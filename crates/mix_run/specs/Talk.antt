@@ -1,5 +1,5 @@
 -- A talk: each line is answered before more is read.
-use Rattle.std.specs.Prelude.{◌≡◌, ◌≢◌, ◌||◌, ◌&&◌, Bool, true, false, ℕ, List, [], ◌∷◌, ◌++◌, codes, Option, None, Some, Result, Ok, Err, MatchResult, if◌then◌else◌}
+use Rattle.std.specs.Prelude.{◌≡◌, ◌≢◌, ◌||◌, ◌&&◌, Bool, true, false, ℕ, List, [], ◌∷◌, ◌++◌, codes, Option, None, Some, Result, Ok, Err, MatchResult, nat_lt, length, if◌then◌else◌}
 use Rattle.std.specs.List.{list_any}
 use Rattle.std.specs.Io.KnownBytes.{Appends}
 use Rattle.mix_lines.specs.Lines.{is_line_feed, lines, words}
@@ -24,6 +24,10 @@ use Rattle.mix_run.specs.declared.talk.aside.Talker.TheVariants.{Program, Person
 -- how many bytes a line of a talk may have
 abbrev pub max_line_bytes : ℕ
 max_line_bytes = 1048576
+
+-- whether a line has more
+abbrev pub is_too_long : List ℕ → Bool
+is_too_long line = nat_lt max_line_bytes (length line)
 
 -- whether a line of this kind ends the talk; a program's line never does
 abbrev pub is_end : Line → Bool

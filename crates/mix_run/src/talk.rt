@@ -1,13 +1,15 @@
 //! A talk with the program of a source: each line is a command, which is done and answered before the next is read.
 
-ghost use Rattle.std.specs.Prelude.{◌≡◌, ◌≢◌, ◌⊎◌, ◌<◌, ◌≤◌, ◌+◌, ◌-◌, ◌^◌, ℕ, List, Some, Ok, Err, IfErr, IfOk, drop, length};
+ghost use Rattle.std.specs.Prelude.{◌≡◌, ◌≢◌, ◌⊎◌, ◌<◌, ◌≤◌, ◌+◌, ◌-◌, ◌^◌, ℕ, List, Some, Ok, Err, IfErr, IfOk, drop, length, true};
 ghost use Rattle.mixal_asm.specs.declared.fault.AsmFault.{AsmFault};
 ghost use Rattle.mix_machine.specs.declared.units.deck_fault.DeckFault.{DeckFault};
 ghost use Rattle.mixal_asm.specs.Assembly.{assembly, max_source_bytes};
 ghost use Rattle.mix_machine.specs.units.deck.Deck.{deck_of, max_deck_bytes};
 ghost use Rattle.mix_run.specs.Fault.{IsMemoryOrWrite};
 ghost use Rattle.mix_run.specs.Output.{IsStatus, Meets, max_script_bytes, output, refusal_of};
-ghost use Rattle.mix_run.specs.Talk.{TalksWith};
+ghost use Rattle.mix_run.specs.Talk.{TalksWith, is_too_long};
+ghost use Rattle.mix_lines.specs.Lines.{lines};
+ghost use Rattle.std.specs.List.{list_any};
 ghost use Rattle.mix_stream.specs.Stream.{ConsumesAtMost, CountsFailure};
 
 mod answer;
@@ -57,6 +59,8 @@ fn talk_with<R: In, W: Out, E: Out>(
     ensures talks { (t : List ℕ) → R.rest streams.old.input ≡ Some t
         → TalksWith (Ok program.entry) (Ok units) streams.old.talker t result (R.rest streams.new.input) (W.told streams.old.out) (W.told streams.new.out) }
     ensures long { result ≡ Err ToolFault.Long → (t : List ℕ) → R.rest streams.old.input ≡ Some t → max_script_bytes < length t }
+    ensures long_line { result ≡ Err ToolFault.Long → (t : List ℕ) → R.rest streams.old.input ≡ Some t → length t < 2 ^ 64 - 1
+        → list_any is_too_long (lines t) ≡ true }
     ensures read { CountsFailure (result ≡ Err ToolFault.Read) (R.failed streams.old.input) (R.failed streams.new.input) }
     ensures write { CountsFailure (result ≡ Err ToolFault.Write) (W.failed streams.old.out) (W.failed streams.new.out) }
     ensures status { result ≢ Ok 1 }
@@ -124,6 +128,8 @@ fn talk_of_source<S: In, D: In, R: In, W: Out, E: Out>(
     ensures talks { (s d t : List ℕ) → S.rest source.old ≡ Some s → D.rest deck.old ≡ Some d → R.rest streams.old.input ≡ Some t
         → TalksWith (assembly s) (deck_of d) streams.old.talker t result (R.rest streams.new.input) (W.told streams.old.out) (W.told streams.new.out) }
     ensures long { result ≡ Err ToolFault.Long → (d t : List ℕ) → D.rest deck.old ≡ Some d → R.rest streams.old.input ≡ Some t → max_script_bytes < length t }
+    ensures long_line { result ≡ Err ToolFault.Long → (d t : List ℕ) → D.rest deck.old ≡ Some d → R.rest streams.old.input ≡ Some t
+        → length t < 2 ^ 64 - 1 → list_any is_too_long (lines t) ≡ true }
     ensures read { CountsFailure (result ≡ Err ToolFault.Read) (S.failed source.old + D.failed deck.old + R.failed streams.old.input)
         (S.failed source.new + D.failed deck.new + R.failed streams.new.input) }
     ensures reads { (S.failed source.old ≤ S.failed source.new) × (D.failed deck.old ≤ D.failed deck.new)
@@ -188,8 +194,10 @@ pub fn run_talk<S: In, D: In, R: In, W: Out, E: Out>(
         → streams.old.talker ≡ Talker.Program → length t ≤ max_script_bytes → result ≢ Err ToolFault.Read
         → Meets (output s d t) result (W.told streams.old.out) (W.told streams.new.out) }
 
-    // T6 is answered only where the whole input is longer than one line may be.
+    // T6 is answered only where a line is longer than one may be, unless the input has 2^64 - 1 bytes or more; so never for many short lines.
     ensures long { result ≡ Err ToolFault.Long → (d t : List ℕ) → D.rest deck.old ≡ Some d → R.rest streams.old.input ≡ Some t → max_script_bytes < length t }
+    ensures long_line { result ≡ Err ToolFault.Long → (d t : List ℕ) → D.rest deck.old ≡ Some d → R.rest streams.old.input ≡ Some t
+        → length t < 2 ^ 64 - 1 → list_any is_too_long (lines t) ≡ true }
 
     // A read or a write has failed exactly where that is answered.
     ensures read { CountsFailure (result ≡ Err ToolFault.Read) (S.failed source.old + D.failed deck.old + R.failed streams.old.input)

@@ -7,7 +7,7 @@ ghost use Rattle.mix_lines.specs.Lines.{is_line_feed, lines};
 ghost use Rattle.mix_machine.specs.declared.units.deck_fault.DeckFault.{DeckFault};
 ghost use Rattle.mix_run.specs.Fault.{IsMemoryOrWrite};
 ghost use Rattle.mix_run.specs.Recall.{nothing};
-ghost use Rattle.mix_run.specs.Talk.{Talks, after_lines, answers, asked, is_over, is_quit, is_whole, max_line_bytes, recalled_all};
+ghost use Rattle.mix_run.specs.Talk.{Talks, after_lines, answers, asked, is_over, is_quit, is_too_long, is_whole, max_line_bytes, recalled_all};
 ghost use Rattle.mix_run.specs.Hearing.{Begins, Hears};
 ghost use Rattle.mix_stream.specs.Stream.{AppendsFront, CountsFailure};
 
@@ -20,8 +20,8 @@ use mix_refused::Memory;
 use mix_session::{Session, Told};
 use mix_stream::{In, Out};
 
-/// The most bytes that a line of a talk may have.
-const MAX_LINE_BYTES: usize = 1_048_576;
+/// The most bytes that a line of a talk may have with its end, which has at most two.
+const MAX_WHOLE_LINE_BYTES: usize = 1_048_578;
 
 const CHUNK: usize = 4096;
 
@@ -156,6 +156,7 @@ pub(crate) fn talk<R: In, W: Out, E: Out>(
     ensures talks { (t : List ℕ) → R.rest input.old ≡ Some t
         → Talks session.old talker t result (R.rest input.new) (W.told out.old) (W.told out.new) }
     ensures long { result ≡ Err ToolFault.Long → (t : List ℕ) → R.rest input.old ≡ Some t → max_line_bytes < length t }
+    ensures long_line { result ≡ Err ToolFault.Long → (t : List ℕ) → R.rest input.old ≡ Some t → length t < 2 ^ 64 - 1 → list_any is_too_long (lines t) ≡ true }
     ensures read { CountsFailure (result ≡ Err ToolFault.Read) (R.failed input.old) (R.failed input.new) }
     ensures deck { (f : DeckFault) → result ≢ Err (ToolFault.Deck f) }
     ensures write { CountsFailure (result ≡ Err ToolFault.Write) (W.failed out.old) (W.failed out.new) }
@@ -194,7 +195,7 @@ pub(crate) fn talk<R: In, W: Out, E: Out>(
         if heard.is_over {
             return Ok(told);
         }
-        if pending.len() > MAX_LINE_BYTES {
+        if pending.len() > MAX_WHOLE_LINE_BYTES {
             return Err(ToolFault::Long);
         }
     }

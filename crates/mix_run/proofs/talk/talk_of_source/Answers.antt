@@ -40,6 +40,11 @@ returns-in-Err-clause-long g c e d t hd ht =
     let same : c.in-Err.fault ≡ Long = cc in
     absurd (not-long (deck_of d) c.in-Err.fault (c.in-Err.ensures.units d hd) same)
 
+pub returns-in-Err-clause-long_line : goal.returns-in-Err-clause-long_line
+returns-in-Err-clause-long_line g c e d t hd ht counted =
+    let same : c.in-Err.fault ≡ Long = cc in
+    absurd (not-long (deck_of d) c.in-Err.fault (c.in-Err.ensures.units d hd) same)
+
 pub returns-clause-talks : goal.returns-clause-talks
 returns-clause-talks g c s d t hs hd ht =
     TalksWith-source s _ (Ok c.in-Ok.program) (deck_of d) c.args.streams.now.talker t _ _ _ _ (c.deref.ensures.value ∙ (c.in_ok-text.ensures.whole s hs).0) c.in-Ok.ensures.ok

@@ -1,7 +1,7 @@
 -- What is said of the parts that were read holds of the whole text.
 use Rattle.std.proofs.Common.{◌≡◌, ◌∙◌, ◌<◌, [], length, take, ap, refl, arith, rules}
 use Rattle.std.proofs.KnownBytes.{Consumes-nil, Consumes-trans}
-use Rattle.mix_run.proofs.TalkLemmas.{Hears-nothing, Hears-on, Hears-then, Talks-begun, all-read, end-begun, end-said, ended, left-known, more-begun, read-more, unread}
+use Rattle.mix_run.proofs.TalkLemmas.{Hears-nothing, Hears-on, Hears-then, Talks-begun, all-read, end-begun, end-said, ended, left-known, more-begun, read-more, too-long, unread}
 use Rattle.mix_run.proofs.talk.heard.talk.Goals as goal
 
 pub loop-reads-init : goal.loop-reads-init
@@ -46,11 +46,17 @@ returns-then-heard-clause-talks g c t e =
     ended _ _ _ _ _ _ _ c.and-told.result _ _ _ (Hears-then _ _ _ _ _ _ _ _ _ _ _ _ _ _ _ _ _ so_far.3 c.in-Ok-hear.ensures.heard) c.if-heard.true c.and-told.ensures
     t known.0 known.2
 
-pub returns-then-len-gt-MAX_LINE_BYTES-clause-talks : goal.returns-then-len-gt-MAX_LINE_BYTES-clause-talks
-returns-then-len-gt-MAX_LINE_BYTES-clause-talks g c t e =
+pub returns-then-len-gt-MAX_WHOLE_LINE_BYTES-clause-talks : goal.returns-then-len-gt-MAX_WHOLE_LINE_BYTES-clause-talks
+returns-then-len-gt-MAX_WHOLE_LINE_BYTES-clause-talks g c t e =
     let so_far = c.loop-reads.invariant.heard in
     let known = left-known _ _ t _ e (Consumes-trans _ _ _ _ _ so_far.1 c.in-Ok.ensures.bytes.0) in
     unread _ _ _ _ _ _ _ _ _ _ _ (Hears-then _ _ _ _ _ _ _ _ _ _ _ _ _ _ _ _ _ so_far.3 c.in-Ok-hear.ensures.heard) t known.0 known.1 known.2
+
+pub returns-then-len-gt-MAX_WHOLE_LINE_BYTES-clause-long_line : goal.returns-then-len-gt-MAX_WHOLE_LINE_BYTES-clause-long_line
+returns-then-len-gt-MAX_WHOLE_LINE_BYTES-clause-long_line g c long t e counted =
+    let so_far = c.loop-reads.invariant.heard in
+    let known = left-known _ _ t _ e (Consumes-trans _ _ _ _ _ so_far.1 c.in-Ok.ensures.bytes.0) in
+    too-long _ _ _ _ _ _ _ _ _ _ (Hears-then _ _ _ _ _ _ _ _ _ _ _ _ _ _ _ _ _ so_far.3 c.in-Ok-hear.ensures.heard) (search rules) t known.0 known.2
 
 pub loop-reads-preserved : goal.loop-reads-preserved
 loop-reads-preserved g c =
