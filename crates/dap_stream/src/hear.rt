@@ -9,11 +9,8 @@ ghost use Rattle.mix_stream.specs.Stream.{CountsFailure};
 use dap_frame::{MAX_BODY, MAX_HEADER, Next, next_frame};
 use dap_message::{MessageFault, Request};
 use mix_refused::{Memory, Refused};
-use mix_stream::In;
+use mix_stream::{CHUNK, In};
 use std::alloc::Global;
-
-// How many bytes are read at once.
-const CHUNK: usize = 4096;
 
 /// What was heard.
 #[derive(Drop)]

@@ -1,6 +1,7 @@
 //! Steps without history, and what they print.
 ghost use Rattle.std.specs.Prelude.{◌≡◌, ◌<◌, ◌-◌, ◌^◌, IfOk, IfErr, OnOk, Err, None, drop, flat_map, length, slice_index_or};
 ghost use Rattle.std.specs.Io.KnownBytes.{Appends};
+ghost use Rattle.mix_word.specs.Uses.{unit_count};
 ghost use Rattle.mix_machine.specs.World.{unit_at};
 ghost use Rattle.mix_run.specs.Fault.{IsMemoryOrWrite};
 ghost use Rattle.mix_stream.specs.Stream.{AppendsFront, CountsFailure};
@@ -216,7 +217,7 @@ fn row_counts(world: &World) -> RowCounts
 // One unit, by its number.
 #[inline(always)]
 fn unit_at(world: &World, number: u8) -> &Unit
-    requires { number < 21 }
+    requires { number < unit_count }
     ensures { result.now ≡ unit_at world.now number }
 {
     match UnitNo::of(number) {

@@ -18,12 +18,10 @@ use crate::talk::recall::Recall;
 use mix_lines::split_line;
 use mix_refused::Memory;
 use mix_session::{Session, Told};
-use mix_stream::{In, Out};
+use mix_stream::{CHUNK, In, Out};
 
 /// The most bytes that a line of a talk may have with its end, which has at most two.
 const MAX_WHOLE_LINE_BYTES: usize = 1_048_578;
-
-const CHUNK: usize = 4096;
 
 /// What became of some lines: whether each command was accepted, and whether one of them ended the talk.
 #[derive(Clone, Copy)]
