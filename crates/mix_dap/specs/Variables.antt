@@ -9,7 +9,7 @@ use Rattle.mix_machine.specs.World.{WorldState, cell_of, unit_at}
 use Rattle.mix_machine.specs.units.Row.{RowState}
 use Rattle.mix_machine.specs.units.Unit.{UnitState}
 use Rattle.mix_session.specs.Keyword.{toggle_name, indicator_name}
-use Rattle.mix_session.specs.Reply.{location_text}
+use Rattle.mix_word.specs.Text.{location_text}
 use Rattle.mix_session.specs.ShowUnit.{counts_text}
 use Rattle.dap_message.specs.Request.{number_of}
 use Rattle.dap_message.specs.declared.request.Request.{Request}
