@@ -1,14 +1,17 @@
 -- What is said of a source shows in its first bytes, one more than it may have.
-use Rattle.std.proofs.Common.{◌≡◌, ℕ, Bool, true, false, ◌≤◌, cond, ltb, List, [], ◌++◌, length, take, flat_map, Option, None, Some, option_map, refl, sym, ap, ◌∙◌, arith}
+use Rattle.std.proofs.Common.{◌≡◌, ℕ, Bool, true, false, not, ◌≤◌, cond, ltb, List, [], ◌∷◌, ◌++◌, length, take, flat_map, Option, None, Some, option_map, refl, sym, ap, ◌∙◌, arith}
 use Rattle.std.specs.Prelude.{slice_get}
+use Rattle.std.specs.List.{list_any}
 use Rattle.std.proofs.lemmas.Bool.{ltb-false}
 use Rattle.std.proofs.lemmas.List.{take_all}
 use Rattle.mix_lines.specs.Lines.{lines}
+use Rattle.mixal_asm.specs.Diagnose.{diagnostics_of, is_warning, of_fault, up_to_end, warnings_in, warnings_of, with_faults}
 use Rattle.mixal_asm.specs.Faults.{faults_of, faults_from, max_faults}
+use Rattle.mixal_asm.specs.declared.diagnostic.Diagnostic.{Diagnostic}
 use Rattle.mixal_asm.specs.declared.fault.AsmFault.{AsmFault}
 use Rattle.mixal_asm.specs.declared.fault.AsmKind.TheVariants.{SourceTooLong}
-use Rattle.mix_check.specs.Json.{columns_of, json_line, json_fault, json_report}
-use Rattle.mix_check.specs.Report.{Shown, fault_text, has_faults, report, shown_in, with_shown}
+use Rattle.mix_check.specs.Json.{columns_of, json_line, json_diagnostic, json_report}
+use Rattle.mix_check.specs.Report.{Shown, diagnostic_text, has_faults, report, shown_in, with_shown}
 use Rattle.mix_run.specs.Check.{report_of}
 use Rattle.mix_run.proofs.Truncation.{limited-take}
 
@@ -16,11 +19,14 @@ use Rattle.mix_run.proofs.Truncation.{limited-take}
 abbrev too_long : AsmFault
 too_long = record { line = 1; kind = SourceTooLong }
 
+abbrev long_source : Diagnostic
+long_source = of_fault too_long
+
 abbrev nowhere : Option Shown
 nowhere = None
 
 -- it is about no part of a line
-shown_nowhere : (line : Option (List ℕ)) → shown_in too_long line ≡ nowhere
+shown_nowhere : (line : Option (List ℕ)) → shown_in long_source.finding line ≡ nowhere
 shown_nowhere None = refl
 shown_nowhere (Some line) = go (ltb 1048576 (length line))
   where
@@ -28,33 +34,42 @@ shown_nowhere (Some line) = go (ltb 1048576 (length line))
     go true = refl
     go false = refl
 
-pub faults_of-take : (source : List ℕ) → faults_of (take 1048577 source) ≡ faults_of source
+faults_of-take : (source : List ℕ) → faults_of (take 1048577 source) ≡ faults_of source
 unfolding faults_of
 faults_of-take source = limited-take 1048576 _ (λ text. faults_from max_faults [] (lines text)) source
 
--- what is said of each fault, if of that fault the same is said in each source
-said-take : (say : List ℕ → AsmFault → List ℕ) → ((s t : List ℕ) → say s too_long ≡ say t too_long) → (source : List ℕ)
-    → flat_map (say (take 1048577 source)) (faults_of (take 1048577 source)) ≡ flat_map (say source) (faults_of source)
-unfolding faults_of
-said-take say same source = ap (flat_map (say (take 1048577 source))) (faults_of-take source) ∙ go (ltb 1048576 (length source)) refl
+warnings_of-take : (source : List ℕ) → warnings_of (take 1048577 source) ≡ warnings_of source
+warnings_of-take source = limited-take 1048576 _ (λ text. warnings_in (up_to_end (lines text))) source
+
+diagnostics_of-take : (source : List ℕ) → diagnostics_of (take 1048577 source) ≡ diagnostics_of source
+unfolding diagnostics_of
+diagnostics_of-take source =
+    ap (λ (warnings : List Diagnostic). with_faults warnings (faults_of (take 1048577 source))) (warnings_of-take source)
+    ∙ ap (with_faults (warnings_of source)) (faults_of-take source)
+
+-- what is said of each diagnostic, if of a source that is too long the same is said for each
+said-take : (say : List ℕ → Diagnostic → List ℕ) → ((s t : List ℕ) → say s long_source ≡ say t long_source) → (source : List ℕ)
+    → flat_map (say (take 1048577 source)) (diagnostics_of (take 1048577 source)) ≡ flat_map (say source) (diagnostics_of source)
+unfolding diagnostics_of faults_of
+said-take say same source = ap (flat_map (say (take 1048577 source))) (diagnostics_of-take source) ∙ go (ltb 1048576 (length source)) refl
   where
-    go : (b : Bool) → ltb 1048576 (length source) ≡ b → flat_map (say (take 1048577 source)) (faults_of source) ≡ flat_map (say source) (faults_of source)
+    go : (b : Bool) → ltb 1048576 (length source) ≡ b → flat_map (say (take 1048577 source)) (diagnostics_of source) ≡ flat_map (say source) (diagnostics_of source)
     go true e = rw e (ap (λ bytes. bytes ++ []) (same (take 1048577 source) source))
     go false e =
         let few : length source ≤ 1048576 = ltb-false 1048576 (length source) e in
         rw (take_all 1048577 source (omega arith)) refl
 
 report-take : (name source : List ℕ) → report name (take 1048577 source) ≡ report name source
-unfolding report fault_text
+unfolding report diagnostic_text
 report-take name source =
-    said-take (fault_text name)
-    (λ s t. ap (with_shown name too_long) (shown_nowhere (slice_get (lines s) 0) ∙ sym (shown_nowhere (slice_get (lines t) 0)))) source
+    said-take (diagnostic_text name)
+    (λ s t. ap (with_shown name long_source) (shown_nowhere (slice_get (lines s) 0) ∙ sym (shown_nowhere (slice_get (lines t) 0)))) source
 
 json_report-take : (name source : List ℕ) → json_report name (take 1048577 source) ≡ json_report name source
 unfolding json_report
 json_report-take name source =
-    said-take (json_fault name)
-    (λ s t. ap (λ place. json_line name too_long (option_map columns_of place)) (shown_nowhere (slice_get (lines s) 0) ∙ sym (shown_nowhere (slice_get (lines t) 0)))) source
+    said-take (json_diagnostic name)
+    (λ s t. ap (λ place. json_line name long_source (option_map columns_of place)) (shown_nowhere (slice_get (lines s) 0) ∙ sym (shown_nowhere (slice_get (lines t) 0)))) source
 
 report_of-take : (json : Bool) (name source : List ℕ)
     → report_of json (record { name = name; text = take 1048577 source }) ≡ report_of json (record { name = name; text = source })
@@ -67,4 +82,5 @@ pub report-read : (json : Bool) (name source read : List ℕ) → read ≡ take 
 report-read json name source read e = ap (λ (text : List ℕ). report_of json (record { name = name; text = text })) e ∙ report_of-take json name source
 
 pub faulty-read : (source read : List ℕ) → read ≡ take 1048577 source → has_faults read ≡ has_faults source
-faulty-read source read e = ap has_faults e ∙ ap (λ (fs : List AsmFault). ltb 0 (length fs)) (faults_of-take source)
+faulty-read source read e =
+    ap has_faults e ∙ ap (λ (ds : List Diagnostic). list_any (λ d. not (is_warning d.finding)) ds) (diagnostics_of-take source)

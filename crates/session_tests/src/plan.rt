@@ -57,16 +57,13 @@ fn done(alloc: Global, plan: &Plan, shelf: &mut Shelf<'_>, input: &[u8]) -> Opti
     Some(told)
 }
 
-// The plan of some words; a file that is not named is `-`.
-fn plan_of(alloc: Global, words: &str) -> Option<Plan> {
-    let mut words = words.split(' ');
+// The plan of a line; a file that is not named is `-`.
+fn plan_of(alloc: Global, line: &str) -> Option<Plan> {
+    let mut words = line.split(' ');
     match words.next()? {
         "bundle" => Some(Plan::Bundle),
         "list" => Some(Plan::List(named(alloc, words.next()?)??)),
-        "check" => Some(Plan::Check {
-            json: words.next()? == "json",
-            sources: all(alloc, words)?,
-        }),
+        "check" => checked(alloc, line.strip_prefix("check ")?),
         "debug" => Some(Plan::Debug {
             source: named(alloc, words.next()?)??,
             script: named(alloc, words.next()?)?,
@@ -83,13 +80,17 @@ fn plan_of(alloc: Global, words: &str) -> Option<Plan> {
     }
 }
 
-// The names that are left.
-fn all<'w, W: Iterator<Item = &'w str>>(alloc: Global, words: W) -> Option<Vec<String>> {
-    let mut names = Vec::new(alloc);
-    for word in words {
-        names.push(String::from_str(alloc, word).ok()?).ok()?;
+// A check: whether it is as JSON, and the names of its sources.
+fn checked(alloc: Global, line: &str) -> Option<Plan> {
+    let (form, names) = line.split_once(' ')?;
+    let mut sources = Vec::new(alloc);
+    for name in names.split(' ') {
+        sources.push(String::from_str(alloc, name).ok()?).ok()?;
     }
-    Some(names)
+    Some(Plan::Check {
+        json: form == "json",
+        sources,
+    })
 }
 
 fn named(alloc: Global, word: &str) -> Option<Option<String>> {
