@@ -37,8 +37,8 @@ def deck_of(program, folder, name, filled=False):
 
 def loader(run):
     hello, copier = deck_of(run.program, run.folder, "hello.mixal"), deck_of(run.program, run.folder, "copier.mixal", filled=True)
-    yield "the cards of the lesson", run.bundle("lesson.mix").deck, ["%UNIT 16", *hello]
-    yield "the cards of the copier", run.bundle("copy.mix").deck, ["%UNIT 16", *copier]
+    yield "the cards of the lesson", run.bundle("lesson.mixal").deck, ["%UNIT 16", *hello]
+    yield "the cards of the copier", run.bundle("copy.mixal").deck, ["%UNIT 16", *copier]
     text = "".join(re.findall(r'ALF +"(.....)"', (run.folder / "hello.mixal").read_text()))
     ran = run(script=["run 10000", "show unit 18"])
     yield "what the loaded program prints", (ran.rows(18), ran.end), ([text.rstrip()], "halt")
@@ -49,13 +49,13 @@ def loader(run):
         ran = run(deck=["%UNIT 16", *cards], script=[f"run 10000 until loc {first}", f"show values {first} {first + size - 1}"])
         yield f"{size} loaded words", ran.numbers(f"show values {first} {first + size - 1}"), numbers
         yield "the location where the program begins", ran.location, first
-    ran = run("copy.mix", script=["run 10000", "show unit 17"])
+    ran = run("copy.mixal", script=["run 10000", "show unit 17"])
     yield "the cards that are punched", ran.rows(17), [card.rstrip() for card in copier]
-    ran = run("copy.mix", deck=["%UNIT 16", *ran.rows(17)], script=["run 10000", "show unit 17"])
+    ran = run("copy.mixal", deck=["%UNIT 16", *ran.rows(17)], script=["run 10000", "show unit 17"])
     yield "the cards that the copy punches", ran.rows(17), [card.rstrip() for card in copier]
     for size in (1, 6, 7, 8, 21, 40):
         first, numbers = draw.randrange(100, 3900), [draw.randrange(1, 64**5) for _ in range(size)]
-        ran = run("answer.mix", N=size, TO=first, data=numbers, script=["run 100000", "show unit 17"])
+        ran = run("answer.mixal", N=size, TO=first, data=numbers, script=["run 100000", "show unit 17"])
         yield f"{size} words, punched", (ran.end, ran.rows(17)), ("halt", [card.rstrip() for card in cards_of(first, numbers)])
 
 

@@ -37,7 +37,7 @@ def changes(bundle):
 def unseen(lesson, runner):
     """How many changes there are, and those with which all facts stay true; the first fact that fails ends a lesson."""
     count, same = 0, []
-    for line, new, change in changes(runner(lesson).bundle("lesson.mix")):
+    for line, new, change in changes(runner(lesson).bundle("lesson.mixal")):
         count += 1
         try:
             seen = any(got != wanted for _, got, wanted in lesson.facts(runner(lesson, change)))

@@ -17,7 +17,7 @@ def degrees(run):
         yield f"how the run of {celsius} ends", ran.end, "halt"
         yield f"the lower half of the product of {celsius}", ran.register("X"), 9 * celsius
     for fahrenheit in (98, 20, 0, -40, 451, 99, 100, 101):
-        ran = run("answer.mix", script=[f"set cell FAHREN {fahrenheit}", "run 100", "show values FAHREN RESULT"])
+        ran = run("answer.mixal", script=[f"set cell FAHREN {fahrenheit}", "run 100", "show values FAHREN RESULT"])
         nearest = round((fahrenheit - 32) * 5 / 9)  # a ninth is never half way
         yield f"{fahrenheit} degrees in Celsius", ran.numbers("show values FAHREN RESULT"), [fahrenheit, nearest]
 
@@ -32,7 +32,7 @@ def fields(run):
         ran = run(script=[put, "run 100", "show cells DATE DATE", "show values DAY YEAR"])
         yield "the date moved on", ran.lines("show cells DATE DATE")[0][5:], date_word("-", day, 1, year + 1)
         yield "its parts before, and how the run ends", (ran.numbers("show values DAY YEAR"), ran.end), ([day, month, year], "halt")
-        ran = run("answer.mix", script=[put, "run 100", "show cells DATE DATE"])
+        ran = run("answer.mixal", script=[put, "run 100", "show cells DATE DATE"])
         yield "day and month changed", ran.lines("show cells DATE DATE")[0][5:], date_word("+", month, day, year)
 
 
@@ -40,7 +40,7 @@ def reversal(run):
     show = "show values TABLE+1 TABLE+N"
     for n in (1, 2, 3, 7, 10, 31):
         table = [100 + 7 * k for k in range(n)]
-        for name in ("lesson.mix", "answer.mix"):
+        for name in ("lesson.mixal", "answer.mixal"):
             ran = run(name, N=n, data=table, script=[*RUN, show])
             yield f"{name}, {n} entries reversed", ran.numbers(show), table[::-1]
             yield from times(ran, N=n)
@@ -50,7 +50,7 @@ def rotation(run):
     show = "show values TABLE+1 TABLE+N"
     for n, k in ((7, 2), (7, 1), (7, 6), (12, 5), (2, 1)):
         table = [100 + 7 * m for m in range(n)]
-        for name, by in (("lesson.mix", k), ("answer.mix", n - k)):
+        for name, by in (("lesson.mixal", k), ("answer.mixal", n - k)):
             ran = run(name, N=n, K=k, data=table, script=[*RUN, show])
             yield f"{name}, {n} entries moved by {k}", ran.numbers(show), table[by:] + table[:by]
             yield from times(ran, N=n, B=k // 2 + (n - k) // 2 + n // 2)
@@ -69,7 +69,7 @@ def maximum(run):
         ran = run(N=len(table), data=table, script=[*RUN, "show values"])
         yield "the largest entry and its position", (ran.register("A"), ran.register("I2")), (max(table), place)
         yield from times(ran, N=len(table), A=more)
-        ran = run("answer.mix", N=len(table), data=table, script=[*RUN, "show values"])
+        ran = run("answer.mixal", N=len(table), data=table, script=[*RUN, "show values"])
         yield "the largest and the smallest", (ran.register("A"), ran.register("X")), (max(table), min(table))
         yield from times(ran, N=len(table), A=more, B=less)
     found = 0
@@ -99,7 +99,7 @@ def sieve(run):
         last = [max([p for p in factors(k) if p * p <= k], default=0) for k in range(2, n + 1)]
         yield "who struck out last: the largest factor whose square is no larger", ran.numbers(cells), last
         yield from times(ran, N=n, R=root - 1, Q=len(small), S=struck, P=len(primes))
-        ran = run("answer.mix", N=n, script=[*RUN, cells])
+        ran = run("answer.mixal", N=n, script=[*RUN, cells])
         yield "who struck out first: the smallest factor", ran.numbers(cells), [0 if is_prime(k) else factors(k)[0] for k in range(2, n + 1)]
 
 
@@ -113,7 +113,7 @@ def josephus(run):
         ran = run(N=n, M=m, script=[*RUN, show])
         yield f"the order of {n} men, each {m}-th", ran.numbers(show), order
         yield from times(ran, N=n, M=m)
-        ran = run("answer.mix", N=n, M=m, script=[*RUN, "show values LAST LAST"])
+        ran = run("answer.mixal", N=n, M=m, script=[*RUN, "show values LAST LAST"])
         yield "the last man", ran.numbers("show values LAST LAST"), order[-1:]
         yield from times(ran, N=n)
 
@@ -133,7 +133,7 @@ def overflow(run):
     before, number, index = 1, 1, 2
     while before + number < 64**5:
         before, number, index = number, before + number, index + 1
-    ran = run("answer.mix", script=["run 1000", "show values RESULT INDEX"])
+    ran = run("answer.mixal", script=["run 1000", "show values RESULT INDEX"])
     yield "the largest Fibonacci number in a word, and its index", ran.numbers("show values RESULT INDEX"), [number, index]
 
 

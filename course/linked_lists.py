@@ -41,7 +41,7 @@ def queue(run):
         yield from times(ran, I=tried, D=taken, O=over, U=under, A=put // places + vain, B=len(out) // places)
         out, over, under = queued(operations, places)
         show = f"show values TAKEN+1 TAKEN+{len(out) + 1}"
-        ran = run("answer.mix", M=places, data=[*operations, -1], script=[*RUN, show, "show values"])
+        ran = run("answer.mixal", M=places, data=[*operations, -1], script=[*RUN, show, "show values"])
         yield f"what is removed when all {places} cells are used", (ran.numbers(show), ran.register("I6")), ([*out, 0], over + under)
 
 
@@ -64,14 +64,14 @@ def topological_sort(run):
         things, after = range(1, n + 1), descendants(relations, range(1, n + 1))
         turning = {thing for thing in things if thing in after[thing]}
         left = {thing for thing in things if thing in turning or any(thing in after[one] for one in turning)}
-        for name in ("lesson.mix", "answer.mix"):
+        for name in ("lesson.mixal", "answer.mixal"):
             ran = run(name, N=n, M=len(relations), data=[f"        CON  {j}(1:2),{k}(4:5)" for j, k in relations],
-                      script=[*RUN, "show values ROW+1 ROW+N", *(["show values LEFT+1 LEFT+N"] if name == "answer.mix" else [])])
+                      script=[*RUN, "show values ROW+1 ROW+N", *(["show values LEFT+1 LEFT+N"] if name == "answer.mixal" else [])])
             row = [thing for thing in ran.numbers("show values ROW+1 ROW+N") if thing]
             yield f"{name}: what comes into the row", sorted(row), sorted(set(things) - left)
             place = {thing: at for at, thing in enumerate(row)}
             yield f"{name}: relations that the row does not keep", [(j, k) for j, k in relations if j in place and k in place and place[j] > place[k]], []
-            if name == "answer.mix":
+            if name == "answer.mixal":
                 yield "what is left over", {thing for thing in ran.numbers("show values LEFT+1 LEFT+N") if thing}, left
             else:
                 first = set(things) - {k for _, k in relations}
@@ -120,16 +120,16 @@ def polynomials(run):
         total = {one: p.get(one, 0) + q.get(one, 0) for one in {**p, **q}}
         both = set(p) & set(q)
         gone = sum(total[one] == 0 for one in both)
-        for name in ("lesson.mix", "answer.mix"):
+        for name in ("lesson.mixal", "answer.mixal"):
             ran = run(name, K=20, data={"p": list_lines("P", p), "q": list_lines("Q", q)}, script=[*RUN, "show cells P POOL+40", "show values"])
             words = ran.words("show cells P POOL+40")
             yield f"{name}: the sum", polynomial_at(words, 1100), [(one, total[one]) for one in sorted(total, reverse=True) if total[one]]
-            given = len(p) + 1 if name == "answer.mix" else 0
+            given = len(p) + 1 if name == "answer.mixal" else 0
             free = linked(words, ran.register("I6"), 0)
             yield f"{name}: free terms", len(free), 20 - len(set(p) - both) + gone + given
-            if name == "lesson.mix":
+            if name == "lesson.mixal":
                 yield from times(ran, K=20, A=len(both) - gone, B=gone, C=len(set(p) - both), D=len(set(q) - both))
-    for name in ("lesson.mix", "answer.mix"):
+    for name in ("lesson.mixal", "answer.mixal"):
         for room, terms in ((1, 2), (2, 2), (1, 3), (3, 3)):
             p = {(k, 0, 0): k for k in range(1, terms + 1)}
             ran = run(name, K=room, data={"p": list_lines("P", p), "q": list_lines("Q", {})}, script=[*RUN, "show values", "show values 0 1"])
@@ -157,7 +157,7 @@ def counter(run):
             clerks.sort()
             begins.append(max(come, clerks[0]))
             clerks[0] = begins[-1] + need
-        ran = run("answer.mix", N=n, data={"comes": comes, "needs": needs}, script=[*RUN, show])
+        ran = run("answer.mixal", N=n, data={"comes": comes, "needs": needs}, script=[*RUN, show])
         yield "when each is served by two clerks", ran.numbers(show), begins
 
 

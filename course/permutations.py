@@ -50,7 +50,7 @@ def cycles_counted(run):
         yield f"permutations of {n} by their cycles", ran.numbers("show values TALLY+1 TALLY+N"), cycle_numbers(n)
         walked = factorial(n) * (n + 1) * (harmonic(n + 1) - 1)  # from each number to one that is no larger
         yield from times(ran, N=n, **steps, W=walked, C=factorial(n) * harmonic(n))
-        ran = run("answer.mix", N=n, script=[*RUN, "show values TALLY TALLY+N"])
+        ran = run("answer.mixal", N=n, script=[*RUN, "show values TALLY TALLY+N"])
         yield f"permutations of {n} by their fixed numbers", ran.numbers("show values TALLY TALLY+N"), fixed_numbers(n)
         yield from times(ran, N=n, **steps)
 
@@ -74,7 +74,7 @@ def inverse(run):
         yield from times(ran, N=len(images), A=larger_before(images))
         extra += measured(ran, "A")["A"] if len(images) == 4 else 0
     yield "A in all permutations of four: 4! times (5 H(4) - 8)", extra, factorial(4) * (5 * harmonic(4) - 8)
-    ran = run("answer.mix", script=[*RUN, show])
+    ran = run("answer.mixal", script=[*RUN, show])
     yield "the inverse that takes longest", ran.numbers(show), [2, 3, 4, 5, 6, 1]
     yield from times(ran, N=6, A=max(map(larger_before, itertools.permutations(range(1, 7)))))
 

@@ -107,7 +107,7 @@ class Outcome:
 
 
 class Runner:
-    """Runs the bundles of a lesson. A change, if one is given, is made in the bundle of `lesson.mix` before each run."""
+    """Runs the bundles of a lesson. A change, if one is given, is made in the bundle of `lesson.mixal` before each run."""
 
     def __init__(self, program, folder, change=lambda bundle: None):
         self.program, self.folder, self.change = program, COURSE / folder, change
@@ -115,9 +115,9 @@ class Runner:
     def bundle(self, name):
         return Bundle((self.folder / name).read_text())
 
-    def __call__(self, name="lesson.mix", script=None, deck=None, data=None, mend=None, **constants):
+    def __call__(self, name="lesson.mixal", script=None, deck=None, data=None, mend=None, **constants):
         bundle = self.bundle(name)
-        if name == "lesson.mix":
+        if name == "lesson.mixal":
             self.change(bundle)
         if mend:
             mend(bundle)

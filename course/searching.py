@@ -13,7 +13,7 @@ def sequential_search(run):
             place = keys.index(wanted) + 1 if wanted in keys else 0
             found, looks, all_looks = int(place > 0), n + 1 - place if place else n, n + 1 - place
             rounds = (all_looks + 1) // 2
-            for name in ("lesson.mix", "sentinel.mix", "answer.mix"):
+            for name in ("lesson.mixal", "sentinel.mixal", "answer.mixal"):
                 ran = run(name, N=n, WANTED=wanted, data=keys, script=[*RUN, "show values"])
                 yield f"{name}: the position of {wanted}", ran.register("I1"), place
                 yield from times(ran, N=n, S=found, C=looks, R=rounds, H=all_looks % 2)
@@ -30,7 +30,7 @@ def adapting(run, draw):
             if 0 <= place < n - 1:
                 table[place : place + 2] = table[place : place + 2][::-1]
                 moves += 1
-        ran = run("adapting.mix", N=n, M=m, data={"data": keys, "row": row}, script=[*RUN, "show values KEY+1 KEY+N"])
+        ran = run("adapting.mixal", N=n, M=m, data={"data": keys, "row": row}, script=[*RUN, "show values KEY+1 KEY+N"])
         yield f"the table after {m} searches", ran.numbers("show values KEY+1 KEY+N"), table
         yield from times(ran, M=m, C=looks, F=hits, X=moves)
 
@@ -48,7 +48,7 @@ def binary_search(run):
             found = measured(ran, "CD")
             looks.setdefault(place > 0, []).append(found["C"])
             yield from times(ran, N=n, S=int(place > 0), **found)
-            ran = run("answer.mix", N=n, WANTED=wanted, data={"data": keys, "halves": halves}, script=[*RUN, "show values"])
+            ran = run("answer.mixal", N=n, WANTED=wanted, data={"data": keys, "halves": halves}, script=[*RUN, "show values"])
             yield f"the position of {wanted} by halves", ran.register("I1"), place
             yield from times(ran, N=n, S=int(place > 0), **measured(ran, "CD"))
         levels = [k.bit_length() for k in range(1, n + 1)]  # the tree of the search is full but for its last level
@@ -73,7 +73,7 @@ def search_tree(run):
             way = above(keys, keys.index(key))
             compared, greater = compared + len(way), greater + sum(one < key for one in way)
         rights = sum(max(above(keys, at), key=keys.index) < key for at, key in enumerate(keys) if at)
-        for name in ("lesson.mix", "answer.mix"):
+        for name in ("lesson.mixal", "answer.mixal"):
             shows = [f"show values {part}+1 {part}+{len(keys)}" for part in ("KEY", "LEFT", "RIGHT")]
             ran = run(name, N=len(row), data=row, script=[*RUN, "show values", *shows])
             yield f"{name}: the keys, each once", ran.numbers(shows[0]), keys
@@ -87,7 +87,7 @@ def search_tree(run):
                 wanted[at] = (keys.index(parent) + 1, "RIGHT" if key > parent else "LEFT")
             yield f"{name}: the node above each node", parents, wanted
             yield from times(ran, N=len(row), C=compared, D=greater, F=len(row) - len(keys), I=rights)
-    ran = run("answer.mix", script=RUN)
+    ran = run("answer.mixal", script=RUN)
     yield from times(ran, N=7, C=2 * 1 + 4 * 2, D=5, F=0, I=3)
 
 
@@ -107,7 +107,7 @@ def hashing(run):
     cases = [(11, pi), (9, pi), (3, [5]), (7, [14, 7, 21]), *((m, draw.sample(range(1, 5000), n)) for m, n in ((13, 10), (31, 30), (64, 40)))]
     for m, keys in cases:
         looked, rounds = probes(sorted(keys), m)  # the sums do not depend on the order
-        for name in ("lesson.mix", "answer.mix"):
+        for name in ("lesson.mixal", "answer.mixal"):
             ran = run(name, N=len(keys), M=m, data=keys, script=[*RUN, "show values TABLE TABLE+M-1"])
             table = ran.numbers("show values TABLE TABLE+M-1")
             yield f"{name}: the keys of the table", sorted(key for key in table if key), sorted(keys)
@@ -120,7 +120,7 @@ def hashing(run):
         yield "the cells that stay empty then", ran.numbers("show values TABLE TABLE+M-1").count(0), 1
     twice = run(N=5, M=7, data=[5, 12, 5, 4, 12], script=["run 10000", "show values TABLE TABLE+M-1"]).numbers("show values TABLE TABLE+M-1")
     yield "keys that come twice, each once in the table", twice, [0, 0, 0, 4, 12, 5, 0]
-    both = [run(name, script=["run 10000", "show values TABLE TABLE+M-1"]).numbers("show values TABLE TABLE+M-1") for name in ("lesson.mix", "answer.mix")]
+    both = [run(name, script=["run 10000", "show values TABLE TABLE+M-1"]).numbers("show values TABLE TABLE+M-1") for name in ("lesson.mixal", "answer.mixal")]
     yield "the cells that are taken in both orders", *([bool(key) for key in table] for table in both)
 
 

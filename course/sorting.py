@@ -42,7 +42,7 @@ def insertion(run):
     draw = random.Random(1)
     for n in (6, 30):
         words = [(draw.randrange(1, 60), draw.randrange(1, 5)) for _ in range(n)]
-        ran = run("answer.mix", N=n, data=[f"        CON  {letter}(1:1),{key}(4:5)" for letter, key in words], script=["run 100000", "show cells KEY+1 KEY+N"])
+        ran = run("answer.mixal", N=n, data=[f"        CON  {letter}(1:1),{key}(4:5)" for letter, key in words], script=["run 100000", "show cells KEY+1 KEY+N"])
         found = [(bytes[0], bytes[4]) for _, bytes in ran.words("show cells KEY+1 KEY+N").values()]
         yield "the words in order, equal ones in their old order", found, sorted(words, key=lambda word: word[1])
 
@@ -63,7 +63,7 @@ def shell(run):
     cases = [(own, [8, 4, 2, 1]), (own, [7, 3, 1]), (own, [1]), *((table, [5, 2, 1]) for table in drawn_tables(522, (8, 30)))]
     yield "inversions of the lesson's keys, as its text says", inversions(own), 66
     for table, increments in cases:
-        for name in ("lesson.mix", "answer.mix"):
+        for name in ("lesson.mixal", "answer.mixal"):
             ran = run(name, N=len(table), T=len(increments), data={"data": table, "increments": increments}, script=[*RUN, SHOW])
             yield f"{name}: the keys in order", ran.numbers(SHOW), sorted(table)
             yield from times(ran, N=len(table), **passes(table, increments))
@@ -97,7 +97,7 @@ def quicksort(run):
             for letter, count in measured(run(N=n, data=table, script=RUN), "ABCD").items():
                 sums[letter] += count
         yield f"A, B and C+D in all orders of {n}", (sums["A"], sums["B"], sums["C"] + sums["D"]), tuple(factorial(n) * one for one in quicksort_averages(n))
-    ran = run("answer.mix", script=[*RUN, SHOW])
+    ran = run("answer.mixal", script=[*RUN, SHOW])
     found = measured(ran, "ABCD")
     yield "keys in order: a subfile of each size from 10 to 2", (found["A"], found["B"], found["C"] + found["D"]), (9, 0, sum(range(3, 12)))
 
@@ -115,7 +115,7 @@ def heapsort(run):
         one_or_two = count_at(ran, "JE 2F")
         yield from times(ran, N=n, **found, S=sifts, G=sifts + found["B"] - one_or_two, E=one_or_two - count_at(ran, "CMPX KEY+1,3"))
         if n > 3:
-            three = run("answer.mix", N=n, data=table, script=["run 100000", "show values KEY+N-2 KEY+N"])
+            three = run("answer.mixal", N=n, data=table, script=["run 100000", "show values KEY+N-2 KEY+N"])
             yield "the three largest", three.numbers("show values KEY+N-2 KEY+N"), sorted(table)[-3:]
     heaps = [tuple(run(N=5, data=table, script=["run 10000 until loc HEAP", SHOW]).numbers(SHOW)) for table in itertools.permutations(range(1, 6))]
     yield "each heap of five keys comes from as many orders: 5! over 5 times 3", {heaps.count(heap) for heap in set(heaps)}, {15}
@@ -149,7 +149,7 @@ def list_merge(run):
         order = along_links(ran, len(table))
         yield "each key once, in order", ([table[k - 1] for k in order], sorted(order)), (sorted(table), list(range(1, len(table) + 1)))
         yield from times(ran, N=len(table), **merges(table))
-        ran = run("answer.mix", N=len(table), data=table, script=["run 100000", "show values TABLE+1 TABLE+N"])
+        ran = run("answer.mixal", N=len(table), data=table, script=["run 100000", "show values TABLE+1 TABLE+N"])
         yield "the keys in a table", ran.numbers("show values TABLE+1 TABLE+N"), sorted(table)
     for table, order in (([50, 20, 50], [2, 3, 1]), ([7, 7, 7, 7], [1, 2, 3, 4]), ([7] * 6, [5, 6, 1, 2, 3, 4])):
         ran = run(N=len(table), data=table, script=["run 100000", "show values LINK LINK+N"])
@@ -170,7 +170,7 @@ def radix(run):
     tables += [["%03d" % draw.randrange(1000) for _ in range(n)] for n in (20, 60)]
     for table in tables:
         data = ["        CON  %s(3:3),%s(4:4),%s(5:5)" % tuple(key) for key in table]
-        for name, digits in (("lesson.mix", 3), ("answer.mix", 2)):
+        for name, digits in (("lesson.mixal", 3), ("answer.mixal", 2)):
             ran = run(name, N=len(table), data=data, script=[*RUN, "show values LINK LINK+N"])
             wanted = sorted(range(1, len(table) + 1), key=lambda k: table[k - 1][3 - digits :])
             yield f"{name}: the keys in order, equal ones in their old order", along_links(ran, len(table)), wanted

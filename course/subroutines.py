@@ -27,7 +27,7 @@ def entrances_exits(run):
         yield "remainders", ran.numbers(rems), [remainder for _, remainder in found]
         yield "how many have none", ran.register("I4"), none
         yield from times(ran, N=len(pairs), Z=none)
-        ran = run("answer.mix", N=len(pairs), data=data, script=[*RUN, rems, "show values"])
+        ran = run("answer.mixal", N=len(pairs), data=data, script=[*RUN, rems, "show values"])
         yield "remainders by the third exit", ran.numbers(rems), [remainder for _, remainder in found]
         yield "the first and the second exit", (ran.register("I4"), ran.register("I5")), (none, whole)
         yield from times(ran, N=len(pairs), Z=none, V=whole)
@@ -49,7 +49,7 @@ def coroutines(run):
         ran = run(deck=["%UNIT 16", card], script=[*RUN, "show unit 18"])
         yield f"the groups of {card}", ran.rows(18), [in_groups(text).rstrip()]
         yield from times(ran, T=len(text), B=card[:used].count(" "), V=math.ceil(used / 5))
-        ran = run("answer.mix", deck=["%UNIT 16", card], script=[*RUN, "show unit 18"])
+        ran = run("answer.mixal", deck=["%UNIT 16", card], script=[*RUN, "show unit 18"])
         swapped = re.sub(r"([^.])([^.])", r"\2\1", text)
         yield f"the groups with exchanged characters of {card}", ran.rows(18), [in_groups(swapped).rstrip()]
 
@@ -75,7 +75,7 @@ def interpreter(run):
         ran = run(N=n, script=[*RUN, "show unit 18"])
         yield f"the factorial of {n}", ran.rows(18), ["%010d" % math.factorial(n)]
         yield from times(ran, N=n)
-        ran = run("answer.mix", N=n, script=[*RUN, "show unit 18"])
+        ran = run("answer.mixal", N=n, script=[*RUN, "show unit 18"])
         yield f"the squares down from {n}", ran.rows(18), ["%010d" % (k * k) for k in range(n, 0, -1)]
 
 
@@ -84,15 +84,15 @@ def buffers(run):
     for n, delay, work in ((5, 300, 100), (5, 220, 100), (1, 300, 100), (7, 10, 200), (7, 1000, 10), (3, 0, 50)):
         deck = [f"%UNIT 16 delay {delay}", *cards[:n]]
         busy = 20 + 2 * work  # from an IN to the next JBUS, where the program has two buffers
-        waits = {"lesson.mix": n * (delay + 1), "two.mix": delay + 1 + (n - 1) * (max(0, delay - busy) + 1)}
-        for name in ("lesson.mix", "two.mix", "answer.mix"):
+        waits = {"lesson.mixal": n * (delay + 1), "two.mixal": delay + 1 + (n - 1) * (max(0, delay - busy) + 1)}
+        for name in ("lesson.mixal", "two.mixal", "answer.mixal"):
             ran = run(name, deck=deck, N=n, WORK=work, script=[*RUN, "show values SUM SUM"])
             yield f"{name}, the sum of {n} cards", ran.numbers("show values SUM SUM"), [sum(map(int, cards[:n]))]
-            waited = waits.get(name, waits["two.mix"])
+            waited = waits.get(name, waits["two.mixal"])
             yield from times(ran, N=n, WORK=work, DELAY=delay, W=waited)
             one, two = 11 + n * (22 + 2 * work), 13 + n * (24 + 2 * work) + n - 1  # without the waiting
-            yield f"{name}, delay {delay}: the clock", ran.clock, waited + (one if name == "lesson.mix" else two)
-    ran = run("answer.mix", script=RUN)
+            yield f"{name}, delay {delay}: the clock", ran.clock, waited + (one if name == "lesson.mixal" else two)
+    ran = run("answer.mixal", script=RUN)
     yield "no JBUS waits but the first: how often it is done", count_at(ran, "JBUS *(READER)"), 220 + 5
 
 

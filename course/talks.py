@@ -1,16 +1,16 @@
 """The sessions and the counts that a lesson's README.md shows, run and compared line by line.
 
-A session is a block that begins with "```text NAME.mix". Its lines that begin with the prompt `(mixrev) ` are the commands of the bundle, all
+A session is a block that begins with "```text NAME.mixal". Its lines that begin with the prompt `(mixrev) ` are the commands of the bundle, all
 of them and in their order. Below each command is its reply, in which a line `..` stands for lines that are left out, and ` ..` at the end of a
-line for what follows there. A block that begins with "```text after NAME.mix" has commands that follow those of the bundle. A block that begins
-with "```text times NAME.mix N=4 N=7" is what `course/times` writes of these values."""
+line for what follows there. A block that begins with "```text after NAME.mixal" has commands that follow those of the bundle. A block that begins
+with "```text times NAME.mixal N=4 N=7" is what `course/times` writes of these values."""
 import re
 
 from columns import columns
 from running import Bundle, replies_of
 
-BLOCK = re.compile(r"^```text (after )?(\S+\.mix)\n(.*?)^```$", re.S | re.M)
-COLUMNS = re.compile(r"^```text times (\S+\.mix) (.*?)\n(.*?)^```$", re.S | re.M)
+BLOCK = re.compile(r"^```text (after )?(\S+\.mixal)\n(.*?)^```$", re.S | re.M)
+COLUMNS = re.compile(r"^```text times (\S+\.mixal) (.*?)\n(.*?)^```$", re.S | re.M)
 PROMPT = "(mixrev) "
 LEFT_OUT = ".."
 
@@ -48,7 +48,7 @@ def is_shown(shown, written):
 
 
 def talks(program, folder):
-    """Compares each talk of a lesson's README.md; that of `lesson.mix` and that of `answer.mix` have to be there."""
+    """Compares each talk of a lesson's README.md; that of `lesson.mixal` and that of `answer.mixal` have to be there."""
     text, seen = (folder / "README.md").read_text(), set()
     for found in BLOCK.finditer(text):
         name, shown = found[2], shown_in(found[3])
@@ -66,5 +66,5 @@ def talks(program, folder):
     for found in COLUMNS.finditer(text):
         said = columns(program, (folder / found[1]).read_text(), found[2].split())
         yield f"the counts of {found[1]} for {found[2]}", found[3].splitlines(), said
-    for name in ("answer.mix", "lesson.mix"):
+    for name in ("answer.mixal", "lesson.mixal"):
         yield f"README.md shows {name}", name in seen, True

@@ -34,7 +34,7 @@ def tapes(run):
     for size in (0, 1, 2, 3, 8, 20):
         cards = drawn_cards(draw, size)
         for deal in (cards, sorted(cards, key=key_of), sorted(cards, key=key_of)[::-1]):
-            ran = run("answer.mix", deck=deck_of([*deal, NINES], draw.choice([0, 1, 5])), script=["run 100000", "show unit 18"])
+            ran = run("answer.mixal", deck=deck_of([*deal, NINES], draw.choice([0, 1, 5])), script=["run 100000", "show unit 18"])
             yield f"{size} records, sorted", (ran.end, ran.rows(18)), ("halt", sorted(cards, key=key_of))
 
 

@@ -46,7 +46,7 @@ def drawn_trees():
 def tree_stack(run):
     show = "show values ORDER+1 ORDER+N"
     for tree, root in drawn_trees():
-        for name, order in (("lesson.mix", inorder), ("answer.mix", preorder)):
+        for name, order in (("lesson.mixal", inorder), ("answer.mixal", preorder)):
             ran = run(name, N=len(tree), ROOT=root, data=lines(tree), script=[*RUN, show])
             yield f"{name}: the letters", ran.numbers(show), [tree[node][2] for node in order(tree, root)]
             yield from times(ran, N=len(tree))
@@ -65,7 +65,7 @@ def tree_threads(run):
         ran = run(N=len(tree), ROOT=root, data=data, script=[*RUN, show])
         yield "the letters by the threads", ran.numbers(show), [tree[node][2] for node in inorder(tree, root)]
         yield from times(ran, N=len(tree), A=sum(left > 0 for left, _, _ in tree.values()), B=sum(right > 0 for _, right, _ in tree.values()))
-        ran = run("answer.mix", N=len(tree), ROOT=root, data=lines(tree), script=[*RUN, "show cells TREE+1 TREE+N"])
+        ran = run("answer.mixal", N=len(tree), ROOT=root, data=lines(tree), script=[*RUN, "show cells TREE+1 TREE+N"])
         yield "the threads", list(ran.words("show cells TREE+1 TREE+N").values()), threaded(tree, root)
 
 
@@ -94,7 +94,7 @@ def marking(run):
         wanted = [(1, [*divmod(nodes[node][0], 64), *divmod(nodes[node][1], 64), 2 * (node in marked)]) for node in sorted(nodes)]
         yield "the nodes that are marked, and all links", found, wanted
         yield from times(ran, R=len(marked), Z=sum(nodes[node].count(0) for node in marked))
-        ran = run("answer.mix", N=n, ROOT=root, data=data, script=["run 100000", "show cells NODE+1 NODE+N", "show values AVAIL AVAIL"])
+        ran = run("answer.mixal", N=n, ROOT=root, data=data, script=["run 100000", "show cells NODE+1 NODE+N", "show values AVAIL AVAIL"])
         free = [*sorted(set(nodes) - marked), 0]
         links = dict(zip(free, free[1:]))
         wanted = [(1, [*divmod(links[node], 64), 0, 0, 0] if node in links else [*divmod(nodes[node][0], 64), *divmod(nodes[node][1], 64), 0]) for node in sorted(nodes)]

@@ -49,7 +49,7 @@ def handout(exercise, student, case):
 
 def answer(exercise, case):
     """The lines of the exercise's own answer with the data of a case."""
-    bundle = Bundle((COURSE / exercise.name / "answer.mix").read_text())
+    bundle = Bundle((COURSE / exercise.name / "answer.mixal").read_text())
     for name, value in case.given.items():
         if isinstance(value, list):
             bundle.set_data(value, name)
@@ -61,7 +61,7 @@ def answer(exercise, case):
 def write(folder, exercise, student, secret):
     cases = cases_of(exercise, student, secret)
     own = cases["1_own"][0]
-    files = {f"handouts/{student}.md": handout(exercise, student, own), f"keys/{student}.mix": "".join(f"{line}\n" for line in answer(exercise, own).source)}
+    files = {f"handouts/{student}.md": handout(exercise, student, own), f"keys/{student}.mixal": "".join(f"{line}\n" for line in answer(exercise, own).source)}
     for name, (case, limited) in cases.items():
         files.update({f"cases/{student}/{name}/{file}": text for file, text in case.files(exercise.put, limited).items()})
     for name, text in files.items():

@@ -11,7 +11,7 @@ def plain(name):
 
 def id_of(source):
     """The name of a source without its folder and its ending; a name that a spreadsheet could take for more than a name is as grade/case writes it."""
-    name = pathlib.PurePath(source).name.removesuffix(".mix")
+    name = pathlib.PurePath(source).name.removesuffix(".mixal")
     return name if re.fullmatch(r"[A-Za-z0-9_][A-Za-z0-9_@.+-]*", name) else plain(name).lstrip("+-")
 
 

@@ -137,7 +137,7 @@ export class Keep {
   }
 
   save() {
-    saved(this.bundle, "text/plain", `${this.lesson ? this.lesson.name.replace("/", "_") : "program"}.mix`);
+    saved(this.bundle, "text/plain", `${this.lesson ? this.lesson.name.replace("/", "_") : "program"}.mixal`);
     this.app.isEdited = false;
   }
 

@@ -19,7 +19,7 @@ const lookAtChange = (number) => (number > 0 ? ["mix/change", { number }] : NO_L
 const verbOf = (command) => command.trim().toLowerCase().split(/[ \t]+/);
 
 function openingOf({ deck, cards, source }) {
-  const given = { program: "program.mix", sourceText: source, devicesText: deck, stopOnEntry: true };
+  const given = { program: "program.mixal", sourceText: source, devicesText: deck, stopOnEntry: true };
   if (cards !== undefined) given.cardsText = cards;
   return [
     ["initialize", { adapterID: "mixrev", clientID: "page", linesStartAt1: true }],

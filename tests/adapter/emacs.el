@@ -60,7 +60,7 @@
 (defun step (name) (lambda () (dap--step name (session))))
 
 (defun talk ()
-  (find-file (expand-file-name "calls.mix" (getenv "PROGRAMS")))
+  (find-file (expand-file-name "calls.mixal" (getenv "PROGRAMS")))
   (goto-char (point-min))
   (forward-line 4)                      ; line 5 is blank: the breakpoint comes to line 6
   (dap-breakpoint-add)
@@ -101,7 +101,7 @@
     (row "its status" (process-exit-status process) 0)))
 
 (defun talk-of-a-fault ()
-  (find-file (expand-file-name "fault.mix" (getenv "PROGRAMS")))
+  (find-file (expand-file-name "fault.mixal" (getenv "PROGRAMS")))
   (row "entry of the second program"
        (moved (lambda () (dap-debug (copy-tree (cdr (assoc "MIX: this file" dap-debug-template-configurations)))))) "entry")
   (row "a fault" (list (moved (lambda () (dap-continue (session) 1))) (state)) '("exception" (2 1 1)))
@@ -109,7 +109,7 @@
   (dap-disconnect (session)))
 
 (defun talk-refused ()
-  (find-file (expand-file-name "refused.mix" (getenv "PROGRAMS")))
+  (find-file (expand-file-name "refused.mixal" (getenv "PROGRAMS")))
   (dap-debug (copy-tree (cdr (assoc "MIX: this file" dap-debug-template-configurations))))
   (await "the refusal" (lambda () (eq (dap--debug-session-state (session)) 'failed)))
   (row "a refused source" (and (string-match-p "A2 no such operation" (or (dap--debug-session-error-message (session)) "")) t) t))

@@ -52,9 +52,9 @@ STEPS = [("stepBack", {}, 0, 0, (0, 0)), ("next", {}, 1, 5, (1, 0)), ("next", {}
 # What is told of the last four of them: a refusal by the machine, a reply, and the name of a part that can be watched.
 TOLD = ['"message":"C5 refused by the machine: M7 index overflow"', '"result":"changes 2\\n"', '"dataId":"A"']
 
-# How many changes stand ahead after each command of tests/runs/back_and_forth.mix.
+# How many changes stand ahead after each command of tests/runs/back_and_forth.mixal.
 AHEAD = [0, 3, 1, 1, 1, 1, 0, 1, 0, 0, 4, 0, 0, 299999, 0, 300001, 0, 0, 0, 0, 1]
-FORTH = os.path.join(os.path.dirname(os.path.dirname(os.path.abspath(__file__))), "runs", "back_and_forth.mix")
+FORTH = os.path.join(os.path.dirname(os.path.dirname(os.path.abspath(__file__))), "runs", "back_and_forth.mixal")
 
 VIEWED = "A EQU 100\n ENTA 5\n INCA 7\n STA A\n HLT\n END 0\n"
 CARDS = "FIRST\n SECOND\n"

@@ -24,7 +24,7 @@ from frames import Untold, commands, frame, heard, request
 from parts import from_words  # of tests/model/
 import bundle as model
 
-SOURCE = os.path.join(HERE, "programs", "calls.mix")
+SOURCE = os.path.join(HERE, "programs", "calls.mixal")
 TALK = [("initialize", {"adapterID": "mixrev", "linesStartAt1": True}), ("launch", {"program": SOURCE, "stopOnEntry": True}), ("configurationDone", {}),
         ("threads", {}), ("next", {"threadId": 1}), ("stackTrace", {"threadId": 1}), ("scopes", {"frameId": 1}), ("stepIn", {"threadId": 1}),
         ("setVariable", {"variablesReference": 1, "name": "A", "value": "-0"}), ("next", {"threadId": 1}), ("variables", {"variablesReference": 2}),

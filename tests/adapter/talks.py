@@ -1,7 +1,7 @@
 #!/usr/bin/env python3
 """Talks with the adapter over debugpy's message channel: tests/adapter/talks.py PROGRAM [WORD..]
 
-Every value that is wanted is worked out by hand from the rules of docs/MACHINE.md. The program programs/calls.mix goes through these states, a
+Every value that is wanted is worked out by hand from the rules of docs/MACHINE.md. The program programs/calls.mixal goes through these states, a
 row after each step: n steps done, the location, the clock (1 u for ENTA, ENT1, DEC1 and jumps, 2 u for stores, 10 u for HLT), and what altered.
 
  n   loc  clock                          n   loc  clock
@@ -32,7 +32,7 @@ sys.path.insert(0, HERE)
 from client import Client, Count
 
 PROGRAMS = os.path.join(HERE, "programs")
-CALLS = os.path.join(PROGRAMS, "calls.mix")
+CALLS = os.path.join(PROGRAMS, "calls.mixal")
 # the state after n steps: line, location, clock
 AFTER = {0: (3, 10, 0), 1: (4, 11, 1), 2: (6, 12, 2), 3: (7, 13, 4), 4: (8, 14, 5), 5: (6, 12, 6), 6: (7, 13, 8), 7: (8, 14, 9), 8: (6, 12, 10),
          9: (7, 13, 12), 10: (8, 14, 13), 11: (9, 15, 14), 12: (11, 17, 15), 13: (12, 18, 17), 14: (13, 19, 18), 15: (10, 16, 19), 16: (11, 17, 29)}
@@ -229,7 +229,7 @@ def gotos(talk, count):
 
 def faults(talk, count):
     """A fault stops before the step, with its number and text; the step is not done."""
-    talk.launch(program("fault.mix"))
+    talk.launch(program("fault.mixal"))
     count.same("to the fault", talk.move("continue"), "exception")
     count.same("the state before it", talk.state(), (2, 1, 1))
     info = talk.body("exceptionInfo", threadId=1)
@@ -241,7 +241,7 @@ def faults(talk, count):
 
 def prints(talk, count):
     """What a unit writes is told while the program still runs; a run that comes to no stop pauses; a step back tells what was taken back."""
-    talk.launch(program("prints.mix"), devices=program("cards.deck"))
+    talk.launch(program("prints.mixal"), devices=program("cards.deck"))
     talk.body("continue", threadId=1)
     body, row = talk.wait("output", talk.seen)
     count.same("the row", body["output"].rstrip(), "HELLO")
@@ -261,7 +261,7 @@ def prints(talk, count):
 
 def long_runs(talk, count):
     """A run that comes to no stop pauses after a million changes, forwards and backwards; what the client sends meanwhile is heard then."""
-    talk.launch(program("endless.mix"))
+    talk.launch(program("endless.mixal"))
     began = time.monotonic()
     count.same("a long run pauses", talk.move("continue"), "pause")
     took = time.monotonic() - began
@@ -286,8 +286,8 @@ def refusals(talk, count):
     """What is refused before and at the launch, with number and text; then a right launch goes on."""
     count.row("a step before the launch", talk.refused("next", threadId=1), "it is accepted")
     count.row("no such request", talk.refused("fly"), "it is accepted")
-    for name, more, wanted in (("refused.mix", {}, "line 2: A2 no such operation"), ("nowhere.mix", {}, "T4 not opened"),
-                               ("calls.mix", {"devices": program("calls.mix")}, "K1 bad header"), ("calls.mix", {"devices": program("none.deck")}, "T4 not opened")):
+    for name, more, wanted in (("refused.mixal", {}, "line 2: A2 no such operation"), ("nowhere.mixal", {}, "T4 not opened"),
+                               ("calls.mixal", {"devices": program("calls.mixal")}, "K1 bad header"), ("calls.mixal", {"devices": program("none.deck")}, "T4 not opened")):
         text = talk.refused("launch", program=program(name), **more)
         count.row(f"launch of {name} with {more}", wanted in text, text)
     count.row("a launch without a program", talk.refused("launch", stopOnEntry=True), "it is accepted")
@@ -303,7 +303,7 @@ def apart(talk, count):
     """Breakpoints are the client's: no change sets or takes one away, and those of another source leave these."""
     talk.launch(CALLS)
     talk.lines(CALLS, 6)
-    other = talk.body("setBreakpoints", source={"path": program("fault.mix")}, breakpoints=[{"line": 1}])["breakpoints"]
+    other = talk.body("setBreakpoints", source={"path": program("fault.mixal")}, breakpoints=[{"line": 1}])["breakpoints"]
     count.same("a breakpoint in another source", [point["verified"] for point in other], [False])
     count.same("no change was made", talk.repl("show changes"), "changes 0")
     count.same("it stands beside those of another source", (talk.move("continue"), talk.state()), ("breakpoint", AFTER[2]))
@@ -336,7 +336,7 @@ def running(talk, count):
 def named(command, count):
     """A name with letters beyond ASCII: a length counts bytes and not characters, so each message still reads."""
     with tempfile.TemporaryDirectory() as folder:
-        path = os.path.join(folder, "Z\u00e4hler \u4e16\u754c.mix")
+        path = os.path.join(folder, "Z\u00e4hler \u4e16\u754c.mixal")
         with open(CALLS) as source, open(path, "w") as file:
             file.write(source.read())
 

@@ -48,7 +48,7 @@ class Talk:
 def main():
     count, talk = Count(), Talk(sys.argv[1:])
     talk.ask("initialize", adapterID="mixrev")
-    talk.ask("launch", "initialized", program=os.path.join(HERE, "programs", "endless.mix"), stopOnEntry=True)
+    talk.ask("launch", "initialized", program=os.path.join(HERE, "programs", "endless.mixal"), stopOnEntry=True)
     talk.ask("configurationDone", "stopped")
     medians = []
     for _ in range(10):

@@ -21,7 +21,7 @@ EDGES = [b"0", b"1", b"-1", b"63", b"64", b"999", b"1000", b"3999", b"4000", b"4
 
 
 def originals():
-    names = sorted(glob.glob(os.path.join(TOP, "examples", "*.mix")) + glob.glob(os.path.join(TOP, "tests", "runs", "*.mix")))
+    names = sorted(glob.glob(os.path.join(TOP, "examples", "*.mixal")) + glob.glob(os.path.join(TOP, "tests", "runs", "*.mixal")))
     texts = []
     for name in names:
         with open(name, "rb") as file:

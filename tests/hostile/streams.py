@@ -112,30 +112,30 @@ READS = b" IN 100(16)\n END 0\n"
 STEPS = b" HLT\n END 0\n%SCRIPT\nstep\n"
 NO_END = b"line 1: A13 no END\n"
 # The files of the plans below; the folder is one that a system opens, but that cannot be read.
-FILES = {"read.mix": READS, "refused.mix": b"", "step.txt": b"step\n", "card.deck": b"%UNIT 16\nA CARD\n"}
+FILES = {"read.mixal": READS, "refused.mixal": b"", "step.txt": b"step\n", "card.deck": b"%UNIT 16\nA CARD\n"}
 # Words, standard input, and then the status, what is written and what is told of a fault of the tool.
 PLANS = [
     ("", STEPS, 0, b"ran 1 to 0001 clock 10: halt\n", b""),
     ("dap", b"Content-Length: 2\r\n", 2, b"", b"T7 input cut"),
-    ("list read.mix", b"", 0, lines("0000  + 01 36 00 16 36      1   IN 100(16)", "0000                        2   END 0", "symbols 0"), b""),
-    ("list refused.mix", b"", 1, NO_END, b""),
+    ("list read.mixal", b"", 0, lines("0000  + 01 36 00 16 36      1   IN 100(16)", "0000                        2   END 0", "symbols 0"), b""),
+    ("list refused.mixal", b"", 1, NO_END, b""),
     ("list -", READS, 0, lines("0000  + 01 36 00 16 36      1   IN 100(16)", "0000                        2   END 0", "symbols 0"), b""),
-    ("debug read.mix - --devices card.deck", b"step\n", 0, b"ran 1 to 0001 clock 1: limit\n", b""),
-    ("debug read.mix step.txt --devices -", FILES["card.deck"], 0, b"ran 1 to 0001 clock 1: limit\n", b""),
-    ("debug read.mix step.txt --devices card.deck", b"", 0, b"ran 1 to 0001 clock 1: limit\n", b""),
-    ("debug read.mix step.txt", b"", 3, b"ran 0 to 0000 clock 0: fault M11 no block\n", b""),
-    ("debug refused.mix step.txt", b"", 1, NO_END, b""),
-    ("debug read.mix step.txt --devices read.mix", b"", 2, b"", b"T5 deck refused at line 1: K1 bad header"),
+    ("debug read.mixal - --devices card.deck", b"step\n", 0, b"ran 1 to 0001 clock 1: limit\n", b""),
+    ("debug read.mixal step.txt --devices -", FILES["card.deck"], 0, b"ran 1 to 0001 clock 1: limit\n", b""),
+    ("debug read.mixal step.txt --devices card.deck", b"", 0, b"ran 1 to 0001 clock 1: limit\n", b""),
+    ("debug read.mixal step.txt", b"", 3, b"ran 0 to 0000 clock 0: fault M11 no block\n", b""),
+    ("debug refused.mixal step.txt", b"", 1, NO_END, b""),
+    ("debug read.mixal step.txt --devices read.mixal", b"", 2, b"", b"T5 deck refused at line 1: K1 bad header"),
     ("list none", b"", 2, b"", b"T4 not opened: none" + NO_FILE),
     ("list ''", b"", 2, b"", b"T4 not opened: " + NO_FILE),
     ("list folder", b"", 2, b"", b"T4 not opened: folder" + FOLDER),
     # the first that cannot be opened, and nothing is read: not even a source that is refused
     ("debug no_a no_b --devices no_c", b"", 2, b"", b"T4 not opened: no_a" + NO_FILE),
-    ("debug refused.mix no_b --devices no_c", b"", 2, b"", b"T4 not opened: no_c" + NO_FILE),
-    ("debug refused.mix step.txt --devices no_c", b"", 2, b"", b"T4 not opened: no_c" + NO_FILE),
-    ("debug refused.mix no_b --devices card.deck", b"", 2, b"", b"T4 not opened: no_b" + NO_FILE),
-    ("debug refused.mix no_b", b"", 2, b"", b"T4 not opened: no_b" + NO_FILE),
-    ("debug read.mix folder", b"", 2, b"", b"T4 not opened: folder" + FOLDER)]
+    ("debug refused.mixal no_b --devices no_c", b"", 2, b"", b"T4 not opened: no_c" + NO_FILE),
+    ("debug refused.mixal step.txt --devices no_c", b"", 2, b"", b"T4 not opened: no_c" + NO_FILE),
+    ("debug refused.mixal no_b --devices card.deck", b"", 2, b"", b"T4 not opened: no_b" + NO_FILE),
+    ("debug refused.mixal no_b", b"", 2, b"", b"T4 not opened: no_b" + NO_FILE),
+    ("debug read.mixal folder", b"", 2, b"", b"T4 not opened: folder" + FOLDER)]
 
 
 def plans(program, place, count):

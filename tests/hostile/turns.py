@@ -123,11 +123,11 @@ def listings(turns):
 
 def printed(turns):
     """Runs that print: what is printed, and what is told at the end, by so many bytes a call."""
-    name = turns.file("a.mix", b"")
+    name = turns.file("a.mixal", b"")
 
     def words(row):
         cards = [] if row[2] is None else ["--cards", turns.file("cards", row[2])]
-        return ["run", turns.file("a.mix", row[0]), *row[3], "--devices", turns.file("deck", row[1]), *cards]
+        return ["run", turns.file("a.mixal", row[0]), *row[3], "--devices", turns.file("deck", row[1]), *cards]
 
     for k, row in enumerate(PRINTED):
         told = name.encode() + b":" + row[5] if row[5] else b""
@@ -135,7 +135,7 @@ def printed(turns):
             turns.count.same("run %d, %d bytes a call" % (k, size), turns.run(b"", words(row), read_most=size, write_most=size)[0],
                              (row[4], told, 3 if told else 0))
     for k, (*row, told, status) in enumerate(REFUSED):
-        turns.count.same("refused run %d" % k, turns.run(b"", words(row))[0], (b"", told.replace(b"a.mix", name.encode()), status))
+        turns.count.same("refused run %d" % k, turns.run(b"", words(row))[0], (b"", told.replace(b"a.mixal", name.encode()), status))
     copied = (COPY, b"%UNIT 16\nONE\n", b"TWO\n", ["--steps", "100"])
     reads = sum(len(part) + 1 for part in copied[:3])
     for call in range(1, reads + 1):

@@ -184,14 +184,14 @@ class Page:
     def save(self):
         """The file that is saved."""
         folder = pathlib.Path(self.folder.name)
-        for path in folder.glob("*.mix"):
+        for path in folder.glob("*.mixal"):
             path.unlink()
         self.click("save")
         end = time.monotonic() + SECONDS
-        while not list(folder.glob("*.mix")) and time.monotonic() < end:
+        while not list(folder.glob("*.mixal")) and time.monotonic() < end:
             time.sleep(0.02)
         time.sleep(0.1)
-        return next(folder.glob("*.mix")).read_bytes()
+        return next(folder.glob("*.mixal")).read_bytes()
 
     def open_file(self, data):
         """Opens a file of these bytes."""

@@ -45,7 +45,7 @@ def kept_apart(page, native, count):
     state, log, left = page.state(), page.log(), page.text("script-lines")
     page.script("const { click } = HTMLAnchorElement.prototype; HTMLAnchorElement.prototype.click = function () { window.named = this.download; click.call(this); }")
     saved = page.save()
-    count.same("kept: the name of the file", page.script("return window.named"), f"{EXAMPLES[8].stem}.mix")
+    count.same("kept: the name of the file", page.script("return window.named"), f"{EXAMPLES[8].stem}.mixal")
     count.same("kept: what is left", kept(saved.decode()), script[len(log):])
     count.same("kept: the breakpoint", kept(saved.decode(), "breakpoints at lines"), ["10"])
     count.same("kept: natively, what was done", native.bundle(saved), native.bundle(with_script(bundle, "\n".join(script[:len(log)]) + "\n")))

@@ -113,7 +113,7 @@ def lesson(page, native, count):
     page.script("document.querySelector('#answer summary').click()")
     count.row("lesson: its answer, asked for", page.one("answer-text").is_displayed() and len(page.text("answer-text")) > 40, page.text("answer-text"))
     page.press_button(page.one("answer-open"))
-    answer = next((TOP / "course").glob("20_*/answer.mix")).read_text()
+    answer = next((TOP / "course").glob("20_*/answer.mixal")).read_text()
     count.same("lesson: the program of the answer", page.value("text"), answer.split("%DEVICES\n")[0].split("%SCRIPT\n")[0])
     wide = page.script("return [...document.querySelectorAll('#colours > div')].map(d => d.scrollWidth > d.clientWidth + 1).filter(Boolean).length")
     count.same("lesson: no line is cut", wide, 0)

@@ -86,7 +86,7 @@ def drawn(r):
     if kind < 4:
         return r.choice(MOVES), {"threadId": 1}
     if kind == 4:
-        return r.choice(LOOKS), {"source": {"name": "program.mix"}, "line": line, "threadId": 1}
+        return r.choice(LOOKS), {"source": {"name": "program.mixal"}, "line": line, "threadId": 1}
     if kind == 5:
         return r.choice(VIEWS + ["mix/change"]), {"cells": [[cell, min(cell + r.randrange(9), 3999)]], "nonzero": r.random() < 0.5,
                                                  "number": r.randrange(12)}
@@ -101,7 +101,7 @@ def drawn(r):
             ("disassemble", {"memoryReference": "0x%x" % (6 * cell), "instructionCount": r.randrange(5), "instructionOffset": r.randrange(-3, 3)})))
     if kind == 9:
         return r.choice((
-            ("setBreakpoints", {"source": {"path": "program.mix"}, "breakpoints": [{"line": line}, {"line": line + 2}][:r.randrange(3)]}),
+            ("setBreakpoints", {"source": {"path": "program.mixal"}, "breakpoints": [{"line": line}, {"line": line + 2}][:r.randrange(3)]}),
             ("setInstructionBreakpoints", {"breakpoints": [{"instructionReference": "0x%x" % (6 * cell)}]}),
             ("setDataBreakpoints", {"breakpoints": [{"dataId": r.choice(DATA)}]}),
             ("dataBreakpointInfo", {"name": r.choice(NAMES), "variablesReference": 1})))

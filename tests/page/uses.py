@@ -7,7 +7,7 @@ from selenium.webdriver.common.by import By
 from selenium.webdriver.common.keys import Keys
 
 TOP = pathlib.Path(__file__).resolve().parents[2]
-EXAMPLES = sorted((TOP / "examples").glob("*.mix"))
+EXAMPLES = sorted((TOP / "examples").glob("*.mixal"))
 FIRST = EXAMPLES[0].read_text()
 BARS = {"07_inverse": "* bars: X+1 X+COUNT number\n"}  # what is shown of an example whose script shows five cells or more
 
@@ -64,7 +64,7 @@ def lessons(page, native, count, which):
         page.lesson(number)
         count.row(f"{name}: notes beside the listing", page.one("notes-text").is_displayed() and len(page.text("notes-text")) > 200, page.text("notes-text"))
         page.click("script-all")
-        count.same(f"{name}: its script", page.replies(), native.bundle((TOP / "course" / name / "lesson.mix").read_text()))
+        count.same(f"{name}: its script", page.replies(), native.bundle((TOP / "course" / name / "lesson.mixal").read_text()))
 
 
 def breakpoints(page, native, count):

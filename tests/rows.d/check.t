@@ -1,37 +1,37 @@
 A check of sources: all faults of each, in their order. Nothing is run, and nothing is written of a source without faults.
 
-  $ printf ' ENTA 5\n HLT\n END 0\n' >good.mix
-  $ printf 'X JUMP 3\n LDA X\n ENTA 4096\n END 0\n' >bad.mix
-  $ printf ' END 0\n%%DEVICES\nno deck\n%%SCRIPT\nno command\n' >bundle.mix
+  $ printf ' ENTA 5\n HLT\n END 0\n' >good.mixal
+  $ printf 'X JUMP 3\n LDA X\n ENTA 4096\n END 0\n' >bad.mixal
+  $ printf ' END 0\n%%DEVICES\nno deck\n%%SCRIPT\nno command\n' >bundle.mixal
 
-  $ mixrev check good.mix bundle.mix </dev/null
+  $ mixrev check good.mixal bundle.mixal </dev/null
 
-  $ mixrev check bad.mix good.mix </dev/null
-  bad.mix:1:3: error: A2 no such operation
+  $ mixrev check bad.mixal good.mixal </dev/null
+  bad.mixal:1:3: error: A2 no such operation
   X JUMP 3
     ^^^^
-  bad.mix:3:7: error: A9 address beyond two bytes
+  bad.mixal:3:7: error: A9 address beyond two bytes
    ENTA 4096
         ^^^^
   [1]
 
 The name - is standard input.
 
-  $ printf ' HLT' | mixrev check good.mix - bad.mix
+  $ printf ' HLT' | mixrev check good.mixal - bad.mixal
   -:2: error: A13 no END
-  bad.mix:1:3: error: A2 no such operation
+  bad.mixal:1:3: error: A2 no such operation
   X JUMP 3
     ^^^^
-  bad.mix:3:7: error: A9 address beyond two bytes
+  bad.mixal:3:7: error: A9 address beyond two bytes
    ENTA 4096
         ^^^^
   [1]
 
 An option may stand between the sources.
 
-  $ mixrev check good.mix --json bad.mix </dev/null
-  {"file":"bad.mix","line":1,"column":3,"endColumn":7,"severity":"error","code":"A2","text":"no such operation"}
-  {"file":"bad.mix","line":3,"column":7,"endColumn":11,"severity":"error","code":"A9","text":"address beyond two bytes"}
+  $ mixrev check good.mixal --json bad.mixal </dev/null
+  {"file":"bad.mixal","line":1,"column":3,"endColumn":7,"severity":"error","code":"A2","text":"no such operation"}
+  {"file":"bad.mixal","line":3,"column":7,"endColumn":11,"severity":"error","code":"A9","text":"address beyond two bytes"}
   [1]
 
 After -- each word is a name.
@@ -42,20 +42,20 @@ After -- each word is a name.
 
 If a source cannot be opened, nothing is written of the others.
 
-  $ mixrev check bad.mix none.mix good.mix </dev/null
-  stderr: mixrev: T4 not opened: none.mix: No such file or directory
+  $ mixrev check bad.mixal none.mixal good.mixal </dev/null
+  stderr: mixrev: T4 not opened: none.mixal: No such file or directory
   [2]
 
 A source that is too long, and more of them than may be open at once.
 
-  $ head -c 1048577 /dev/zero >long.mix
-  $ mixrev check long.mix good.mix </dev/null
-  long.mix:1: error: A16 source too long
+  $ head -c 1048577 /dev/zero >long.mixal
+  $ mixrev check long.mixal good.mixal </dev/null
+  long.mixal:1: error: A16 source too long
   [1]
 
-  $ (ulimit -n 20; mixrev check $(printf 'good.mix %.0s' $(seq 100)) bad.mix </dev/null) | wc -l
+  $ (ulimit -n 20; mixrev check $(printf 'good.mixal %.0s' $(seq 100)) bad.mixal </dev/null) | wc -l
   6
 
-  $ mixrev check bad.mix </dev/null >/dev/full
+  $ mixrev check bad.mixal </dev/null >/dev/full
   stderr: mixrev: T3 write failed
   [2]

@@ -7,8 +7,8 @@ Files of the command line: the name - is standard input, and of one that cannot 
   $ printf ' OUT 5(19)\n HLT\n ORIG 5\n ALF HELLO\n END 0\n' | mixrev run -
   HELLO
 
-  $ printf ' IN 9(16)\n OUT 9(19)\n HLT\n END 0\n' >a.mix
-  $ printf 'A CARD\n' | mixrev run a.mix --cards -
+  $ printf ' IN 9(16)\n OUT 9(19)\n HLT\n END 0\n' >a.mixal
+  $ printf 'A CARD\n' | mixrev run a.mixal --cards -
   A CARD
 
 The first of two reads to the end.
@@ -24,17 +24,17 @@ A file whose name is a dash.
   0000                        1   END
   symbols 0
 
-  $ mixrev list none.mix </dev/null
-  stderr: mixrev: T4 not opened: none.mix: No such file or directory
+  $ mixrev list none.mixal </dev/null
+  stderr: mixrev: T4 not opened: none.mixal: No such file or directory
   [2]
 
   $ mkdir folder
-  $ mixrev run a.mix --cards folder </dev/null
+  $ mixrev run a.mixal --cards folder </dev/null
   stderr: mixrev: T4 not opened: folder: Is a directory
   [2]
 
-  $ mixrev debug a.mix/b </dev/null
-  stderr: mixrev: T4 not opened: a.mix/b: Not a directory
+  $ mixrev debug a.mixal/b </dev/null
+  stderr: mixrev: T4 not opened: a.mixal/b: Not a directory
   [2]
 
   $ ln -s round round

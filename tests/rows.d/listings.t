@@ -6,7 +6,7 @@ which are not listed.
   >   printf '\n* \0\t\v\177\303(\377  \nA\tEQU -0\nABCDEFGHIJ EQU -1073741823\n ORIG 3999\n9H EQU 1\n'
   >   printf '%9994s' '' | tr ' ' '\n'
   >   printf '2H CON -1073741823\n END 3999'
-  > } >a.mix; mixrev list a.mix | sed -n '9999,10002p;19999,$p'
+  > } >a.mixal; mixrev list a.mixal | sed -n '9999,10002p;19999,$p'
                            9999  
                           10000  * \x00\t\x0b\x7f\xc3(\xff   (esc)
         - 00 00 00 00 00  10001  A\tEQU -0 (esc)

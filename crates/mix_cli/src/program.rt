@@ -24,11 +24,11 @@ Without any words, mixrev reads a bundle from standard input, if that is no term
 deck; after a line %SCRIPT a script. The deck and the script may be left out. As the name of a file, - is standard input.
 
 Examples:
-  mixrev run primes.mix
-  mixrev debug primes.mix
-  mixrev debug primes.mix session.txt --devices tapes.deck
-  mixrev list primes.mix
-  mixrev check primes.mix sieve.mix
+  mixrev run primes.mixal
+  mixrev debug primes.mixal
+  mixrev debug primes.mixal session.txt --devices tapes.deck
+  mixrev list primes.mixal
+  mixrev check primes.mixal sieve.mixal
 
 The status is 0 if all is accepted, 1 if a source is refused, and 3 if a command is refused, a step meets a fault or
 the steps of a run are used up. It is 2 if nothing could be run to its end: a mistake in the words, a file that cannot be
@@ -40,21 +40,21 @@ and the paper tape in the order in which they are printed, without the blanks at
 If a step meets a fault, or the steps are used up, one line on standard error says where. It cannot go back.
 
 Example:
-  mixrev run primes.mix --unit 18";
+  mixrev run primes.mixal --unit 18";
 
 const MORE_ON_LIST: &str = "\
 A source is a text file with a program in the language MIXAL, which ends with a line END. The listing has each line with its
 location and its word, and then the program's symbols. If the source is refused, it has only the first fault.
 
 Example:
-  mixrev list primes.mix";
+  mixrev list primes.mixal";
 
 const MORE_ON_CHECK: &str = "\
 Nothing is run. Each fault is reported as compilers do, with its file, line and column, the line and a mark; the sources one
 after the other. A source without faults gives nothing. The status is 1 if a source has a fault.
 
 Example:
-  mixrev check primes.mix sieve.mix";
+  mixrev check primes.mixal sieve.mixal";
 
 const MORE_ON_DEBUG: &str = "\
 Without a script it is interactive: each line of standard input is a command, which is done and answered before the next is
@@ -67,7 +67,7 @@ like, run N, back and forth stop when that is altered. A deck is a text file tha
 the program runs: a line such as %UNIT 0, and its blocks after it.
 
 Example: with the two lines `run 1000` and `show regs` in the file session.txt,
-  mixrev debug primes.mix session.txt
+  mixrev debug primes.mixal session.txt
 runs the program up to its halt and shows the registers.";
 
 const MORE_ON_DAP: &str = "\

@@ -99,7 +99,7 @@ pub(crate) fn texts_of<L: Library>(
     } else {
         Some(text_of(alloc, library, given, named, MAX_DECK_BYTES + 1)?)
     };
-    let name = String::from_str(alloc, program.unwrap_or("program.mix"))?;
+    let name = String::from_str(alloc, program.unwrap_or("program.mixal"))?;
     let stops = request.flag("stopOnEntry");
     Ok(Texts {
         name,

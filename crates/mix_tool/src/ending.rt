@@ -105,7 +105,7 @@ pub(crate) fn status_beside<E: Out>(
     }
 }
 
-// Where a run came to, if not to a halt: `prog.mix:3: M8 negative shift at 0002 clock 5`.
+// Where a run came to, if not to a halt: `prog.mixal:3: M8 negative shift at 0002 clock 5`.
 fn came_to(alloc: Global, name: &str, ran: RanTo) -> Result<String, AllocError> {
     let place = place(alloc, name, ran.line)?;
     let (loc, clock) = (ran.loc, ran.clock);
