@@ -104,7 +104,8 @@ def by_files(program, place, count):
             ("list /", is_folder), ("debug / $2", is_folder), ("debug $1 /", is_folder), ("debug $1 $2 --devices /", is_folder),
             ("list $3", not_opened), ("debug $3 $2", not_opened), ("debug $1 $3", not_opened), ("debug $1 $2 --devices $3", not_opened),
             ("debug / $3", is_folder), ("list $1/a", (b"", b"mixrev: T4 not opened: %s/a: Not a directory\n" % source.encode(), 2)),
-            ("list - </", input_is_folder), ("list - <&-", (b"", b"mixrev: T4 not opened: -%s\n" % NO_FILE, 2)), ("list $1 >/dev/full", (b"", T3, 2)), ("debug $1 $2 >/dev/full", (b"", T3, 2)), ("list $1 >&-", (b"", T3, 2))]:
+            ("list - </", input_is_folder), ("list - <&-", (b"", b"mixrev: T4 not opened: -%s\n" % NO_FILE, 2)), ("list $1 >/dev/full", (b"", T3, 2)), ("debug $1 $2 >/dev/full", (b"", T3, 2)), ("list $1 >&-", (b"", T3, 2)),
+            ("check $1 $3", not_opened), ("check $1 /", is_folder), ("check - </dev/null >/dev/full", (b"", T3, 2)), ("check - </dev/null >&-", (b"", T3, 2))]:
         count.same(command, shell('"$0" ' + command, program, source, [script, gone]), wanted)
 
 

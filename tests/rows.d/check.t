@@ -55,7 +55,3 @@ A source that is too long, and more of them than may be open at once.
 
   $ (ulimit -n 20; mixrev check $(printf 'good.mixal %.0s' $(seq 100)) bad.mixal </dev/null) | wc -l
   6
-
-  $ mixrev check bad.mixal </dev/null >/dev/full
-  stderr: mixrev: T3 write failed
-  [2]
