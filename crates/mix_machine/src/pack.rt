@@ -6,13 +6,15 @@ ghost use Rattle.mix_machine.specs.law.Packed.{said-fewer};
 mod appending;
 mod kind;
 mod moment;
+mod parts;
 mod reading;
 mod row;
 
 use crate::old::Old;
 pub(crate) use crate::pack::kind::Kind;
 pub(crate) use crate::pack::moment::{Moment, moment_of};
-pub(crate) use crate::pack::reading::{long, register, short, take_before, time};
+pub(crate) use crate::pack::parts::{long, register, short, time};
+pub(crate) use crate::pack::reading::take_before;
 pub(crate) use crate::pack::row::{append_row, row_of};
 use undo_core::{Last, Pack};
 

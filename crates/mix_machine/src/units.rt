@@ -22,7 +22,7 @@ pub use row::Row;
 use std::alloc::Global;
 use std::marker::Model;
 use undo_core::Memory;
-pub(crate) use unit::MOST_ENTRIES;
+pub(crate) use unit::MAX_ENTRIES;
 pub use unit::Unit;
 pub use unit::same::are_same_words;
 

@@ -1,15 +1,15 @@
 //! The units of a value, appended.
 ghost use Rattle.std.specs.Prelude.{◌≡◌, ◌+◌, ◌*◌, ◌%◌, ◌<◌, ◌≤◌, ◌^◌, ◌++◌, [], ◌∷◌, Some, IsTrue, reverse, vec_len, vec_capacity};
-ghost use Rattle.mix_word.specs.declared.word.Cmp.{Cmp};
 ghost use Rattle.mix_machine.specs.declared.old.Old.{Old};
 ghost use Rattle.mix_machine.specs.declared.old.Old.TheVariants as old;
-ghost use Rattle.mix_machine.specs.Pack.{comparison_of, short_word, long_word, time_of, last_of, value_by, said};
+ghost use Rattle.mix_machine.specs.Pack.{last_of, value_by, said};
 
 use crate::old::Old;
 use crate::pack::kind::Kind;
+use crate::pack::parts::{halves, long_bits, number_of, short_bits};
 use crate::time::Time;
 use crate::units::UnitNo;
-use mix_word::{Cmp, Place, Reg, Sign, Word};
+use mix_word::{Place, Reg, Word};
 
 /// Appends a value.
 #[inline(always)]
@@ -238,49 +238,4 @@ fn three(kind: Kind, payload: u32, first: u32, second: u32, units: &mut Vec<u32>
     units.push_reserved(first);
     units.push_reserved(second);
     units.push_reserved(kind.header(payload));
-}
-
-// The lower and the upper 32 bits of a time.
-#[inline(always)]
-fn halves(time: Time) -> (u32, u32)
-    ensures { time_of result.0 result.1 ≡ time }
-{
-    let number = time.number();
-    (
-        (number % 0x1_0000_0000) as u32,
-        (number / 0x1_0000_0000) as u32,
-    )
-}
-
-fn number_of(cmp: Cmp) -> u32
-    ensures is { comparison_of result ≡ cmp }
-    ensures bound { result < 3 }
-{
-    match cmp {
-        Cmp::Less => 0,
-        Cmp::Equal => 1,
-        Cmp::Greater => 2,
-    }
-}
-
-#[inline(always)]
-fn short_bits(word: Word) -> u32
-    requires { word.magnitude < 2 ^ 23 }
-    ensures is { short_word result ≡ word }
-    ensures bound { result < 2 ^ 24 }
-{
-    match word.sign() {
-        Sign::Plus => word.magnitude(),
-        Sign::Minus => word.magnitude() + 0x80_0000,
-    }
-}
-
-#[inline(always)]
-pub(crate) fn long_bits(word: Word) -> u32
-    ensures { long_word result ≡ word }
-{
-    match word.sign() {
-        Sign::Plus => word.magnitude(),
-        Sign::Minus => word.magnitude() + 0x4000_0000,
-    }
 }

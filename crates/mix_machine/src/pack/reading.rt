@@ -1,18 +1,15 @@
 //! The last value of units, read from their header.
-ghost use Rattle.std.specs.Prelude.{◌≡◌, ◌<◌, ◌≤◌, ℕ, ◌^◌, ◌++◌, [], ◌∷◌, Option, Some, None, cond, nat_lt, IfSome, IsTrue, MatchOption, length, take, reverse, slice_get, vec_len, vec_capacity};
+ghost use Rattle.std.specs.Prelude.{◌≡◌, ◌<◌, ◌≤◌, ℕ, ◌^◌, ◌++◌, [], ◌∷◌, Option, Some, None, IfSome, IsTrue, MatchOption, length, take, reverse, vec_len, vec_capacity};
 ghost use Rattle.std.specs.Option.{option_map};
-ghost use Rattle.mix_word.specs.Register.{all_registers};
-ghost use Rattle.mix_word.specs.Uses.{unit_count};
 ghost use Rattle.undo_core.specs.Pack.{unit_list};
 ghost use Rattle.mix_machine.specs.declared.old.Old.{Old};
 ghost use Rattle.mix_machine.specs.declared.pack.kind.Kind.TheVariants as kind;
-ghost use Rattle.mix_machine.specs.Pack.{comparison_of, short_word, long_word, time_of, register_value, breakpoint_value, kind_of, shorter_row, last_cell, value_by, last_of, last_value, in_three, seen, is_rare};
+ghost use Rattle.mix_machine.specs.Pack.{kind_of, shorter_row, last_cell, value_by, last_of, last_value, in_three, seen, is_rare};
 
 use crate::old::Old;
 use crate::pack::kind::Kind;
-use crate::time::Time;
-use crate::units::UnitNo;
-use mix_word::{Cmp, Place, Reg, Sign, UNITS, Word};
+use crate::pack::parts::{breakpoint, comparison, long, register, short, time, unit_of};
+use mix_word::Place;
 use undo_core::Last;
 
 /// Takes off the last value of units, before their header, if there is one.
@@ -196,91 +193,4 @@ pub(crate) fn last_two(units: &[u32]) -> Option<(u32, u32, &[u32])>
     let (last, rest) = units.split_last()?;
     let (first, rest) = rest.split_last()?;
     Some((*first, *last, rest))
-}
-
-#[inline(always)]
-pub(crate) fn time(low: u32, high: u32) -> Time
-    ensures { result ≡ time_of low high }
-{
-    Time::of(u64::from(high) * 0x1_0000_0000 + u64::from(low))
-}
-
-// A word whose magnitude is below 2^23.
-#[inline(always)]
-pub(crate) fn short(bits: u32) -> Word
-    ensures { result ≡ short_word bits }
-{
-    let sign = if bits < 0x80_0000 {
-        Sign::Plus
-    } else {
-        Sign::Minus
-    };
-    Word::of(sign, bits % 0x80_0000)
-}
-
-#[inline(always)]
-pub(crate) fn long(bits: u32) -> Word
-    ensures { result ≡ long_word bits }
-{
-    let sign = if bits < 0x4000_0000 {
-        Sign::Plus
-    } else {
-        Sign::Minus
-    };
-    Word::of(sign, bits % 0x4000_0000)
-}
-
-#[inline(always)]
-pub(crate) fn register(number: u32, word: Word) -> Option<Old>
-    ensures { result ≡ register_value number word }
-{
-    match reg(number) {
-        Some(reg) => Some(Old::Reg(reg, word)),
-        None => None,
-    }
-}
-
-#[inline(always)]
-fn reg(number: u32) -> Option<Reg>
-    ensures { result ≡ slice_get all_registers number }
-{
-    match number {
-        0 => Some(Reg::A),
-        1 => Some(Reg::X),
-        2 => Some(Reg::I1),
-        3 => Some(Reg::I2),
-        4 => Some(Reg::I3),
-        5 => Some(Reg::I4),
-        6 => Some(Reg::I5),
-        7 => Some(Reg::I6),
-        8 => Some(Reg::J),
-        _ => None,
-    }
-}
-
-fn comparison(number: u32) -> Cmp
-    ensures { result ≡ comparison_of number }
-{
-    match number {
-        0 => Cmp::Less,
-        1 => Cmp::Equal,
-        _ => Cmp::Greater,
-    }
-}
-
-fn breakpoint(payload: u32) -> Option<Old>
-    ensures { result ≡ breakpoint_value payload }
-{
-    let place = Place::of((payload % 4096) as u16)?;
-    Some(Old::Break(place, payload / 4096 == 1))
-}
-
-fn unit_of(number: u32) -> Option<UnitNo>
-    ensures { result ≡ cond (nat_lt number unit_count) (Some number) None }
-{
-    if number < u32::from(UNITS) {
-        UnitNo::of(number as u8)
-    } else {
-        None
-    }
 }

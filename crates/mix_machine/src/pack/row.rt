@@ -3,8 +3,8 @@ ghost use Rattle.std.specs.Prelude.{◌≡◌, ◌+◌, ◌*◌, ◌≤◌, ◌+
 ghost use Rattle.mix_machine.specs.Pack.{said};
 ghost use Rattle.mix_machine.specs.Cells.{cell_values, IsRow};
 
-use crate::pack::appending::long_bits;
 use crate::pack::kind::Kind;
+use crate::pack::parts::long_bits;
 use mix_word::Word;
 use std::mem;
 

@@ -16,10 +16,10 @@ use crate::world::World;
 use mix_word::{Operation, UnitUse, Uses};
 use undo_core::{Kept, Refused};
 
-const LAST_CLOCK: u64 = 1_000_000_000_000_000_000;
+const MAX_CLOCK: u64 = 1_000_000_000_000_000_000;
 
 // The most that one change keeps.
-const MOST_KEPT: usize = 104;
+const MAX_KEPT: usize = 104;
 
 impl World {
     /// Ends a step of an operation, by what the operation does, or its first fault.
@@ -42,7 +42,7 @@ impl World {
         match self.plan_of_served(operation, outcome, a) {
             Err(fault) => Err(Refused::Fault(fault)),
             Ok(plan) => {
-                kept.reserve(MOST_KEPT)?;
+                kept.reserve(MAX_KEPT)?;
                 self.perform(plan, kept)?;
                 Ok(())
             }
@@ -75,7 +75,7 @@ impl World {
         ensures { result ≡ timed_or_fault operation self.now a effects }
     {
         let clock = self.start(operation, a.f) + u64::from(operation.time(a.f));
-        if clock > LAST_CLOCK {
+        if clock > MAX_CLOCK {
             return Err(MixFault::ClockFull);
         }
         let loc = if effects.jumps {

@@ -15,7 +15,7 @@ use crate::fault::MixFault;
 use crate::plan::{Effects, Outcome, Transfer, Writes};
 use crate::step::move_words::is_row;
 use crate::step::transfer::goes_on;
-use crate::units::{MOST_ENTRIES, Unit, UnitKind, UnitNo};
+use crate::units::{MAX_ENTRIES, Unit, UnitKind, UnitNo};
 use crate::world::World;
 use mix_word::{Operation, Reg, Sign};
 
@@ -101,7 +101,7 @@ impl World {
     {
         match self.block_at(unit) {
             None => Err(MixFault::NoBlock),
-            Some(block) if block >= u32::from(MOST_ENTRIES) => Err(MixFault::UnitFull),
+            Some(block) if block >= u32::from(MAX_ENTRIES) => Err(MixFault::UnitFull),
             Some(block) => Ok(goes_on(Writes::Output(Transfer {
                 unit,
                 block: block as u16,
@@ -118,7 +118,7 @@ impl World {
             Ok (effects Operation.Out self.now a)) }
     {
         let to = self.units.unit(unit);
-        if to.rows() >= MOST_ENTRIES {
+        if to.rows() >= MAX_ENTRIES {
             return Err(MixFault::UnitFull);
         }
         let block = if to.kind().has_place() { to.place() } else { 0 };
@@ -138,7 +138,7 @@ impl World {
         if is_bad_order(unit, a.m) {
             return Err(MixFault::BadControl);
         }
-        if unit.kind() == UnitKind::Printer && unit.rows() >= MOST_ENTRIES {
+        if unit.kind() == UnitKind::Printer && unit.rows() >= MAX_ENTRIES {
             return Err(MixFault::UnitFull);
         }
         Ok(goes_on(Writes::Control(number, wound(unit, a.m))))

@@ -1,6 +1,6 @@
 use Rattle.std.proofs.Common.{◌≡◌, ◌+◌, ◌-◌, ◌*◌, ◌++◌, vec_len}
 use Rattle.mix_machine.specs.units.deck.Block.{words_from}
-use Rattle.mix_machine.proofs.units.deck.reader.push_columns.Given as goal
+use Rattle.mix_machine.proofs.units.deck.reader.unit_line.push_columns.Given as goal
 
 abbrev pub invariant-loop-i : goal.invariant-loop-i
 invariant-loop-i l = record {

@@ -1,7 +1,7 @@
 use Rattle.std.proofs.Common.{◌≡◌, ◌+◌, ◌-◌, ◌*◌, ◌++◌, ◌∷◌, [], ◌∙◌, ap, append_assoc, arith}
 use Rattle.mix_machine.specs.units.deck.Block.{word_at, words_from}
 use Rattle.mix_machine.proofs.DeckLemmas.{columns-more}
-use Rattle.mix_machine.proofs.units.deck.reader.push_columns.Goals as goal
+use Rattle.mix_machine.proofs.units.deck.reader.unit_line.push_columns.Goals as goal
 
 pub loop-i-preserved : goal.loop-i-preserved
 loop-i-preserved c =

@@ -2,7 +2,7 @@ use Rattle.std.proofs.Common.{◌≡◌, ◌≤◌, ◌+◌, length, vec_len}
 use Rattle.mix_lines.specs.Lines.{words}
 use Rattle.mix_machine.specs.units.deck.Block.{deck_words}
 use Rattle.mix_machine.specs.units.deck.Deck.{with_words}
-use Rattle.mix_machine.proofs.units.deck.reader.push_words.Given as goal
+use Rattle.mix_machine.proofs.units.deck.reader.unit_line.push_words.Given as goal
 
 abbrev pub invariant-loop-word : goal.invariant-loop-word
 invariant-loop-word l = record {

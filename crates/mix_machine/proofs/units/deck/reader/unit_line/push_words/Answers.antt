@@ -2,7 +2,7 @@ use Rattle.std.proofs.Common.{◌∙◌, length, ap, sym, arith}
 use Rattle.mix_machine.specs.units.deck.Block.{deck_words}
 use Rattle.mix_machine.specs.units.deck.Deck.{with_words}
 use Rattle.mix_machine.proofs.DeckLemmas.{words-more}
-use Rattle.mix_machine.proofs.units.deck.reader.push_words.Goals as goal
+use Rattle.mix_machine.proofs.units.deck.reader.unit_line.push_words.Goals as goal
 
 pub loop-word-preserved : goal.loop-word-preserved
 loop-word-preserved c =

@@ -1,6 +1,6 @@
 use Rattle.std.proofs.Common.{◌≡◌, ◌+◌, ◌++◌, replicate, vec_len, vec_capacity}
 use Rattle.mix_word.specs.Word.{zero_word}
-use Rattle.mix_machine.proofs.units.unit.push_zeros.Given as goal
+use Rattle.mix_machine.proofs.units.unit.blocks.push_zeros.Given as goal
 
 abbrev pub invariant-loop-word : goal.invariant-loop-word
 invariant-loop-word l = record {
