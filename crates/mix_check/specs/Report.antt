@@ -7,7 +7,7 @@ use Rattle.mixal_text.specs.declared.fault.TextFault.TheVariants.{NoSuchLocalSym
 use Rattle.mixal_text.specs.declared.op.Mnemonic.{Mnemonic}
 use Rattle.mixal_text.specs.declared.op.Mnemonic.TheVariants.{Orig, End}
 use Rattle.mixal_text.specs.declared.slips.Slip.{Slip}
-use Rattle.mixal_text.specs.declared.slips.Slip.TheVariants.{OperationAsLabel, AlfCut, BlankInAddress}
+use Rattle.mixal_text.specs.declared.slips.Slip.TheVariants.{OperationAsLabel, AlfCut, BlankInAddress, NoField}
 use Rattle.mixal_text.specs.declared.span.Span.{Span}
 use Rattle.mixal_text.specs.declared.span.Part.{Part}
 use Rattle.mixal_text.specs.declared.span.Part.TheVariants as part
@@ -66,6 +66,7 @@ abbrev pub slip_part : Slip → Part
 slip_part OperationAsLabel = part.Label
 slip_part AlfCut = part.Address
 slip_part BlankInAddress = part.Address
+slip_part NoField = part.Address
 
 abbrev pub warning_part : Warning → Part
 warning_part (UndefinedSymbol symbol) = part.Address

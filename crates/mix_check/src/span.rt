@@ -32,7 +32,7 @@ fn slip_part(slip: Slip) -> Part
 {
     match slip {
         Slip::OperationAsLabel => Part::Label,
-        Slip::AlfCut | Slip::BlankInAddress => Part::Address,
+        Slip::AlfCut | Slip::BlankInAddress | Slip::NoField => Part::Address,
     }
 }
 

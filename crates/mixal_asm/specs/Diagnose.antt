@@ -6,11 +6,9 @@ use Rattle.std.specs.Str.{bytes_eq}
 use Rattle.mix_lines.specs.Lines.{lines, is_comment}
 use Rattle.mixal_text.specs.declared.fault.TextFault.{TextFault}
 use Rattle.mixal_text.specs.declared.label.Label.{Label}
-use Rattle.mixal_text.specs.declared.op.Mnemonic.{Mnemonic}
-use Rattle.mixal_text.specs.declared.op.Mnemonic.TheVariants.{Machine, Equ, Orig, Con, Alf, End}
 use Rattle.mixal_text.specs.declared.slips.Slip.{Slip}
-use Rattle.mixal_text.specs.declared.slips.Slip.TheVariants.{OperationAsLabel, AlfCut, BlankInAddress}
-use Rattle.mixal_text.specs.Line.{loc_of_line, op_of_line}
+use Rattle.mixal_text.specs.declared.slips.Slip.TheVariants.{OperationAsLabel, AlfCut, BlankInAddress, NoField}
+use Rattle.mixal_text.specs.Line.{is_end_op, loc_of_line, op_of_line}
 use Rattle.mixal_text.specs.Slips.{has_slip, symbol_used}
 use Rattle.mixal_asm.specs.declared.fault.AsmFault.{AsmFault}
 use Rattle.mixal_asm.specs.declared.diagnostic.Diagnostic.{Diagnostic}
@@ -25,15 +23,6 @@ use Rattle.mixal_asm.specs.Assembly.{max_source_bytes}
 use Rattle.mixal_asm.specs.Faults.{faults_of}
 
 -- ---- the lines up to END, that of END included
-
-abbrev pub is_end_op : Result Mnemonic TextFault → Bool
-is_end_op (Ok (Machine operation)) = false
-is_end_op (Ok Equ) = false
-is_end_op (Ok Orig) = false
-is_end_op (Ok Con) = false
-is_end_op (Ok Alf) = false
-is_end_op (Ok End) = true
-is_end_op (Err fault) = false
 
 abbrev pub is_end : List ℕ → Bool
 is_end text = not (is_comment text) && is_end_op (op_of_line text)
@@ -66,6 +55,11 @@ mentions_from r n (text ∷ more) = with_number n (symbol_in r text) ++ mentions
 abbrev pub first_line : List (List ℕ × ℕ) → List ℕ → Option ℕ
 first_line mentions symbol = lookup (bytes_eq symbol) mentions
 
+-- the first line of a source, up to END, that mentions a symbol. One of too many bytes is not looked at
+unfoldable pub first_mention : List ℕ → Role → List ℕ → Option ℕ
+first_mention source r symbol =
+    if nat_lt max_source_bytes (length source) then None else first_line (mentions_from r 1 (up_to_end (lines source))) symbol
+
 -- ---- warnings
 
 abbrev pub warning_at : ℕ → Warning → List Diagnostic
@@ -77,12 +71,17 @@ undefined_at uses definitions n None = []
 undefined_at uses definitions n (Some symbol) =
     if is_that n (first_line uses symbol) && is_none (first_line definitions symbol) then warning_at n (warning.UndefinedSymbol symbol) else []
 
+-- a slip, if the line has it
+abbrev pub slip_if : ℕ → Bool → Slip → List Diagnostic
+slip_if n has slip = if has then warning_at n (warning.Slip slip) else []
+
 abbrev pub slip_at : ℕ → List ℕ → Slip → List Diagnostic
-slip_at n text slip = if has_slip text slip then warning_at n (warning.Slip slip) else []
+slip_at n text slip = slip_if n (has_slip text slip) slip
 
 -- what comes first, and then the slips of a line
 abbrev pub with_slips : ℕ → List ℕ → List Diagnostic → List Diagnostic
-with_slips n text first = first ++ slip_at n text OperationAsLabel ++ slip_at n text AlfCut ++ slip_at n text BlankInAddress
+with_slips n text first =
+    first ++ slip_at n text OperationAsLabel ++ slip_at n text AlfCut ++ slip_at n text BlankInAddress ++ slip_at n text NoField
 
 -- the warnings of a line, by the symbols that lines use and define
 unfoldable pub line_warnings : List (List ℕ × ℕ) → List (List ℕ × ℕ) → ℕ → List ℕ → List Diagnostic
@@ -135,6 +134,7 @@ abbrev pub slip_name : Slip → List ℕ
 slip_name OperationAsLabel = codes "operation-as-label"
 slip_name AlfCut = codes "alf-cut"
 slip_name BlankInAddress = codes "blank-in-address"
+slip_name NoField = codes "no-field"
 
 abbrev pub warning_name : Warning → List ℕ
 warning_name (warning.UndefinedSymbol symbol) = codes "undefined-symbol"
@@ -144,6 +144,7 @@ abbrev pub slip_text : Slip → List ℕ
 slip_text OperationAsLabel = codes "the label is the name of an operation: if that is meant, begin the line with a blank"
 slip_text AlfCut = codes "ALF takes five characters, and its text has more of them, or begins later"
 slip_text BlankInAddress = codes "a blank ends the address: what follows is a remark"
+slip_text NoField = codes "the operation takes no such F: the machine will refuse the step"
 
 abbrev pub warning_text : Warning → List ℕ
 warning_text (warning.UndefinedSymbol symbol) = codes " is defined nowhere: END makes a cell of 0 for it"

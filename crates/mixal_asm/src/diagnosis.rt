@@ -2,8 +2,7 @@
 ghost use Rattle.std.specs.Prelude.{◌≡◌, ◌≤◌, ◌++◌, length, position, IfOk, OnOk};
 ghost use Rattle.std.specs.List.{position_or_len};
 ghost use Rattle.mix_lines.specs.Lines.{lines};
-ghost use Rattle.mixal_asm.specs.Diagnose.{diagnostics_of, first_line, goes_after, is_warning, line_warnings, slip_at, undefined_at, up_to_end, warning_at, warnings_from, warnings_in, warnings_of, with_fault, with_faults};
-ghost use Rattle.mixal_text.specs.Slips.{symbol_used};
+ghost use Rattle.mixal_asm.specs.Diagnose.{diagnostics_of, first_line, goes_after, is_warning, line_warnings, slip_if, undefined_at, up_to_end, warning_at, warnings_from, warnings_in, warnings_of, with_fault, with_faults};
 ghost use Rattle.mixal_asm.specs.Source.{is_that};
 
 use crate::diagnostic::{Diagnostic, Finding, Warning};
@@ -13,7 +12,7 @@ use crate::mentions::{Role, mentions, next_line};
 use crate::source::MAX_SOURCE_BYTES;
 use indexmap::IndexMap;
 use mix_refused::Memory;
-use mixal_text::{Slip, Symbol, has_slip, symbol_used};
+use mixal_text::{Slip, Symbol, survey_of};
 use std::alloc::Global;
 
 /// What there is to say of a source (1.3.2), in the order of its lines: its faults, as `faults_of` has them, and before a later line
@@ -135,10 +134,17 @@ fn add_line_warnings(
 ) -> Result<(), Memory>
     ensures { OnOk result (list.new.items ≡ list.old.items ++ line_warnings uses.now.entries definitions.now.entries number line.now) }
 {
-    add_undefined(list, uses, definitions, number, line)?;
-    add_slip(list, number, line, Slip::OperationAsLabel)?;
-    add_slip(list, number, line, Slip::AlfCut)?;
-    add_slip(list, number, line, Slip::BlankInAddress)
+    let survey = survey_of(line);
+    add_undefined(list, uses, definitions, number, survey.used)?;
+    add_slip(
+        list,
+        number,
+        survey.operation_as_label,
+        Slip::OperationAsLabel,
+    )?;
+    add_slip(list, number, survey.alf_cut, Slip::AlfCut)?;
+    add_slip(list, number, survey.blank_in_address, Slip::BlankInAddress)?;
+    add_slip(list, number, survey.no_field, Slip::NoField)
 }
 
 // A symbol that a line is the first to use, and that is the LOC of no line.
@@ -147,11 +153,11 @@ fn add_undefined(
     uses: &IndexMap<Symbol, u32>,
     definitions: &IndexMap<Symbol, u32>,
     number: u32,
-    line: &[u8],
+    used: Option<Symbol>,
 ) -> Result<(), Memory>
-    ensures { OnOk result (list.new.items ≡ list.old.items ++ undefined_at uses.now.entries definitions.now.entries number (symbol_used line.now)) }
+    ensures { OnOk result (list.new.items ≡ list.old.items ++ undefined_at uses.now.entries definitions.now.entries number used) }
 {
-    match symbol_used(line) {
+    match used {
         Some(symbol) => {
             if is_first(uses, &symbol, number) && !definitions.contains_key(&symbol) {
                 push_warning(list, number, Warning::UndefinedSymbol(symbol))?;
@@ -172,10 +178,11 @@ fn is_first(uses: &IndexMap<Symbol, u32>, symbol: &Symbol, number: u32) -> bool
     }
 }
 
-fn add_slip(list: &mut Vec<Diagnostic>, number: u32, line: &[u8], slip: Slip) -> Result<(), Memory>
-    ensures { OnOk result (list.new.items ≡ list.old.items ++ slip_at number line.now slip) }
+// A slip, if the line has it.
+fn add_slip(list: &mut Vec<Diagnostic>, number: u32, has: bool, slip: Slip) -> Result<(), Memory>
+    ensures { OnOk result (list.new.items ≡ list.old.items ++ slip_if number has slip) }
 {
-    if has_slip(line, slip) {
+    if has {
         push_warning(list, number, Warning::Slip(slip))?;
     }
     Ok(())

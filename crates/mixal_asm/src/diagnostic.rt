@@ -67,6 +67,7 @@ fn slip_name(slip: Slip) -> &'static str
         Slip::OperationAsLabel => "operation-as-label",
         Slip::AlfCut => "alf-cut",
         Slip::BlankInAddress => "blank-in-address",
+        Slip::NoField => "no-field",
     }
 }
 
@@ -79,5 +80,6 @@ fn slip_text(slip: Slip) -> &'static str
         }
         Slip::AlfCut => "ALF takes five characters, and its text has more of them, or begins later",
         Slip::BlankInAddress => "a blank ends the address: what follows is a remark",
+        Slip::NoField => "the operation takes no such F: the machine will refuse the step",
     }
 }

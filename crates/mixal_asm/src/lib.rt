@@ -32,6 +32,7 @@ pub use diagnostic::{Diagnostic, Finding, Warning};
 pub use fault::{AsmFault, AsmKind};
 pub use faults::{MAX_FAULTS, faults_of};
 pub use fed::Fed;
+pub use mentions::{Role, first_mentions};
 pub use mix_stream::{Counted, Failed, In, Out};
 pub use program::Program;
 pub use row::Source;

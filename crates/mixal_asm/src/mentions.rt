@@ -3,19 +3,20 @@ ghost use Rattle.std.specs.Prelude.{◌≡◌, ◌<◌, ◌≤◌, ◌+◌, ◌+
 ghost use Rattle.std.specs.Map.{lookup};
 ghost use Rattle.std.specs.Str.{bytes_eq};
 ghost use Rattle.mix_lines.specs.Lines.{lines};
-ghost use Rattle.mixal_asm.specs.Diagnose.{is_end, mentions_from, symbol_in, symbol_of_read_loc, up_to_end, with_number};
+ghost use Rattle.mixal_asm.specs.Diagnose.{first_mention, is_end, mentions_from, symbol_in, symbol_of_read_loc, up_to_end, with_number};
 ghost use Rattle.mixal_text.specs.Line.{loc_of_line};
 
 use crate::index::{note_line, symbol_of_loc};
+use crate::source::MAX_SOURCE_BYTES;
 use indexmap::IndexMap;
 use mix_lines::{is_comment, split_line};
 use mix_refused::Memory;
-use mixal_text::{Mnemonic, Symbol, line_loc, line_op, symbol_used};
+use mixal_text::{Symbol, line_is_end, line_loc, symbol_used};
 use std::alloc::Global;
 
 /// What a line does with a symbol: it is its LOC, or the A-part of its instruction.
 #[derive(Clone, Copy)]
-pub(crate) enum Role {
+pub enum Role {
     Definition,
     Use,
 }
@@ -41,7 +42,23 @@ pub(crate) fn next_line(text: &[u8]) -> Option<(&[u8], &[u8])>
 fn is_end(line: &[u8]) -> bool
     ensures { result ≡ is_end line.now }
 {
-    !is_comment(line) && matches!(line_op(line), Ok(Mnemonic::End))
+    !is_comment(line) && line_is_end(line)
+}
+
+/// The symbols that the lines of a source up to END mention in this role (1.3.2), each with the number of the first line that does,
+/// whatever else that line is. A source of over 1,048,576 bytes is not looked at.
+#[tactic(auto, unfolding(crate::specs::Diagnose::first_mention))]
+pub fn first_mentions(
+    alloc: Global,
+    role: Role,
+    text: &[u8],
+) -> Result<IndexMap<Symbol, u32>, Memory>
+    ensures lines { (symbol : List ℕ) → IfOk result (λ found. lookup (bytes_eq symbol) found.entries ≡ first_mention text.now role symbol) }
+{
+    if text.len() > MAX_SOURCE_BYTES {
+        return Ok(IndexMap::new(alloc));
+    }
+    mentions(alloc, role, text)
 }
 
 /// The symbols that the lines of a text mention in this role, each with the number of its first line.

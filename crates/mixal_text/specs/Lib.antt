@@ -11,6 +11,8 @@ pub mod WValue
 pub mod Op
 pub mod Label
 pub mod Words
+pub mod WrittenF
+pub mod Valued
 pub mod Alf
 pub mod Line
 pub mod Span

@@ -1,5 +1,5 @@
 -- A line (1.3.2): a remark, or LOC, OP and ADDRESS, parted by blanks. Its first fault from the left is the answer.
-use Rattle.std.specs.Prelude.{ℕ, ◌<◌, Bool, ◌||◌, ◌&&◌, List, [], ◌∷◌, is_some, Option, Some, None, option_map, ok_or, Result, Ok, Err, if◌then◌else◌}
+use Rattle.std.specs.Prelude.{ℕ, ◌<◌, Bool, true, false, ◌||◌, ◌&&◌, List, [], ◌∷◌, is_some, Option, Some, None, option_map, ok_or, Result, Ok, Err, if◌then◌else◌}
 use Rattle.std.specs.List.{list_all, before_first, after_first}
 use Rattle.std.specs.Char.{is_ascii_alphabetic}
 use Rattle.std.specs.Str.{str_to_ascii_uppercase}
@@ -49,6 +49,15 @@ loc_of_line text = loc_of (before_first is_blank text)
 
 abbrev pub op_of_line : List ℕ → Result Mnemonic TextFault
 op_of_line text = op_of (first_word (after_first is_blank text))
+
+abbrev pub is_end_op : Result Mnemonic TextFault → Bool
+is_end_op (Ok (Machine operation)) = false
+is_end_op (Ok Equ) = false
+is_end_op (Ok Orig) = false
+is_end_op (Ok Con) = false
+is_end_op (Ok Alf) = false
+is_end_op (Ok End) = true
+is_end_op (Err fault) = false
 
 -- the ADDRESS of a symbolic operation, by what stands after OP; a remark is none
 abbrev pub address_after : Operation → List ℕ → List ℕ

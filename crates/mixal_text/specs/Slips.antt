@@ -10,12 +10,13 @@ use Rattle.mixal_text.specs.declared.op.Mnemonic.{Mnemonic}
 use Rattle.mixal_text.specs.declared.op.Op.{Op}
 use Rattle.mixal_text.specs.declared.op.Op.TheVariants.{Machine, Equ, Orig, Con, Alf, End}
 use Rattle.mixal_text.specs.declared.slips.Slip.{Slip}
-use Rattle.mixal_text.specs.declared.slips.Slip.TheVariants.{OperationAsLabel, AlfCut, BlankInAddress}
+use Rattle.mixal_text.specs.declared.slips.Slip.TheVariants.{OperationAsLabel, AlfCut, BlankInAddress, NoField}
 use Rattle.mixal_text.specs.Words.{is_nonblank, after_blanks, after_word}
 use Rattle.mixal_text.specs.Symbol.{symbol_of}
 use Rattle.mixal_text.specs.Alf.{is_quote, alf_start}
 use Rattle.mixal_text.specs.Line.{LineValue, Remark, Code, loc_of_line, op_of, line_of}
 use Rattle.mixal_text.specs.Address.{is_delimiter}
+use Rattle.mixal_text.specs.WrittenF.{has_refused_f}
 
 -- ---- the symbol that is the A-part of an instruction
 
@@ -105,3 +106,4 @@ unfoldable pub has_slip : List ℕ → Slip → Bool
 has_slip text OperationAsLabel = has_operation (loc_of_line text)
 has_slip text AlfCut = has_cut_alf (line_of text) (after_op text)
 has_slip text BlankInAddress = has_cut_address (line_of text) (after_op text)
+has_slip text NoField = has_refused_f (line_of text)

@@ -22,16 +22,6 @@ put_pieces names here word (piece ∷ more) = do
   next ← put_piece names here word piece
   put_pieces names here next more
 
--- the pieces of what follows a comma, if there was one
-abbrev pub pieces_of : Option (List ℕ) → List (List ℕ)
-pieces_of None = []
-pieces_of (Some text) = slice_split is_comma text
-
--- how many bytes that has with its comma
-abbrev pub length_with_comma : Option (List ℕ) → ℕ
-length_with_comma None = 0
-length_with_comma (Some text) = 1 + length text
-
 -- the word of a W-value, whose pieces stand between commas
 unfoldable pub w_value_of : NamesValue → WordValue → List ℕ → Result WordValue TextFault
 w_value_of names here text = put_pieces names here zero_word (slice_split is_comma text)

@@ -1,7 +1,21 @@
--- How a line is cut at its blanks (1.3.2).
-use Rattle.std.specs.Prelude.{ℕ, Bool, not, List, drop}
-use Rattle.std.specs.List.{before_first, after_first, position_or_len}
+-- How a text is cut into pieces, and a line at its blanks (1.3.2).
+use Rattle.std.specs.Prelude.{ℕ, ◌+◌, Bool, not, List, [], length, drop, Option, Some, None}
+use Rattle.std.specs.List.{before_first, after_first, position_or_len, slice_split}
 use Rattle.mix_lines.specs.Lines.{is_blank}
+
+-- ---- pieces between bytes that pass a test
+
+-- the pieces of what follows such a byte, if there was one
+abbrev pub pieces_of : (ℕ → Bool) → Option (List ℕ) → List (List ℕ)
+pieces_of test None = []
+pieces_of test (Some text) = slice_split test text
+
+-- how many bytes that has with the byte before it
+abbrev pub length_with_one : Option (List ℕ) → ℕ
+length_with_one None = 0
+length_with_one (Some text) = 1 + length text
+
+-- ---- words
 
 abbrev pub is_nonblank : ℕ → Bool
 is_nonblank byte = not (is_blank byte)

@@ -6,12 +6,14 @@ ghost use Rattle.mixal_text.specs.Part.{is_close, is_comma, up_to};
 ghost use Rattle.mixal_text.specs.Span.{IsWithin};
 ghost use Rattle.mixal_text.specs.AddressSpan.{a_part_at, address_at, brackets_at, closed_at, index_at, left_at, literal_at, operand_at, piece_at, pieces_at, plain_at, span_of_address, span_of_w_value, span_or_all};
 
-use crate::addresses::{address, equals_in, reference, split_at_delimiter};
+use crate::addresses::address;
 use crate::atom::split_atom;
+use crate::cut::{after_close, equals_in, split_at_bracket, split_at_close, split_at_delimiter};
 use crate::expression_span::{expression_at, or_at, whole_at};
 use crate::names::Names;
 use crate::op::Op;
-use crate::part::{after_close, field_of_value, number_up_to, split_at_bracket, split_at_close};
+use crate::part::{field_of_value, number_up_to};
+use crate::references::reference;
 use crate::span::Span;
 use crate::w_values::{split_piece, w_value};
 use mix_word::Word;

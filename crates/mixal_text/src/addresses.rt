@@ -1,20 +1,16 @@
 //! The ADDRESS of a symbolic operation (1.3.2): A-part, index and F.
-ghost use Rattle.std.specs.Prelude.{◌≡◌, ◌<◌, ◌≤◌, ◌+◌, length, IfOk, IfSome, MatchOption, MatchResult, Ok, Err, Some, None, position};
-ghost use Rattle.std.specs.List.{after_first, before_first, list_any};
-ghost use Rattle.mixal_text.specs.Local.{local_of};
-ghost use Rattle.mixal_text.specs.Symbol.{symbol_of};
-ghost use Rattle.mixal_text.specs.Names.{NamesValue};
-ghost use Rattle.mixal_text.specs.Part.{part_in_brackets, from_first, up_to};
-ghost use Rattle.mixal_text.specs.Address.{IsFuture, IsMachine, a_part_of, address_of, f_of, index_of, is_delimiter, is_equals, literal_operand_of, operand_of, plain_operand_of, reference_with, undefined_name, local_ahead, value_of_a_part, value_of_operand};
+ghost use Rattle.std.specs.Prelude.{◌≡◌, ◌<◌, ◌≤◌, IfOk, IfSome, MatchResult, Ok, Err};
+ghost use Rattle.mixal_text.specs.Part.{part_in_brackets, up_to};
+ghost use Rattle.mixal_text.specs.Address.{IsFuture, IsMachine, a_part_of, address_of, f_of, index_of, literal_operand_of, operand_of, plain_operand_of, value_of_a_part, value_of_operand};
 
 use crate::atom::split_atom;
+use crate::cut::{after_close, equals_in, split_at_bracket, split_at_delimiter};
 use crate::expressions::{expression, whole_expression};
 use crate::fault::TextFault;
-use crate::local::{Direction, Local};
 use crate::names::Names;
 use crate::op::Op;
-use crate::operator::split_operator;
-use crate::part::{after_close, nothing_left, number_up_to, split_at_bracket, value_before_close};
+use crate::part::{nothing_left, number_up_to, value_before_close};
+use crate::references::reference;
 use crate::symbol::Symbol;
 use mix_word::Word;
 
@@ -97,12 +93,6 @@ fn literal_operand<'a, N: Names>(
     }
 }
 
-pub(crate) fn equals_in(text: &[u8]) -> Option<usize>
-    ensures { result ≡ position is_equals text.now }
-{
-    text.iter().position(|byte| *byte == b'=')
-}
-
 #[tactic(auto, unfolding(crate::specs::Address::plain_operand_of))]
 fn plain_operand<'a, N: Names>(
     text: &'a [u8],
@@ -120,25 +110,6 @@ fn plain_operand<'a, N: Names>(
     let (text, rest) = split_at_delimiter(text);
     let a = a_part(text, names, here)?;
     operand_with(a, rest, normal_f, names, here)
-}
-
-// A text cut before its first comma or opening bracket.
-#[tactic(auto, using(crate::proofs::PartLemmas::cuts))]
-pub(crate) fn split_at_delimiter(text: &[u8]) -> (&[u8], &[u8])
-    ensures before { result.0.now ≡ before_first is_delimiter text.now }
-    ensures from { result.1.now ≡ from_first is_delimiter text.now }
-    ensures whole { length result.0.now + length result.1.now ≡ length text.now }
-{
-    match delimiter_in(text) {
-        Some(start) => text.split_at(start),
-        None => (text, &[]),
-    }
-}
-
-fn delimiter_in(text: &[u8]) -> Option<usize>
-    ensures { result ≡ position is_delimiter text.now }
-{
-    text.iter().position(|byte| *byte == b',' || *byte == b'(')
 }
 
 #[tactic(auto, unfolding(crate::specs::Address::operand_of))]
@@ -181,7 +152,11 @@ fn index<N: Names>(text: &[u8], names: &N, here: Word) -> Result<u8, TextFault>
 }
 
 #[tactic(auto, unfolding(crate::specs::Part::part_in_brackets))]
-fn f_in_brackets<N: Names>(text: &[u8], names: &N, here: Word) -> Result<Option<u8>, TextFault>
+pub(crate) fn f_in_brackets<N: Names>(
+    text: &[u8],
+    names: &N,
+    here: Word,
+) -> Result<Option<u8>, TextFault>
     ensures value { result ≡ part_in_brackets (up_to 63) (N.names names.now) here text.now }
     ensures bound { IfOk result (λ f. IfSome f (λ n. n < 64)) }
 {
@@ -213,45 +188,5 @@ fn a_part<'a, N: Names>(text: &[u8], names: &N, here: Word) -> Result<APart<'a>,
             Ok(reference)
         }
         None => Ok(APart::Value(whole_expression(text, names, here)?)),
-    }
-}
-
-// The future reference that an atom is, where no operator begins what follows it.
-pub(crate) fn reference<'a, N: Names>(atom: &[u8], rest: &[u8], names: &N) -> Option<APart<'a>>
-    ensures is { MatchOption result
-        (reference_with (N.names names.now) atom.now rest.now ≡ None)
-        (λ a. reference_with (N.names names.now) atom.now rest.now ≡ Some (value_of_a_part a)) }
-    ensures future { IfSome result (λ a. IsFuture (N.names names.now) (value_of_a_part a)) }
-{
-    if split_operator(rest).is_some() {
-        return None;
-    }
-    match Local::of(atom) {
-        Some(local) => local_ahead(local),
-        None => undefined(Symbol::of(atom)?, names),
-    }
-}
-
-fn undefined<'a, N: Names>(symbol: Symbol, names: &N) -> Option<APart<'a>>
-    ensures is { MatchOption result
-        (undefined_name (N.names names.now) symbol ≡ None)
-        (λ a. undefined_name (N.names names.now) symbol ≡ Some (value_of_a_part a)) }
-    ensures future { IfSome result (λ a. IsFuture (N.names names.now) (value_of_a_part a)) }
-{
-    match names.value(&symbol) {
-        Some(_) => None,
-        None => Some(APart::Name(symbol)),
-    }
-}
-
-fn local_ahead<'a>(local: Local) -> Option<APart<'a>>
-    ensures is { MatchOption result
-        (local_ahead local.digit local.direction ≡ None)
-        (λ a. local_ahead local.digit local.direction ≡ Some (value_of_a_part a)) }
-    ensures future { (names : NamesValue) → IfSome result (λ a. IsFuture names (value_of_a_part a)) }
-{
-    match local.direction {
-        Direction::Forward => Some(APart::Ahead(local.digit)),
-        Direction::Here | Direction::Backward => None,
     }
 }

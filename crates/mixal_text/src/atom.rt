@@ -1,6 +1,7 @@
 //! Atomic expressions (1.3.2): numbers, symbols, and the asterisk.
-ghost use Rattle.std.specs.Prelude.{◌≡◌, ◌≤◌, drop, length, position};
-ghost use Rattle.std.specs.List.{position_or_len};
+ghost use Rattle.std.specs.Prelude.{◌≡◌, ◌≤◌, ◌∷◌, ◌+◌, drop, length, option_copied, position};
+ghost use Rattle.std.specs.List.{position_or_len, slice_split};
+ghost use Rattle.mixal_text.specs.Words.{pieces_of, length_with_one};
 ghost use Rattle.mixal_text.specs.Local.{local_of};
 ghost use Rattle.mixal_text.specs.Symbol.{symbol_of};
 ghost use Rattle.mixal_text.specs.Atom.{is_other, atom_in, atom_value, number_or_fault, local_value, symbol_value};
@@ -25,6 +26,18 @@ pub(crate) fn split_atom(text: &[u8]) -> (&[u8], &[u8])
     match text {
         [b'*', ..] => text.split_at(1),
         _ => text.split_at(run_length(text)),
+    }
+}
+
+/// The run of letters and digits that begins a text, which may be empty, and what follows the byte after it, if there is one.
+#[tactic(auto, using(crate::proofs::PartLemmas::pieces))]
+pub fn split_run(text: &[u8]) -> (&[u8], Option<&[u8]>)
+    ensures is { slice_split is_other text.now ≡ result.0.now ∷ pieces_of is_other (option_copied result.1) }
+    ensures whole { length result.0.now + length_with_one (option_copied result.1) ≡ length text.now }
+{
+    match end_of_run(text) {
+        Some(end) => (&text[..end], Some(&text[end + 1..])),
+        None => (text, None),
     }
 }
 

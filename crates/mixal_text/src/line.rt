@@ -4,7 +4,7 @@ ghost use Rattle.std.specs.List.{list_all};
 ghost use Rattle.std.specs.Char.{is_ascii_alphabetic};
 ghost use Rattle.mix_lines.specs.Lines.{begins_with};
 ghost use Rattle.mixal_text.specs.Words.{first_word};
-ghost use Rattle.mixal_text.specs.Line.{HasBytes, IsOfBytes, are_characters, loc_of, op_of, loc_of_line, op_of_line, address_after, with_address, line_from, line_of, value_of_line};
+ghost use Rattle.mixal_text.specs.Line.{HasBytes, IsOfBytes, are_characters, is_end_op, loc_of, op_of, loc_of_line, op_of_line, address_after, with_address, line_from, line_of, value_of_line};
 
 use crate::alf::alf_word;
 use crate::fault::TextFault;
@@ -58,6 +58,30 @@ pub fn line_op(text: &[u8]) -> Result<Mnemonic, TextFault>
     ensures op { result ≡ op_of_line text.now }
 {
     read_op(first_word(split_word(text).1))
+}
+
+/// Whether the OP of a line is END, whatever stands around it (1.3.2). It takes less time than `line_op`.
+pub fn line_is_end(text: &[u8]) -> bool
+    ensures end { result ≡ is_end_op (op_of_line text.now) }
+{
+    is_end_name(first_word(split_word(text).1))
+}
+
+// No name of another length, or with another first letter, has to be looked for among the operations.
+#[tactic(auto, unfolding(crate::specs::Line::op_of, crate::specs::Op::mnemonic_of))]
+fn is_end_name(name: &[u8]) -> bool
+    ensures { result ≡ is_end_op (op_of name.now) }
+{
+    match name {
+        [first, _, _] => first.to_ascii_uppercase() == b'E' && is_end(read_op(name)),
+        _ => false,
+    }
+}
+
+fn is_end(op: Result<Mnemonic, TextFault>) -> bool
+    ensures { result ≡ is_end_op op }
+{
+    matches!(op, Ok(Mnemonic::End))
 }
 
 #[tactic(auto, unfolding(crate::specs::Line::loc_of))]

@@ -4,7 +4,7 @@ ghost use Rattle.mixal_text.specs.Local.{local_of, direction_of};
 
 /// Where a local symbol points: to its own line, or to the closest one before or after it.
 #[derive(Clone, Copy)]
-pub(crate) enum Direction {
+pub enum Direction {
     Here,
     Backward,
     Forward,
@@ -12,7 +12,7 @@ pub(crate) enum Direction {
 
 /// A local symbol: `2H`, `2B` or `2F`, of which the digit is 2.
 #[derive(Clone, Copy)]
-pub(crate) struct Local {
+pub struct Local {
     pub digit: u8,
     pub direction: Direction,
 }
@@ -20,7 +20,7 @@ pub(crate) struct Local {
 impl Local {
     /// The local symbol that a text is, in either case of letters, or none where it is no such symbol.
     #[tactic(auto, unfolding(crate::specs::Local::local_of))]
-    pub(crate) fn of(text: &[u8]) -> Option<Local>
+    pub fn of(text: &[u8]) -> Option<Local>
         ensures { result ≡ local_of text.now }
     {
         match text {

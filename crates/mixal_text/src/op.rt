@@ -59,8 +59,8 @@ impl Mnemonic {
     }
 }
 
-/// Whether a text after the operation that begins with a letter is a remark, as after NUM, CHAR and HLT.
-pub(crate) fn is_without_operand(operation: Operation) -> bool
+/// Whether what follows an operation is a remark if it begins with a letter (1.3.2): that of NUM, CHAR and HLT.
+pub fn is_without_operand(operation: Operation) -> bool
     ensures { result ≡ is_without_operand operation }
 {
     matches!(operation.uses(), Uses::FAlone)

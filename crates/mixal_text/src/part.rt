@@ -1,9 +1,9 @@
 //! The numbers that stand beside an expression (1.3.2): an index, an F, a field.
-ghost use Rattle.std.specs.Prelude.{◌≡◌, ◌≤◌, ◌+◌, IfOk, MatchOption, MatchResult, Ok, Err, [], length, option_map, position};
-ghost use Rattle.std.specs.List.{after_first, before_first, list_any, position_or_len};
+ghost use Rattle.std.specs.Prelude.{◌≡◌, ◌≤◌, IfOk, MatchResult, Err, []};
 ghost use Rattle.mix_word.specs.Field.{field_of};
-ghost use Rattle.mixal_text.specs.Part.{is_open, is_close, up_to, part_or_fault, from_first, value_before_close, nothing_left};
+ghost use Rattle.mixal_text.specs.Part.{up_to, part_or_fault, value_before_close, nothing_left};
 
+use crate::cut::close_in;
 use crate::expressions::whole_expression;
 use crate::fault::TextFault;
 use crate::names::Names;
@@ -25,55 +25,6 @@ pub(crate) fn value_before_close<N: Names>(
             Err(TextFault::BadExpression)
         }
     }
-}
-
-/// What follows the first closing bracket.
-#[tactic(auto, using(crate::proofs::PartLemmas::cuts))]
-pub(crate) fn after_close(text: &[u8]) -> &[u8]
-    ensures { result.now ≡ after_first is_close text.now }
-{
-    match close_in(text) {
-        Some(end) => &text[end + 1..],
-        None => &[],
-    }
-}
-
-/// A text cut before its first closing bracket.
-#[tactic(auto, using(crate::proofs::PartLemmas::cuts))]
-pub(crate) fn split_at_close(text: &[u8]) -> (&[u8], &[u8])
-    ensures before { result.0.now ≡ before_first is_close text.now }
-    ensures from { result.1.now ≡ from_first is_close text.now }
-    ensures whole { length result.0.now + length result.1.now ≡ length text.now }
-{
-    match close_in(text) {
-        Some(start) => text.split_at(start),
-        None => (text, &[]),
-    }
-}
-
-fn close_in(text: &[u8]) -> Option<usize>
-    ensures { result ≡ position is_close text.now }
-{
-    text.iter().position(|byte| *byte == b')')
-}
-
-/// A text cut before its first opening bracket.
-#[tactic(auto, using(crate::proofs::PartLemmas::cuts))]
-pub(crate) fn split_at_bracket(text: &[u8]) -> (&[u8], &[u8])
-    ensures before { result.0.now ≡ before_first is_open text.now }
-    ensures from { result.1.now ≡ from_first is_open text.now }
-    ensures whole { length result.0.now + length result.1.now ≡ length text.now }
-{
-    match open_in(text) {
-        Some(start) => text.split_at(start),
-        None => (text, &[]),
-    }
-}
-
-fn open_in(text: &[u8]) -> Option<usize>
-    ensures { result ≡ position is_open text.now }
-{
-    text.iter().position(|byte| *byte == b'(')
 }
 
 /// The field whose code a value is, or A10.

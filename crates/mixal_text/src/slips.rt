@@ -2,17 +2,19 @@
 ghost use Rattle.std.specs.Prelude.{◌≡◌, take, drop};
 ghost use Rattle.std.specs.Char.{is_ascii_digit};
 ghost use Rattle.mix_lines.specs.Lines.{begins_with};
-ghost use Rattle.mixal_text.specs.Line.{line_of, loc_of_line};
+ghost use Rattle.mixal_text.specs.declared.slips.Slip.TheVariants.{OperationAsLabel, AlfCut, BlankInAddress, NoField};
+ghost use Rattle.mixal_text.specs.Line.{loc_of_line};
 ghost use Rattle.mixal_text.specs.Words.{after_blanks, is_nonblank};
-ghost use Rattle.mixal_text.specs.Slips.{address_is_cut, after_op, alf_is_cut, has_cut_address, has_cut_alf, has_operation, has_slip, is_alf, is_cut, is_operation, is_sign, reads_on, symbol_used, symbol_used_by};
+ghost use Rattle.mixal_text.specs.Slips.{address_is_cut, after_op, alf_is_cut, has_operation, has_slip, is_alf, is_cut, is_operation, is_sign, reads_on, symbol_used, symbol_used_by};
 
-use crate::addresses::split_at_delimiter;
 use crate::alf::alf_start;
+use crate::cut::split_at_delimiter;
 use crate::label::Label;
 use crate::line::{Line, line_loc, read_line, read_op};
 use crate::op::Op;
 use crate::symbol::Symbol;
 use crate::words::{are_blanks, skip_blanks, split_word};
+use crate::written_f::op_refuses;
 use mix_lines::is_blank;
 
 /// What is allowed in a line and hardly meant (1.3.2).
@@ -25,6 +27,8 @@ pub enum Slip {
     /// One blank ends ADDRESS, and what follows reads as if it belonged to it: a comma, an opening bracket before a digit, or a
     /// sign of an operation before a number.
     BlankInAddress,
+    /// An instruction has an F in numbers that its step refuses: no field, no unit, or no F of an operation.
+    NoField,
 }
 
 /// The symbol that is the A-part of a line's instruction, if it is one (1.3.2).
@@ -47,15 +51,41 @@ fn symbol_used_by(op: Op, address: &[u8]) -> Option<Symbol>
     }
 }
 
-/// Whether a line has a slip of this kind (1.3.2).
-#[tactic(auto, unfolding(crate::specs::Slips::has_slip))]
-pub fn has_slip(line: &[u8], slip: Slip) -> bool
-    ensures slip { result ≡ has_slip line.now slip }
+/// What a line uses, and which slips it has (1.3.2).
+#[derive(Drop)]
+pub struct Survey {
+    /// The symbol that is the A-part of its instruction, if it is one.
+    pub used: Option<Symbol>,
+    pub operation_as_label: bool,
+    pub alf_cut: bool,
+    pub blank_in_address: bool,
+    pub no_field: bool,
+}
+
+/// What a line uses, and which slips it has (1.3.2), read once.
+#[tactic(auto, unfolding(crate::specs::Slips::symbol_used, crate::specs::Slips::has_slip))]
+pub fn survey_of(line: &[u8]) -> Survey
+    ensures used { result.used ≡ symbol_used line.now }
+    ensures operation_as_label { result.operation_as_label ≡ has_slip line.now OperationAsLabel }
+    ensures alf_cut { result.alf_cut ≡ has_slip line.now AlfCut }
+    ensures blank_in_address { result.blank_in_address ≡ has_slip line.now BlankInAddress }
+    ensures no_field { result.no_field ≡ has_slip line.now NoField }
 {
-    match slip {
-        Slip::OperationAsLabel => has_operation(line),
-        Slip::AlfCut => has_cut_alf(line),
-        Slip::BlankInAddress => has_cut_address(line),
+    match read_line(line) {
+        Ok(Line::Code { op, address, .. }) => Survey {
+            used: symbol_used_by(op, address),
+            operation_as_label: has_operation(line),
+            alf_cut: is_alf(op) && alf_is_cut(after_op(line)),
+            blank_in_address: address_is_cut(address, after_op(line)),
+            no_field: op_refuses(op, address),
+        },
+        Ok(Line::Remark) | Err(_) => Survey {
+            used: None,
+            operation_as_label: has_operation(line),
+            alf_cut: false,
+            blank_in_address: false,
+            no_field: false,
+        },
     }
 }
 
@@ -83,15 +113,6 @@ fn after_op(line: &[u8]) -> &[u8]
 {
     let (_, rest) = split_word(line);
     split_word(skip_blanks(rest)).1
-}
-
-fn has_cut_alf(line: &[u8]) -> bool
-    ensures { result ≡ has_cut_alf (line_of line.now) (after_op line.now) }
-{
-    match read_line(line) {
-        Ok(Line::Code { op, .. }) => is_alf(op) && alf_is_cut(after_op(line)),
-        Ok(Line::Remark) | Err(_) => false,
-    }
 }
 
 fn is_alf(op: Op) -> bool
@@ -133,15 +154,6 @@ fn begins_nonblank(text: &[u8]) -> bool
     match text {
         [] => false,
         [byte, ..] => !is_blank(*byte),
-    }
-}
-
-fn has_cut_address(line: &[u8]) -> bool
-    ensures { result ≡ has_cut_address (line_of line.now) (after_op line.now) }
-{
-    match read_line(line) {
-        Ok(Line::Code { address, .. }) => address_is_cut(address, after_op(line)),
-        Ok(Line::Remark) | Err(_) => false,
     }
 }
 

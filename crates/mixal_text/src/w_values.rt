@@ -3,14 +3,14 @@ ghost use Rattle.std.specs.Prelude.{◌≡◌, ◌∷◌, ◌+◌, length, optio
 ghost use Rattle.std.specs.List.{slice_split};
 ghost use Rattle.mix_word.specs.Field.{field_of};
 ghost use Rattle.mixal_text.specs.Part.{is_comma, part_in_brackets};
-ghost use Rattle.mixal_text.specs.WValue.{put_piece, w_value_of, pieces_of, length_with_comma};
+ghost use Rattle.mixal_text.specs.WValue.{put_piece, w_value_of};
+ghost use Rattle.mixal_text.specs.Words.{pieces_of, length_with_one};
 
+use crate::cut::{after_close, split_at_bracket};
 use crate::expressions::whole_expression;
 use crate::fault::TextFault;
 use crate::names::Names;
-use crate::part::{
-    after_close, field_of_value, nothing_left, split_at_bracket, value_before_close,
-};
+use crate::part::{field_of_value, nothing_left, value_before_close};
 use mix_word::{Field, Word};
 
 /// The word of a W-value (1.3.2), `E1(F1),E2(F2),..`: each expression is put into its field of a word that is +0 at
@@ -34,8 +34,8 @@ pub fn w_value<N: Names>(text: &[u8], names: &N, here: Word) -> Result<Word, Tex
 // The first piece of a text that commas cut, and what follows its comma, if there is one.
 #[tactic(auto, using(crate::proofs::PartLemmas::pieces))]
 pub(crate) fn split_piece(text: &[u8]) -> (&[u8], Option<&[u8]>)
-    ensures is { slice_split is_comma text.now ≡ result.0.now ∷ pieces_of (option_copied result.1) }
-    ensures whole { length result.0.now + length_with_comma (option_copied result.1) ≡ length text.now }
+    ensures is { slice_split is_comma text.now ≡ result.0.now ∷ pieces_of is_comma (option_copied result.1) }
+    ensures whole { length result.0.now + length_with_one (option_copied result.1) ≡ length text.now }
 {
     match comma_in(text) {
         Some(end) => (&text[..end], Some(&text[end + 1..])),

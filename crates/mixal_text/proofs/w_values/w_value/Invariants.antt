@@ -1,11 +1,13 @@
 use Rattle.std.proofs.Common.{◌≡◌, length}
 use Rattle.std.specs.Prelude.{option_copied}
-use Rattle.mixal_text.specs.WValue.{put_pieces, pieces_of, w_value_of}
+use Rattle.mixal_text.specs.Part.{is_comma}
+use Rattle.mixal_text.specs.WValue.{put_pieces, w_value_of}
+use Rattle.mixal_text.specs.Words.{pieces_of}
 use Rattle.mixal_text.proofs.w_values.w_value.Given as goal
 
 abbrev pub invariant-loop-rest : goal.invariant-loop-rest
 invariant-loop-rest g l =
-    w_value_of (g.N.Names.names l.names) l.here l.text ≡ put_pieces (g.N.Names.names l.names) l.here l.word (pieces_of (option_copied l.rest))
+    w_value_of (g.N.Names.names l.names) l.here l.text ≡ put_pieces (g.N.Names.names l.names) l.here l.word (pieces_of is_comma (option_copied l.rest))
 
 abbrev pub decreases-loop-rest : goal.decreases-loop-rest
-decreases-loop-rest g l = length (pieces_of (option_copied l.rest))
+decreases-loop-rest g l = length (pieces_of is_comma (option_copied l.rest))

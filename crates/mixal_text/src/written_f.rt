@@ -1,0 +1,103 @@
+//! An F that an ADDRESS gives in numbers, and that a step refuses whatever the machine holds (1.3.1, 1.3.2).
+ghost use Rattle.std.specs.Prelude.{◌≡◌};
+ghost use Rattle.std.specs.List.{list_any};
+ghost use Rattle.mixal_text.specs.WrittenF.{after_a_part, f_in, has_needs, is_asterisk, no_names, op_refuses, refuses, takes_f, written_f};
+
+use crate::addresses::f_in_brackets;
+use crate::cut::{equals_in, split_at_bracket, split_at_delimiter};
+use crate::names::Names;
+use crate::op::Op;
+use crate::symbol::Symbol;
+use mix_word::{Decoded, Field, Operation, UNITS, Uses, Word, decode};
+
+// No symbol has a value.
+struct NoNames;
+
+impl Names for NoNames {
+    ghost names = { λ none. no_names };
+
+    fn value(&self, _symbol: &Symbol) -> Option<Word> {
+        None
+    }
+
+    fn back(&self, _digit: u8) -> Option<Word> {
+        None
+    }
+}
+
+/// Whether an instruction has an F in numbers that its step refuses.
+pub(crate) fn op_refuses(op: Op, address: &[u8]) -> bool
+    ensures { result ≡ op_refuses op address.now }
+{
+    match op {
+        Op::Machine { code, .. } => refuses(code, written_f(address)),
+        Op::Equ | Op::Orig | Op::Con | Op::Alf(_) | Op::End => false,
+    }
+}
+
+fn refuses(code: u8, f: Option<u8>) -> bool
+    ensures { result ≡ refuses code f }
+{
+    match f {
+        Some(f) => !takes_f(code, f),
+        None => false,
+    }
+}
+
+fn takes_f(code: u8, f: u8) -> bool
+    ensures { result ≡ takes_f code f }
+{
+    match decode(code, f) {
+        Decoded::Named(operation) => has_needs(operation, f),
+        Decoded::Floating | Decoded::Unknown => false,
+    }
+}
+
+fn has_needs(operation: Operation, f: u8) -> bool
+    ensures { result ≡ has_needs operation f }
+{
+    match operation.uses() {
+        Uses::Operand => Field::of(f).is_some(),
+        Uses::Unit(_) => f < UNITS,
+        Uses::Nothing | Uses::FAlone | Uses::Address | Uses::Count | Uses::Cells => true,
+    }
+}
+
+// The F of an ADDRESS, if it is given in numbers.
+#[tactic(auto, unfolding(crate::specs::WrittenF::written_f))]
+fn written_f(address: &[u8]) -> Option<u8>
+    ensures { result ≡ written_f address.now }
+{
+    f_in(split_at_bracket(after_a_part(address)).1)
+}
+
+fn f_in(brackets: &[u8]) -> Option<u8>
+    ensures { result ≡ f_in brackets.now }
+{
+    if has_asterisk(brackets) {
+        return None;
+    }
+    match f_in_brackets(brackets, &NoNames, Word::ZERO) {
+        Ok(f) => f,
+        Err(_) => None,
+    }
+}
+
+fn has_asterisk(text: &[u8]) -> bool
+    ensures { result ≡ list_any is_asterisk text.now }
+{
+    text.contains(&b'*')
+}
+
+#[tactic(auto, using(crate::proofs::PartLemmas::cuts))]
+pub(crate) fn after_a_part(address: &[u8]) -> &[u8]
+    ensures { result.now ≡ after_a_part address.now }
+{
+    match address {
+        [b'=', rest @ ..] => match equals_in(rest) {
+            Some(end) => &rest[end + 1..],
+            None => &[],
+        },
+        _ => split_at_delimiter(address).1,
+    }
+}
