@@ -1,11 +1,30 @@
 """Mistakes planted in the model, one at a time, and the random inputs at which each is found."""
 
 import os
+import re
 import sys
 import types
 
 import answers
 import bundle
+
+
+HERE = os.path.dirname(os.path.abspath(__file__))
+
+
+def mistakes_of(topic):
+    """The mistakes of a topic, each with its name, its file, what stands there and what is put in its place; there \\n is the end of a line."""
+    found = []
+    with open(os.path.join(HERE, "mistakes_%s.txt" % topic)) as text:
+        for line in text:
+            key, _, value = line.rstrip("\n").partition(":")
+            value = value.removeprefix(" ")
+            if key == "mistake":
+                found.append([value])
+            elif key in ("file", "old", "new"):
+                found[-1].append(re.sub(r"\\(.)", lambda it: "\n" if it[1] == "n" else it[1], value))
+    assert all(len(mistake) == 4 for mistake in found)
+    return found
 
 
 def run_and_listing(model, text):
@@ -23,7 +42,7 @@ def planted(modules, file, old, new):
     """The last of the modules, of a model in which one text is replaced."""
     kept = {name: sys.modules.pop(name, None) for name in modules}
     for name in modules:
-        with open(os.path.join(os.path.dirname(os.path.abspath(__file__)), name + ".py")) as source:
+        with open(os.path.join(HERE, name + ".py")) as source:
             text = source.read()
         if name == file:
             assert text.count(old) == 1, (old, text.count(old))
