@@ -7,7 +7,7 @@ use Rattle.mix_machine.specs.declared.old.Change.{Change}
 use Rattle.mix_machine.specs.declared.part.Part.{Part}
 use Rattle.mix_session.specs.Change.{all_changes}
 use Rattle.mix_session.specs.Names.{names_of}
-use Rattle.mix_session.specs.Request.{condition_in, setting_of}
+use Rattle.mix_session.specs.Setting.{condition_in, setting_of}
 use Rattle.mix_session.specs.Session.{SessionState}
 use Rattle.mix_session.specs.Timeline.{Timeline, world_of}
 use Rattle.mix_session.specs.declared.condition.Condition.{Condition}

@@ -10,8 +10,6 @@ use Rattle.mix_session.specs.declared.keyword.BackWord.{BackWord}
 use Rattle.mix_session.specs.declared.keyword.BackWord.TheVariants as back
 use Rattle.mix_session.specs.declared.keyword.ForthWord.{ForthWord}
 use Rattle.mix_session.specs.declared.keyword.ForthWord.TheVariants as forth
-use Rattle.mix_session.specs.declared.keyword.ShowWord.{ShowWord}
-use Rattle.mix_session.specs.declared.keyword.ShowWord.TheVariants.{Registers, Cells, Clock, Breaks, Changes, Unit, All, Code, Value, Values, Symbols, Last, Diff, Counts}
 use Rattle.mix_session.specs.declared.keyword.SetWord.{SetWord}
 use Rattle.mix_session.specs.declared.keyword.SetWord.TheVariants.{Register, Cell, Location, Toggle, Indicator}
 use Rattle.mix_session.specs.declared.keyword.UntilWord.{UntilWord}
@@ -58,26 +56,6 @@ forth_name forth.Until = codes "until"
 
 abbrev pub all_forths : List ForthWord
 all_forths = forth.All ∷ forth.Until ∷ []
-
--- what `show` may show
-abbrev pub show_name : ShowWord → List ℕ
-show_name Registers = codes "regs"
-show_name Cells = codes "cells"
-show_name Clock = codes "clock"
-show_name Breaks = codes "breaks"
-show_name Changes = codes "changes"
-show_name Unit = codes "unit"
-show_name All = codes "all"
-show_name Code = codes "code"
-show_name Value = codes "value"
-show_name Values = codes "values"
-show_name Symbols = codes "symbols"
-show_name Last = codes "last"
-show_name Diff = codes "diff"
-show_name Counts = codes "counts"
-
-abbrev pub all_shows : List ShowWord
-all_shows = Registers ∷ Cells ∷ Clock ∷ Breaks ∷ Changes ∷ Unit ∷ All ∷ Code ∷ Value ∷ Values ∷ Symbols ∷ Last ∷ Diff ∷ Counts ∷ []
 
 -- what `set` may set
 abbrev pub set_name : SetWord → List ℕ

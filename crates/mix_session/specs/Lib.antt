@@ -12,11 +12,14 @@ pub mod Fault
 pub mod Keyword
 pub mod Marks
 pub mod Names
+pub mod Operand
 pub mod Reply
 pub mod Request
 pub mod Session
+pub mod Setting
 pub mod Show
 pub mod ShowCode
+pub mod ShowRequest
 pub mod ShowUnit
 pub mod ShowValue
 pub mod Stops

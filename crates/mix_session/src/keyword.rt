@@ -1,13 +1,12 @@
 //! The keywords of commands, each with its name.
 
 ghost use Rattle.std.specs.Prelude.{◌≡◌, ℕ, List, Some, refl, true, false};
-ghost use Rattle.mix_session.specs.Keyword.{keyword_named, is_name, command_name, all_commands, back_name, all_backs, forth_name, all_forths, show_name, all_shows};
+ghost use Rattle.mix_session.specs.Keyword.{keyword_named, is_name, command_name, all_commands, back_name, all_backs, forth_name, all_forths};
 ghost use Rattle.mix_session.specs.Keyword.{set_name, all_sets, until_name, all_untils, toggle_name, all_toggles, indicator_name, all_indicators};
 ghost use Rattle.mix_session.specs.law.Named.{set_named, until_named};
 ghost use Rattle.mix_session.specs.declared.keyword.CommandWord.TheVariants as command;
 ghost use Rattle.mix_session.specs.declared.keyword.BackWord.TheVariants as back;
 ghost use Rattle.mix_session.specs.declared.keyword.ForthWord.TheVariants as forth;
-ghost use Rattle.mix_session.specs.declared.keyword.ShowWord.TheVariants as show;
 ghost use Rattle.mix_word.specs.declared.word.Cmp.TheVariants as cmp;
 
 use mix_machine::{Cmp, Reg};
@@ -144,62 +143,6 @@ impl Keyword for ForthWord {
     }
 
     ghost named = { elim [ forth.All ↦ refl | forth.Until ↦ refl ] };
-}
-
-/// What `show` may show.
-#[derive(Clone, Copy)]
-pub(crate) enum ShowWord {
-    Registers,
-    Cells,
-    Clock,
-    Breaks,
-    Changes,
-    Unit,
-    All,
-    Code,
-    Value,
-    Values,
-    Symbols,
-    Last,
-    Diff,
-    Counts,
-}
-
-impl Keyword for ShowWord {
-    ghost name_of = { show_name };
-
-    ghost all_of = { all_shows };
-
-    fn name(self) -> &'static str {
-        match self {
-            ShowWord::Registers => "regs",
-            ShowWord::Cells => "cells",
-            ShowWord::Clock => "clock",
-            ShowWord::Breaks => "breaks",
-            ShowWord::Changes => "changes",
-            ShowWord::Unit => "unit",
-            ShowWord::All => "all",
-            ShowWord::Code => "code",
-            ShowWord::Value => "value",
-            ShowWord::Values => "values",
-            ShowWord::Symbols => "symbols",
-            ShowWord::Last => "last",
-            ShowWord::Diff => "diff",
-            ShowWord::Counts => "counts",
-        }
-    }
-
-    #[rattlefmt::skip]
-    fn all() -> &'static [ShowWord] {
-        &[
-            ShowWord::Registers, ShowWord::Cells, ShowWord::Clock, ShowWord::Breaks,
-            ShowWord::Changes, ShowWord::Unit, ShowWord::All, ShowWord::Code,
-            ShowWord::Value, ShowWord::Values, ShowWord::Symbols,
-            ShowWord::Last, ShowWord::Diff, ShowWord::Counts,
-        ]
-    }
-
-    ghost named = { elim [ show.Registers ↦ refl | show.Cells ↦ refl | show.Clock ↦ refl | show.Breaks ↦ refl | show.Changes ↦ refl | show.Unit ↦ refl | show.All ↦ refl | show.Code ↦ refl | show.Value ↦ refl | show.Values ↦ refl | show.Symbols ↦ refl | show.Last ↦ refl | show.Diff ↦ refl | show.Counts ↦ refl ] };
 }
 
 /// What `set` may set.

@@ -1,7 +1,7 @@
 //! The words after a keyword: words that have to be there, numbers, cells, units, W-values.
 
 ghost use Rattle.std.specs.Prelude.{◌≡◌, ◌≤◌, ◌∷◌, [], Ok, Err, MatchResult, IfOk};
-ghost use Rattle.mix_session.specs.Request.{no_word, one_word, two_words, keyword_in, first_keyword, number_in, word_in, expression_in, place_of, from_one, up_to, last_unit, one_unit, place_named, one_place};
+ghost use Rattle.mix_session.specs.Operand.{no_word, one_word, two_words, keyword_in, first_keyword, number_in, word_in, expression_in, place_of, from_one, up_to, last_unit, one_unit, place_named, one_place};
 
 use crate::fault::Refusal;
 use crate::keyword::{Keyword, named};

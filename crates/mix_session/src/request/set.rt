@@ -1,7 +1,7 @@
 //! What `set` sets, and what is waited for after `until`.
 
 ghost use Rattle.std.specs.Prelude.{◌≡◌, Ok, Err};
-ghost use Rattle.mix_session.specs.Request.{condition_alone, condition_in, change_of, change_in, one_value, setting_of};
+ghost use Rattle.mix_session.specs.Setting.{condition_alone, condition_in, change_of, change_in, one_value, setting_of};
 
 use crate::condition::Condition;
 use crate::fault::Refusal;
@@ -15,7 +15,7 @@ use mix_machine::{Change, Part, Word};
 use mixal_text::Names;
 
 // The change that `set` asks for.
-#[tactic(auto, unfolding(crate::specs::Request::change_in))]
+#[tactic(auto, unfolding(crate::specs::Setting::change_in))]
 pub(crate) fn read_change<N: Names>(
     words: &mut Words,
     names: &N,
@@ -71,7 +71,7 @@ fn read_cell<N: Names>(words: &mut Words, names: &N, here: Word) -> Result<Chang
 }
 
 /// What is waited for.
-#[tactic(auto, unfolding(crate::specs::Request::condition_in))]
+#[tactic(auto, unfolding(crate::specs::Setting::condition_in))]
 pub(crate) fn read_condition<N: Names>(
     words: &mut Words,
     names: &N,

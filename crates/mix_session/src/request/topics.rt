@@ -1,10 +1,11 @@
-//! What `show` is to show.
+//! What `show` is to show: its keywords, and the words that each takes after it.
 
-ghost use Rattle.std.specs.Prelude.{◌≡◌, Ok, Err};
-ghost use Rattle.mix_session.specs.Request.{last_topic, diff_topic, alone, range_of, cells_of, code_of, values_of, value_of, unit_topic, topic_in};
+ghost use Rattle.std.specs.Prelude.{◌≡◌, Ok, Err, refl};
+ghost use Rattle.mix_session.specs.ShowRequest.{show_name, all_shows, last_topic, diff_topic, alone, range_of, cells_of, code_of, values_of, value_of, unit_topic, topic_in};
+ghost use Rattle.mix_session.specs.declared.request.topics.ShowWord.TheVariants as show;
 
 use crate::fault::Refusal;
-use crate::keyword::ShowWord;
+use crate::keyword::Keyword;
 use crate::request::operand::{
     expression_in, first_keyword, from_one, no_word, number_in, one_unit, one_word, place_of,
     two_words, word_in,
@@ -34,7 +35,63 @@ pub enum Topic {
     Counts,
 }
 
-#[tactic(auto, unfolding(crate::specs::Request::topic_in))]
+/// What `show` may show.
+#[derive(Clone, Copy)]
+enum ShowWord {
+    Registers,
+    Cells,
+    Clock,
+    Breaks,
+    Changes,
+    Unit,
+    All,
+    Code,
+    Value,
+    Values,
+    Symbols,
+    Last,
+    Diff,
+    Counts,
+}
+
+impl Keyword for ShowWord {
+    ghost name_of = { show_name };
+
+    ghost all_of = { all_shows };
+
+    fn name(self) -> &'static str {
+        match self {
+            ShowWord::Registers => "regs",
+            ShowWord::Cells => "cells",
+            ShowWord::Clock => "clock",
+            ShowWord::Breaks => "breaks",
+            ShowWord::Changes => "changes",
+            ShowWord::Unit => "unit",
+            ShowWord::All => "all",
+            ShowWord::Code => "code",
+            ShowWord::Value => "value",
+            ShowWord::Values => "values",
+            ShowWord::Symbols => "symbols",
+            ShowWord::Last => "last",
+            ShowWord::Diff => "diff",
+            ShowWord::Counts => "counts",
+        }
+    }
+
+    #[rattlefmt::skip]
+    fn all() -> &'static [ShowWord] {
+        &[
+            ShowWord::Registers, ShowWord::Cells, ShowWord::Clock, ShowWord::Breaks,
+            ShowWord::Changes, ShowWord::Unit, ShowWord::All, ShowWord::Code,
+            ShowWord::Value, ShowWord::Values, ShowWord::Symbols,
+            ShowWord::Last, ShowWord::Diff, ShowWord::Counts,
+        ]
+    }
+
+    ghost named = { elim [ show.Registers ↦ refl | show.Cells ↦ refl | show.Clock ↦ refl | show.Breaks ↦ refl | show.Changes ↦ refl | show.Unit ↦ refl | show.All ↦ refl | show.Code ↦ refl | show.Value ↦ refl | show.Values ↦ refl | show.Symbols ↦ refl | show.Last ↦ refl | show.Diff ↦ refl | show.Counts ↦ refl ] };
+}
+
+#[tactic(auto, unfolding(crate::specs::ShowRequest::topic_in))]
 pub(crate) fn read_topic<N: Names>(
     words: &mut Words,
     names: &N,
