@@ -41,15 +41,7 @@ pub(crate) fn last_lines(
     while number > first {
         number -= 1;
         let values = earlier(journal, &mut past, number);
-        add_line_before(
-            alloc,
-            &mut text,
-            journal,
-            number,
-            &values,
-            &mut before,
-            &mut after,
-        )?;
+        add_line_before(&mut text, journal, number, &values, &mut before, &mut after)?;
     }
     text.reverse();
     Ok(text)
@@ -58,7 +50,6 @@ pub(crate) fn last_lines(
 // Appends the line of the change after the first ones that are done, its last byte first. Two machines as they were after it are led back to
 // before it, by the values that it overwrote.
 fn add_line_before(
-    alloc: Global,
     text: &mut Vec<u8>,
     journal: &Journal<World>,
     number: usize,
@@ -76,6 +67,7 @@ fn add_line_before(
 {
     unwind(journal, number, values, before);
     let change = journal.changes().at(number);
+    let alloc = *text.allocator();
     let line = line_of(alloc, number + 1, &change, Worlds { before, after })?;
     add_reversed(text, &line)?;
     unwind(journal, number, values, after);
