@@ -1,6 +1,6 @@
 //! What `show code` writes: cells as instructions, and the lines of the source that they come from.
 
-ghost use Rattle.std.specs.Prelude.{◌≡◌, ◌++◌, OnOk, IfOk};
+ghost use Rattle.std.specs.Prelude.{◌≡◌, ◌++◌, OnOk, IfOk, codes};
 ghost use Rattle.mixal_asm.specs.Row.{source_value};
 ghost use Rattle.mixal_asm.specs.Source.{source_at};
 ghost use Rattle.mix_session.specs.ShowCode.{is_overwritten, mark_text, line_number, line_bytes, line_text, code_text, code_line, codes_text};
@@ -24,82 +24,84 @@ pub(super) fn code_lines(
     ensures { IfOk result (λ text. text.items ≡ codes_text program.now world.now first last) }
 {
     let mut text = Vec::new(alloc);
-    let lines = CodeLines { program, world };
-    add_lines(alloc, &mut text, &lines, first.number(), last.number() + 1)?;
+    let code = Code { program, world };
+    add_lines(alloc, &mut text, &code, first.number(), last.number() + 1)?;
     Ok(text)
 }
 
 /// A program, and the machine whose cells are shown.
 #[derive(Clone, Copy)]
-struct CodeLines<'a, 's> {
-    program: &'a Program<'s>,
-    world: &'a World,
+pub(super) struct Code<'a, 's> {
+    pub program: &'a Program<'s>,
+    pub world: &'a World,
 }
 
-impl Lines for CodeLines<'_, '_> {
+impl Lines for Code<'_, '_> {
     ghost count = { λ _. 4000 };
 
-    ghost line = { λ l. code_line l.program.now l.world.now };
+    ghost line = { λ c. code_line c.program.now c.world.now };
 
+    #[tactic(auto, unfolding(crate::specs::ShowCode::code_line))]
     fn add(&self, alloc: Global, text: &mut Vec<u8>, number: u16) -> Result<(), AllocError> {
-        add_code(alloc, text, self.program, self.world, place_at(number))
+        let place = place_at(number);
+        let (location, word) = (Location(number), self.world.cell(place));
+        let front = format!(in alloc; "{location}  {word}  ")?;
+        text.extend_from_slice(front.as_bytes())?;
+        self.add_instruction(alloc, text, place)?;
+        text.push(b'\n')?;
+        Ok(())
     }
 }
 
-// The line of a cell.
-#[tactic(auto, unfolding(crate::specs::ShowCode::code_line))]
-fn add_code(
-    alloc: Global,
-    text: &mut Vec<u8>,
-    program: &Program<'_>,
-    world: &World,
-    place: Place,
-) -> Result<(), AllocError>
-    ensures { OnOk result (text.new.items ≡ text.old.items ++ code_line program.now world.now place) }
-{
-    let (location, word) = (Location(place.number()), world.cell(place));
-    let front = format!(in alloc; "{location}  {word}  ")?;
-    text.extend_from_slice(front.as_bytes())?;
-    add_instruction(alloc, text, program, world, place)?;
-    text.push(b'\n')?;
-    Ok(())
-}
+impl Code<'_, '_> {
+    // The instruction of a cell, and the line that it comes from, if it comes from one.
+    fn add_instruction(
+        &self,
+        alloc: Global,
+        text: &mut Vec<u8>,
+        place: Place,
+    ) -> Result<(), AllocError>
+        ensures { OnOk result (text.new.items ≡ text.old.items ++ code_text self.now.program.now self.now.world.now place (source_at self.now.program.now place)) }
+    {
+        let instruction = Instruction(self.world.cell(place));
+        let instruction = format!(in alloc; "{instruction}")?;
+        match self.program.source_at(place) {
+            None => text.extend_from_slice(instruction.as_bytes()),
+            Some(source) => {
+                add_left(text, 17, instruction.as_bytes())?;
+                self.add_source(alloc, text, place, source)
+            }
+        }
+    }
 
-// The instruction of a cell, and the line that it comes from, if it comes from one.
-fn add_instruction(
-    alloc: Global,
-    text: &mut Vec<u8>,
-    program: &Program<'_>,
-    world: &World,
-    place: Place,
-) -> Result<(), AllocError>
-    ensures { OnOk result (text.new.items ≡ text.old.items ++ code_text program.now world.now place (source_at program.now place)) }
-{
-    let instruction = Instruction(world.cell(place));
-    let instruction = format!(in alloc; "{instruction}")?;
-    match program.source_at(place) {
-        None => text.extend_from_slice(instruction.as_bytes()),
-        Some(source) => {
-            add_left(text, 17, instruction.as_bytes())?;
-            text.extend_from_slice(b"  ")?;
-            add_line(alloc, text, is_overwritten(program, world, place), source)
+    /// Two blanks and the line of the source that a cell comes from.
+    pub(super) fn add_source(
+        &self,
+        alloc: Global,
+        text: &mut Vec<u8>,
+        place: Place,
+        source: &Source<'_>,
+    ) -> Result<(), AllocError>
+        ensures { OnOk result (text.new.items ≡ text.old.items ++ (codes "  " ++ line_text (is_overwritten self.now.program.now self.now.world.now place) (source_value source.now))) }
+    {
+        text.extend_from_slice(b"  ")?;
+        add_line(alloc, text, self.is_overwritten(place), source)
+    }
+
+    // Whether a cell holds another word than the last one that the source put there.
+    fn is_overwritten(&self, place: Place) -> bool
+        ensures { result ≡ is_overwritten self.now.program.now self.now.world.now place }
+    {
+        match self.program.word_at(place) {
+            None => false,
+            Some(put) => !put.is_same(self.world.cell(place)),
         }
     }
 }
 
-/// Whether a cell holds another word than the last one that the source put there.
-pub(super) fn is_overwritten(program: &Program<'_>, world: &World, place: Place) -> bool
-    ensures { result ≡ is_overwritten program.now world.now place }
-{
-    match program.word_at(place) {
-        None => false,
-        Some(put) => !put.is_same(world.cell(place)),
-    }
-}
-
-/// A line of the source: its number, a mark where its cell is overwritten, a blank, and its bytes.
+// A line of the source: its number, a mark where its cell is overwritten, a blank, and its bytes.
 #[tactic(auto, unfolding(crate::specs::ShowCode::line_text))]
-pub(super) fn add_line(
+fn add_line(
     alloc: Global,
     text: &mut Vec<u8>,
     overwritten: bool,

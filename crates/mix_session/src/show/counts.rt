@@ -7,7 +7,7 @@ ghost use Rattle.mix_session.specs.Counts.{tally_columns, source_text, is_code, 
 ghost use Rattle.mix_session.specs.Tally.{tally_in};
 
 use crate::show::cells::place_at;
-use crate::show::code::{add_line, is_overwritten};
+use crate::show::code::Code;
 use crate::show::columns::add_right;
 use crate::show::lines::{Lines, add_lines};
 use crate::tally::{Tally, tallies_of, tally_in};
@@ -29,8 +29,10 @@ pub(super) fn count_lines(
 {
     let tallies = tallies_of(alloc, journal)?;
     let lines = CountLines {
-        program,
-        world: world_of(journal),
+        code: Code {
+            program,
+            world: world_of(journal),
+        },
         cells: &tallies.cells,
     };
     let mut text = Vec::new(alloc);
@@ -39,47 +41,58 @@ pub(super) fn count_lines(
     Ok(text)
 }
 
-/// A program, its machine, and the tallies of its cells.
+/// A program with its machine, and the tallies of its cells.
 #[derive(Clone, Copy)]
 struct CountLines<'a, 's> {
-    program: &'a Program<'s>,
-    world: &'a World,
+    code: Code<'a, 's>,
     cells: &'a [Tally],
 }
 
 impl Lines for CountLines<'_, '_> {
     ghost count = { λ _. 4000 };
 
-    ghost line = { λ l p. count_line l.program.now l.world.now (tally_in l.cells.now p) p };
+    ghost line = { λ l p. count_line l.code.program.now l.code.world.now (tally_in l.cells.now p) p };
 
+    // The line of a cell, if it was executed or its line is an instruction's.
     fn add(&self, alloc: Global, text: &mut Vec<u8>, number: u16) -> Result<(), AllocError> {
-        let tally = tally_in(self.cells, number);
-        add_count(
-            alloc,
-            text,
-            self.program,
-            self.world,
-            tally,
-            place_at(number),
-        )
+        let (tally, place) = (tally_in(self.cells, number), place_at(number));
+        if tally.count == 0 && !is_code(self.code.program, place) {
+            return Ok(());
+        }
+        self.add_tally_line(alloc, text, tally, place)
     }
 }
 
-// The line of a cell, if it was executed or its line is an instruction's.
-fn add_count(
-    alloc: Global,
-    text: &mut Vec<u8>,
-    program: &Program<'_>,
-    world: &World,
-    tally: Tally,
-    place: Place,
-) -> Result<(), AllocError>
-    ensures { OnOk result (text.new.items ≡ text.old.items ++ count_line program.now world.now tally place) }
-{
-    if tally.count == 0 && !is_code(program, place) {
-        return Ok(());
+impl CountLines<'_, '_> {
+    // The line of a cell.
+    #[tactic(auto, unfolding(crate::specs::Counts::tally_line))]
+    fn add_tally_line(
+        &self,
+        alloc: Global,
+        text: &mut Vec<u8>,
+        tally: Tally,
+        place: Place,
+    ) -> Result<(), AllocError>
+        ensures { OnOk result (text.new.items ≡ text.old.items ++ tally_line self.now.code.program.now self.now.code.world.now tally place) }
+    {
+        add_tally(alloc, text, tally)?;
+        let location = Location(place.number());
+        let location = format!(in alloc; "{location}")?;
+        text.extend_from_slice(location.as_bytes())?;
+        self.add_source(alloc, text, place)?;
+        text.push(b'\n')?;
+        Ok(())
     }
-    add_tally_line(alloc, text, program, world, tally, place)
+
+    // The line of the source that a cell comes from, if it comes from one.
+    fn add_source(&self, alloc: Global, text: &mut Vec<u8>, place: Place) -> Result<(), AllocError>
+        ensures { OnOk result (text.new.items ≡ text.old.items ++ source_text (is_overwritten self.now.code.program.now self.now.code.world.now place) (source_at self.now.code.program.now place)) }
+    {
+        match self.code.program.source_at(place) {
+            None => Ok(()),
+            Some(source) => self.code.add_source(alloc, text, place, source),
+        }
+    }
 }
 
 // Whether the line of a cell is an instruction's.
@@ -89,46 +102,6 @@ fn is_code(program: &Program<'_>, place: Place) -> bool
     match program.source_at(place) {
         None => false,
         Some(source) => source.is_instruction(),
-    }
-}
-
-// The line of a cell.
-#[tactic(auto, unfolding(crate::specs::Counts::tally_line))]
-fn add_tally_line(
-    alloc: Global,
-    text: &mut Vec<u8>,
-    program: &Program<'_>,
-    world: &World,
-    tally: Tally,
-    place: Place,
-) -> Result<(), AllocError>
-    ensures { OnOk result (text.new.items ≡ text.old.items ++ tally_line program.now world.now tally place) }
-{
-    add_tally(alloc, text, tally)?;
-    let location = Location(place.number());
-    let location = format!(in alloc; "{location}")?;
-    text.extend_from_slice(location.as_bytes())?;
-    add_source(alloc, text, program, world, place)?;
-    text.push(b'\n')?;
-    Ok(())
-}
-
-// The line of the source that a cell comes from, if it comes from one.
-fn add_source(
-    alloc: Global,
-    text: &mut Vec<u8>,
-    program: &Program<'_>,
-    world: &World,
-    place: Place,
-) -> Result<(), AllocError>
-    ensures { OnOk result (text.new.items ≡ text.old.items ++ source_text (is_overwritten program.now world.now place) (source_at program.now place)) }
-{
-    match program.source_at(place) {
-        None => Ok(()),
-        Some(source) => {
-            text.extend_from_slice(b"  ")?;
-            add_line(alloc, text, is_overwritten(program, world, place), source)
-        }
     }
 }
 
