@@ -126,12 +126,18 @@ def back(session, words):
     elif words[0] == b"BREAK" and has("commands"):
         number = to_a_break(session)
     else:
-        number = digits_of(words[0])
-        if number < 1:
-            raise Fault("C3")
-        if number > len(session.changes):
-            raise Fault("C4")
+        number = asked(words[0], session.changes)
     return gone_back(session, number)
+
+
+def asked(word, changes):
+    """How many of these changes a word asks for, one at least."""
+    number = digits_of(word)
+    if number < 1:
+        raise Fault("C3")
+    if number > len(changes):
+        raise Fault("C4")
+    return number
 
 
 def gone_back(session, number):
@@ -156,12 +162,7 @@ def forth(session, words):
     count(words, 1)
     if words[0] == b"ALL" and has("sources"):
         return gone_forth(session, len(session.ahead))
-    number = digits_of(words[0])
-    if number < 1:
-        raise Fault("C3")
-    if number > len(session.ahead):
-        raise Fault("C4")
-    return gone_forth(session, number)
+    return gone_forth(session, asked(words[0], session.ahead))
 
 
 def gone_forth(session, number):
