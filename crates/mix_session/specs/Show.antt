@@ -18,17 +18,21 @@ use Rattle.mix_session.specs.ShowUnit.{unit_text}
 unfoldable pub flags_text : WorldState → List ℕ
 flags_text w = codes "over " ++ toggle_name w.over ++ codes " cmp " ++ indicator_name w.cmp ++ codes " loc " ++ position_text w.loc w.clock ++ 10 ∷ []
 
--- what a register holds: five bytes of rA and rX, two of the others
+-- one of two texts of a register: of rA and rX, which have five bytes, or of the others, which have two
+abbrev pub by_width : {Text : Type 0} → Reg → Text → Text → Text
+by_width reg.A long short = long
+by_width reg.X long short = long
+by_width reg.I1 long short = short
+by_width reg.I2 long short = short
+by_width reg.I3 long short = short
+by_width reg.I4 long short = short
+by_width reg.I5 long short = short
+by_width reg.I6 long short = short
+by_width reg.J long short = short
+
+-- what a register holds, as bytes
 abbrev pub value_text : Reg → WordValue → List ℕ
-value_text reg.A word = word_text word
-value_text reg.X word = word_text word
-value_text reg.I1 word = short_text word
-value_text reg.I2 word = short_text word
-value_text reg.I3 word = short_text word
-value_text reg.I4 word = short_text word
-value_text reg.I5 word = short_text word
-value_text reg.I6 word = short_text word
-value_text reg.J word = short_text word
+value_text r word = by_width r (word_text word) (short_text word)
 
 -- a register: its name, left in two places, a blank, and what it holds
 abbrev pub register_line : WorldState → Reg → List ℕ

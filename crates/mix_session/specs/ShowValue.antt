@@ -6,10 +6,10 @@ use Rattle.mix_word.specs.Characters.{character_of}
 use Rattle.mix_word.specs.Instruction.{number_text}
 use Rattle.mix_word.specs.Register.{all_registers, name_of_register}
 use Rattle.mix_word.specs.declared.register.Reg.{Reg}
-use Rattle.mix_word.specs.declared.register.Reg.TheVariants as reg
 use Rattle.mix_machine.specs.World.{WorldState, register_of, cell_of}
 use Rattle.mix_session.specs.Columns.{left_in, right_in}
 use Rattle.mix_session.specs.Each.{texts}
+use Rattle.mix_session.specs.Show.{by_width}
 use Rattle.mix_session.specs.ShowUnit.{letters_text}
 
 -- the bytes left in their places, the number right in its places, and the characters in quotes
@@ -29,17 +29,9 @@ short_letters word = character_of (byte_of word 4) ∷ character_of (byte_of wor
 abbrev pub short_line : WordValue → List ℕ
 short_line word = columns_text (short_text word) word (short_letters word)
 
--- what a register holds: five bytes of rA and rX, two of the others
+-- what a register holds
 abbrev pub register_columns : Reg → WordValue → List ℕ
-register_columns reg.A word = value_line word
-register_columns reg.X word = value_line word
-register_columns reg.I1 word = short_line word
-register_columns reg.I2 word = short_line word
-register_columns reg.I3 word = short_line word
-register_columns reg.I4 word = short_line word
-register_columns reg.I5 word = short_line word
-register_columns reg.I6 word = short_line word
-register_columns reg.J word = short_line word
+register_columns r word = by_width r (value_line word) (short_line word)
 
 -- a register, by its name left in two places and a blank
 abbrev pub register_values : WorldState → Reg → List ℕ
