@@ -2,33 +2,22 @@
 import json
 import os
 import subprocess
+import sys
 import threading
 import time
 
 from debugpy.common import messaging
 
+sys.path.append(os.path.dirname(os.path.dirname(os.path.abspath(__file__))))
+
 import schema
+from counting import Count
 
 SECONDS = float(os.environ.get("WAIT", "20"))  # in which whatever is waited for has to come
 
 
 class Ended(Exception):
     """A talk that can't go on."""
-
-
-class Count:
-    """Rows that passed and rows that failed; each failure is printed."""
-
-    def __init__(self):
-        self.passed = self.failed = 0
-
-    def row(self, name, good, more=""):
-        self.passed, self.failed = self.passed + bool(good), self.failed + (not good)
-        if not good:
-            print(f"FAILED {name}: {more}", flush=True)
-
-    def same(self, name, found, wanted):
-        self.row(name, found == wanted, f"{found!r}, and {wanted!r} was wanted")
 
 
 class Recorded(messaging.JsonIOStream):

@@ -1,28 +1,11 @@
-"""The native program, to compare with; and counting."""
+"""The native program, to compare with."""
+import pathlib
 import subprocess
+import sys
 
+sys.path.append(str(pathlib.Path(__file__).resolve().parent.parent))
 
-class Count:
-    """Rows that passed and rows that failed; each failure is printed."""
-
-    def __init__(self):
-        self.passed = self.failed = 0
-
-    def row(self, name, good, more=""):
-        self.passed, self.failed = self.passed + bool(good), self.failed + (not good)
-        if not good:
-            print(f"FAILED {name}: {more}", flush=True)
-
-    def same(self, name, found, wanted):
-        self.row(name, found == wanted, differing(found, wanted))
-
-
-def differing(found, wanted):
-    """What differs, where both are long from the first place on."""
-    if isinstance(found, str) and isinstance(wanted, str) and len(found) + len(wanted) > 400:
-        at = next((i for i, (one, other) in enumerate(zip(found, wanted)) if one != other), min(len(found), len(wanted)))
-        found, wanted = found[max(0, at - 80):at + 120], wanted[max(0, at - 80):at + 120]
-    return f"{found!r}, and {wanted!r} was wanted"
+from counting import Count
 
 
 class Native:
