@@ -1,0 +1,274 @@
+What people write at first, and what a check says of it: line, column, severity and text. Where nothing stands below a row, there is nothing to say.
+
+  $ said() { printf "$1" | mixrev check - | sed -n 's/^-:\([0-9]\)/\1/p'; }
+
+Programs as they are: tabs, ALF in each form, fields, local symbols, literals, remarks, and what follows END.
+
+  $ said '\tLDA\t100\n\tHLT\n\tEND\t0\n'
+  $ said '      ENTA 5\n      HLT\n      END 0\n'
+  $ said 'START  ENTA 5        put 5 into rA\n       END  START\n'
+  $ said ' ALF HELLO\n END 0\n'
+  $ said ' ALF  HELLO\n END 0\n'
+  $ said ' ALF   FIVE\n END 0\n'
+  $ said ' ALF\n END 0\n'
+  $ said ' ALF "HELLO"\n END 0\n'
+  $ said '       ALF  HELLO  what is printed\n END 0\n'
+  $ said ' CON 5(0:2),3(5:5)\n END 0\n'
+  $ said ' CON -0\n END 0\n'
+  $ said '2H JMP 2F\n2H JMP 2B\n END 0\n'
+  $ said '1H JMP 1F\n1H HLT\n END 0\n'
+  $ said 'START HLT\n END START\n'
+  $ said ' HLT\nLAST END 0\n'
+  $ said ' JMP LAST\nLAST END 0\n'
+  $ said ' LDA =-1=\n END 0\n'
+  $ said ' LDA =1(1:1),2(5:5)=\n END 0\n'
+  $ said ' LDA =3=\n ADD =3=\n END 0\n'
+  $ said 'TERM EQU 0:2\n LDA 100(TERM)\n END 0\n'
+  $ said 'LR EQU 1:3\n LDA 100(LR)\n END 0\n'
+  $ said ' JMP *+1\n HLT\n END 0\n'
+  $ said ' ORIG *+100\n HLT\n END 0\n'
+  $ said ' LDA 100 the first word\n END 0\n'
+  $ said " LDA 100 $(printf %05000d 0)\n END 0\n"
+  $ said ' LDA 100 \351t\351\n END 0\n'
+  $ said '* \303\251t\303\251\n LDA 100 \303\251t\303\251\n END 0\n'
+  $ said ' HLT\n END 0\nno MIXAL here?\n'
+  $ said ' HLT\n END 0\n\032'
+  $ said ' enta 5\n hlt\n end 0\n'
+  $ said ' ENTA 5\r\n HLT\r\n END 0\r\n'
+  $ said ' HLT\n END 0'
+  $ said ' HLT\n END\n'
+  $ said ' ENTA ,1\n END 0\n'
+  $ said ' LDA (1:3)\n END 0\n'
+  $ said ' HLT\n   \n\t\n\n END 0\n'
+  $ said ' HLT  the end\n NUM  ten digits\n CHAR  digits\n END 0\n'
+  $ said 'X JMP X+1\n END 0\n'
+
+What other assemblers take: operations of a binary MIX, floating point, and numbers that do not fit.
+
+  $ said ' SLB 1\n END 0\n'
+  1:2: error: A2 no such operation
+  $ said ' SRB 1\n END 0\n'
+  1:2: error: A2 no such operation
+  $ said ' JAE 0\n END 0\n'
+  1:2: error: A2 no such operation
+  $ said ' JAO 0\n END 0\n'
+  1:2: error: A2 no such operation
+  $ said ' JXE 0\n END 0\n'
+  1:2: error: A2 no such operation
+  $ said ' JXO 0\n END 0\n'
+  1:2: error: A2 no such operation
+  $ said ' FADD 100\n END 0\n'
+  1:2: error: A2 no such operation
+  $ said ' FSUB 100\n END 0\n'
+  1:2: error: A2 no such operation
+  $ said ' FMUL 100\n END 0\n'
+  1:2: error: A2 no such operation
+  $ said ' FDIV 100\n END 0\n'
+  1:2: error: A2 no such operation
+  $ said ' FCMP 100\n END 0\n'
+  1:2: error: A2 no such operation
+  $ said ' FLOT\n END 0\n'
+  1:2: error: A2 no such operation
+  $ said ' FIX\n END 0\n'
+  1:2: error: A2 no such operation
+  $ said 'X EQU 1\nX EQU 2\n END 0\n'
+  2:1: error: A4 defined twice
+  $ said ' ENTA 4096\n END 0\n'
+  1:7: error: A9 address beyond two bytes
+  $ said ' ENTA 5000\n END 0\n'
+  1:7: error: A9 address beyond two bytes
+  $ said ' ENTA -4096\n END 0\n'
+  1:7: error: A9 address beyond two bytes
+  $ said ' JMP X\nX EQU 5000\n END 0\n'
+  2:7: error: A9 address beyond two bytes
+  $ said ' CON 1073741824\n END 0\n'
+  1:6: error: A6 number too large
+  $ said ' CON 12345678901\n END 0\n'
+  1:6: error: A6 number too large
+  $ said ' CON 1/0\n END 0\n'
+  1:6: error: A8 overflow in expression
+  $ said ' CON 1073741823+1\n END 0\n'
+  1:6: error: A8 overflow in expression
+  $ said ' CON 1000(0:2)+5\n END 0\n'
+  1:6: error: A5 bad expression
+  $ said ' ORIG -1\n END 0\n'
+  1:7: error: A11 location outside 0 to 3999
+  $ said ' ORIG 4001\n END 0\n'
+  1:7: error: A11 location outside 0 to 3999
+  $ said ' ORIG 4000\n HLT\n END 0\n'
+  2:2: error: A11 location outside 0 to 3999
+  $ said ' LDA 5,7\n END 0\n'
+  1:6: error: A10 index, field or F out of range
+  $ said ' LDA 5(64)\n END 0\n'
+  1:6: error: A10 index, field or F out of range
+  $ said ' CON 1(6:6)\n END 0\n'
+  1:6: error: A10 index, field or F out of range
+  $ said ' END 4000\n'
+  1:6: error: A15 start outside 0 to 3999
+  $ said "$(yes '*' | head -n 20002)"
+  20001: error: A16 source too long
+  $ head -c 1048577 /dev/zero | mixrev check -
+  -:1: error: A16 source too long
+  [1]
+
+Signs of word processors, and bytes that MIX does not have.
+
+  $ said '\357\273\277 HLT\n END 0\n'
+  1:1: error: A1 bad byte
+  $ said ' ENTA \342\210\2225\n END 0\n'
+  1:7: error: A1 bad byte
+  $ said ' ENTA 5\342\200\2231\n END 0\n'
+  1:8: error: A1 bad byte
+  $ said ' ALF \342\200\234HELLO\342\200\235\n END 0\n'
+  1:6: error: A1 bad byte
+  $ said ' ENTA\302\2405\n END 0\n'
+  1:6: error: A1 bad byte
+  $ said ' ALF "\316\224\316\243\316\240  "\n END 0\n'
+  1:7: error: A12 bad ALF
+  $ said ' ALF \316\224\316\243\n END 0\n'
+  1:6: error: A1 bad byte
+  $ said ' ALF "HELLO\n END 0\n'
+  1:7: error: A12 bad ALF
+  $ said ' ALF "HELLO "\n END 0\n'
+  1:7: error: A12 bad ALF
+  $ said 'MY_LOOP HLT\n END 0\n'
+  1:3: error: A1 bad byte
+  $ said ' ENTA 5!\n END 0\n'
+  1:8: error: A1 bad byte
+  $ said ' ENTA \0335\n END 0\n'
+  1:7: error: A1 bad byte
+
+Columns and labels: an operation in the first column, signs after a label, and names that are no symbols.
+
+  $ said 'HLT\n END 0\n'
+  1:4: error: A2 no such operation
+  1:1: warning: the label is the name of an operation: if that is meant, begin the line with a blank [operation-as-label]
+  $ said ' HLT\nEND\n'
+  2:4: error: A2 no such operation
+  2:1: warning: the label is the name of an operation: if that is meant, begin the line with a blank [operation-as-label]
+  3: error: A13 no END
+  $ said 'ENTA 5\n END 0\n'
+  1:6: error: A2 no such operation
+  1:1: warning: the label is the name of an operation: if that is meant, begin the line with a blank [operation-as-label]
+  $ said 'ADD JAN DONE\nDONE HLT\n END 0\n'
+  1:1: warning: the label is the name of an operation: if that is meant, begin the line with a blank [operation-as-label]
+  $ said 'OUT HLT\n END 0\n'
+  1:1: warning: the label is the name of an operation: if that is meant, begin the line with a blank [operation-as-label]
+  $ said 'LOOP\n END 0\n'
+  1:5: error: A2 no such operation
+  $ said 'LOOP: HLT\n END 0\n'
+  1:1: error: A3 bad symbol
+  $ said 'PRINTNUMBER HLT\n END 0\n'
+  1:1: error: A3 bad symbol
+  $ said ' JMP PRINTNUMBER\n END 0\n'
+  1:6: error: A3 bad symbol
+  $ said '123 HLT\n END 0\n'
+  1:1: error: A3 bad symbol
+  $ said '2F HLT\n END 0\n'
+  1:1: error: A3 bad symbol
+  $ said ' JMP 2H\n END 0\n'
+  1:6: error: A3 bad symbol
+  $ said '; comment\n END 0\n'
+  1:1: error: A3 bad symbol
+  $ said '# comment\n END 0\n'
+  1:1: error: A3 bad symbol
+  $ said '   * comment\n END 0\n'
+  1:4: error: A2 no such operation
+  $ said '// comment\n END 0\n'
+  1:1: error: A3 bad symbol
+  $ said ' PRNT 5\n END 0\n'
+  1:2: error: A2 no such operation
+  $ said '\tPRNT 5\n END 0\n'
+  1:9: error: A2 no such operation
+
+Symbols that are not defined yet, or nowhere; and remarks that are taken for an ADDRESS. At END a fault is marked from OP on, since it may be one of
+a literal that is inserted before END.
+
+  $ said ' ENTA X+1\nX HLT\n END 0\n'
+  1:7: error: A7 undefined symbol
+  $ said ' LDA 5(X)\nX EQU 3\n END 0\n'
+  1:6: error: A7 undefined symbol
+  $ said ' LDA 5,X\nX EQU 3\n END 0\n'
+  1:6: error: A7 undefined symbol
+  $ said ' CON TAB\nTAB HLT\n END 0\n'
+  1:6: error: A7 undefined symbol
+  $ said ' ORIG TAB\nTAB HLT\n END 0\n'
+  1:7: error: A7 undefined symbol
+  $ said 'X EQU Y\nY EQU 1\n END 0\n'
+  1:7: error: A7 undefined symbol
+  $ said ' HLT\n END START\n'
+  2:2: error: A7 undefined symbol
+  $ said ' LDA =TAB=\n END 0\n'
+  2:2: error: A7 undefined symbol
+  $ said ' JMP 2B\n END 0\n'
+  1:6: error: A14 no such local symbol
+  $ said ' JMP 2F\n END 0\n'
+  2:2: error: A14 no such local symbol
+  $ said ' JMP 2F+1\n2H HLT\n END 0\n'
+  1:6: error: A7 undefined symbol
+  $ said ' ENTA 5\n JMP LOPP\nLOOP HLT\n END 0\n'
+  2:6: warning: LOPP is defined nowhere: END makes a cell of 0 for it [undefined-symbol]
+  $ said 'LOOP DEC1 1\n J1P LOPP\n HLT\n JMP LOPP\n END 0\n'
+  2:6: warning: LOPP is defined nowhere: END makes a cell of 0 for it [undefined-symbol]
+  $ said ' LDA TABLE,1(0:2)\n END 0\n'
+  1:6: warning: TABLE is defined nowhere: END makes a cell of 0 for it [undefined-symbol]
+  $ said ' NOP do nothing\n END 0\n'
+  1:6: warning: DO is defined nowhere: END makes a cell of 0 for it [undefined-symbol]
+  $ said ' CHAR (convert to decimal)\n END 0\n'
+  1:7: error: A7 undefined symbol
+  $ said ' HLT (halt)\n END 0\n'
+  1:6: error: A7 undefined symbol
+  $ said ' HLT -- halt\n END 0\n'
+  1:6: error: A5 bad expression
+  $ said ' ENTA\n CON\n END 0\n'
+  2:5: error: A5 bad expression
+  $ said ' LDA =3\n END 0\n'
+  1:6: error: A5 bad expression
+  $ said ' LDA 5(1:3\n END 0\n'
+  1:6: error: A5 bad expression
+  $ said ' HLT\n'
+  2: error: A13 no END
+  $ said ''
+  1: error: A13 no END
+
+What is taken and hardly meant: a blank in an ADDRESS, and an ALF that begins later or is longer.
+
+  $ said ' LDA 100 (1:5)\n END 0\n'
+  1:6: warning: a blank ends the address: what follows is a remark [blank-in-address]
+  $ said ' LDA 100 + 1\n END 0\n'
+  1:6: warning: a blank ends the address: what follows is a remark [blank-in-address]
+  $ said ' LDA 100 ,1\n END 0\n'
+  1:6: warning: a blank ends the address: what follows is a remark [blank-in-address]
+  $ said ' CON 5 -3\n END 0\n'
+  1:6: warning: a blank ends the address: what follows is a remark [blank-in-address]
+  $ said ' LDA 100  (1:5)\n END 0\n'
+  $ said ' LDA 100 (the first)\n END 0\n'
+  $ said ' ALF     HELLO\n END 0\n'
+  1:7: warning: ALF takes five characters, and its text has more of them, or begins later [alf-cut]
+  $ said ' ALF    FIVE\n END 0\n'
+  1:7: warning: ALF takes five characters, and its text has more of them, or begins later [alf-cut]
+  $ said ' ALF          LATER\n END 0\n'
+  1:7: warning: ALF takes five characters, and its text has more of them, or begins later [alf-cut]
+  $ said ' ALF \047HELLO\047\n END 0\n'
+  1:6: warning: ALF takes five characters, and its text has more of them, or begins later [alf-cut]
+  $ said ' ALF TITLES\n END 0\n'
+  1:6: warning: ALF takes five characters, and its text has more of them, or begins later [alf-cut]
+
+Several faults: a line that is refused keeps its label and its cell, and hides no later fault. A hundred are reported at most.
+
+  $ said ' ENTA 4096\n ORIG 5000\n JUMP 3\nX ENTA 4096\nX HLT\n JMP X\n END 4000\n'
+  1:7: error: A9 address beyond two bytes
+  2:7: error: A11 location outside 0 to 3999
+  3:2: error: A2 no such operation
+  4:8: error: A9 address beyond two bytes
+  5:1: error: A4 defined twice
+  7:6: error: A15 start outside 0 to 3999
+  $ said 'X JUMP 1\nX JUMP 2\n JMP X\n JMP Y\n CON Z\n END 0\n'
+  1:3: error: A2 no such operation
+  2:3: error: A2 no such operation
+  4:6: warning: Y is defined nowhere: END makes a cell of 0 for it [undefined-symbol]
+  5:6: error: A7 undefined symbol
+  $ said "$(printf ' CON X%d\\n' $(seq 20)) END 0\n" | uniq -c -f 1
+       20 1:6: error: A7 undefined symbol
+  $ said "$(printf ' CON X%d\\n' $(seq 101)) END 0\n" | tail -n 1
+  100:6: error: A7 undefined symbol
