@@ -6,6 +6,7 @@ ghost use Rattle.mix_word.specs.Instruction.{number_text};
 ghost use Rattle.dap_message.specs.Fields.{members_in};
 ghost use Rattle.mix_dap.specs.View.{put_digits, put_word, part_name};
 
+mod asked;
 mod change;
 mod counts;
 mod program;
