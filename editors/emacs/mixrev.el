@@ -2,6 +2,7 @@
 
 ;;; Commentary:
 ;; A debug provider and a template for dap-mode, and the commands that run backwards, which dap-mode has not.
+;; A template may have `:devices' and `:cards' too, as ../README.md says.
 
 ;;; Code:
 

@@ -1,4 +1,5 @@
--- MIX programs under nvim-dap, both ways. `mix` is the type that Neovim itself gives to sources, `mixal` that of ../vim.
+-- MIX programs under nvim-dap, both ways. A configuration may have `devices` and `cards` too, as
+-- ../README.md says. `mix` is the type that Neovim itself gives to sources, `mixal` that of ../vim.
 local dap = require("dap")
 
 dap.adapters.mixrev = {
