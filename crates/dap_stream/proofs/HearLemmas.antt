@@ -1,6 +1,6 @@
 -- What is heard of the bytes that were read is heard of all bytes.
 use Rattle.std.proofs.Common.{◌≡◌, ℕ, Bool, true, false, cond, Option, None, Some, Result, Ok, Err, List, [], ◌∷◌, ◌++◌, refl, sym, ap, subst, ◌∙◌, append_assoc, append-nil}
-use Rattle.std.specs.Prelude.{option_and_then, IsUtf8}
+use Rattle.std.specs.Prelude.{option_and_then, is_some, IsUtf8}
 use Rattle.std.specs.Str.{is_utf8}
 use Rattle.std.specs.Io.KnownBytes.{Consumes, IsAtEnd, Keeps, prepend_known}
 use Rattle.std.proofs.KnownBytes.{Keeps-refl, Keeps-trans}
@@ -8,7 +8,6 @@ use Rattle.std.proofs.lemmas.Str.{IsUtf8-from_is_utf8, is_utf8-from_IsUtf8}
 use Rattle.serde_json.specs.Data.{Data}
 use Rattle.serde_json.specs.Read.{read}
 use Rattle.serde_json.specs.View.{view}
-use Rattle.mix_refused.specs.declared.refused.Memory.{Memory}
 use Rattle.mix_refused.specs.declared.refused.Refused.TheVariants as refused
 use Rattle.dap_frame.specs.Frame.{First, whole, without_length, partial, too_long, first_frame}
 use Rattle.dap_frame.specs.Longer.{Longer}
@@ -18,9 +17,11 @@ use Rattle.dap_message.specs.Reads.{ReadsAs, Says}
 use Rattle.dap_message.specs.declared.request.MessageFault.{MessageFault}
 use Rattle.dap_message.specs.declared.request.MessageFault.TheVariants.{NotJson, NotRequest}
 use Rattle.dap_message.specs.declared.request.Request.{Request}
-use Rattle.dap_stream.specs.Asked.{Asked, asked, asked_by, asked_in, message_in}
+use Rattle.dap_stream.specs.Asked.{IsRequest, if_request, message_in, request_in}
 use Rattle.dap_stream.specs.Heard.{BeginsWith, Hears}
 use Rattle.dap_stream.specs.Hearing.{HearsAs, IsOver, IsNotOver, OnlyBegins}
+use Rattle.dap_stream.specs.declared.broken.Broken.{Broken}
+use Rattle.dap_stream.specs.declared.broken.Broken.TheVariants as broken
 use Rattle.dap_stream.specs.declared.hear.Heard.{Heard}
 use Rattle.dap_stream.specs.declared.hear.Heard.TheVariants as heard
 
@@ -29,23 +30,27 @@ use Rattle.dap_stream.specs.declared.hear.Heard.TheVariants as heard
 says : (body : List ℕ) (message : Data) → Says body message → message_in body ≡ Some message
 says body message is = rw (is_utf8-from_IsUtf8 body is.0) is.1
 
--- what is read as a request asks for what it asks for
+-- what is read as a request is the request that the body is
 pub body-request : (body : List ℕ) (request : Request) → Says body (view request.message) × (request_seq (view request.message) ≡ Some request.seq)
-    → Some (asked request) ≡ asked_by body
+    → (message : Data) × IsRequest request message × (Some message ≡ request_in body)
 body-request body request is =
-    sym (ap (option_and_then asked_in) (says body (view request.message) is.0) ∙ rw is.1 refl)
+    let message = view request.message in
+    let there : if_request message ≡ Some message = ap (λ (s : Option ℕ). cond (is_some s) (Some message) None) is.1 in
+    (message, (refl, is.1), sym (ap (option_and_then if_request) (says body message is.0) ∙ there))
 
 not-json : (body : List ℕ) (b : Bool) → is_utf8 body ≡ b → (IsUtf8 body → read body ≡ None) → cond b (read body) None ≡ None
 not-json body true is none = none (IsUtf8-from_is_utf8 body is)
 not-json body false is none = refl
 
-pub body-no_json : (body : List ℕ) → (IsUtf8 body → read body ≡ None) → None ≡ asked_by body
-body-no_json body none = sym (ap (option_and_then asked_in) (not-json body (is_utf8 body) refl none))
+pub body-no_json : (body : List ℕ) → (IsUtf8 body → read body ≡ None) → None ≡ request_in body
+body-no_json body none = sym (ap (option_and_then if_request) (not-json body (is_utf8 body) refl none))
 
-pub body-no_request : (body : List ℕ) → ((message : Data) × Says body message × (request_seq message ≡ None)) → None ≡ asked_by body
-body-no_request body is = sym (ap (option_and_then asked_in) (says body is.0 is.1) ∙ rw is.2 refl)
+pub body-no_request : (body : List ℕ) → ((message : Data) × Says body message × (request_seq message ≡ None)) → None ≡ request_in body
+body-no_request body is =
+    let there : if_request is.0 ≡ None = ap (λ (s : Option ℕ). cond (is_some s) (Some is.0) None) is.2 in
+    sym (ap (option_and_then if_request) (says body is.0 is.1) ∙ there)
 
-pub body-fault : (body : List ℕ) (fault : MessageFault) → ReadsAs body (Err (refused.Fault fault)) → None ≡ asked_by body
+pub body-fault : (body : List ℕ) (fault : MessageFault) → ReadsAs body (Err (refused.Fault fault)) → None ≡ request_in body
 body-fault body NotJson is = body-no_json body is
 body-fault body NotRequest is = body-no_request body is
 
@@ -53,12 +58,12 @@ pub ruleset bodies = (body-request, body-fault)
 
 -- ---- the bytes that were read, and those that follow
 
-known-first : (text rest more : List ℕ) (frame : Option Asked) (next : First) → next ≡ first_frame (text ++ more) → BeginsWith next frame (rest ++ more)
+known-first : (text rest more : List ℕ) (frame : Option Data) (next : First) → next ≡ first_frame (text ++ more) → BeginsWith next frame (rest ++ more)
     → Hears (Some (text ++ more)) (frame ∷ []) (Some (rest ++ more))
 known-first text rest more frame next e is = (rest ++ more, subst (λ n. BeginsWith n frame (rest ++ more)) e is, refl)
 
 -- a whole frame is heard
-pub hears-body : (text body rest : List ℕ) (frame : Option Asked) → first_frame text ≡ whole body rest → frame ≡ asked_by body
+pub hears-body : (text body rest : List ℕ) (frame : Option Data) → first_frame text ≡ whole body rest → frame ≡ request_in body
     → (more : Option (List ℕ)) → Hears (prepend_known text more) (frame ∷ []) (prepend_known rest more)
 hears-body text body rest frame is same None = tt
 hears-body text body rest frame is same (Some more) =
@@ -84,7 +89,7 @@ read-keeps bytes part None new is = tt
 read-keeps bytes part (Some all) None is = absurd is
 read-keeps bytes part (Some all) (Some left) is = append_assoc bytes part left ∙ ap (λ l. bytes ++ l) (sym is)
 
-hears-kept : (a b c : Option (List ℕ)) (frames : List (Option Asked)) → Keeps a b → Hears b frames c → Hears a frames c
+hears-kept : (a b c : Option (List ℕ)) (frames : List (Option Data)) → Keeps a b → Hears b frames c → Hears a frames c
 hears-kept None b c frames same is = tt
 hears-kept (Some text) None c frames same is = absurd same
 hears-kept (Some text) (Some same_text) None frames same is = is
@@ -106,14 +111,15 @@ not_over-kept (Some text) None same is = absurd same
 not_over-kept (Some text) (Some same_text) same is = λ e. is (same ∙ e)
 
 -- what is heard after a read is heard before it
-pub heard-kept : (result : Result Heard Memory) (a b c : Option (List ℕ)) → Keeps a b → HearsAs result b c → HearsAs result a c
-heard-kept (Ok (heard.Request request)) a b c same is = hears-kept a b c _ same is
+pub heard-kept : (result : Result Heard Broken) (a b c : Option (List ℕ)) → Keeps a b → HearsAs result b c → HearsAs result a c
+heard-kept (Ok (heard.Request request)) a b c same is = (is.0, is.1, hears-kept a b c _ same is.2)
 heard-kept (Ok (heard.Unclear fault)) a b c same is = hears-kept a b c _ same is
 heard-kept (Ok heard.End) a b c same is = (over-kept a b same is.0, hears-kept a b c _ same is.1)
-heard-kept (Ok heard.Cut) a b c same is = (only-kept partial a b same is.0, not_over-kept a b same is.1)
-heard-kept (Ok heard.TooLong) a b c same is = only-kept too_long a b same is
-heard-kept (Ok heard.Failed) a b c same is = tt
-heard-kept (Err refused) a b c same is = tt
+heard-kept (Err broken.Cut) a b c same is = (only-kept partial a b same is.0, not_over-kept a b same is.1)
+heard-kept (Err broken.TooLong) a b c same is = only-kept too_long a b same is
+heard-kept (Err broken.Read) a b c same is = tt
+heard-kept (Err broken.Memory) a b c same is = tt
+heard-kept (Err broken.Write) a b c same is = is
 
 -- ---- the end
 

@@ -1,10 +1,13 @@
 -- What is heard of bytes that are still to be heard.
 use Rattle.std.specs.Prelude.{◌≡◌, ◌≢◌, ℕ, List, [], ◌∷◌, Option, None, Some, Result, Ok, Err}
 use Rattle.std.specs.Io.KnownBytes.{prepend_known}
+use Rattle.serde_json.specs.Data.{Data}
+use Rattle.serde_json.specs.View.{view}
 use Rattle.dap_frame.specs.Frame.{First, partial, too_long, first_frame}
-use Rattle.mix_refused.specs.declared.refused.Memory.{Memory}
-use Rattle.dap_stream.specs.Asked.{asked, asked_by}
+use Rattle.dap_stream.specs.Asked.{IsRequest, request_in}
 use Rattle.dap_stream.specs.Heard.{Hears}
+use Rattle.dap_stream.specs.declared.broken.Broken.{Broken}
+use Rattle.dap_stream.specs.declared.broken.Broken.TheVariants as broken
 use Rattle.dap_stream.specs.declared.hear.Ear.{Ear}
 use Rattle.dap_stream.specs.declared.hear.Heard.{Heard}
 use Rattle.dap_stream.specs.declared.hear.Heard.TheVariants as heard
@@ -31,27 +34,26 @@ abbrev pub IsNotOver : Option (List ℕ) → Type 0
 IsNotOver None = Unit {0}
 IsNotOver (Some text) = text ≢ []
 
--- A frame is taken off the bytes, a request or none; or it is the end of them, within a frame or not; or a frame is too long.
-abbrev pub HearsAs : Result Heard Memory → Option (List ℕ) → Option (List ℕ) → Type 0
-HearsAs (Ok (heard.Request request)) old new = Hears old (Some (asked request) ∷ []) new
+-- A frame is taken off the bytes, a request or none; or it is the end of them. What breaks it off is a frame that the end cuts, one that is too long, a
+-- read that fails, or memory.
+abbrev pub HearsAs : Result Heard Broken → Option (List ℕ) → Option (List ℕ) → Type 0
+HearsAs (Ok (heard.Request request)) old new = (message : Data) × IsRequest request message × Hears old (Some message ∷ []) new
 HearsAs (Ok (heard.Unclear fault)) old new = Hears old (None ∷ []) new
 HearsAs (Ok heard.End) old new = IsOver old × Hears old [] new
-HearsAs (Ok heard.Cut) old new = OnlyBegins partial old × IsNotOver old
-HearsAs (Ok heard.TooLong) old new = OnlyBegins too_long old
-HearsAs (Ok heard.Failed) old new = Unit {0}
-HearsAs (Err refused) old new = Unit {0}
+HearsAs (Err broken.Cut) old new = OnlyBegins partial old × IsNotOver old
+HearsAs (Err broken.TooLong) old new = OnlyBegins too_long old
+HearsAs (Err broken.Read) old new = Unit {0}
+HearsAs (Err broken.Memory) old new = Unit {0}
+HearsAs (Err broken.Write) old new = ⊥
 
 -- what is heard of a body
 abbrev pub BodyAs : Heard → List ℕ → Type 0
-BodyAs (heard.Request request) body = Some (asked request) ≡ asked_by body
-BodyAs (heard.Unclear fault) body = None ≡ asked_by body
+BodyAs (heard.Request request) body = (message : Data) × IsRequest request message × (Some message ≡ request_in body)
+BodyAs (heard.Unclear fault) body = None ≡ request_in body
 BodyAs heard.End body = ⊥
-BodyAs heard.Cut body = ⊥
-BodyAs heard.TooLong body = ⊥
-BodyAs heard.Failed body = ⊥
 
 -- what is heard of the bytes that were read, whatever follows them
-abbrev pub FirstAs : Result (Option Heard) Memory → List ℕ → List ℕ → Type 0
+abbrev pub FirstAs : Result (Option Heard) Broken → List ℕ → List ℕ → Type 0
 FirstAs (Ok None) old new = (first_frame old ≡ partial) × (new ≡ old)
-FirstAs (Ok (Some first)) old new = (first ≢ heard.Failed) × ((more : Option (List ℕ)) → HearsAs (Ok first) (prepend_known old more) (prepend_known new more))
-FirstAs (Err refused) old new = Unit {0}
+FirstAs (Ok (Some first)) old new = (more : Option (List ℕ)) → HearsAs (Ok first) (prepend_known old more) (prepend_known new more)
+FirstAs (Err why) old new = (why ≢ broken.Read) × ((more : Option (List ℕ)) → HearsAs (Err why) (prepend_known old more) (prepend_known new more))

@@ -1,4 +1,5 @@
 pub mod Asked
+pub mod Broken
 pub mod Heard
 pub mod Hearing
 pub mod Sent

@@ -1,11 +1,12 @@
 //! Requests, heard one by one from what a client sends.
 
-ghost use Rattle.std.specs.Prelude.{◌≡◌, ◌≢◌, ◌<◌, ◌+◌, ◌-◌, ◌^◌, List, ℕ, Option, [], None, Some, Ok, IfOk, length};
+ghost use Rattle.std.specs.Prelude.{◌≡◌, ◌≢◌, ◌<◌, ◌+◌, ◌-◌, ◌^◌, List, ℕ, Option, [], None, Some, Err, IfOk, length};
 ghost use Rattle.dap_frame.specs.Frame.{first_frame, max_body, max_header, partial};
 ghost use Rattle.dap_stream.specs.Hearing.{BodyAs, FirstAs, HearsAs, kept, unheard};
-ghost use Rattle.dap_stream.specs.declared.hear.Heard.TheVariants as heard;
+ghost use Rattle.dap_stream.specs.declared.broken.Broken.TheVariants as broken;
 ghost use Rattle.mix_stream.specs.Stream.{CountsFailure};
 
+use crate::broken::Broken;
 use dap_frame::{MAX_BODY, MAX_HEADER, Next, next_frame};
 use dap_message::{MessageFault, Request};
 use mix_refused::{Memory, Refused};
@@ -21,12 +22,6 @@ pub enum Heard {
     Unclear(Option<MessageFault>),
     /// The end, where a frame ends.
     End,
-    /// The end within a frame.
-    Cut,
-    /// A frame that is longer than it may be.
-    TooLong,
-    /// A read failed.
-    Failed,
 }
 
 /// The bytes that were read and not yet heard.
@@ -47,12 +42,13 @@ impl Ear {
         }
     }
 
-    /// The next frame, which is waited for. `Memory` where there is no room for it.
+    /// The next frame, which is waited for, or the end where a frame ends. `Cut` is the end within a frame, `TooLong` a frame that is longer than it may
+    /// be, `Read` a read that failed, and `Memory` no room for the frame.
     #[tactic(auto, using(crate::proofs::HearLemmas::hearing))]
-    pub fn hear<R: In>(&mut self, input: &mut R) -> Result<Heard, Memory>
+    pub fn hear<R: In>(&mut self, input: &mut R) -> Result<Heard, Broken>
         requires { R.failed input.old < 2 ^ 64 - 1 }
         ensures heard { HearsAs result (unheard self.old (R.rest input.old)) (unheard self.new (R.rest input.new)) }
-        ensures failed { CountsFailure (result ≡ Ok heard.Failed) (R.failed input.old) (R.failed input.new) }
+        ensures failed { CountsFailure (result ≡ Err broken.Read) (R.failed input.old) (R.failed input.new) }
     {
         let mut buffer = [0; CHUNK];
         'reads: while self.bytes.len() < MAX_HEADER + MAX_BODY {
@@ -60,10 +56,10 @@ impl Ear {
                 return Ok(heard);
             }
             let Ok(count) = input.read(&mut buffer) else {
-                return Ok(Heard::Failed);
+                return Err(Broken::Read);
             };
             if count == 0 {
-                return Ok(self.end());
+                return self.end();
             }
             self.bytes.extend_from_slice(&buffer[..count])?;
         }
@@ -74,26 +70,26 @@ impl Ear {
     }
 
     // What the end of the input is.
-    fn end(&self) -> Heard
+    fn end(&self) -> Result<Heard, Broken>
         requires { first_frame (kept self.now) ≡ partial }
-        ensures end { HearsAs (Ok result) (Some (kept self.now)) (Some (kept self.now)) }
-        ensures read { result ≢ heard.Failed }
+        ensures end { HearsAs result (Some (kept self.now)) (Some (kept self.now)) }
+        ensures read { result ≢ Err broken.Read }
     {
         if self.bytes.is_empty() {
-            Heard::End
+            Ok(Heard::End)
         } else {
-            Heard::Cut
+            Err(Broken::Cut)
         }
     }
 
     // The frame that the bytes begin with, if it is whole; it is taken off them.
     #[tactic(auto, using(crate::proofs::HearLemmas::frames))]
-    fn first(&mut self) -> Result<Option<Heard>, Memory>
+    fn first(&mut self) -> Result<Option<Heard>, Broken>
         ensures { FirstAs result (kept self.old) (kept self.new) }
     {
         match next_frame(self.bytes.as_slice()) {
             Next::Partial => Ok(None),
-            Next::TooLong => Ok(Some(Heard::TooLong)),
+            Next::TooLong => Err(Broken::TooLong),
             Next::NoLength(rest) => {
                 let rest = Vec::from_slice(self.alloc, rest)?;
                 self.bytes = rest;

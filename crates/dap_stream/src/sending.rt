@@ -1,25 +1,27 @@
 //! Messages that wait are sent, each in a frame.
 
-ghost use Rattle.std.specs.Prelude.{◌≡◌, ◌<◌, ◌-◌, ◌^◌, [], map, OnOk};
+ghost use Rattle.std.specs.Prelude.{◌≡◌, ◌<◌, ◌-◌, ◌^◌, [], map, Err, IfErr, OnOk};
 ghost use Rattle.serde_json.specs.View.{view};
-ghost use Rattle.mix_refused.specs.Refused.{IsFault};
 ghost use Rattle.mix_stream.specs.Stream.{CountsFailure};
 ghost use Rattle.dap_message.specs.Message.{waits};
+ghost use Rattle.dap_stream.specs.Broken.{IsMemoryOrWrite};
 ghost use Rattle.dap_stream.specs.Sent.{Sends, SendsAll};
+ghost use Rattle.dap_stream.specs.declared.broken.Broken.TheVariants as broken;
 
+use crate::broken::Broken;
 use dap_frame::frame;
 use dap_message::Outbox;
-use mix_refused::Refused;
-use mix_stream::{Failed, Out, write_all};
+use mix_stream::{Out, write_all};
 use serde_json::Value;
 use std::alloc::Global;
 
 /// Sends all messages that wait, one after the other, and then none waits. Where memory is refused or a write fails, some may be sent, and all wait.
-pub fn send<W: Out>(alloc: Global, outbox: &mut Outbox, out: &mut W) -> Result<(), Refused<Failed>>
+pub fn send<W: Out>(alloc: Global, outbox: &mut Outbox, out: &mut W) -> Result<(), Broken>
     requires { W.failed out.old < 2 ^ 64 - 1 }
     ensures sent { OnOk result (SendsAll (waits outbox.old) (W.told out.old) (W.told out.new)) }
     ensures none { OnOk result (waits outbox.new ≡ []) }
-    ensures failed { CountsFailure (IsFault result) (W.failed out.old) (W.failed out.new) }
+    ensures failed { CountsFailure (result ≡ Err broken.Write) (W.failed out.old) (W.failed out.new) }
+    ensures only { IfErr result IsMemoryOrWrite }
 {
     send_all(alloc, outbox.messages(), out)?;
     outbox.clear();
@@ -27,10 +29,11 @@ pub fn send<W: Out>(alloc: Global, outbox: &mut Outbox, out: &mut W) -> Result<(
 }
 
 #[tactic(auto, using(crate::proofs::SendLemmas::nothing))]
-fn send_all<W: Out>(alloc: Global, messages: &[Value], out: &mut W) -> Result<(), Refused<Failed>>
+fn send_all<W: Out>(alloc: Global, messages: &[Value], out: &mut W) -> Result<(), Broken>
     requires { W.failed out.old < 2 ^ 64 - 1 }
     ensures sent { OnOk result (SendsAll (map view messages.now) (W.told out.old) (W.told out.new)) }
-    ensures failed { CountsFailure (IsFault result) (W.failed out.old) (W.failed out.new) }
+    ensures failed { CountsFailure (result ≡ Err broken.Write) (W.failed out.old) (W.failed out.new) }
+    ensures only { IfErr result IsMemoryOrWrite }
 {
     for message in messages {
         send_one(alloc, message, out)?;
@@ -39,10 +42,11 @@ fn send_all<W: Out>(alloc: Global, messages: &[Value], out: &mut W) -> Result<()
 }
 
 // A message is sent as its text, in a frame.
-fn send_one<W: Out>(alloc: Global, message: &Value, out: &mut W) -> Result<(), Refused<Failed>>
+fn send_one<W: Out>(alloc: Global, message: &Value, out: &mut W) -> Result<(), Broken>
     requires { W.failed out.old < 2 ^ 64 - 1 }
     ensures sent { OnOk result (Sends (view message.now) (W.told out.old) (W.told out.new)) }
-    ensures failed { CountsFailure (IsFault result) (W.failed out.old) (W.failed out.new) }
+    ensures failed { CountsFailure (result ≡ Err broken.Write) (W.failed out.old) (W.failed out.new) }
+    ensures only { IfErr result IsMemoryOrWrite }
 {
     let text = message.to_string(alloc)?;
     let framed = frame(alloc, text.as_str())?;

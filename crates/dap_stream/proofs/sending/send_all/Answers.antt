@@ -10,5 +10,5 @@ loop-message-preserved g c =
     record {
       sent = sends-step view c.args.messages.now c.loop-message.message-index c.message-item.result _ _ _ below c.message-item.is
           c.loop-message.invariant.sent c.in_ok-send_one.ensures.sent;
-      failed = c.in_ok-send_one.ensures.failed.1 (λ e. e) ∙ c.loop-message.invariant.failed;
+      failed = c.in_ok-send_one.ensures.failed.1 (λ e. cc) ∙ c.loop-message.invariant.failed;
     }
