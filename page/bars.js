@@ -7,7 +7,7 @@ import { ZERO, fieldOf, instructionIn } from "./sentence.js";
 import { Strip } from "./strip.js";
 import { barsOf, fileOf } from "./svg.js";
 
-const MOST_BARS = 120;
+const MAX_BARS = 120;
 const LEAST_BARS = 5; // a range of fewer cells is not shown unless somebody asks for it
 const SHOWS = /^\s*show\s+(?:cells|values)\s+(\S+)\s+(\S+)\s*$/i;
 const FIELD = /^\s*([0-5]):([0-5])\s*$/;
@@ -49,7 +49,7 @@ export class Bars {
 
   // The cells that are drawn.
   get cells() {
-    return $("bars-box").open ? this.range.cells.slice(0, MOST_BARS) : [];
+    return $("bars-box").open ? this.range.cells.slice(0, MAX_BARS) : [];
   }
 
   get by() {
@@ -64,7 +64,7 @@ export class Bars {
     if (!words) return; // another program was opened meanwhile
     const numbers = words.map(numberIn);
     const widths = named.map((_, index) => numbers[2 * index + 1] - numbers[2 * index] + 1 || 0);
-    const best = Math.max(0, ...widths.filter((width) => width <= MOST_BARS));
+    const best = Math.max(0, ...widths.filter((width) => width <= MAX_BARS));
     this.range.ends = kept ? [from, to] : named[widths.indexOf(best)] || ["0", "9"];
     $("bars-by").value = FIELD.test(by) ? "field" : by === "characters" ? by : "number";
     if (FIELD.test(by)) $("bars-field").value = by;
@@ -107,7 +107,7 @@ export class Bars {
     $("bars").replaceChildren(barsOf({ title: `${title}, after ${counted(done, "change")}`, text: textOf(bars, arrows), bars, arrows }));
     this.strip.show(cells, (word) => Number(fieldOf(word, f)), title, done);
     const all = this.range.cells.length;
-    note("bars-more", all > cells.length ? `These are the first ${MOST_BARS} of ${counted(all, "cell")}.` : "");
+    note("bars-more", all > cells.length ? `These are the first ${MAX_BARS} of ${counted(all, "cell")}.` : "");
   }
 
   // What is drawn of each cell: its value in a field, and before the last change, if that wrote it.

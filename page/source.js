@@ -4,17 +4,17 @@ import { $, make, onResize, put } from "./dom.js";
 import { piecesOf } from "./colours.js";
 import { explained } from "./operations.js";
 
-export const MOST_LINES = 20000; // of a source
-export const MOST_BYTES = 1048576;
+export const MAX_LINES = 20000; // of a source
+export const MAX_BYTES = 1048576;
 
 // Why a text can't be a source, before anything is made of it; "" where it may be one.
 export function tooLarge(text) {
   let lines = 1;
   for (let at = text.indexOf("\n"); at >= 0; at = text.indexOf("\n", at + 1)) lines += 1;
   if (text.endsWith("\n")) lines -= 1;
-  if (lines > MOST_LINES) return `it has ${lines.toLocaleString("en")} lines, and a source has at most ${MOST_LINES.toLocaleString("en")}`;
-  const bytes = text.length * 3 < MOST_BYTES ? 0 : new TextEncoder().encode(text).length;
-  if (bytes > MOST_BYTES) return `it has ${bytes.toLocaleString("en")} bytes, and a source has at most ${MOST_BYTES.toLocaleString("en")}`;
+  if (lines > MAX_LINES) return `it has ${lines.toLocaleString("en")} lines, and a source has at most ${MAX_LINES.toLocaleString("en")}`;
+  const bytes = text.length * 3 < MAX_BYTES ? 0 : new TextEncoder().encode(text).length;
+  if (bytes > MAX_BYTES) return `it has ${bytes.toLocaleString("en")} bytes, and a source has at most ${MAX_BYTES.toLocaleString("en")}`;
   return "";
 }
 

@@ -7,8 +7,8 @@ use Rattle.clap.specs.declared.builder.action.ArgAction.TheVariants.{Append, Set
 use Rattle.clap.specs.declared.builder.value_parser.ValueParser.TheVariants.{Unsigned}
 
 -- how many steps a run may be allowed: a step takes 1u at least, and the clock goes to 10^18
-abbrev pub most_steps : ℕ
-most_steps = 1000000000000000000
+abbrev pub max_steps : ℕ
+max_steps = 1000000000000000000
 
 -- a word that has to be there, in its place
 abbrev pub required_word : Text → Rule
@@ -30,7 +30,7 @@ cards_option = option_named (codes "cards")
 
 -- `--steps N`, a number from 1 on
 abbrev pub steps_option : Rule
-steps_option = record (option_named (codes "steps")) { parser = Some (Unsigned 1 most_steps) }
+steps_option = record (option_named (codes "steps")) { parser = Some (Unsigned 1 max_steps) }
 
 -- `--unit N`, 17 to 20, as often as one likes
 abbrev pub unit_option : Rule

@@ -9,7 +9,7 @@ use clap::{Arg, ArgAction, Command};
 use std::alloc::{AllocError, Global};
 
 /// How many steps a run may be allowed.
-const MOST_STEPS: u64 = 1_000_000_000_000_000_000;
+const MAX_STEPS: u64 = 1_000_000_000_000_000_000;
 
 /// The version of the tool, which the package has too.
 const VERSION: &str = "0.1.0";
@@ -141,7 +141,7 @@ fn steps_option<'a>(alloc: Global) -> Arg<'a>
         "N",
         "The most steps that are done, 1000000000 if it is left out",
     )
-    .value_parser(ValueParser::Unsigned(1, MOST_STEPS))
+    .value_parser(ValueParser::Unsigned(1, MAX_STEPS))
 }
 
 fn unit_option<'a>(alloc: Global) -> Arg<'a>

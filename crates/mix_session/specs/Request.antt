@@ -25,14 +25,14 @@ use Rattle.mix_session.specs.declared.request.Request.TheVariants as ask
 use Rattle.mix_machine.specs.declared.old.Change.TheVariants.{Break, Clear}
 
 -- the most steps of one command
-abbrev pub most_steps : ℕ
-most_steps = 1000000
+abbrev pub max_steps : ℕ
+max_steps = 1000000
 
 -- so many steps: from 1 to the most of one command
 abbrev pub steps_of : ℕ → Result ℕ Refusal
 steps_of n = do
   some ← from_one n
-  up_to most_steps some
+  up_to max_steps some
 
 -- how many steps
 abbrev pub steps_in : List ℕ → Result ℕ Refusal

@@ -42,7 +42,7 @@ pub enum Request {
 }
 
 /// The most steps that one command may ask for.
-const MOST_STEPS: u64 = 1_000_000;
+const MAX_STEPS: u64 = 1_000_000;
 
 /// Reads a line: its request, or what is wrong with its words. The asterisk is `here`, the
 /// location.
@@ -146,7 +146,7 @@ fn steps_in(word: &[u8]) -> Result<u32, Refusal>
 fn steps_of(count: u64) -> Result<u32, Refusal>
     ensures { result ≡ steps_of count }
 {
-    let steps = up_to(MOST_STEPS, from_one(count)?)?;
+    let steps = up_to(MAX_STEPS, from_one(count)?)?;
     Ok(steps as u32)
 }
 
