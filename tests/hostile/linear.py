@@ -1,11 +1,10 @@
 """Work grows with what is asked and no faster, by the instructions that callgrind counts: no clock is read.
 
 Of a text of one, two and four lengths the step from two to four takes twice the step from one to two. One command takes as much after a million changes
-as after ten thousand. Without valgrind there is nothing to count with, and the part says so."""
+as after ten thousand."""
 
 import os
 import re
-import shutil
 import subprocess
 
 from running import Count, bundle, folder
@@ -60,9 +59,6 @@ COMMANDS = [b"step 3", b"run 3", b"back 2", b"forth 1", b"set A 7", b"set I1 500
 
 def rows(program, workers, quick=False):
     count = Count()
-    if not shutil.which("valgrind"):
-        print("linear: left out, since there is no valgrind")
-        return count
     with folder() as place:
         for name, text, length in TEXTS:
             one, two, four = (instructions(program, place, text(length * times)) for times in (1, 2, 4))

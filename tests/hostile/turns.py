@@ -6,7 +6,6 @@ on how many bytes a call gives or takes. Each answer is worked out here, from th
 
 import itertools
 import os
-import shutil
 
 from cuts import GREETED, HELLO
 from memory import FIRST, library
@@ -149,9 +148,6 @@ def printed(turns):
 
 def rows(program, workers, quick=False):
     count = Count()
-    if not shutil.which("cc"):
-        print("turns: left out, since there is no C compiler")
-        return count
     with folder() as place:
         turns = Turns(program, place, count)
         for part in (bundles, sessions, listings, printed):
