@@ -70,10 +70,10 @@ PRINTED = [
 
 # Source, deck, cards, words; what is told, and the status.
 REFUSED = [
-    (lines("X EQU 1", "X EQU 2", " END 0"), b"%", None, [], b"a.mixal:2:1: error: A4 defined twice\nX EQU 2\n^\n", 1),
+    (lines("X EQU 1", "X EQU 2", " END 0"), b"%", None, [], b"a.mixal:2:1: error: A4 defined twice: X\nX EQU 2\n^\n", 1),
     (COPY, b"\n%UNIT 21\n", b"?", [], b"mixrev: T5 deck refused at line 2: K1 bad header\n", 2),
     (COPY, CARDS, b"ONE\n%UNIT 19\n", [], b"mixrev: T5 deck refused at line 2: K4 no MIX character\n", 2),
     (COPY, CARDS, b"ONE\n\n" + b" " * 80 + b"%", [], b"mixrev: T5 deck refused at line 3: K3 line too long\n", 2),
-    (b"", CARDS, None, [], b"a.mixal:1: error: A13 no END\n", 1),
+    (b"", CARDS, None, [], b"a.mixal:1: error: A13 no END: the last line of a program is END\n", 1),
     # the mark stands below its part where there are tabs too
-    (b"\tENTA\t1+\trest\n END\n", b"", None, [], b"a.mixal:1:17: error: A5 bad expression\n\tENTA\t1+\trest\n\t    \t^^\n", 1)]
+    (b"\tENTA\t1+\trest\n END\n", b"", None, [], b"a.mixal:1:17: error: A5 bad expression: 1+\n\tENTA\t1+\trest\n\t    \t^^\n", 1)]

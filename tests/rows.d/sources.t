@@ -46,51 +46,51 @@ Programs as they are: tabs, ALF in each form, fields, local symbols, literals, r
 What other assemblers take: operations of a binary MIX, floating point, and numbers that do not fit.
 
   $ said ' SLB 1\n END 0\n'
-  1:2: error: A2 no such operation
+  1:2: error: A2 no such operation: SLB
   $ said ' SRB 1\n END 0\n'
-  1:2: error: A2 no such operation
+  1:2: error: A2 no such operation: SRB
   $ said ' JAE 0\n END 0\n'
-  1:2: error: A2 no such operation
+  1:2: error: A2 no such operation: JAE
   $ said ' JAO 0\n END 0\n'
-  1:2: error: A2 no such operation
+  1:2: error: A2 no such operation: JAO
   $ said ' JXE 0\n END 0\n'
-  1:2: error: A2 no such operation
+  1:2: error: A2 no such operation: JXE
   $ said ' JXO 0\n END 0\n'
-  1:2: error: A2 no such operation
+  1:2: error: A2 no such operation: JXO
   $ said ' FADD 100\n END 0\n'
-  1:2: error: A2 no such operation
+  1:2: error: A2 no such operation: FADD
   $ said ' FSUB 100\n END 0\n'
-  1:2: error: A2 no such operation
+  1:2: error: A2 no such operation: FSUB
   $ said ' FMUL 100\n END 0\n'
-  1:2: error: A2 no such operation
+  1:2: error: A2 no such operation: FMUL
   $ said ' FDIV 100\n END 0\n'
-  1:2: error: A2 no such operation
+  1:2: error: A2 no such operation: FDIV
   $ said ' FCMP 100\n END 0\n'
-  1:2: error: A2 no such operation
+  1:2: error: A2 no such operation: FCMP
   $ said ' FLOT\n END 0\n'
-  1:2: error: A2 no such operation
+  1:2: error: A2 no such operation: FLOT
   $ said ' FIX\n END 0\n'
-  1:2: error: A2 no such operation
+  1:2: error: A2 no such operation: FIX
   $ said 'X EQU 1\nX EQU 2\n END 0\n'
-  2:1: error: A4 defined twice
+  2:1: error: A4 defined twice: X
   $ said ' ENTA 4096\n END 0\n'
-  1:7: error: A9 address beyond two bytes
+  1:7: error: A9 address beyond two bytes: it is -4095 to 4095
   $ said ' ENTA 5000\n END 0\n'
-  1:7: error: A9 address beyond two bytes
+  1:7: error: A9 address beyond two bytes: it is -4095 to 4095
   $ said ' ENTA -4096\n END 0\n'
-  1:7: error: A9 address beyond two bytes
+  1:7: error: A9 address beyond two bytes: it is -4095 to 4095
   $ said ' JMP X\nX EQU 5000\n END 0\n'
-  2:7: error: A9 address beyond two bytes
+  2:7: error: A9 address beyond two bytes: it is -4095 to 4095
   $ said ' CON 1073741824\n END 0\n'
-  1:6: error: A6 number too large
+  1:6: error: A6 number too large: 1073741824: a number has at most 10 digits, and is at most 1073741823
   $ said ' CON 12345678901\n END 0\n'
-  1:6: error: A6 number too large
+  1:6: error: A6 number too large: 12345678901: a number has at most 10 digits, and is at most 1073741823
   $ said ' CON 1/0\n END 0\n'
-  1:6: error: A8 overflow in expression
+  1:6: error: A8 overflow in expression: a value is at most 1073741823, and no divisor is 0
   $ said ' CON 1073741823+1\n END 0\n'
-  1:6: error: A8 overflow in expression
+  1:6: error: A8 overflow in expression: a value is at most 1073741823, and no divisor is 0
   $ said ' CON 1000(0:2)+5\n END 0\n'
-  1:6: error: A5 bad expression
+  1:6: error: A5 bad expression: 1000(0:2)+5
   $ said ' ORIG -1\n END 0\n'
   1:7: error: A11 location outside 0 to 3999
   $ said ' ORIG 4001\n END 0\n'
@@ -98,88 +98,88 @@ What other assemblers take: operations of a binary MIX, floating point, and numb
   $ said ' ORIG 4000\n HLT\n END 0\n'
   2:2: error: A11 location outside 0 to 3999
   $ said ' LDA 5,7\n END 0\n'
-  1:6: error: A10 index, field or F out of range
+  1:6: error: A10 index, field or F out of range: an index is 0 to 6, an F 0 to 63, and a field L:R has L at most R, and R at most 5
   $ said ' LDA 5(64)\n END 0\n'
-  1:6: error: A10 index, field or F out of range
+  1:6: error: A10 index, field or F out of range: an index is 0 to 6, an F 0 to 63, and a field L:R has L at most R, and R at most 5
   $ said ' CON 1(6:6)\n END 0\n'
-  1:6: error: A10 index, field or F out of range
+  1:6: error: A10 index, field or F out of range: an index is 0 to 6, an F 0 to 63, and a field L:R has L at most R, and R at most 5
   $ said ' END 4000\n'
   1:6: error: A15 start outside 0 to 3999
   $ said "$(yes '*' | head -n 20002)"
-  20001: error: A16 source too long
+  20001: error: A16 source too long: at most 20000 lines and 1048576 bytes
   $ head -c 1048577 /dev/zero | mixrev check -
-  -:1: error: A16 source too long
+  -:1: error: A16 source too long: at most 20000 lines and 1048576 bytes
   [1]
 
 Signs of word processors, and bytes that MIX does not have.
 
   $ said '\357\273\277 HLT\n END 0\n'
-  1:1: error: A1 bad byte
+  1:1: error: A1 bad byte: a byte order mark: save the source without it
   $ said ' ENTA \342\210\2225\n END 0\n'
-  1:7: error: A1 bad byte
+  1:7: error: A1 bad byte: a minus sign of a word processor: write -
   $ said ' ENTA 5\342\200\2231\n END 0\n'
-  1:8: error: A1 bad byte
+  1:8: error: A1 bad byte: a dash of a word processor: write -
   $ said ' ALF \342\200\234HELLO\342\200\235\n END 0\n'
-  1:6: error: A1 bad byte
+  1:6: error: A1 bad byte: a quotation mark of a word processor: write "
   $ said ' ENTA\302\2405\n END 0\n'
-  1:6: error: A1 bad byte
+  1:6: error: A1 bad byte: a blank of a word processor: write a blank
   $ said ' ALF "\316\224\316\243\316\240  "\n END 0\n'
-  1:7: error: A12 bad ALF
+  1:7: error: A12 bad ALF: at most five characters, between two quotation marks
   $ said ' ALF \316\224\316\243\n END 0\n'
-  1:6: error: A1 bad byte
+  1:6: error: A1 bad byte: the Greek letter delta: write ~
   $ said ' ALF "HELLO\n END 0\n'
-  1:7: error: A12 bad ALF
+  1:7: error: A12 bad ALF: at most five characters, between two quotation marks
   $ said ' ALF "HELLO "\n END 0\n'
-  1:7: error: A12 bad ALF
+  1:7: error: A12 bad ALF: at most five characters, between two quotation marks
   $ said 'MY_LOOP HLT\n END 0\n'
-  1:3: error: A1 bad byte
+  1:3: error: A1 bad byte: _
   $ said ' ENTA 5!\n END 0\n'
-  1:8: error: A1 bad byte
+  1:8: error: A1 bad byte: !
   $ said ' ENTA \0335\n END 0\n'
-  1:7: error: A1 bad byte
+  1:7: error: A1 bad byte: ?
 
 Columns and labels: an operation in the first column, signs after a label, and names that are no symbols.
 
   $ said 'HLT\n END 0\n'
-  1:4: error: A2 no such operation
+  1:4: error: A2 no such operation: nothing is written here
   1:1: warning: the label is the name of an operation: if that is meant, begin the line with a blank [operation-as-label]
   $ said ' HLT\nEND\n'
-  2:4: error: A2 no such operation
+  2:4: error: A2 no such operation: nothing is written here
   2:1: warning: the label is the name of an operation: if that is meant, begin the line with a blank [operation-as-label]
-  3: error: A13 no END
+  3: error: A13 no END: the last line of a program is END
   $ said 'ENTA 5\n END 0\n'
-  1:6: error: A2 no such operation
+  1:6: error: A2 no such operation: 5
   1:1: warning: the label is the name of an operation: if that is meant, begin the line with a blank [operation-as-label]
   $ said 'ADD JAN DONE\nDONE HLT\n END 0\n'
   1:1: warning: the label is the name of an operation: if that is meant, begin the line with a blank [operation-as-label]
   $ said 'OUT HLT\n END 0\n'
   1:1: warning: the label is the name of an operation: if that is meant, begin the line with a blank [operation-as-label]
   $ said 'LOOP\n END 0\n'
-  1:5: error: A2 no such operation
+  1:5: error: A2 no such operation: nothing is written here
   $ said 'LOOP: HLT\n END 0\n'
-  1:1: error: A3 bad symbol
+  1:1: error: A3 bad symbol: LOOP:: a symbol has at most 10 letters and digits, one of them a letter
   $ said 'PRINTNUMBER HLT\n END 0\n'
-  1:1: error: A3 bad symbol
+  1:1: error: A3 bad symbol: PRINTNUMBER: a symbol has at most 10 letters and digits, one of them a letter
   $ said ' JMP PRINTNUMBER\n END 0\n'
-  1:6: error: A3 bad symbol
+  1:6: error: A3 bad symbol: PRINTNUMBER: a symbol has at most 10 letters and digits, one of them a letter
   $ said '123 HLT\n END 0\n'
-  1:1: error: A3 bad symbol
+  1:1: error: A3 bad symbol: 123: a symbol has at most 10 letters and digits, one of them a letter
   $ said '2F HLT\n END 0\n'
-  1:1: error: A3 bad symbol
+  1:1: error: A3 bad symbol: 2F: a symbol has at most 10 letters and digits, one of them a letter
   $ said ' JMP 2H\n END 0\n'
-  1:6: error: A3 bad symbol
+  1:6: error: A3 bad symbol: 2H: a symbol has at most 10 letters and digits, one of them a letter
   $ said '; comment\n END 0\n'
-  1:1: error: A3 bad symbol
+  1:1: error: A3 bad symbol: ;: a symbol has at most 10 letters and digits, one of them a letter
   $ said '# comment\n END 0\n'
-  1:1: error: A3 bad symbol
+  1:1: error: A3 bad symbol: #: a symbol has at most 10 letters and digits, one of them a letter
   $ said '   * comment\n END 0\n'
-  1:4: error: A2 no such operation
+  1:4: error: A2 no such operation: *
   $ said '// comment\n END 0\n'
-  1:1: error: A3 bad symbol
+  1:1: error: A3 bad symbol: //: a symbol has at most 10 letters and digits, one of them a letter
   $ said ' PRNT 5\n END 0\n'
-  1:2: error: A2 no such operation
+  1:2: error: A2 no such operation: PRNT
   $ said '\tPRNT 5\n END 0\n'
-  1:9: error: A2 no such operation
+  1:9: error: A2 no such operation: PRNT
 
 Symbols that are not defined yet, or nowhere; and remarks that are taken for an ADDRESS. At END a fault is marked from OP on, since it may be one of
 a literal that is inserted before END.
@@ -201,9 +201,9 @@ a literal that is inserted before END.
   $ said ' LDA =TAB=\n END 0\n'
   2:2: error: A7 undefined symbol
   $ said ' JMP 2B\n END 0\n'
-  1:6: error: A14 no such local symbol
+  1:6: error: A14 no such local symbol: for a dB the LOC of a line before is dH, and for a dF that of a line after it
   $ said ' JMP 2F\n END 0\n'
-  2:2: error: A14 no such local symbol
+  2:2: error: A14 no such local symbol: for a dB the LOC of a line before is dH, and for a dF that of a line after it
   $ said ' JMP 2F+1\n2H HLT\n END 0\n'
   1:6: error: A7 undefined symbol
   $ said ' ENTA 5\n JMP LOPP\nLOOP HLT\n END 0\n'
@@ -219,17 +219,17 @@ a literal that is inserted before END.
   $ said ' HLT (halt)\n END 0\n'
   1:6: error: A7 undefined symbol
   $ said ' HLT -- halt\n END 0\n'
-  1:6: error: A5 bad expression
+  1:6: error: A5 bad expression: --
   $ said ' ENTA\n CON\n END 0\n'
-  2:5: error: A5 bad expression
+  2:5: error: A5 bad expression: nothing is written here
   $ said ' LDA =3\n END 0\n'
-  1:6: error: A5 bad expression
+  1:6: error: A5 bad expression: =3
   $ said ' LDA 5(1:3\n END 0\n'
-  1:6: error: A5 bad expression
+  1:6: error: A5 bad expression: 5(1:3
   $ said ' HLT\n'
-  2: error: A13 no END
+  2: error: A13 no END: the last line of a program is END
   $ said ''
-  1: error: A13 no END
+  1: error: A13 no END: the last line of a program is END
 
 What is taken and hardly meant: a blank in an ADDRESS, and an ALF that begins later or is longer.
 
@@ -257,15 +257,15 @@ What is taken and hardly meant: a blank in an ADDRESS, and an ALF that begins la
 Several faults: a line that is refused keeps its label and its cell, and hides no later fault. A hundred are reported at most.
 
   $ said ' ENTA 4096\n ORIG 5000\n JUMP 3\nX ENTA 4096\nX HLT\n JMP X\n END 4000\n'
-  1:7: error: A9 address beyond two bytes
+  1:7: error: A9 address beyond two bytes: it is -4095 to 4095
   2:7: error: A11 location outside 0 to 3999
-  3:2: error: A2 no such operation
-  4:8: error: A9 address beyond two bytes
-  5:1: error: A4 defined twice
+  3:2: error: A2 no such operation: JUMP
+  4:8: error: A9 address beyond two bytes: it is -4095 to 4095
+  5:1: error: A4 defined twice: X
   7:6: error: A15 start outside 0 to 3999
   $ said 'X JUMP 1\nX JUMP 2\n JMP X\n JMP Y\n CON Z\n END 0\n'
-  1:3: error: A2 no such operation
-  2:3: error: A2 no such operation
+  1:3: error: A2 no such operation: JUMP
+  2:3: error: A2 no such operation: JUMP
   4:6: warning: Y is defined nowhere: END makes a cell of 0 for it [undefined-symbol]
   5:6: error: A7 undefined symbol
   $ said "$(printf ' CON X%d\\n' $(seq 20)) END 0\n" | uniq -c -f 1

@@ -10,7 +10,8 @@ use Rattle.mixal_asm.specs.declared.diagnostic.Finding.TheVariants.{Fault, Warni
 use Rattle.mixal_asm.specs.Fault.{kind_number, kind_text}
 use Rattle.mixal_asm.specs.Diagnose.{diagnostics_of, warning_name, warning_subject, warning_text}
 use Rattle.mix_check.specs.Mark.{column_after}
-use Rattle.mix_check.specs.Report.{Shown, shown_of}
+use Rattle.mix_check.specs.Help.{help_of}
+use Rattle.mix_check.specs.Place.{Shown, shown_of}
 
 -- ---- members
 
@@ -44,28 +45,29 @@ code (Fault kind) = codes "A" ++ decimal (kind_number kind)
 code (AWarning warning) = warning_name warning
 
 -- its text, as characters
-abbrev pub meaning : Finding → List ℕ
-meaning (Fault kind) = kind_text kind
-meaning (AWarning warning) = utf8_lossy (warning_subject warning ++ warning_text warning)
+abbrev pub meaning : Finding → List ℕ → List ℕ
+meaning (Fault kind) help = utf8_lossy (kind_text kind ++ help)
+meaning (AWarning warning) help = utf8_lossy (warning_subject warning ++ warning_text warning)
 
 abbrev pub place_members : List ℕ → ℕ → Option Columns → List Token
 place_members name line columns =
     text_member (codes "file") name ++ number_member (codes "line") line ++ column_members columns
 
-abbrev pub meaning_members : Finding → List Token
-meaning_members finding =
+abbrev pub meaning_members : Finding → List ℕ → List Token
+meaning_members finding help =
     text_member (codes "severity") (severity finding) ++ text_member (codes "code") (code finding)
-    ++ text_member (codes "text") (meaning finding)
+    ++ text_member (codes "text") (meaning finding help)
 
-abbrev pub members : List ℕ → Diagnostic → Option Columns → List Token
-members name d columns = place_members name d.line columns ++ meaning_members d.finding
+abbrev pub members : List ℕ → Diagnostic → Option Columns → List ℕ → List Token
+members name d columns help = place_members name d.line columns ++ meaning_members d.finding help
 
 -- its object, and a line feed
-unfoldable pub json_line : List ℕ → Diagnostic → Option Columns → List ℕ
-json_line name d columns = print (begin_object ∷ members name d columns ++ end_object ∷ []) ++ 10 ∷ []
+unfoldable pub json_line : List ℕ → Diagnostic → Option Columns → List ℕ → List ℕ
+json_line name d columns help = print (begin_object ∷ members name d columns help ++ end_object ∷ []) ++ 10 ∷ []
 
 abbrev pub json_diagnostic : List ℕ → List ℕ → Diagnostic → List ℕ
-json_diagnostic name source d = json_line name d (option_map columns_of (shown_of source d))
+json_diagnostic name source d =
+    json_line name d (option_map columns_of (shown_of source d)) (help_of d.finding (shown_of source d))
 
 -- ---- a source
 

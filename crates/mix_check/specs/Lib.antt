@@ -1,3 +1,6 @@
+pub mod Foreign
+pub mod Help
 pub mod Json
 pub mod Mark
+pub mod Place
 pub mod Report

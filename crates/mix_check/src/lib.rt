@@ -2,6 +2,8 @@
 //! and a mark; or as one JSON object a line.
 #![tactic(auto)]
 
+mod foreign;
+mod help;
 mod mark;
 mod objects;
 mod place;

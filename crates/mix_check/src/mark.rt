@@ -56,7 +56,8 @@ pub(crate) fn add_marked(text: &mut Vec<u8>, line: &[u8], span: Span) -> Result<
     add_mark(text, line, span)
 }
 
-fn add_shown(text: &mut Vec<u8>, line: &[u8]) -> Result<(), AllocError>
+/// Appends a line, or a part of one. Control characters are shown as question marks.
+pub(crate) fn add_shown(text: &mut Vec<u8>, line: &[u8]) -> Result<(), AllocError>
     ensures { OnOk result (text.new.items ≡ text.old.items ++ shown line.now) }
 {
     let mut before = 0;

@@ -1,16 +1,20 @@
 //! What there is to say of a source, as one JSON object a line.
 
-ghost use Rattle.std.specs.Prelude.{◌≡◌, ◌++◌, IfOk, OnOk, option_map, string_bytes};
-ghost use Rattle.mix_check.specs.Json.{column_members, columns_of, json_diagnostic, json_line, json_report, meaning, meaning_members, number_member, place_members, text_member};
-ghost use Rattle.mix_check.specs.Report.{has_faults, shown_of};
-ghost use Rattle.mixal_asm.specs.declared.diagnostic.Finding.TheVariants.{Warning as AWarning};
+ghost use Rattle.std.specs.Prelude.{◌≡◌, ◌≤◌, ◌++◌, IfOk, IfSome, OnOk, codes, length, option_map};
+ghost use Rattle.std.specs.Str.Lossy.{utf8_lossy};
+ghost use Rattle.mix_check.specs.Json.{column_members, columns_of, json_diagnostic, json_line, json_report, meaning_members, number_member, place_members, text_member};
+ghost use Rattle.mix_check.specs.Place.{shown_of};
+ghost use Rattle.mix_check.specs.Help.{help_of};
+ghost use Rattle.mix_check.specs.Report.{has_faults};
 
+use crate::help::help_of;
 use crate::mark::column_after;
 use crate::place::shown_of;
 use crate::report::has_fault;
 use json::Writer;
 use mix_refused::Memory;
-use mixal_asm::{Diagnostic, Finding, Warning, diagnose};
+use mixal_asm::{Diagnostic, Finding, diagnose};
+use mixal_text::Span;
 use std::alloc::{AllocError, Global};
 
 /// Appends what there is to say of a source to a text as `add_report` does, but as JSON, and says whether it has a fault: of each
@@ -43,15 +47,20 @@ fn add_diagnostic(
 ) -> Result<(), Memory>
     ensures { OnOk result (text.new.items ≡ text.old.items ++ json_diagnostic name.now source.now diagnostic.now) }
 {
-    let columns = columns_in(source, diagnostic);
-    add_line(alloc, name, diagnostic, columns, text)
+    let place = shown_of(source, diagnostic);
+    let help = help_of(alloc, &diagnostic.finding, place)?;
+    let columns = columns_of(place);
+    add_line(alloc, name, diagnostic, columns, help.as_slice(), text)
 }
 
-// The column of the first byte that a diagnostic is about, and that of what follows the last one.
-fn columns_in(source: &[u8], diagnostic: &Diagnostic) -> Option<(u64, u64)>
-    ensures { result ≡ option_map columns_of (shown_of source.now diagnostic.now) }
+// The column of the first byte that is shown, and that of what follows the last one.
+fn columns_of(place: Option<(&[u8], Span)>) -> Option<(u64, u64)>
+    requires order { IfSome place (λ p. p.1.from ≤ p.1.to) }
+    requires within { IfSome place (λ p. p.1.to ≤ length p.0.now) }
+    requires bound { IfSome place (λ p. length p.0.now ≤ 1048576) }
+    ensures { result ≡ option_map columns_of (option_map (λ p. (p.0.now, p.1)) place.entry) }
 {
-    match shown_of(source, diagnostic) {
+    match place {
         Some((line, span)) => Some((
             column_after(&line[..span.from]),
             column_after(&line[..span.to]),
@@ -67,14 +76,15 @@ fn add_line(
     name: &str,
     diagnostic: &Diagnostic,
     columns: Option<(u64, u64)>,
+    help: &[u8],
     text: &mut Vec<u8>,
 ) -> Result<(), Memory>
-    ensures { OnOk result (text.new.items ≡ text.old.items ++ json_line name.now diagnostic.now columns) }
+    ensures { OnOk result (text.new.items ≡ text.old.items ++ json_line name.now diagnostic.now columns help.now) }
 {
     let mut writer = Writer::new(Vec::new(alloc));
     writer.begin_object()?;
     write_place(&mut writer, name, diagnostic.line, columns)?;
-    write_meaning(&mut writer, alloc, &diagnostic.finding)?;
+    write_meaning(&mut writer, alloc, &diagnostic.finding, help)?;
     writer.end_object()?;
     let line = writer.into_inner();
     text.extend_from_slice(line.as_slice())?;
@@ -109,8 +119,13 @@ fn write_columns(writer: &mut Writer, columns: Option<(u64, u64)>) -> Result<(),
     }
 }
 
-fn write_meaning(writer: &mut Writer, alloc: Global, finding: &Finding) -> Result<(), AllocError>
-    ensures tokens { OnOk result (writer.new.tokens ≡ writer.old.tokens ++ meaning_members finding.now) }
+fn write_meaning(
+    writer: &mut Writer,
+    alloc: Global,
+    finding: &Finding,
+    help: &[u8],
+) -> Result<(), AllocError>
+    ensures tokens { OnOk result (writer.new.tokens ≡ writer.old.tokens ++ meaning_members finding.now help.now) }
     ensures before { writer.new.before ≡ writer.old.before }
 {
     match finding {
@@ -118,30 +133,31 @@ fn write_meaning(writer: &mut Writer, alloc: Global, finding: &Finding) -> Resul
             write_text(writer, "severity", "error")?;
             let code = format!(in alloc; "A{}", kind.number())?;
             write_text(writer, "code", code.as_str())?;
-            write_text(writer, "text", kind.text())
+            write_joined(writer, alloc, kind.text().as_bytes(), help)
         }
-        Finding::Warning(warning) => write_warning(writer, alloc, warning),
+        Finding::Warning(warning) => {
+            write_text(writer, "severity", "warning")?;
+            write_text(writer, "code", warning.name())?;
+            write_joined(writer, alloc, warning.subject(), warning.text().as_bytes())
+        }
     }
 }
 
-fn write_warning(writer: &mut Writer, alloc: Global, warning: &Warning) -> Result<(), AllocError>
-    ensures tokens { OnOk result (writer.new.tokens ≡ writer.old.tokens ++ meaning_members (AWarning warning.now)) }
+// The text of a diagnostic in two parts, as characters.
+fn write_joined(
+    writer: &mut Writer,
+    alloc: Global,
+    first: &[u8],
+    second: &[u8],
+) -> Result<(), AllocError>
+    ensures tokens { OnOk result (writer.new.tokens ≡ writer.old.tokens ++ text_member (codes "text") (utf8_lossy (first.now ++ second.now))) }
     ensures before { writer.new.before ≡ writer.old.before }
 {
-    write_text(writer, "severity", "warning")?;
-    write_text(writer, "code", warning.name())?;
-    let text = characters(alloc, warning)?;
+    let mut bytes = Vec::new(alloc);
+    bytes.extend_from_slice(first)?;
+    bytes.extend_from_slice(second)?;
+    let text = String::from_utf8_lossy(alloc, bytes.as_slice())?;
     write_text(writer, "text", text.as_str())
-}
-
-// The text of a warning, as characters.
-fn characters(alloc: Global, warning: &Warning) -> Result<String, AllocError>
-    ensures { IfOk result (λ s. string_bytes s ≡ meaning (AWarning warning.now)) }
-{
-    let mut text = Vec::new(alloc);
-    text.extend_from_slice(warning.subject())?;
-    text.extend_from_slice(warning.text().as_bytes())?;
-    String::from_utf8_lossy(alloc, text.as_slice())
 }
 
 fn write_text(writer: &mut Writer, name: &str, value: &str) -> Result<(), AllocError>

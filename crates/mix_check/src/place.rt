@@ -2,7 +2,7 @@
 
 ghost use Rattle.std.specs.Prelude.{◌≡◌, ◌≤◌, ◌-◌, IfSome, length, option_map, slice_get};
 ghost use Rattle.mix_lines.specs.Lines.{lines};
-ghost use Rattle.mix_check.specs.Report.{shown_in, shown_of};
+ghost use Rattle.mix_check.specs.Place.{shown_in, shown_of};
 
 use crate::span::finding_span;
 use mix_lines::split_line;

@@ -1,15 +1,16 @@
 //! What there is to say of a source, as a compiler reports it.
 
-ghost use Rattle.std.specs.Prelude.{◌≡◌, ◌++◌, IfOk, OnOk, not};
+ghost use Rattle.std.specs.Prelude.{◌≡◌, [], ◌++◌, IfOk, OnOk, not};
 ghost use Rattle.std.specs.List.{list_any};
 ghost use Rattle.mixal_asm.specs.Diagnose.{is_warning};
 ghost use Rattle.mixal_asm.specs.declared.diagnostic.Finding.TheVariants.{Warning as AWarning};
-ghost use Rattle.mix_check.specs.Report.{column_text, diagnostic_text, finding_text, has_faults, headline, place_text, report};
+ghost use Rattle.mix_check.specs.Report.{column_text, diagnostic_text, error_text, finding_text, has_faults, headline, place_text, report};
 
+use crate::help::help_of;
 use crate::mark::{add_marked, column_after};
 use crate::place::shown_of;
 use mix_refused::Memory;
-use mixal_asm::{Diagnostic, Finding, Warning, diagnose};
+use mixal_asm::{AsmKind, Diagnostic, Finding, Warning, diagnose};
 use std::alloc::Global;
 
 /// Appends what there is to say of a source to a text, and says whether it has a fault: of each fault `FILE:LINE:COLUMN: error: A7
@@ -51,14 +52,16 @@ fn add_diagnostic(
 ) -> Result<(), Memory>
     ensures { OnOk result (text.new.items ≡ text.old.items ++ diagnostic_text name.now source.now diagnostic.now) }
 {
-    match shown_of(source, diagnostic) {
+    let place = shown_of(source, diagnostic);
+    let help = help_of(alloc, &diagnostic.finding, place)?;
+    match place {
         Some((line, span)) => {
             let column = column_after(&line[..span.from]);
-            add_headline(alloc, name, diagnostic, Some(column), text)?;
+            add_headline(alloc, name, diagnostic, Some(column), help.as_slice(), text)?;
             add_marked(text, line, span)?;
             Ok(())
         }
-        None => add_headline(alloc, name, diagnostic, None, text),
+        None => add_headline(alloc, name, diagnostic, None, help.as_slice(), text),
     }
 }
 
@@ -67,13 +70,14 @@ fn add_headline(
     name: &str,
     diagnostic: &Diagnostic,
     column: Option<u64>,
+    help: &[u8],
     text: &mut Vec<u8>,
 ) -> Result<(), Memory>
-    ensures { OnOk result (text.new.items ≡ text.old.items ++ headline name.now diagnostic.now column) }
+    ensures { OnOk result (text.new.items ≡ text.old.items ++ headline name.now diagnostic.now column help.now) }
 {
     add_place(alloc, name, diagnostic.line, column, text)?;
     text.extend_from_slice(b": ")?;
-    add_finding(alloc, &diagnostic.finding, text)?;
+    add_finding(alloc, &diagnostic.finding, help, text)?;
     text.push(b'\n')?;
     Ok(())
 }
@@ -105,21 +109,35 @@ fn add_column(alloc: Global, column: Option<u64>, text: &mut Vec<u8>) -> Result<
     }
 }
 
-fn add_finding(alloc: Global, finding: &Finding, text: &mut Vec<u8>) -> Result<(), Memory>
-    ensures { OnOk result (text.new.items ≡ text.old.items ++ finding_text finding.now) }
+fn add_finding(
+    alloc: Global,
+    finding: &Finding,
+    help: &[u8],
+    text: &mut Vec<u8>,
+) -> Result<(), Memory>
+    ensures { OnOk result (text.new.items ≡ text.old.items ++ finding_text finding.now help.now) }
 {
     match finding {
         Finding::Fault(kind) => {
-            let fault = format!(in alloc; "error: {kind}")?;
-            text.extend_from_slice(fault.as_bytes())?;
+            add_error(alloc, *kind, text)?;
+            text.extend_from_slice(help)?;
             Ok(())
         }
         Finding::Warning(warning) => add_warning(warning, text),
     }
 }
 
+#[tactic(auto, unfolding(crate::specs::Report::error_text))]
+fn add_error(alloc: Global, kind: AsmKind, text: &mut Vec<u8>) -> Result<(), Memory>
+    ensures { OnOk result (text.new.items ≡ text.old.items ++ error_text kind) }
+{
+    let fault = format!(in alloc; "error: {kind}")?;
+    text.extend_from_slice(fault.as_bytes())?;
+    Ok(())
+}
+
 fn add_warning(warning: &Warning, text: &mut Vec<u8>) -> Result<(), Memory>
-    ensures { OnOk result (text.new.items ≡ text.old.items ++ finding_text (AWarning warning.now)) }
+    ensures { OnOk result (text.new.items ≡ text.old.items ++ finding_text (AWarning warning.now) []) }
 {
     text.extend_from_slice(b"warning: ")?;
     text.extend_from_slice(warning.subject())?;

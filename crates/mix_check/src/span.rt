@@ -1,7 +1,7 @@
 //! The bytes of a line that a fault or a warning is about.
 
 ghost use Rattle.std.specs.Prelude.{◌≡◌, ◌≤◌, IfSome, length};
-ghost use Rattle.mix_check.specs.Report.{fault_span, finding_span, location_part, part_of_end, slip_part, text_part, text_span, warning_part};
+ghost use Rattle.mix_check.specs.Place.{fault_span, finding_span, location_part, part_of_end, slip_part, text_part, text_span, warning_part};
 
 use mixal_asm::{AsmKind, Finding, Warning};
 use mixal_text::{Mnemonic, Part, Slip, Span, TextFault, line_op, part_span};
