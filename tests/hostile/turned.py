@@ -70,7 +70,7 @@ PRINTED = [
 
 # Source, deck, cards, words; what is told, and the status.
 REFUSED = [
-    (lines("X EQU 1", "X EQU 2", " END 0"), b"%", None, [], b"a.mixal:2:1: error: A4 defined twice: X\nX EQU 2\n^\n", 1),
+    (lines("X EQU 1", "X EQU 2", " END 0"), b"%", None, [], b"a.mixal:2:1: error: A4 defined twice: X is defined at line 1\nX EQU 2\n^\n", 1),
     (COPY, b"\n%UNIT 21\n", b"?", [], b"mixrev: T5 deck refused at line 2: K1 bad header\n", 2),
     (COPY, CARDS, b"ONE\n%UNIT 19\n", [], b"mixrev: T5 deck refused at line 2: K4 no MIX character\n", 2),
     (COPY, CARDS, b"ONE\n\n" + b" " * 80 + b"%", [], b"mixrev: T5 deck refused at line 3: K3 line too long\n", 2),

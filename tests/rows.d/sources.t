@@ -72,7 +72,7 @@ What other assemblers take: operations of a binary MIX, floating point, and numb
   $ said ' FIX\n END 0\n'
   1:2: error: A2 no such operation: FIX
   $ said 'X EQU 1\nX EQU 2\n END 0\n'
-  2:1: error: A4 defined twice: X
+  2:1: error: A4 defined twice: X is defined at line 1
   $ said ' ENTA 4096\n END 0\n'
   1:7: error: A9 address beyond two bytes: it is -4095 to 4095
   $ said ' ENTA 5000\n END 0\n'
@@ -185,27 +185,27 @@ Symbols that are not defined yet, or nowhere; and remarks that are taken for an 
 a literal that is inserted before END.
 
   $ said ' ENTA X+1\nX HLT\n END 0\n'
-  1:7: error: A7 undefined symbol
+  1:7: error: A7 undefined symbol: X is defined later, at line 2; before that it can only be the whole A-part of an instruction
   $ said ' LDA 5(X)\nX EQU 3\n END 0\n'
-  1:6: error: A7 undefined symbol
+  1:6: error: A7 undefined symbol: X is defined later, at line 2; before that it can only be the whole A-part of an instruction
   $ said ' LDA 5,X\nX EQU 3\n END 0\n'
-  1:6: error: A7 undefined symbol
+  1:6: error: A7 undefined symbol: X is defined later, at line 2; before that it can only be the whole A-part of an instruction
   $ said ' CON TAB\nTAB HLT\n END 0\n'
-  1:6: error: A7 undefined symbol
+  1:6: error: A7 undefined symbol: TAB is defined later, at line 2; before that it can only be the whole A-part of an instruction
   $ said ' ORIG TAB\nTAB HLT\n END 0\n'
-  1:7: error: A7 undefined symbol
+  1:7: error: A7 undefined symbol: TAB is defined later, at line 2; before that it can only be the whole A-part of an instruction
   $ said 'X EQU Y\nY EQU 1\n END 0\n'
-  1:7: error: A7 undefined symbol
+  1:7: error: A7 undefined symbol: Y is defined later, at line 2; before that it can only be the whole A-part of an instruction
   $ said ' HLT\n END START\n'
-  2:2: error: A7 undefined symbol
+  2:2: error: A7 undefined symbol: START is defined nowhere
   $ said ' LDA =TAB=\n END 0\n'
-  2:2: error: A7 undefined symbol
+  2:2: error: A7 undefined symbol: a symbol that no line before defines can only be the whole A-part of an instruction
   $ said ' JMP 2B\n END 0\n'
   1:6: error: A14 no such local symbol: for a dB the LOC of a line before is dH, and for a dF that of a line after it
   $ said ' JMP 2F\n END 0\n'
   2:2: error: A14 no such local symbol: for a dB the LOC of a line before is dH, and for a dF that of a line after it
   $ said ' JMP 2F+1\n2H HLT\n END 0\n'
-  1:6: error: A7 undefined symbol
+  1:6: error: A7 undefined symbol: a symbol that no line before defines can only be the whole A-part of an instruction
   $ said ' ENTA 5\n JMP LOPP\nLOOP HLT\n END 0\n'
   2:6: warning: LOPP is defined nowhere: END makes a cell of 0 for it [undefined-symbol]
   $ said 'LOOP DEC1 1\n J1P LOPP\n HLT\n JMP LOPP\n END 0\n'
@@ -215,9 +215,9 @@ a literal that is inserted before END.
   $ said ' NOP do nothing\n END 0\n'
   1:6: warning: DO is defined nowhere: END makes a cell of 0 for it [undefined-symbol]
   $ said ' CHAR (convert to decimal)\n END 0\n'
-  1:7: error: A7 undefined symbol
+  1:7: error: A7 undefined symbol: CONVERT is defined nowhere
   $ said ' HLT (halt)\n END 0\n'
-  1:6: error: A7 undefined symbol
+  1:6: error: A7 undefined symbol: HALT is defined nowhere
   $ said ' HLT -- halt\n END 0\n'
   1:6: error: A5 bad expression: --
   $ said ' ENTA\n CON\n END 0\n'
@@ -261,14 +261,14 @@ Several faults: a line that is refused keeps its label and its cell, and hides n
   2:7: error: A11 location outside 0 to 3999
   3:2: error: A2 no such operation: JUMP
   4:8: error: A9 address beyond two bytes: it is -4095 to 4095
-  5:1: error: A4 defined twice: X
+  5:1: error: A4 defined twice: X is defined at line 4
   7:6: error: A15 start outside 0 to 3999
   $ said 'X JUMP 1\nX JUMP 2\n JMP X\n JMP Y\n CON Z\n END 0\n'
   1:3: error: A2 no such operation: JUMP
   2:3: error: A2 no such operation: JUMP
   4:6: warning: Y is defined nowhere: END makes a cell of 0 for it [undefined-symbol]
-  5:6: error: A7 undefined symbol
-  $ said "$(printf ' CON X%d\\n' $(seq 20)) END 0\n" | uniq -c -f 1
-       20 1:6: error: A7 undefined symbol
+  5:6: error: A7 undefined symbol: Z is defined nowhere
+  $ said "$(printf ' CON X%d\\n' $(seq 20)) END 0\n" | sed 's/X[0-9]*/X/' | uniq -c -f 1
+       20 1:6: error: A7 undefined symbol: X is defined nowhere
   $ said "$(printf ' CON X%d\\n' $(seq 101)) END 0\n" | tail -n 1
-  100:6: error: A7 undefined symbol
+  100:6: error: A7 undefined symbol: X100 is defined nowhere

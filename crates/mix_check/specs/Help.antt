@@ -2,11 +2,14 @@
 use Rattle.std.specs.Prelude.{ℕ, ◌-◌, List, [], ◌∷◌, ◌++◌, take, drop, Option, None, Some, codes}
 use Rattle.mixal_text.specs.declared.fault.TextFault.{TextFault}
 use Rattle.mixal_text.specs.declared.fault.TextFault.TheVariants.{BadByte, NoSuchOperation, BadSymbol, BadExpression, NumberTooLarge, UndefinedSymbol, ExpressionOverflow, PartOutOfRange, BadAlf, NoSuchLocalSymbol}
+use Rattle.mixal_text.specs.declared.span.Part.TheVariants as part
+use Rattle.mixal_text.specs.Span.{part_span}
 use Rattle.mixal_asm.specs.declared.fault.AsmKind.{AsmKind}
 use Rattle.mixal_asm.specs.declared.fault.AsmKind.TheVariants.{Text, DefinedTwice, AddressTooLarge, LocationOutOfRange, NoEnd, StartOutOfRange, SourceTooLong}
 use Rattle.mixal_asm.specs.declared.diagnostic.Finding.{Finding}
 use Rattle.mixal_asm.specs.declared.diagnostic.Finding.TheVariants.{Fault, Warning as AWarning}
 use Rattle.mix_check.specs.Foreign.{foreign_text}
+use Rattle.mix_check.specs.Later.{late_help, twice_help}
 use Rattle.mix_check.specs.Mark.{shown}
 use Rattle.mix_check.specs.Place.{Shown}
 
@@ -20,6 +23,11 @@ marked_bytes place = take (place.1.to - place.1.from) (drop place.1.from place.0
 abbrev pub piece_of : Option Shown → List ℕ
 piece_of None = []
 piece_of (Some place) = marked_bytes place
+
+-- the ADDRESS of the line, or none
+abbrev pub address_of : Option Shown → List ℕ
+address_of None = []
+address_of (Some place) = marked_bytes (place.0, part_span place.0 part.Address)
 
 -- as they are told: without control characters
 abbrev pub piece_text : List ℕ → List ℕ
@@ -47,7 +55,7 @@ text_subject NoSuchLocalSymbol piece = []
 
 abbrev pub subject : AsmKind → List ℕ → List ℕ
 subject (Text fault) piece = text_subject fault piece
-subject DefinedTwice piece = piece_text piece
+subject DefinedTwice piece = []
 subject AddressTooLarge piece = []
 subject LocationOutOfRange piece = []
 subject NoEnd piece = []
@@ -83,7 +91,17 @@ rule_text SourceTooLong = codes ": at most 20000 lines and 1048576 bytes"
 abbrev pub fault_help : AsmKind → List ℕ → List ℕ
 fault_help kind piece = subject kind piece ++ rule_text kind
 
--- by what is shown of a line. A warning says all by itself
-unfoldable pub help_of : Finding → Option Shown → List ℕ
-help_of (Fault kind) place = fault_help kind (piece_of place)
-help_of (AWarning warning) place = []
+-- of a symbol that is not defined yet, or already, where it is defined
+abbrev pub text_fault_help : List ℕ → ℕ → TextFault → Option Shown → List ℕ
+text_fault_help source n UndefinedSymbol place = late_help source n (address_of place)
+text_fault_help source n fault place = fault_help (Text fault) (piece_of place)
+
+abbrev pub kind_help : List ℕ → ℕ → AsmKind → Option Shown → List ℕ
+kind_help source n (Text fault) place = text_fault_help source n fault place
+kind_help source n DefinedTwice place = twice_help source (piece_of place)
+kind_help source n kind place = fault_help kind (piece_of place)
+
+-- at a line of a source, by what is shown of it. A warning says all by itself
+unfoldable pub help_of : List ℕ → ℕ → Finding → Option Shown → List ℕ
+help_of source n (Fault kind) place = kind_help source n kind place
+help_of source n (AWarning warning) place = []

@@ -65,9 +65,9 @@ members name d columns help = place_members name d.line columns ++ meaning_membe
 unfoldable pub json_line : List ℕ → Diagnostic → Option Columns → List ℕ → List ℕ
 json_line name d columns help = print (begin_object ∷ members name d columns help ++ end_object ∷ []) ++ 10 ∷ []
 
-abbrev pub json_diagnostic : List ℕ → List ℕ → Diagnostic → List ℕ
+unfoldable pub json_diagnostic : List ℕ → List ℕ → Diagnostic → List ℕ
 json_diagnostic name source d =
-    json_line name d (option_map columns_of (shown_of source d)) (help_of d.finding (shown_of source d))
+    json_line name d (option_map columns_of (shown_of source d)) (help_of source d.line d.finding (shown_of source d))
 
 -- ---- a source
 

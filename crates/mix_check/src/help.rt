@@ -1,31 +1,44 @@
 //! What is said after the text of a fault: what it is about, and what is allowed.
 
-ghost use Rattle.std.specs.Prelude.{◌≡◌, ◌≤◌, ◌++◌, IfOk, IfSome, OnOk, length, option_map};
-ghost use Rattle.mix_check.specs.Help.{fault_help, help_of, or_piece, piece_of, piece_text, rule_text, subject, text_rule, text_subject};
+ghost use Rattle.std.specs.Prelude.{◌≡◌, ◌≤◌, ◌++◌, IfOk, IfSome, List, OnOk, length, option_map, ℕ};
+ghost use Rattle.std.specs.Map.{lookup};
+ghost use Rattle.std.specs.Str.{bytes_eq};
+ghost use Rattle.mix_check.specs.Later.{line_of_symbol};
+ghost use Rattle.mix_check.specs.Help.{address_of, fault_help, help_of, or_piece, piece_of, piece_text, rule_text, subject, text_rule, text_subject};
 
 use crate::foreign::foreign_text;
+use crate::later::{late_help, twice_help};
 use crate::mark::add_shown;
-use mixal_asm::{AsmKind, Finding};
-use mixal_text::{Span, TextFault};
+use indexmap::IndexMap;
+use mixal_asm::{AsmKind, Diagnostic, Finding};
+use mixal_text::{Part, Span, Symbol, TextFault, part_span};
 use std::alloc::{AllocError, Global};
 
-/// What is said after the text of a fault, by what is shown of its line.
+/// What is said after the text of a fault, by what is shown of its line, and by the lines that define symbols.
 #[tactic(auto, unfolding(crate::specs::Help::help_of))]
 pub(crate) fn help_of(
     alloc: Global,
-    finding: &Finding,
+    source: &[u8],
+    definitions: &IndexMap<Symbol, u32>,
+    diagnostic: &Diagnostic,
     place: Option<(&[u8], Span)>,
 ) -> Result<Vec<u8>, AllocError>
     requires order { IfSome place (λ p. p.1.from ≤ p.1.to) }
     requires within { IfSome place (λ p. p.1.to ≤ length p.0.now) }
-    ensures { IfOk result (λ help. help.items ≡ help_of finding.now (option_map (λ p. (p.0.now, p.1)) place.entry)) }
+    requires known { (name : List ℕ) → lookup (bytes_eq name) definitions.now.entries ≡ line_of_symbol source.now name }
+    ensures { IfOk result (λ help. help.items ≡ help_of source.now diagnostic.now.line diagnostic.now.finding (option_map (λ p. (p.0.now, p.1)) place.entry)) }
 {
-    let mut help = Vec::new(alloc);
-    match finding {
-        Finding::Fault(kind) => add_fault_help(&mut help, *kind, piece_of(place))?,
-        Finding::Warning(_) => {}
+    let line = diagnostic.line;
+    match &diagnostic.finding {
+        Finding::Fault(AsmKind::Text(TextFault::UndefinedSymbol)) => {
+            late_help(alloc, source, definitions, line, address_of(place))
+        }
+        Finding::Fault(AsmKind::DefinedTwice) => {
+            twice_help(alloc, source, definitions, piece_of(place))
+        }
+        Finding::Fault(kind) => fault_help(alloc, *kind, piece_of(place)),
+        Finding::Warning(_) => Ok(Vec::new(alloc)),
     }
-    Ok(help)
 }
 
 // The bytes that are marked, or none.
@@ -40,11 +53,26 @@ fn piece_of<'s>(place: Option<(&'s [u8], Span)>) -> &'s [u8]
     }
 }
 
-fn add_fault_help(help: &mut Vec<u8>, kind: AsmKind, piece: &[u8]) -> Result<(), AllocError>
-    ensures { OnOk result (help.new.items ≡ help.old.items ++ fault_help kind piece.now) }
+// The ADDRESS of the line, or none.
+fn address_of<'s>(place: Option<(&'s [u8], Span)>) -> &'s [u8]
+    ensures { result.now ≡ address_of (option_map (λ p. (p.0.now, p.1)) place.entry) }
 {
-    add_subject(help, kind, piece)?;
-    help.extend_from_slice(rule_text(kind).as_bytes())
+    match place {
+        Some((line, _)) => {
+            let span = part_span(line, Part::Address);
+            &line[span.from..span.to]
+        }
+        None => &[],
+    }
+}
+
+fn fault_help(alloc: Global, kind: AsmKind, piece: &[u8]) -> Result<Vec<u8>, AllocError>
+    ensures { IfOk result (λ help. help.items ≡ fault_help kind piece.now) }
+{
+    let mut help = Vec::new(alloc);
+    add_subject(&mut help, kind, piece)?;
+    help.extend_from_slice(rule_text(kind).as_bytes())?;
+    Ok(help)
 }
 
 // Appends the bytes that are marked, without control characters.
@@ -76,7 +104,6 @@ fn add_subject(help: &mut Vec<u8>, kind: AsmKind, piece: &[u8]) -> Result<(), Al
 {
     match kind {
         AsmKind::Text(fault) => add_text_subject(help, fault, piece),
-        AsmKind::DefinedTwice => add_piece(help, piece),
         _ => Ok(()),
     }
 }

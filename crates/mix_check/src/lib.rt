@@ -4,6 +4,7 @@
 
 mod foreign;
 mod help;
+mod later;
 mod mark;
 mod objects;
 mod place;

@@ -1,7 +1,10 @@
 //! What there is to say of a source, as one JSON object a line.
 
-ghost use Rattle.std.specs.Prelude.{◌≡◌, ◌≤◌, ◌++◌, IfOk, IfSome, OnOk, codes, length, option_map};
+ghost use Rattle.std.specs.Prelude.{List, ℕ, ◌≡◌, ◌≤◌, ◌++◌, IfOk, IfSome, OnOk, codes, length, option_map};
 ghost use Rattle.std.specs.Str.Lossy.{utf8_lossy};
+ghost use Rattle.std.specs.Map.{lookup};
+ghost use Rattle.std.specs.Str.{bytes_eq};
+ghost use Rattle.mix_check.specs.Later.{line_of_symbol};
 ghost use Rattle.mix_check.specs.Json.{column_members, columns_of, json_diagnostic, json_line, json_report, meaning_members, number_member, place_members, text_member};
 ghost use Rattle.mix_check.specs.Place.{shown_of};
 ghost use Rattle.mix_check.specs.Help.{help_of};
@@ -11,10 +14,11 @@ use crate::help::help_of;
 use crate::mark::column_after;
 use crate::place::shown_of;
 use crate::report::has_fault;
+use indexmap::IndexMap;
 use json::Writer;
 use mix_refused::Memory;
-use mixal_asm::{Diagnostic, Finding, diagnose};
-use mixal_text::Span;
+use mixal_asm::{Diagnostic, Finding, Role, diagnose, first_mentions};
+use mixal_text::{Span, Symbol};
 use std::alloc::{AllocError, Global};
 
 /// Appends what there is to say of a source to a text as `add_report` does, but as JSON, and says whether it has a fault: of each
@@ -31,24 +35,28 @@ pub fn add_json_report(
     ensures faulty { IfOk result (λ faulty. faulty ≡ has_faults source.now) }
 {
     let diagnostics = diagnose(alloc, source)?;
+    let definitions = first_mentions(alloc, Role::Definition, source)?;
     for diagnostic in diagnostics.iter() {
-        add_diagnostic(alloc, name, source, diagnostic, text)?;
+        add_diagnostic(alloc, name, source, &definitions, diagnostic, text)?;
     }
     Ok(has_fault(&diagnostics))
 }
 
 // Appends a diagnostic of a source.
+#[tactic(auto, unfolding(crate::specs::Json::json_diagnostic))]
 fn add_diagnostic(
     alloc: Global,
     name: &str,
     source: &[u8],
+    definitions: &IndexMap<Symbol, u32>,
     diagnostic: &Diagnostic,
     text: &mut Vec<u8>,
 ) -> Result<(), Memory>
+    requires known { (name : List ℕ) → lookup (bytes_eq name) definitions.now.entries ≡ line_of_symbol source.now name }
     ensures { OnOk result (text.new.items ≡ text.old.items ++ json_diagnostic name.now source.now diagnostic.now) }
 {
     let place = shown_of(source, diagnostic);
-    let help = help_of(alloc, &diagnostic.finding, place)?;
+    let help = help_of(alloc, source, definitions, diagnostic, place)?;
     let columns = columns_of(place);
     add_line(alloc, name, diagnostic, columns, help.as_slice(), text)
 }

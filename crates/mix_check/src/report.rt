@@ -1,16 +1,21 @@
 //! What there is to say of a source, as a compiler reports it.
 
-ghost use Rattle.std.specs.Prelude.{◌≡◌, [], ◌++◌, IfOk, OnOk, not};
+ghost use Rattle.std.specs.Prelude.{List, ℕ, ◌≡◌, [], ◌++◌, IfOk, OnOk, not};
 ghost use Rattle.std.specs.List.{list_any};
 ghost use Rattle.mixal_asm.specs.Diagnose.{is_warning};
 ghost use Rattle.mixal_asm.specs.declared.diagnostic.Finding.TheVariants.{Warning as AWarning};
+ghost use Rattle.std.specs.Map.{lookup};
+ghost use Rattle.std.specs.Str.{bytes_eq};
+ghost use Rattle.mix_check.specs.Later.{line_of_symbol};
 ghost use Rattle.mix_check.specs.Report.{column_text, diagnostic_text, error_text, finding_text, has_faults, headline, place_text, report};
 
 use crate::help::help_of;
 use crate::mark::{add_marked, column_after};
 use crate::place::shown_of;
+use indexmap::IndexMap;
 use mix_refused::Memory;
-use mixal_asm::{AsmKind, Diagnostic, Finding, Warning, diagnose};
+use mixal_asm::{AsmKind, Diagnostic, Finding, Role, Warning, diagnose, first_mentions};
+use mixal_text::Symbol;
 use std::alloc::Global;
 
 /// Appends what there is to say of a source to a text, and says whether it has a fault: of each fault `FILE:LINE:COLUMN: error: A7
@@ -28,8 +33,9 @@ pub fn add_report(
     ensures faulty { IfOk result (λ faulty. faulty ≡ has_faults source.now) }
 {
     let diagnostics = diagnose(alloc, source)?;
+    let definitions = first_mentions(alloc, Role::Definition, source)?;
     for diagnostic in diagnostics.iter() {
-        add_diagnostic(alloc, name, source, diagnostic, text)?;
+        add_diagnostic(alloc, name, source, &definitions, diagnostic, text)?;
     }
     Ok(has_fault(&diagnostics))
 }
@@ -47,13 +53,15 @@ fn add_diagnostic(
     alloc: Global,
     name: &str,
     source: &[u8],
+    definitions: &IndexMap<Symbol, u32>,
     diagnostic: &Diagnostic,
     text: &mut Vec<u8>,
 ) -> Result<(), Memory>
+    requires known { (name : List ℕ) → lookup (bytes_eq name) definitions.now.entries ≡ line_of_symbol source.now name }
     ensures { OnOk result (text.new.items ≡ text.old.items ++ diagnostic_text name.now source.now diagnostic.now) }
 {
     let place = shown_of(source, diagnostic);
-    let help = help_of(alloc, &diagnostic.finding, place)?;
+    let help = help_of(alloc, source, definitions, diagnostic, place)?;
     match place {
         Some((line, span)) => {
             let column = column_after(&line[..span.from]);

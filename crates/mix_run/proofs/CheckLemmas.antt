@@ -10,8 +10,10 @@ use Rattle.mixal_asm.specs.Faults.{faults_of, faults_from, max_faults}
 use Rattle.mixal_asm.specs.declared.diagnostic.Diagnostic.{Diagnostic}
 use Rattle.mixal_asm.specs.declared.fault.AsmFault.{AsmFault}
 use Rattle.mixal_asm.specs.declared.fault.AsmKind.TheVariants.{SourceTooLong}
+use Rattle.mix_check.specs.Help.{fault_help, help_of, piece_of}
 use Rattle.mix_check.specs.Json.{columns_of, json_line, json_diagnostic, json_report}
-use Rattle.mix_check.specs.Report.{Shown, diagnostic_text, has_faults, report, shown_in, with_shown}
+use Rattle.mix_check.specs.Place.{Shown, shown_in}
+use Rattle.mix_check.specs.Report.{diagnostic_text, has_faults, report, with_shown}
 use Rattle.mix_run.specs.Check.{report_of}
 use Rattle.mix_run.proofs.Truncation.{limited-take}
 
@@ -33,6 +35,10 @@ shown_nowhere (Some line) = go (ltb 1048576 (length line))
     go : (b : Bool) → cond b nowhere nowhere ≡ nowhere
     go true = refl
     go false = refl
+
+-- what helps to mend it names no line of the source
+abbrev mend : Option Shown → List ℕ
+mend place = fault_help SourceTooLong (piece_of place)
 
 faults_of-take : (source : List ℕ) → faults_of (take 1048577 source) ≡ faults_of source
 unfolding faults_of
@@ -60,16 +66,18 @@ said-take say same source = ap (flat_map (say (take 1048577 source))) (diagnosti
         rw (take_all 1048577 source (omega arith)) refl
 
 report-take : (name source : List ℕ) → report name (take 1048577 source) ≡ report name source
-unfolding report diagnostic_text
+unfolding report diagnostic_text help_of
 report-take name source =
     said-take (diagnostic_text name)
-    (λ s t. ap (with_shown name long_source) (shown_nowhere (slice_get (lines s) 0) ∙ sym (shown_nowhere (slice_get (lines t) 0)))) source
+    (λ s t. ap (λ place. with_shown name long_source (mend place) place)
+        (shown_nowhere (slice_get (lines s) 0) ∙ sym (shown_nowhere (slice_get (lines t) 0)))) source
 
 json_report-take : (name source : List ℕ) → json_report name (take 1048577 source) ≡ json_report name source
-unfolding json_report
+unfolding json_report json_diagnostic help_of
 json_report-take name source =
     said-take (json_diagnostic name)
-    (λ s t. ap (λ place. json_line name long_source (option_map columns_of place)) (shown_nowhere (slice_get (lines s) 0) ∙ sym (shown_nowhere (slice_get (lines t) 0)))) source
+    (λ s t. ap (λ place. json_line name long_source (option_map columns_of place) (mend place))
+        (shown_nowhere (slice_get (lines s) 0) ∙ sym (shown_nowhere (slice_get (lines t) 0)))) source
 
 report_of-take : (json : Bool) (name source : List ℕ)
     → report_of json (record { name = name; text = take 1048577 source }) ≡ report_of json (record { name = name; text = source })
