@@ -85,14 +85,14 @@ export class Desk {
     const texts = this.texts();
     const key = keyOf(texts);
     if (key === this.assembled) return;
-    const { refusal, program, view } = await load(this.machine, texts);
+    const { found, refusal, program, view } = await load(this.machine, texts);
     const left = this.session && this.session.log.length > 0;
     if (left) this.kept.set(this.assembled, this.session);
     if (this.kept.size > SESSIONS) this.kept.delete(this.kept.keys().next().value);
     this.assembled = key;
     this.session = null;
     this.listing.setProgram(program);
-    this.refusal = showRefusal(refusal, texts, this.listing);
+    this.refusal = showRefusal(refusal, found, texts, this.listing);
     this.views.setStale(Boolean(refusal));
     if (refusal) {
       this.time.hide();

@@ -1,22 +1,37 @@
-// A text that is refused: the fault is told at its line, of the source, of the deck or of the cards, with what is mostly the cause.
+// A text that is refused: the fault is told at its line, of the source, of the deck or of the cards, with what is mostly the cause. Each fault and each
+// warning of a source is shown at its line.
 
-import { $, note } from "./dom.js";
+import { $, counted, note } from "./dom.js";
 import { cardOnLine } from "./bundle.js";
 import { OPERATIONS, PSEUDO } from "./operations.js";
 
-// Shows a refusal, or that there is none; the sentence that tells it.
-export function showRefusal(refusal, texts, listing) {
+// Shows a refusal, or that there is none, and what was found in the source; the sentence that tells of the refusal.
+export function showRefusal(refusal, found, texts, listing) {
   const { text, line } = (refusal && refusal.variables) || {};
   const what = refusal ? refusal.format.replace(/^.*?line \d+: /, "") : "";
   const isSource = text === "source";
   const cause = isSource ? causeOf(what, listing.lines[Number(line) - 1] || "") : "";
-  listing.setFault(isSource ? Number(line) : 0, isSource ? what : "");
+  listing.setFound(byLine(found));
   if (isSource) listing.reveal(Number(line));
-  const told = refusal ? `${placeOf(text, Number(line), texts)}: ${what}${cause ? `. ${cause}` : ""}` : "";
+  const more = isSource ? found.filter(isFault).length - 1 : 0;
+  const told = refusal ? `${placeOf(text, Number(line), texts)}: ${what}${cause ? `. ${cause}` : ""}${more > 0 ? `. ${counted(more, "more fault")}` : ""}` : "";
   const isDeck = Boolean(refusal) && !isSource;
   note("deck-fault", isDeck ? told : "");
   if (isDeck) $("given").open = true;
   return told;
+}
+
+const isFault = ({ severity }) => severity === "error";
+
+// What was found in each line that has a fault or a warning.
+function byLine(found) {
+  const lines = new Map();
+  for (const each of found) lines.set(each.line, [...(lines.get(each.line) || []), each]);
+  return [...lines].map(([line, said]) => ({
+    line,
+    isFault: said.some(isFault),
+    text: said.map((each) => (isFault(each) ? `${each.code} ${each.text}` : each.text)).join("; "),
+  }));
 }
 
 function placeOf(text, line, { deck }) {

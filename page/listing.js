@@ -15,7 +15,7 @@ export class Listing {
     this.setProgram(null);
     this.focused = 0; // the one button that the tab key comes to
     this.marked = 0; // the line that the band is over
-    this.wrong = 0; // the line of the fault
+    this.found = []; // lines with a fault or a warning, each with its band
     this.source = new Source({
       grammar,
       refused,
@@ -83,7 +83,7 @@ export class Listing {
       parts.row.style.height = wanted;
     });
     this.band($("here"), this.marked);
-    this.band($("wrong"), this.wrong);
+    this.found.forEach(({ line, band }) => this.band(band, line));
   }
 
   // Where the words of the program are; none while the text is refused.
@@ -167,13 +167,22 @@ export class Listing {
     band.style.height = `${box.height}px`;
   }
 
-  // Marks the line of a fault, or none.
-  setFault(line, text) {
-    if (this.rows[this.wrong - 1]) this.rows[this.wrong - 1].row.classList.remove("wrong");
-    this.wrong = line;
-    if (this.rows[line - 1]) this.rows[line - 1].row.classList.add("wrong");
-    this.source.setFault(line > 0, text);
-    this.band($("wrong"), line);
+  // Marks each line that has a fault or a warning, with its text; the text of the first is read out with the source, each with the button of its line.
+  setFound(found) {
+    const lines = new Map(found.map((each) => [each.line, each]));
+    this.source.found = new Map(found.map(({ line, text }) => [line, text]));
+    this.rows.forEach(({ row, button }, index) => {
+      const { isFault = false, text = "" } = lines.get(index + 1) || {};
+      row.classList.toggle("wrong", isFault);
+      if (button.title !== text) button.title = text;
+    });
+    this.found = found.map(({ line, isFault, text }, index) => {
+      const said = make("span", { id: index === 0 && "wrong-text" }, text);
+      return { line, band: make("div", { class: isFault ? "band wrong" : "band warned" }, said) };
+    });
+    $("found").replaceChildren(...this.found.map(({ band }) => band));
+    this.found.forEach(({ line, band }) => this.band(band, line));
+    mark($("text"), "aria-invalid", found.some(({ isFault }) => isFault));
   }
 
   // Scrolls so that a line is seen, in its box and in the window.

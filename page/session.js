@@ -37,14 +37,14 @@ function viewOf(looks, [state, counts, units, ...more]) {
   return { state: state.body, counts: counts.body.cells || [], units: units.body, blocks, change: null };
 }
 
-// Assembles a program and loads it: its rows and what the loaded machine looks like, or the refusal.
+// Assembles a program and loads it: its faults and warnings, and its rows and what the loaded machine looks like, or the refusal.
 export async function load(machine, texts) {
   const opening = openingOf(texts);
-  const answers = await machine.ask([...opening, ["mix/program", {}], ...LOOKS]);
+  const answers = await machine.ask([...opening, ["mix/check", { source: texts.source }], ["mix/program", {}], ...LOOKS]);
   const launched = answers[1];
-  if (!launched.success) return { refusal: launched.body.error };
-  const [program, ...looks] = answers.slice(opening.length);
-  return { program: program.body, view: viewOf(LOOKS, looks) };
+  const [check, program, ...looks] = answers.slice(opening.length);
+  const found = check.body.diagnostics;
+  return launched.success ? { found, program: program.body, view: viewOf(LOOKS, looks) } : { found, refusal: launched.body.error };
 }
 
 export class Session {

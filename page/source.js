@@ -1,6 +1,6 @@
 // The text of the source: a box for typing, and behind it the same text in colours. Long lines are wrapped, so that all of a line is seen.
 
-import { $, make, onResize, put } from "./dom.js";
+import { $, make, onResize } from "./dom.js";
 import { piecesOf } from "./colours.js";
 import { explained } from "./operations.js";
 
@@ -24,6 +24,7 @@ export class Source {
     Object.assign(this, { grammar, changed, refused });
     this.box = $("text");
     this.lines = [""];
+    this.found = new Map(); // the texts of faults and warnings, by their lines
     this.shades = []; // of each line its element, its text, and the rules that are open before and behind it
     this.box.addEventListener("input", () => this.typed());
     this.box.addEventListener("mousemove", (event) => this.pointed(event));
@@ -82,10 +83,12 @@ export class Source {
     shade.element.replaceChildren(...piecesOf(shade.text, names).map(([text, kind]) => (kind ? make("span", { class: kind }, text) : text)));
   }
 
-  // What the operation at the pointer does is told as a title.
+  // As a title the text of the fault or the warning at the pointer, or what the operation there does.
   pointed(event) {
-    const under = document.elementsFromPoint(event.clientX, event.clientY).find((element) => element.parentNode && element.parentNode.parentNode === $("colours"));
-    const told = under ? explained(under.textContent) : "";
+    const under = document.elementsFromPoint(event.clientX, event.clientY);
+    const line = this.shades.findIndex(({ element }) => under.includes(element)) + 1;
+    const word = under.find((element) => element.parentNode && element.parentNode.parentNode === $("colours"));
+    const told = this.found.get(line) || (word ? explained(word.textContent) : "");
     if (this.box.title !== told) this.box.title = told;
   }
 
@@ -96,11 +99,5 @@ export class Source {
 
   get caretExplained() {
     return this.lines[this.caretLine - 1].split(/[ \t]+/).slice(0, 2).reverse().map(explained).find(Boolean) || "";
-  }
-
-  // The text under the fault of a line, for screen readers too.
-  setFault(isFault, text) {
-    this.box.setAttribute("aria-invalid", String(isFault));
-    put($("wrong-text"), text);
   }
 }

@@ -15,7 +15,32 @@ def fault_seen(page, native, count):
         count.same(f"fault seen: {name}: in the box", inside, [True] * 5)
         count.same(f"fault seen: {name}: at the source", [page.one("text").get_attribute(f"aria-{what}") for what in ("invalid", "describedby")], ["true", "wrong-text"])
     page.put("text", FIRST.split("%SCRIPT")[0])
-    count.same("fault seen: mended", [page.one("text").get_attribute("aria-invalid"), page.one("wrong-text").is_displayed()], ["false", False])
+    count.same("fault seen: mended", [page.one("text").get_attribute("aria-invalid"), len(page.all("#found *"))], ["false", 0])
+
+
+FOUND = {"many": "X    EQU  1\n     JUMP 0\nX    EQU  2\nENTA 10\n     LDA  Y\n     HLT\n     END  0\n", "warnings": "     LDA  Y\n     HLT\n     END  0\n",
+         "no END": "     NOP\n     DEK1 1\n", "none": FIRST.split("%SCRIPT")[0]}
+
+
+def each_found(page, native, count):
+    """Each line with a fault or a warning is marked as one types, with what `mixrev check` says of it."""
+    for name, text in FOUND.items():
+        page.put("text", text)
+        wanted = native.found(text)
+        count.same(f"found: {name}: the texts", page.script("return [...document.querySelectorAll('#found span')].map((e) => e.textContent)"), ["; ".join(texts) for _, texts in wanted.values()])
+        titles = page.script("return [...document.querySelectorAll('#gutter button')].map((e) => e.title).filter(Boolean)")
+        count.same(f"found: {name}: at the buttons", titles, ["; ".join(texts) for _, texts in wanted.values()])
+        bad = [line for line, (is_fault, _) in wanted.items() if is_fault]
+        marked = page.script("return [...document.querySelectorAll('#gutter .line')].flatMap((row, i) => (row.classList.contains('wrong') ? [i + 1] : []))")
+        count.same(f"found: {name}: the lines", marked, bad)
+        apart = page.script("const tops = (all) => [...all].map((e) => e.getBoundingClientRect().top); const rows = tops(document.querySelectorAll('#gutter .line')); return tops(document.querySelectorAll('#found .band')).map((top, i) => top - rows[arguments[0][i] - 1])", list(wanted))
+        count.row(f"found: {name}: each at its line", all(abs(each) < 2 for each in apart), apart)
+        if wanted:
+            line, (_, texts) = next(iter(wanted.items()))
+            page.script("const at = document.querySelectorAll('#colours > div')[arguments[0] - 1].getBoundingClientRect(); document.getElementById('text').dispatchEvent(new MouseEvent('mousemove', { clientX: at.left + 20, clientY: at.top + 8 }))", line)
+            count.same(f"found: {name}: at the pointer", page.one("text").get_attribute("title"), "; ".join(texts))
+        more = len(bad) - 1
+        count.same(f"found: {name}: how many more", page.told().partition(" more fault")[0][-1:], str(more) if more > 0 else page.told()[-1:])
 
 
 def said_once(page, native, count):
@@ -40,4 +65,4 @@ def on_paper(page, native, count):
     count.same("on paper: the listing", sources, [line for line in page.value("text").split("\n") if line])
 
 
-SAYS = (fault_seen, said_once, on_paper)
+SAYS = (fault_seen, each_found, said_once, on_paper)
