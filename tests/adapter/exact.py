@@ -73,6 +73,8 @@ VIEWS = [
     ("mix/change", {"number": 2}, '"items":[{"after":"+ 00 00 00 00 12","before":"+ 00 00 00 00 05","part":"A"}],"location":1,"number":2,"text":"INCA 7","time":"1"'),
     ("mix/change", {"number": 4}, '"id":306'), ("mix/change", {}, '"id":302'), ("mix/state", {"cells": [[2, 1]]}, '"id":302'),
     ("mix/state", {"cells": [[0, 4000]]}, '"id":306'), ("mix/units", {"unit": 21}, '"id":306'),
+    ("mix/check", {"source": " JUMP 0\n"}, '"body":{"diagnostics":[{"code":"A2","column":2,"endColumn":6,"line":1,"severity":"error","text":"'),
+    ("mix/check", {}, '"id":302'), ("mix/check", {"source": 5}, '"id":302'),
     # refusals of commands, by number and text
     ("evaluate", {"expression": "stop", "context": "repl"}, '"format":"C1 no such command","id":201,'),
     ("evaluate", {"expression": "set A", "context": "repl"}, '"format":"C2 bad argument","id":202,'),
@@ -84,6 +86,9 @@ VIEWS = [
     # a text where a number is due, a number where a text is, and each as it is to be
     ("setVariable", {"variablesReference": "1", "name": "A", "value": "1"}, '"id":302'), ("setVariable", {"variablesReference": 1, "name": 1, "value": "1"}, '"id":302'),
     ("setVariable", {"variablesReference": 1, "name": "A", "value": "1"}, '"success":true')]
+
+# Texts to be checked: none, one with faults and a warning and a tab, labels, letters that are no characters of MIX, and one with nothing to say of.
+CHECKED = ["", " JUMP 0\n\tLDA\tX\n LDA Y\n END 0\n", "X EQU 1\nX EQU 2\nENTA 5\n ALF  TOO LONG\n", "* \u00c4\n \u00c4\tNOP \u00d6\n END 5000\n", SOURCE]
 
 # A program that types a row; after its launch and the stop at its entry these are asked for, and of what comes back these messages, each with its number.
 HI = " OUT 3(19)\n HLT\n ORIG 3\n ALF HI\n END 0\n"
@@ -194,10 +199,21 @@ def views(command, count):
         count.row(f"{name} {given}", any(part in message for message in answers.get(seq, [])), answers.get(seq))
 
 
+def checks(command, count):
+    """What there is to say of a text is what `mixrev check --json` says of it, whether a program is launched or not."""
+    for source in CHECKED:
+        lines = subprocess.run([command[0], "check", "--json", "-"], input=source.encode(), capture_output=True).stdout.splitlines()
+        wanted = [{name: value for name, value in json.loads(line).items() if name != "file"} for line in lines]
+        for opening in ([], [launch(SOURCE), DONE]):
+            found, ended = texts(command, told(*opening, ("mix/check", {"source": source})))
+            bodies = [message["body"] for message in map(json.loads, found) if message.get("command") == "mix/check"]
+            count.same(f"{source!r} is checked, {'launched' if opening else 'not launched'}", (bodies, ended), ([{"diagnostics": wanted}], GOOD))
+
+
 def main():
     command = [os.path.abspath(sys.argv[1]), *sys.argv[2:]]
     count = Count()
-    for part in (ends, frames, messages, leads, steps, ahead, views):
+    for part in (ends, frames, messages, leads, steps, ahead, views, checks):
         part(command, count)
     print(f"{count.passed} passed, {count.failed} failed")
     return 1 if count.failed else 0

@@ -42,6 +42,7 @@ command_name command.ViewCounts = codes "mix/counts"
 command_name command.ViewState = codes "mix/state"
 command_name command.ViewUnits = codes "mix/units"
 command_name command.ViewChange = codes "mix/change"
+command_name command.ViewCheck = codes "mix/check"
 
 abbrev pub all_commands : List Command
 all_commands =
@@ -52,7 +53,7 @@ all_commands =
     command.StepBack ∷ command.ReverseContinue ∷ command.Pause ∷ command.Goto ∷ command.GotoTargets ∷
     command.ReadMemory ∷ command.WriteMemory ∷ command.Disassemble ∷ command.Restart ∷ command.Disconnect ∷
     command.Terminate ∷ command.Cancel ∷ command.ViewProgram ∷ command.ViewCounts ∷ command.ViewState ∷
-    command.ViewUnits ∷ command.ViewChange ∷ []
+    command.ViewUnits ∷ command.ViewChange ∷ command.ViewCheck ∷ []
 
 -- the command of a name, letter for letter
 unfoldable pub command_named : List ℕ → Option Command

@@ -45,6 +45,7 @@ pub enum Command {
     ViewState,
     ViewUnits,
     ViewChange,
+    ViewCheck,
 }
 
 impl Command {
@@ -90,6 +91,7 @@ impl Command {
             Command::ViewState => "mix/state",
             Command::ViewUnits => "mix/units",
             Command::ViewChange => "mix/change",
+            Command::ViewCheck => "mix/check",
         }
     }
 
@@ -106,7 +108,7 @@ impl Command {
             Command::StepBack, Command::ReverseContinue, Command::Pause, Command::Goto, Command::GotoTargets,
             Command::ReadMemory, Command::WriteMemory, Command::Disassemble, Command::Restart, Command::Disconnect,
             Command::Terminate, Command::Cancel, Command::ViewProgram, Command::ViewCounts, Command::ViewState,
-            Command::ViewUnits, Command::ViewChange,
+            Command::ViewUnits, Command::ViewChange, Command::ViewCheck,
         ]
     }
 

@@ -49,6 +49,10 @@ abbrev pub meaning : Finding → List ℕ → List ℕ
 meaning (Fault kind) help = utf8_lossy (kind_text kind ++ help)
 meaning (AWarning warning) help = utf8_lossy (warning_subject warning ++ warning_text warning)
 
+-- the text of a diagnostic of a source, with what helps to mend it
+abbrev pub meaning_of : List ℕ → Diagnostic → List ℕ
+meaning_of source d = meaning d.finding (help_of source d.line d.finding (shown_of source d))
+
 abbrev pub place_members : List ℕ → ℕ → Option Columns → List Token
 place_members name line columns =
     text_member (codes "file") name ++ number_member (codes "line") line ++ column_members columns

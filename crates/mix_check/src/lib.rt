@@ -10,6 +10,8 @@ mod objects;
 mod place;
 mod report;
 mod span;
+mod values;
 
 pub use objects::add_json_report;
 pub use report::add_report;
+pub use values::{code, columns, meaning, severity};

@@ -1,24 +1,21 @@
 //! What there is to say of a source, as one JSON object a line.
 
-ghost use Rattle.std.specs.Prelude.{List, ℕ, ◌≡◌, ◌≤◌, ◌++◌, IfOk, IfSome, OnOk, codes, length, option_map};
-ghost use Rattle.std.specs.Str.Lossy.{utf8_lossy};
+ghost use Rattle.std.specs.Prelude.{List, ℕ, ◌≡◌, ◌++◌, IfOk, OnOk};
 ghost use Rattle.std.specs.Map.{lookup};
 ghost use Rattle.std.specs.Str.{bytes_eq};
 ghost use Rattle.mix_check.specs.Later.{line_of_symbol};
-ghost use Rattle.mix_check.specs.Json.{column_members, columns_of, json_diagnostic, json_line, json_report, meaning_members, number_member, place_members, text_member};
-ghost use Rattle.mix_check.specs.Place.{shown_of};
-ghost use Rattle.mix_check.specs.Help.{help_of};
+ghost use Rattle.mix_check.specs.Json.{column_members, json_diagnostic, json_line, json_report, meaning_members, number_member, place_members, text_member};
 ghost use Rattle.mix_check.specs.Report.{has_faults};
 
 use crate::help::help_of;
-use crate::mark::column_after;
 use crate::place::shown_of;
 use crate::report::has_fault;
+use crate::values::{code, columns_of, meaning_with, severity};
 use indexmap::IndexMap;
 use json::Writer;
 use mix_refused::Memory;
 use mixal_asm::{Diagnostic, Finding, Role, diagnose, first_mentions};
-use mixal_text::{Span, Symbol};
+use mixal_text::Symbol;
 use std::alloc::{AllocError, Global};
 
 /// Appends what there is to say of a source to a text as `add_report` does, but as JSON, and says whether it has a fault: of each
@@ -59,22 +56,6 @@ fn add_diagnostic(
     let help = help_of(alloc, source, definitions, diagnostic, place)?;
     let columns = columns_of(place);
     add_line(alloc, name, diagnostic, columns, help.as_slice(), text)
-}
-
-// The column of the first byte that is shown, and that of what follows the last one.
-fn columns_of(place: Option<(&[u8], Span)>) -> Option<(u64, u64)>
-    requires order { IfSome place (λ p. p.1.from ≤ p.1.to) }
-    requires within { IfSome place (λ p. p.1.to ≤ length p.0.now) }
-    requires bound { IfSome place (λ p. length p.0.now ≤ 1048576) }
-    ensures { result ≡ option_map columns_of (option_map (λ p. (p.0.now, p.1)) place.entry) }
-{
-    match place {
-        Some((line, span)) => Some((
-            column_after(&line[..span.from]),
-            column_after(&line[..span.to]),
-        )),
-        None => None,
-    }
 }
 
 // Appends the object of a diagnostic, and a line feed.
@@ -136,35 +117,10 @@ fn write_meaning(
     ensures tokens { OnOk result (writer.new.tokens ≡ writer.old.tokens ++ meaning_members finding.now help.now) }
     ensures before { writer.new.before ≡ writer.old.before }
 {
-    match finding {
-        Finding::Fault(kind) => {
-            write_text(writer, "severity", "error")?;
-            let code = format!(in alloc; "A{}", kind.number())?;
-            write_text(writer, "code", code.as_str())?;
-            write_joined(writer, alloc, kind.text().as_bytes(), help)
-        }
-        Finding::Warning(warning) => {
-            write_text(writer, "severity", "warning")?;
-            write_text(writer, "code", warning.name())?;
-            write_joined(writer, alloc, warning.subject(), warning.text().as_bytes())
-        }
-    }
-}
-
-// The text of a diagnostic in two parts, as characters.
-fn write_joined(
-    writer: &mut Writer,
-    alloc: Global,
-    first: &[u8],
-    second: &[u8],
-) -> Result<(), AllocError>
-    ensures tokens { OnOk result (writer.new.tokens ≡ writer.old.tokens ++ text_member (codes "text") (utf8_lossy (first.now ++ second.now))) }
-    ensures before { writer.new.before ≡ writer.old.before }
-{
-    let mut bytes = Vec::new(alloc);
-    bytes.extend_from_slice(first)?;
-    bytes.extend_from_slice(second)?;
-    let text = String::from_utf8_lossy(alloc, bytes.as_slice())?;
+    write_text(writer, "severity", severity(finding))?;
+    let code = code(alloc, finding)?;
+    write_text(writer, "code", code.as_str())?;
+    let text = meaning_with(alloc, finding, help)?;
     write_text(writer, "text", text.as_str())
 }
 

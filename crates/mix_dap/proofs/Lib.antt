@@ -1,3 +1,4 @@
 mod WrittenLemmas
 pub mod LayoutLemmas
 pub mod ListLemmas
+pub mod ShownLemmas

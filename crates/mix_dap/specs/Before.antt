@@ -4,8 +4,9 @@ use Rattle.serde_json.specs.Data.{Data}
 use Rattle.dap_message.specs.Told.{Outcome, done, response_to, Answers}
 use Rattle.dap_message.specs.declared.command.Command.{Command}
 use Rattle.dap_message.specs.declared.request.Request.{Request}
+use Rattle.mix_dap.specs.Check.{checked}
 use Rattle.mix_dap.specs.Kind.{kind_of}
-use Rattle.mix_dap.specs.Told.{refused_for}
+use Rattle.mix_dap.specs.Told.{refused_for, outcome_for}
 use Rattle.mix_dap.specs.declared.fault.Fault.{Fault}
 use Rattle.mix_dap.specs.declared.fault.Fault.TheVariants as fault
 use Rattle.mix_dap.specs.declared.kind.Kind.{Kind}
@@ -31,13 +32,14 @@ LaunchTells asked.Answered r old new = (why : Fault) × Answers (response_to r (
 LaunchTells asked.Over r old new = ⊥
 LaunchTells (asked.Launch texts) r old new = new ≡ old
 
--- by what the request is about: what needs a program is refused
+-- by what the request is about: what needs a program is refused, and a text is checked
 abbrev pub KindAsks : Kind → Asked → Request → List Data → List Data → Type 0
 KindAsks kind.Initialize asked r old new = Goes asked done r old new
 KindAsks kind.Terminate asked r old new = Goes asked done r old new
 KindAsks kind.Disconnect asked r old new = Ends asked r old new
 KindAsks kind.Launch asked r old new = LaunchTells asked r old new
 KindAsks kind.Look asked r old new = Goes asked (refused_for fault.NotLaunched) r old new
+KindAsks kind.Check asked r old new = Goes asked (outcome_for (checked r)) r old new
 KindAsks kind.Points asked r old new = Goes asked (refused_for fault.NotLaunched) r old new
 KindAsks kind.Pause asked r old new = Goes asked (refused_for fault.NotLaunched) r old new
 KindAsks kind.Restart asked r old new = Goes asked (refused_for fault.NotLaunched) r old new

@@ -21,6 +21,7 @@ kind_of command.ViewCounts = kind.Look
 kind_of command.ViewState = kind.Look
 kind_of command.ViewUnits = kind.Look
 kind_of command.ViewChange = kind.Look
+kind_of command.ViewCheck = kind.Check
 kind_of command.SetBreakpoints = kind.Points
 kind_of command.SetInstructionBreakpoints = kind.Points
 kind_of command.SetDataBreakpoints = kind.Points

@@ -13,6 +13,7 @@ use Rattle.mix_session.specs.declared.fault.Refusal.{Refusal}
 use Rattle.mix_session.specs.declared.request.Request.TheVariants as ask
 use Rattle.dap_message.specs.declared.command.Command.{Command}
 use Rattle.dap_message.specs.declared.request.Request.{Request}
+use Rattle.mix_dap.specs.Check.{checked}
 use Rattle.mix_dap.specs.Deed.{deed_of, effect_of_deed}
 use Rattle.mix_dap.specs.Kind.{kind_of}
 use Rattle.mix_dap.specs.Written.{SetsCells}
@@ -55,6 +56,7 @@ Leaves (Err wrong) t new (Err refused.Memory) = new ≡ t
 abbrev pub KindAnswered : Bool → Kind → Request → SessionState → Timeline → Type 0
 KindAnswered runs kind.Initialize r s new = new ≡ s.timeline
 KindAnswered runs kind.Look r s new = new ≡ s.timeline
+KindAnswered runs kind.Check r s new = new ≡ s.timeline
 KindAnswered runs kind.Points r s new = new ≡ s.timeline
 KindAnswered runs kind.Pause r s new = new ≡ s.timeline
 KindAnswered runs kind.Terminate r s new = new ≡ s.timeline
@@ -72,6 +74,7 @@ KindAnswered false (kind.Act act) r s new = Leaves {T = Fault} (deed_of act r s)
 abbrev pub KindRefused : Bool → Kind → Request → SessionState → Fault → Type 0
 KindRefused runs kind.Initialize r s why = ⊥
 KindRefused runs kind.Look r s why = Unit {0}
+KindRefused runs kind.Check r s why = checked r ≡ Err why
 KindRefused runs kind.Points r s why = Unit {0}
 KindRefused runs kind.Pause r s why = ⊥
 KindRefused runs kind.Terminate r s why = ⊥
@@ -95,6 +98,7 @@ KindBegun runs other r s new = new ≡ s.timeline
 abbrev pub flow_of : Kind → Flow
 flow_of kind.Initialize = flow.On
 flow_of kind.Look = flow.On
+flow_of kind.Check = flow.On
 flow_of kind.Points = flow.On
 flow_of kind.Pause = flow.On
 flow_of kind.Terminate = flow.On

@@ -1,4 +1,5 @@
 pub mod Before
+pub mod Check
 pub mod Deed
 pub mod Fault
 pub mod Kind

@@ -8,7 +8,7 @@ ghost use Rattle.dap_message.specs.Told.{response_to, done, Answers};
 ghost use Rattle.mix_dap.specs.Leaves.{flow_of, KindAnswered, KindRefused, KindBegun, Begins, FlowLeaves};
 ghost use Rattle.mix_dap.specs.Kind.{kind_of};
 ghost use Rattle.mix_dap.specs.Launched.{launched_of};
-ghost use Rattle.mix_dap.specs.Told.{outcome_of, outcome_of_launch, refused_for};
+ghost use Rattle.mix_dap.specs.Told.{outcome_of, outcome_of_launch, CommandShows, KindShows};
 
 mod act;
 mod run;
@@ -21,6 +21,7 @@ use crate::kind::Kind;
 use crate::launch::{Texts, session_of};
 use crate::points::Points;
 use crate::printed::Printed;
+use crate::view::tell_check;
 use crate::waiting::Waiting;
 use dap_message::{Command, Outbox, Request};
 use mix_machine::MixFault;
@@ -87,6 +88,7 @@ fn flow_of(kind: Kind) -> Flow
         Kind::Disconnect => Flow::Over,
         Kind::Initialize
         | Kind::Look
+        | Kind::Check
         | Kind::Points
         | Kind::Pause
         | Kind::Terminate
@@ -154,6 +156,7 @@ impl<'s> Adapter<'s> {
     /// Answers a request. What it does to the timeline of the session is what the session's own request does that it stands for; a request that is
     /// refused changes nothing, nor does one that only looks. One that moves or changes the machine is refused while the program runs, and else exactly
     /// where it asks for nothing that is there, or the session refuses it. Out of memory, nothing is done, or a stage of that effect stands.
+    #[tactic(auto, using(crate::proofs::ShownLemmas::refusal_shown))]
     pub fn receive(&mut self, request: &Request, out: &mut Outbox) -> Result<Flow, Memory>
         ensures program { self.new.session.program ≡ self.old.session.program }
         ensures first { self.new.session.timeline.first ≡ self.old.session.timeline.first }
@@ -161,6 +164,7 @@ impl<'s> Adapter<'s> {
         ensures begun { IfErr result (λ _. (self.new.session.timeline ≡ self.old.session.timeline)
             ⊎ Begins (is_some self.old.way) (command_of request.now) request.now self.old.session self.new.session.timeline) }
         ensures answers { IfOk result (λ flow. Answers (response_to request.now (outcome_of flow)) (waits out.old) (waits out.new)) }
+        ensures shows { OnOk result (CommandShows (command_of request.now) request.now out.old out.new) }
     {
         match request.command() {
             None => self.refuse(request, Fault::NoSuchRequest, out),
@@ -170,14 +174,6 @@ impl<'s> Adapter<'s> {
                 Err(Refused::Memory) => Err(Memory),
             },
         }
-    }
-
-    fn refuse(&self, request: &Request, fault: Fault, out: &mut Outbox) -> Result<Flow, Memory>
-        ensures flow { IfOk result (λ flow. flow ≡ Flow.Refused fault) }
-        ensures answers { OnOk result (Answers (response_to request.now (refused_for fault)) (waits out.old) (waits out.new)) }
-    {
-        refuse(self.alloc, request, fault, out)?;
-        Ok(Flow::Refused(fault))
     }
 
     // The machine is moved and changed at rest alone.
@@ -209,6 +205,7 @@ impl<'s> Adapter<'s> {
             ⊎ KindBegun (is_some self.old.way) (kind_of command) request.now self.old.session self.new.session.timeline) }
         ensures answers { OnOk result (Answers (response_to request.now done) (waits out.old) (waits out.new)) }
         ensures untold { IfFault result (λ _. out.new ≡ out.old) }
+        ensures shows { OnOk result (KindShows (kind_of command) request.now out.old out.new) }
     {
         match Kind::of(command) {
             Kind::Initialize => {
@@ -219,6 +216,7 @@ impl<'s> Adapter<'s> {
                 let body = self.show(command, request)?;
                 Ok(out.reply(request, body)?)
             }
+            Kind::Check => tell_check(self.alloc, request, out),
             Kind::Points => {
                 let body = self.set_points(command, request)?;
                 Ok(out.reply(request, body)?)

@@ -2,9 +2,9 @@
 
 ghost use Rattle.std.specs.Prelude.{◌≡◌, IfOk, OnOk, Some};
 ghost use Rattle.serde_json.specs.View.{view};
-ghost use Rattle.dap_message.specs.Message.{waits};
+ghost use Rattle.dap_message.specs.Message.{waits, refusal_message, Adds};
 ghost use Rattle.dap_message.specs.Told.{response_to, Answers};
-ghost use Rattle.mix_dap.specs.Fault.{fault_number, fault_text, text_place};
+ghost use Rattle.mix_dap.specs.Fault.{fault_number, fault_text, fault_place, text_place};
 ghost use Rattle.mix_dap.specs.Told.{refused_for};
 
 use dap_message::{Fields, Outbox, Request};
@@ -98,16 +98,33 @@ pub(crate) fn refuse(
     fault: Fault,
     out: &mut Outbox,
 ) -> Result<(), Memory>
-    ensures { OnOk result (Answers (response_to request.now (refused_for fault)) (waits out.old) (waits out.new)) }
+    ensures told { OnOk result (Adds out.old out.new (λ seq. refusal_message seq request.now (fault_number fault) (fault_text fault) (fault_place fault))) }
+    ensures answers { OnOk result (Answers (response_to request.now (refused_for fault)) (waits out.old) (waits out.new)) }
 {
     let text = format!(in alloc; "{fault}")?;
-    let variables = match fault {
-        Fault::Source(at) => place_of(alloc, "source", at.line)?,
-        Fault::Deck(at) => place_of(alloc, "devices", at.line)?,
-        Fault::Cards(at) => place_of(alloc, "cards", at.line)?,
-        _ => Value::Null,
-    };
+    let variables = fault_place(alloc, fault)?;
     out.refuse(request, fault.number(), text.as_str(), variables)
+}
+
+// Where a fault of a text stands; nothing for one that is of no text.
+fn fault_place(alloc: Global, fault: Fault) -> Result<Value, Memory>
+    ensures { IfOk result (λ place. view place ≡ fault_place fault) }
+{
+    match fault {
+        Fault::Source(at) => place_of(alloc, "source", at.line),
+        Fault::Deck(at) => place_of(alloc, "devices", at.line),
+        Fault::Cards(at) => place_of(alloc, "cards", at.line),
+        Fault::Session(_)
+        | Fault::NoSuchRequest
+        | Fault::BadArgument
+        | Fault::NotLaunched
+        | Fault::Launched
+        | Fault::Running
+        | Fault::NoSuchThing
+        | Fault::Unread
+        | Fault::NotOpened
+        | Fault::TooLong => Ok(Value::Null),
+    }
 }
 
 // Where a fault of a text stands: which text of a launch, and its line.

@@ -12,6 +12,8 @@ pub(crate) enum Kind {
     Initialize,
     /// It only looks.
     Look,
+    /// What there is to say of a text, whether a program is launched or not.
+    Check,
     /// Breakpoints, in place of those that stand.
     Points,
     /// A run, which pauses.
@@ -76,6 +78,7 @@ impl Kind {
             | Command::ViewState
             | Command::ViewUnits
             | Command::ViewChange => Kind::Look,
+            Command::ViewCheck => Kind::Check,
             Command::SetBreakpoints
             | Command::SetInstructionBreakpoints
             | Command::SetDataBreakpoints

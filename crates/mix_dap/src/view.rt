@@ -8,12 +8,14 @@ ghost use Rattle.mix_dap.specs.View.{put_digits, put_word, part_name};
 
 mod asked;
 mod change;
+mod check;
 mod counts;
 mod program;
 mod state;
 mod units;
 
 pub(crate) use change::change_view;
+pub(crate) use check::tell_check;
 pub(crate) use counts::counts_view;
 use dap_message::Fields;
 use mix_machine::Word;

@@ -1,14 +1,18 @@
 //! Before a program is launched.
 
-ghost use Rattle.std.specs.Prelude.{◌≡◌, IfOk};
-ghost use Rattle.dap_message.specs.Message.{waits};
+ghost use Rattle.std.specs.Prelude.{◌≡◌, IfOk, OnOk};
+ghost use Rattle.dap_message.specs.Message.{waits, Adds};
 ghost use Rattle.dap_message.specs.Request.{command_of};
+ghost use Rattle.dap_message.specs.Told.{response_to, Answers};
 ghost use Rattle.mix_dap.specs.Before.{Asks, LaunchTells};
+ghost use Rattle.mix_dap.specs.Check.{checked};
+ghost use Rattle.mix_dap.specs.Told.{outcome_for, answer_message, CommandShows};
 
 use crate::capabilities::{Client, capabilities};
 use crate::fault::{Fault, refuse};
 use crate::kind::Kind;
 use crate::launch::{Library, Texts, texts_of};
+use crate::view::tell_check;
 use dap_message::{Outbox, Request};
 use mix_refused::{Memory, Refused};
 use serde_json::Value;
@@ -49,7 +53,8 @@ impl Waiting {
         request: &Request,
         out: &mut Outbox,
     ) -> Result<Asked, Memory>
-        ensures { IfOk result (λ asked. Asks asked (command_of request.now) request.now (waits out.old) (waits out.new)) }
+        ensures asks { IfOk result (λ asked. Asks asked (command_of request.now) request.now (waits out.old) (waits out.new)) }
+        ensures shows { OnOk result (CommandShows (command_of request.now) request.now out.old out.new) }
     {
         let Some(command) = request.command() else {
             refuse(self.alloc, request, Fault::NoSuchRequest, out)?;
@@ -62,6 +67,10 @@ impl Waiting {
                 Ok(Asked::Answered)
             }
             Kind::Launch => self.launch(library, request, out),
+            Kind::Check => {
+                self.check(request, out)?;
+                Ok(Asked::Answered)
+            }
             Kind::Disconnect => {
                 out.reply(request, Value::Null)?;
                 Ok(Asked::Over)
@@ -98,6 +107,17 @@ impl Waiting {
                 refuse(self.alloc, request, fault, out)?;
                 Ok(Asked::Answered)
             }
+            Err(Refused::Memory) => Err(Memory),
+        }
+    }
+
+    fn check(&self, request: &Request, out: &mut Outbox) -> Result<(), Memory>
+        ensures told { OnOk result (Adds out.old out.new (answer_message request.now (checked request.now))) }
+        ensures answers { OnOk result (Answers (response_to request.now (outcome_for (checked request.now))) (waits out.old) (waits out.new)) }
+    {
+        match tell_check(self.alloc, request, out) {
+            Ok(()) => Ok(()),
+            Err(Refused::Fault(fault)) => refuse(self.alloc, request, fault, out),
             Err(Refused::Memory) => Err(Memory),
         }
     }

@@ -1,12 +1,15 @@
 //! What was done is told: the request is answered, and then comes what the client has to know.
 #![tactic(auto, using(dap_message::proofs::Telling::telling))]
 
-ghost use Rattle.std.specs.Prelude.{◌≡◌, OnOk};
-ghost use Rattle.dap_message.specs.Message.{waits};
+ghost use Rattle.std.specs.Prelude.{◌≡◌, IfOk, OnOk};
+ghost use Rattle.dap_message.specs.Message.{waits, refusal_message, Adds};
 ghost use Rattle.dap_message.specs.Told.{response_to, done, Answers};
+ghost use Rattle.mix_dap.specs.Fault.{fault_number, fault_text, fault_place};
+ghost use Rattle.mix_dap.specs.Told.{refused_for};
 
-use crate::adapter::{Adapter, Way};
+use crate::adapter::{Adapter, Flow, Way};
 use crate::deed::is_console;
+use crate::fault::{Fault, refuse};
 use crate::kind::Act;
 use crate::value::{value_asked, worth_asked};
 use dap_message::{Fields, Outbox, Request};
@@ -96,6 +99,21 @@ impl Adapter<'_> {
         body.text("result", text)?;
         body.number("variablesReference", 0)?;
         out.reply(request, body.done())
+    }
+
+    // A request is refused, for this reason.
+    pub(crate) fn refuse(
+        &self,
+        request: &Request,
+        fault: Fault,
+        out: &mut Outbox,
+    ) -> Result<Flow, Memory>
+        ensures flow { IfOk result (λ flow. flow ≡ Flow.Refused fault) }
+        ensures told { OnOk result (Adds out.old out.new (λ seq. refusal_message seq request.now (fault_number fault) (fault_text fault) (fault_place fault))) }
+        ensures answers { OnOk result (Answers (response_to request.now (refused_for fault)) (waits out.old) (waits out.new)) }
+    {
+        refuse(self.alloc, request, fault, out)?;
+        Ok(Flow::Refused(fault))
     }
 
     // The beginning again.

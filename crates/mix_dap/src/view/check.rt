@@ -1,0 +1,97 @@
+//! `mix/check`: what there is to say of a text.
+
+ghost use Rattle.std.specs.Prelude.{◌≡◌, Err, IfOk, OnOk, map};
+ghost use Rattle.serde_json.specs.View.{view};
+ghost use Rattle.dap_message.specs.Fields.{members_in};
+ghost use Rattle.dap_message.specs.Message.{waits, Adds};
+ghost use Rattle.dap_message.specs.Told.{response_to, done, Answers};
+ghost use Rattle.mix_refused.specs.Refused.{IfFault};
+ghost use Rattle.mix_dap.specs.Check.{check_of, checked, diagnostic_shown, put_columns, put_meaning};
+ghost use Rattle.mix_dap.specs.List.{Shows};
+ghost use Rattle.mix_dap.specs.Told.{answer_message};
+
+use crate::fault::Fault;
+use crate::list::{add, list_alone};
+use dap_message::{Fields, Outbox, Request};
+use mix_check::{code, columns, meaning, severity};
+use mix_refused::{Memory, Refused};
+use mixal_asm::{Diagnostic, diagnose};
+use serde_json::Value;
+use std::alloc::Global;
+
+/// Answers a request by the faults and the warnings of its text, as `mixrev check --json` gives them.
+pub(crate) fn tell_check(
+    alloc: Global,
+    request: &Request,
+    out: &mut Outbox,
+) -> Result<(), Refused<Fault>>
+    ensures told { OnOk result (Adds out.old out.new (answer_message request.now (checked request.now))) }
+    ensures answers { OnOk result (Answers (response_to request.now done) (waits out.old) (waits out.new)) }
+    ensures refused { IfFault result (λ why. (checked request.now ≡ Err why) × (out.new ≡ out.old)) }
+{
+    let body = check_view(alloc, request)?;
+    Ok(out.reply(request, body)?)
+}
+
+fn check_view(alloc: Global, request: &Request) -> Result<Value, Refused<Fault>>
+    ensures { Shows (checked request.now) result }
+{
+    match request.text("source") {
+        Some(source) => Ok(check(alloc, source.as_bytes())?),
+        None => Err(Refused::Fault(Fault::BadArgument)),
+    }
+}
+
+fn check(alloc: Global, source: &[u8]) -> Result<Value, Memory>
+    ensures { IfOk result (λ v. view v ≡ check_of source.now) }
+{
+    let diagnostics = diagnose(alloc, source)?;
+    let list = all_shown(alloc, source, &diagnostics)?;
+    list_alone(alloc, "diagnostics", list)
+}
+
+fn all_shown(alloc: Global, source: &[u8], diagnostics: &[Diagnostic]) -> Result<Vec<Value>, Memory>
+    ensures { IfOk result (λ list. map view list.items ≡ map (diagnostic_shown source.now) diagnostics.now) }
+{
+    let mut list = Vec::new(alloc);
+    for diagnostic in diagnostics {
+        add(&mut list, diagnostic_shown(alloc, source, diagnostic)?)?;
+    }
+    Ok(list)
+}
+
+fn diagnostic_shown(alloc: Global, source: &[u8], diagnostic: &Diagnostic) -> Result<Value, Memory>
+    ensures { IfOk result (λ v. view v ≡ diagnostic_shown source.now diagnostic.now) }
+{
+    let mut body = Fields::new(alloc);
+    body.number("line", u64::from(diagnostic.line))?;
+    put_columns(&mut body, columns(source, diagnostic))?;
+    put_meaning(alloc, &mut body, source, diagnostic)?;
+    Ok(body.done())
+}
+
+fn put_columns(body: &mut Fields, columns: Option<(u64, u64)>) -> Result<(), Memory>
+    ensures { OnOk result (members_in body.new ≡ put_columns columns (members_in body.old)) }
+{
+    match columns {
+        Some((from, to)) => {
+            body.number("column", from)?;
+            body.number("endColumn", to)
+        }
+        None => Ok(()),
+    }
+}
+
+fn put_meaning(
+    alloc: Global,
+    body: &mut Fields,
+    source: &[u8],
+    diagnostic: &Diagnostic,
+) -> Result<(), Memory>
+    ensures { OnOk result (members_in body.new ≡ put_meaning source.now diagnostic.now (members_in body.old)) }
+{
+    let finding = &diagnostic.finding;
+    body.text("severity", severity(finding))?;
+    body.text("code", code(alloc, finding)?.as_str())?;
+    body.text("text", meaning(alloc, source, diagnostic)?.as_str())
+}
