@@ -75,6 +75,7 @@ MOVES = ["next", "stepIn", "stepOut", "stepBack", "continue", "reverseContinue",
 LOOKS = ["threads", "stackTrace", "scopes", "exceptionInfo", "gotoTargets", "terminate", "cancel", "nonsense", "launch", "setExceptionBreakpoints"]
 NAMES = ["A", "X", "I1", "I6", "J", "over", "cmp", "loc", "100", "3999", "4000", "clock", "Q", ""]
 VALUES = ["0", "-1", "5(0:2)", "1073741823", "1073741824", "on", "off", "less", "*+1", "-0", "63(5:5)", "nothing"]
+LINES = [" LDA X\n", "X EQU 1\n", "ENTA 5\n", " JUMP\n", "\tALF\tTOO LONG\n", " END 0\n", "* \u00c4\n", " LDA 1, 2\n", "Y NOP \n"]
 DATA = ["A", "X", "J", "cell 100", "cell 0", "unit 18", "over", "cmp", "cell 4000", "", "loc"]
 
 
@@ -88,8 +89,8 @@ def drawn(r):
     if kind == 4:
         return r.choice(LOOKS), {"source": {"name": "program.mixal"}, "line": line, "threadId": 1}
     if kind == 5:
-        return r.choice(VIEWS + ["mix/change"]), {"cells": [[cell, min(cell + r.randrange(9), 3999)]], "nonzero": r.random() < 0.5,
-                                                 "number": r.randrange(12)}
+        return r.choice(VIEWS + ["mix/change", "mix/check"]), {"cells": [[cell, min(cell + r.randrange(9), 3999)]], "nonzero": r.random() < 0.5,
+                                                               "number": r.randrange(12), "source": "".join(r.choices(LINES, k=r.randrange(9)))}
     if kind == 6:
         return "variables", {"variablesReference": r.choice((1, 2, 3, 4, 5, 1000, 1000 + r.randrange(45), 0)), "start": 0, "count": 100}
     if kind == 7:
