@@ -10,6 +10,7 @@ use Rattle.mix_machine.specs.units.Row.{RowState}
 use Rattle.mix_machine.specs.units.Unit.{UnitState}
 use Rattle.mix_session.specs.Keyword.{toggle_name, indicator_name}
 use Rattle.mix_word.specs.Text.{location_text}
+use Rattle.mix_word.specs.Uses.{unit_count}
 use Rattle.mix_session.specs.ShowUnit.{counts_text}
 use Rattle.dap_message.specs.Request.{number_of}
 use Rattle.dap_message.specs.declared.request.Request.{Request}
@@ -88,7 +89,7 @@ cell_in_page w page i = if nat_lt (page * 100 + i) 4000 then cell_variable w (pa
 abbrev pub variables_in : WorldState → Scope → List Data
 variables_in w scope.Registers = register_variables w
 variables_in w scope.Flags = flag_variables w
-variables_in w scope.Units = numbered 21 (λ n. unit_variable w n ∷ [])
+variables_in w scope.Units = numbered unit_count (λ n. unit_variable w n ∷ [])
 variables_in w scope.Memory = numbered 40 (λ page. page_variable page ∷ [])
 variables_in w (scope.Unit n) = entry_variables (unit_at w n)
 variables_in w (scope.Page page) = numbered 100 (cell_in_page w page)

@@ -62,7 +62,7 @@ fn byte_at(world: &World, at: u64) -> u8 {
 }
 
 // The most instructions of one answer.
-const MOST: u64 = 8_000;
+const MAX_INSTRUCTIONS: u64 = 8_000;
 
 /// Cells as instructions, from one on that is counted from a reference; cells beyond the memory are told as invalid.
 pub(crate) fn disassemble(
@@ -81,7 +81,7 @@ pub(crate) fn disassemble(
         return Err(Refused::Fault(Fault::BadArgument));
     };
     let mut list = Vec::new(alloc);
-    for i in 0..count.min(MOST) {
+    for i in 0..count.min(MAX_INSTRUCTIONS) {
         let at = from.saturating_add(i as i64);
         let place = u16::try_from(at).ok().and_then(Place::of);
         match place {

@@ -1,6 +1,7 @@
 //! The units as variables, and what each holds.
 
 ghost use Rattle.std.specs.Prelude.{◌≡◌, ◌∷◌, ◌++◌, [], ◌<◌, Some, IfOk, decimal, map, string_bytes, length, slice_get};
+ghost use Rattle.mix_word.specs.Uses.{unit_count};
 ghost use Rattle.serde_json.specs.View.{view};
 ghost use Rattle.mix_dap.specs.Variables.{variable, unit_value, unit_variable, row_text, row_variable, block_variable, entry_variables};
 
@@ -18,12 +19,12 @@ use std::alloc::Global;
 pub(crate) struct Units<'a>(pub &'a World);
 
 impl Numbered for Units<'_> {
-    ghost size = { λ _. 21 };
+    ghost size = { λ _. unit_count };
 
     ghost shown = { λ units n. unit_variable units.0.now n ∷ [] };
 
     fn size(&self) -> u16 {
-        21
+        u16::from(mix_word::UNITS)
     }
 
     fn add(&self, alloc: Global, number: u16, list: &mut Vec<Value>) -> Result<(), Memory> {
@@ -33,7 +34,7 @@ impl Numbered for Units<'_> {
 
 /// The unit of a number.
 fn unit_at(number: u16) -> UnitNo
-    requires { number < 21 }
+    requires { number < unit_count }
     ensures { result ≡ number }
 {
     UnitNo::of(number as u8).unwrap()
