@@ -1,3 +1,4 @@
 mod HearLemmas
 mod SendLemmas
+mod ServingLemmas
 pub mod Talking

@@ -1,5 +1,5 @@
 -- What a client asks for: the request that a body is.
-use Rattle.std.specs.Prelude.{◌≡◌, ℕ, List, Bool, Option, None, Some, is_some, option_and_then, if◌then◌else◌}
+use Rattle.std.specs.Prelude.{◌≡◌, ℕ, List, Option, None, Some, is_some, option_and_then, if◌then◌else◌}
 use Rattle.std.specs.Str.{is_utf8}
 use Rattle.serde_json.specs.Data.{Data}
 use Rattle.serde_json.specs.Read.{read}

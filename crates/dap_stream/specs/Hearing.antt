@@ -2,7 +2,6 @@
 use Rattle.std.specs.Prelude.{◌≡◌, ◌≢◌, ℕ, List, [], ◌∷◌, Option, None, Some, Result, Ok, Err}
 use Rattle.std.specs.Io.KnownBytes.{prepend_known}
 use Rattle.serde_json.specs.Data.{Data}
-use Rattle.serde_json.specs.View.{view}
 use Rattle.dap_frame.specs.Frame.{First, partial, too_long, first_frame}
 use Rattle.dap_stream.specs.Asked.{IsRequest, request_in}
 use Rattle.dap_stream.specs.Heard.{Hears}

@@ -4,7 +4,11 @@
 mod broken;
 mod hear;
 mod sending;
+mod serves;
+mod talk;
 
 pub use broken::Broken;
 pub use hear::{Ear, Heard};
 pub use sending::send;
+pub use serves::{Serves, Turn};
+pub use talk::{MAX_PIECES, Talk, Talked};

@@ -1,0 +1,19 @@
+-- So many exchanges were had.
+use Rattle.std.proofs.Common.{◌≡◌, ◌-◌, ◌^◌, []}
+use Rattle.dap_message.specs.Message.{waits}
+use Rattle.dap_stream.specs.Hearing.{unheard}
+use Rattle.dap_stream.specs.Serving.{Steps, going}
+use Rattle.dap_stream.specs.Talk.{Talks}
+use Rattle.dap_stream.proofs.talk.Talk.with.Given as goal
+
+abbrev pub invariant-turns : goal.invariant-turns
+invariant-turns g l = record {
+  talks : Talks (Steps g.S.Serves.serves g.S.Serves.busy g.S.Serves.works g.S.Serves.rests) (going l.fn.served) (going l.served) l.turns
+      (unheard l.fn.self.ear (g.R.In.rest l.fn.input)) (unheard l.self.ear (g.R.In.rest l.input)) (g.W.Out.told l.fn.out) (g.W.Out.told l.out);
+  none : waits l.self.outbox ≡ [];
+  read : g.R.In.failed l.input ≡ g.R.In.failed l.fn.input;
+  written : g.W.Out.failed l.out ≡ g.W.Out.failed l.fn.out;
+}
+
+abbrev pub decreases-turns : goal.decreases-turns
+decreases-turns g l = 2 ^ 64 - 1 - l.turns

@@ -1,0 +1,173 @@
+//! A talk with a client: frame by frame it is heard, and what answers it is sent.
+
+ghost use Rattle.std.specs.Prelude.{◌≡◌, ◌<◌, ◌-◌, ◌^◌, [], Ok, Err, None, IfErr, OnOk};
+ghost use Rattle.mix_stream.specs.Stream.{CountsFailure};
+ghost use Rattle.dap_message.specs.Message.{waits};
+ghost use Rattle.dap_stream.specs.Broken.{IsMemoryOrWrite};
+ghost use Rattle.dap_stream.specs.Hearing.{kept, unheard};
+ghost use Rattle.dap_stream.specs.Serving.{IsUnclear, SendsMore, SendsPieces};
+ghost use Rattle.dap_stream.specs.Talked.{TalkedAs, TurnAs};
+ghost use Rattle.dap_stream.specs.declared.broken.Broken.TheVariants as broken;
+
+use crate::broken::Broken;
+use crate::hear::{Ear, Heard};
+use crate::sending::send;
+use crate::serves::{Serves, Turn};
+use dap_message::{MessageFault, Outbox, Request};
+use mix_refused::Memory;
+use mix_stream::{In, Out};
+use std::alloc::Global;
+
+/// After so many pieces the work of a request is broken off.
+pub const MAX_PIECES: u32 = 10;
+
+/// A talk with a client.
+#[derive(Drop)]
+pub struct Talk {
+    alloc: Global,
+    /// What was read and not yet heard.
+    pub ear: Ear,
+    /// The messages that wait to be sent.
+    pub outbox: Outbox,
+}
+
+/// How a talk with one that answers came to its end.
+#[derive(Drop)]
+pub enum Talked {
+    /// The client is done, or its input is at its end.
+    Done,
+    /// This request waits for another that answers it.
+    Left(Request),
+}
+
+impl Talk {
+    /// Nothing is read yet, and no message waits.
+    pub fn new(alloc: Global) -> Talk
+        ensures ear { kept result.ear ≡ [] }
+        ensures outbox { waits result.outbox ≡ [] }
+    {
+        Talk {
+            alloc,
+            ear: Ear::new(alloc),
+            outbox: Outbox::new(alloc),
+        }
+    }
+
+    /// A client is heard and answered until it is done, its input is at its end, or a request is left to another. After 2^64 - 1 frames it ends too.
+    pub fn with<S: Serves, R: In, W: Out>(
+        &mut self,
+        served: &mut S,
+        input: &mut R,
+        out: &mut W,
+    ) -> Result<Talked, Broken>
+        requires none { waits self.old.outbox ≡ [] }
+        requires read { R.failed input.old < 2 ^ 64 - 1 }
+        requires written { W.failed out.old < 2 ^ 64 - 1 }
+        ensures talked { TalkedAs S.serves S.busy S.works S.rests result served.old served.new
+            (unheard self.old.ear (R.rest input.old)) (unheard self.new.ear (R.rest input.new)) (W.told out.old) (W.told out.new) (waits self.new.outbox) }
+        ensures read { CountsFailure (result ≡ Err broken.Read) (R.failed input.old) (R.failed input.new) }
+        ensures written { CountsFailure (result ≡ Err broken.Write) (W.failed out.old) (W.failed out.new) }
+    {
+        let mut turns = 0;
+        'turns: while turns < u64::MAX {
+            match self.turn(served, input, out)? {
+                Some(talked) => return Ok(talked),
+                None => turns += 1,
+            }
+        }
+        Ok(Talked::Done)
+    }
+
+    // One frame is heard and answered, if the talk goes on after it.
+    #[tactic(auto, using(crate::proofs::ServingLemmas::turns))]
+    fn turn<S: Serves, R: In, W: Out>(
+        &mut self,
+        served: &mut S,
+        input: &mut R,
+        out: &mut W,
+    ) -> Result<Option<Talked>, Broken>
+        requires none { waits self.old.outbox ≡ [] }
+        requires read { R.failed input.old < 2 ^ 64 - 1 }
+        requires written { W.failed out.old < 2 ^ 64 - 1 }
+        ensures talked { TurnAs S.serves S.busy S.works S.rests result served.old served.new
+            (unheard self.old.ear (R.rest input.old)) (unheard self.new.ear (R.rest input.new)) (W.told out.old) (W.told out.new) (waits self.new.outbox) }
+        ensures none { result ≡ Ok None → waits self.new.outbox ≡ [] }
+        ensures read { CountsFailure (result ≡ Err broken.Read) (R.failed input.old) (R.failed input.new) }
+        ensures written { CountsFailure (result ≡ Err broken.Write) (W.failed out.old) (W.failed out.new) }
+    {
+        match self.ear.hear(input)? {
+            Heard::End => return Ok(Some(Talked::Done)),
+            Heard::Unclear(fault) => tell_unclear(&mut self.outbox, fault)?,
+            Heard::Request(request) => match served.serve(&request, &mut self.outbox)? {
+                Turn::On => {}
+                Turn::Over => {
+                    send(self.alloc, &mut self.outbox, out)?;
+                    return Ok(Some(Talked::Done));
+                }
+                Turn::Left => return Ok(Some(Talked::Left(request))),
+            },
+        }
+        send_on(self.alloc, served, &mut self.outbox, out)?;
+        Ok(None)
+    }
+}
+
+// The messages that wait are sent, and then those of the work that is under way.
+#[tactic(auto, using(crate::proofs::ServingLemmas::pieces))]
+fn send_on<S: Serves, W: Out>(
+    alloc: Global,
+    served: &mut S,
+    outbox: &mut Outbox,
+    out: &mut W,
+) -> Result<(), Broken>
+    requires { W.failed out.old < 2 ^ 64 - 1 }
+    ensures sent { OnOk result (SendsMore S.busy S.works S.rests (waits outbox.old) served.old served.new (W.told out.old) (W.told out.new)) }
+    ensures none { OnOk result (waits outbox.new ≡ []) }
+    ensures failed { CountsFailure (result ≡ Err broken.Write) (W.failed out.old) (W.failed out.new) }
+    ensures only { IfErr result IsMemoryOrWrite }
+{
+    send(alloc, outbox, out)?;
+    send_pieces(alloc, served, MAX_PIECES, outbox, out)
+}
+
+// The messages of each piece are sent when it is done. After so many pieces the work is broken off.
+#[tactic(auto, using(crate::proofs::ServingLemmas::pieces))]
+fn send_pieces<S: Serves, W: Out>(
+    alloc: Global,
+    served: &mut S,
+    pieces: u32,
+    outbox: &mut Outbox,
+    out: &mut W,
+) -> Result<(), Broken>
+    requires none { waits outbox.old ≡ [] }
+    requires count { W.failed out.old < 2 ^ 64 - 1 }
+    ensures sent { OnOk result (SendsPieces S.busy S.works S.rests pieces served.old served.new (W.told out.old) (W.told out.new)) }
+    ensures none { OnOk result (waits outbox.new ≡ []) }
+    ensures failed { CountsFailure (result ≡ Err broken.Write) (W.failed out.old) (W.failed out.new) }
+    ensures only { IfErr result IsMemoryOrWrite }
+{
+    if pieces == 0 {
+        served.break_off(outbox)?;
+        return send(alloc, outbox, out);
+    }
+    if !served.is_busy() {
+        return Ok(());
+    }
+    served.work(outbox)?;
+    send(alloc, outbox, out)?;
+    send_pieces(alloc, served, pieces - 1, outbox, out)
+}
+
+// A frame that is no request is told as that.
+fn tell_unclear(outbox: &mut Outbox, fault: Option<MessageFault>) -> Result<(), Memory>
+    requires { waits outbox.old ≡ [] }
+    ensures { OnOk result (IsUnclear (waits outbox.new)) }
+{
+    match fault {
+        None => outbox.output("important", "a header without Content-Length\n"),
+        Some(MessageFault::NotJson) => outbox.output("important", "a message that is not JSON\n"),
+        Some(MessageFault::NotRequest) => {
+            outbox.output("important", "a message that is not a request\n")
+        }
+    }
+}
