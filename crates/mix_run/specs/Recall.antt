@@ -21,18 +21,19 @@ pub record RecallState : Type 0 where
 abbrev pub nothing : RecallState
 nothing = record { again = [] }
 
--- what a request leads to: a stop after steps or after changes that were taken back, which a blank line repeats; another stop; or none
+-- what a request leads to: a stop after steps, or after changes that were taken back, which a blank line repeats; one after other changes that were done;
+-- another stop; or none
 abbrev pub after_request : Request → After
-after_request (ask.Step n) = after.Repeated
+after_request (ask.Step n) = after.Stepped
 after_request (ask.Back n) = after.Repeated
 after_request ask.BackAll = after.Repeated
 after_request ask.BackBreak = after.Repeated
 after_request (ask.BackUntil condition) = after.Repeated
 after_request (ask.Trace n) = after.Stop
-after_request (ask.Run n) = after.Stop
+after_request (ask.Run n) = after.Done
 after_request (ask.RunUntil n condition) = after.Stop
-after_request (ask.Forth n) = after.Stop
-after_request ask.ForthAll = after.Stop
+after_request (ask.Forth n) = after.Done
+after_request ask.ForthAll = after.Done
 after_request (ask.ForthUntil condition) = after.Stop
 after_request (ask.Goto n) = after.Stop
 after_request ask.Nothing = after.Nothing
@@ -46,7 +47,9 @@ after_read (Err refusal) = after.Refused
 
 -- what is recalled when a line of a script was executed
 abbrev pub recalled_after : After → List ℕ → RecallState → RecallState
+recalled_after after.Stepped typed r = record { again = typed }
 recalled_after after.Repeated typed r = record { again = typed }
+recalled_after after.Done typed r = r
 recalled_after after.Stop typed r = r
 recalled_after after.Nothing typed r = r
 recalled_after after.Refused typed r = r

@@ -2,6 +2,7 @@
 //! the program and writes what it prints; or it reports what is wrong with some sources.
 #![tactic(auto)]
 
+mod beside;
 mod bundle;
 mod check;
 mod fault;

@@ -15,6 +15,7 @@ pub(crate) mod options;
 mod row;
 mod steps;
 
+use crate::beside::tell_report;
 use crate::fault::ToolFault;
 use crate::print::options::PrintOptions;
 use crate::print::steps::print_steps;
@@ -218,6 +219,7 @@ pub fn run_printed<S: In, D: In, C: In, W: Out, E: Out>(
             Ok(PrintAnswer::Refused(fault))
         }
         Ok(program) => {
+            tell_report(alloc, name, &text, errors);
             let (deck, cards) = (&mut texts.deck, &mut texts.cards);
             print_program(alloc, &program, deck, cards, options, out)
         }

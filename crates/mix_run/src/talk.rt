@@ -49,6 +49,7 @@ pub struct Streams<R, W, E> {
 // A talk on the machine that a program loads, with its units.
 fn talk_with<R: In, W: Out, E: Out>(
     alloc: Global,
+    name: &str,
     source: &[u8],
     program: Program,
     units: Units,
@@ -80,7 +81,7 @@ fn talk_with<R: In, W: Out, E: Out>(
         errors,
     } = streams;
     let talker = *talker;
-    greet(talker, errors);
+    greet(alloc, name, source, talker, errors);
     match talk(
         &mut session,
         talker,
@@ -159,14 +160,14 @@ fn talk_of_source<S: In, D: In, R: In, W: Out, E: Out>(
                 Ok(units) => units,
                 Err(fault) => return Err(fault),
             };
-            talk_with(alloc, &text, program, units, streams)
+            talk_with(alloc, name, &text, program, units, streams)
         }
     }
 }
 
 /// Assembles a source, reads a deck, and talks with the loaded machine: each line of the input is a command, as a line of a script is, which is done
-/// and answered before the next is read. A person is greeted and prompted on the error output, and has `help` and `quit` beside the commands. The
-/// status is 0 where each command was accepted, 3 where one was refused, and 1 where the source is refused: then its first fault is written, and
+/// and answered before the next is read. A person is told the warnings of the source on the error output, greeted and prompted there, and has `help` and
+/// `quit` beside the commands. The status is 0 where each command was accepted, 3 where one was refused, and 1 where the source is refused: then its first fault is written, and
 /// all of them are told on the error output, with their lines and marks. At most 1,048,577 bytes of the source are read and 33,554,433 of the
 /// deck, before the first line is read; the deck is read after the source. After a refusal or a read that failed nothing else is read.
 ///

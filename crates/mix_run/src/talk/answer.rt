@@ -49,7 +49,7 @@ fn answer_person<W: Out, E: Out>(
         Line::Command => {
             let after = after_reply(session, &typed);
             let told = command(session, &typed, out)?;
-            tell(after, session, &typed, errors);
+            tell(after, told, session, &typed, errors);
             recall.keep(after, &typed)?;
             Ok(Some(told))
         }

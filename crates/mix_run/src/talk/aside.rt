@@ -1,16 +1,18 @@
-//! What is written beside the replies, on the error output, where a person talks: a greeting, prompts, help, the next instruction after a stop, and
-//! the form of a command that is refused.
+//! What is written beside the replies, on the error output, where a person talks: the warnings of the source, a greeting, prompts, help, what the last
+//! step altered and the next instruction after a stop, and the form of a command that is refused.
 
 ghost use Rattle.std.specs.Prelude.{◌≡◌};
 ghost use Rattle.mix_run.specs.Recall.{after_read, after_request};
 ghost use Rattle.mix_session.specs.Session.{request_in};
 
+use crate::beside::tell_report;
 use crate::talk::help::{form_of, help_on};
 use mix_lines::Words;
 use mix_machine::Place;
 use mix_refused::Memory;
-use mix_session::{Answer, Request, Session, Topic};
+use mix_session::{Answer, Request, Session, Told, Topic};
 use mix_stream::{Out, write_all};
+use std::alloc::Global;
 
 /// Who talks: another program or a file, whose lines are all commands; or a person at a terminal, whose lines stand for commands that may be
 /// shortened, who is prompted, may ask for help by a line that begins with the word `help`, and ends the talk by the line `quit`.
@@ -39,13 +41,22 @@ pub(crate) fn say_bytes<E: Out>(text: &[u8], errors: &mut E) {
     }
 }
 
-/// Greets a person, once.
-pub(crate) fn greet<E: Out>(talker: Talker, errors: &mut E)
+/// Greets a person, once, after the warnings of the source.
+pub(crate) fn greet<E: Out>(
+    alloc: Global,
+    name: &str,
+    source: &[u8],
+    talker: Talker,
+    errors: &mut E,
+)
     ensures { talker ≡ Talker.Program → errors.new ≡ errors.old }
 {
     match talker {
         Talker::Program => {}
-        Talker::Person => say(GREETING, errors),
+        Talker::Person => {
+            tell_report(alloc, name, source, errors);
+            say(GREETING, errors);
+        }
     }
 }
 
@@ -77,12 +88,15 @@ pub(crate) fn help<E: Out>(line: &[u8], errors: &mut E) {
     }
 }
 
-/// What follows the reply to a command: a stop, after steps or changes taken back, which a blank line repeats, or another one; nothing; or the form,
-/// if its words are refused.
+/// What follows the reply to a command: a stop, of which the reply itself shows the step, or none was done; one after steps or changes that were done,
+/// of which the last is shown; a stop after steps, or after changes taken back, which a blank line repeats; nothing; or the form, if its words are
+/// refused.
 #[derive(Clone, Copy)]
 pub(crate) enum After {
     Nothing,
     Stop,
+    Done,
+    Stepped,
     Repeated,
     Refused,
 }
@@ -101,37 +115,50 @@ fn after_request(request: Request) -> After
     ensures { result ≡ after_request request }
 {
     match request {
-        Request::Step(_)
-        | Request::Back(_)
-        | Request::BackAll
-        | Request::BackBreak
-        | Request::BackUntil(_) => After::Repeated,
-        Request::Trace(_)
-        | Request::Run(_)
-        | Request::RunUntil(..)
-        | Request::Forth(_)
-        | Request::ForthAll
-        | Request::ForthUntil(_)
-        | Request::Goto(_) => After::Stop,
+        Request::Step(_) => After::Stepped,
+        Request::Back(_) | Request::BackAll | Request::BackBreak | Request::BackUntil(_) => {
+            After::Repeated
+        }
+        Request::Run(_) | Request::Forth(_) | Request::ForthAll => After::Done,
+        Request::Trace(_) | Request::RunUntil(..) | Request::ForthUntil(_) | Request::Goto(_) =>
+            After::Stop,
         Request::Nothing | Request::Change(_) | Request::Show(_) => After::Nothing,
     }
 }
 
-/// A person is told what follows the reply: after a stop the next instruction, and the form of a command that is refused.
-pub(crate) fn tell<E: Out>(after: After, session: &Session, line: &[u8], errors: &mut E) {
-    match after {
-        After::Nothing => {}
-        After::Stop | After::Repeated => tell_place(session, errors),
-        After::Refused => say(form_of(Words::of(line).next()), errors),
+/// A person is told what follows the reply: what the last step altered, if the reply says that it was done; after each stop the next instruction;
+/// and the form of a command that is refused.
+pub(crate) fn tell<E: Out>(
+    after: After,
+    told: Told,
+    session: &Session,
+    line: &[u8],
+    errors: &mut E,
+) {
+    match (after, told) {
+        (After::Nothing, _) => {}
+        (After::Done | After::Stepped, Told::Accepted) => {
+            tell_topic(session, Topic::Last(1), errors);
+            tell_place(session, errors);
+        }
+        (After::Stop | After::Repeated | After::Done | After::Stepped, _) => {
+            tell_place(session, errors)
+        }
+        (After::Refused, _) => say(form_of(Words::of(line).next()), errors),
     }
 }
 
 // The next instruction, with its line of the source.
 fn tell_place<E: Out>(session: &Session, errors: &mut E) {
     if let Some(place) = Place::of(session.world().loc()) {
-        match session.text(&Answer::Shows(Topic::Code(place, place))) {
-            Ok(text) => say_bytes(&text, errors),
-            Err(Memory) => {}
-        }
+        tell_topic(session, Topic::Code(place, place), errors);
+    }
+}
+
+// What `show` shows of a topic.
+fn tell_topic<E: Out>(session: &Session, topic: Topic, errors: &mut E) {
+    match session.text(&Answer::Shows(topic)) {
+        Ok(text) => say_bytes(&text, errors),
+        Err(Memory) => {}
     }
 }

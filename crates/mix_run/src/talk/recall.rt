@@ -67,8 +67,8 @@ impl<'s> Recall<'s> {
         ensures { OnOk result (self.new ≡ recalled_after after line.now self.old) }
     {
         match after {
-            After::Nothing | After::Stop | After::Refused => {}
-            After::Repeated => {
+            After::Nothing | After::Stop | After::Done | After::Refused => {}
+            After::Stepped | After::Repeated => {
                 self.again.clear();
                 self.again.extend_from_slice(line)?;
             }
