@@ -11,6 +11,31 @@ Files of the command line: the name - is standard input, and of one that cannot 
   $ printf 'A CARD\n' | mixrev run a.mixal --cards -
   A CARD
 
+A bundle is run with its deck; a deck or cards of a file are in place of that, and of its script nothing is done.
+
+  $ printf ' IN 9(16)\n OUT 9(19)\n HLT\n END 0\n%%DEVICES\n%%UNIT 16\nOF THE BUNDLE\n%%SCRIPT\nno command\n' >b.mixal
+  $ mixrev run b.mixal </dev/null
+  OF THE BUNDLE
+
+  $ mixrev run - <b.mixal
+  OF THE BUNDLE
+
+  $ printf '%%UNIT 16\nOF A DECK\n' >deck
+  $ mixrev run b.mixal --devices deck </dev/null
+  OF A DECK
+
+  $ printf 'A CARD\n' | mixrev run b.mixal --cards -
+  A CARD
+
+  $ mixrev run b.mixal --devices /dev/null </dev/null
+  stderr: b.mixal:1: M11 no block at 0000 clock 0
+  [3]
+
+  $ printf ' END 0\n%%DEVICES\n%%UNIT 21\n' >c.mixal
+  $ mixrev run c.mixal </dev/null
+  stderr: mixrev: T5 deck refused at line 1: K1 bad header
+  [2]
+
 The first of two reads to the end.
 
   $ printf ' END 0\n' | mixrev debug - -

@@ -1,5 +1,7 @@
 -- What a run answers is the outcome: its parts, one after the other.
-use Rattle.std.proofs.Common.{◌≡◌, ℕ, Bool, true, false, List, Option, Result, Ok, Err, refl, sym, ap, ◌∙◌, take, arith}
+use Rattle.std.proofs.Common.{◌≡◌, ◌<◌, ◌≤◌, ℕ, Bool, true, false, List, Option, Result, Ok, Err, refl, sym, ap, ◌∙◌, length, ltb, take, arith}
+use Rattle.std.proofs.lemmas.Bool.{lt-ltb, ltb-false, ltb-true}
+use Rattle.std.proofs.lemmas.List.{length-take-le, take-take, take_all}
 use Rattle.mixal_asm.specs.Assembly.{assembly}
 use Rattle.mixal_asm.specs.Program.{ProgramValue}
 use Rattle.mixal_asm.specs.declared.fault.AsmFault.{AsmFault}
@@ -8,14 +10,32 @@ use Rattle.mix_machine.specs.units.deck.Deck.{deck_of, cards_of}
 use Rattle.mix_machine.specs.declared.units.deck_fault.DeckFault.{DeckFault}
 use Rattle.mix_run.specs.declared.fault.ToolFault.{ToolFault}
 use Rattle.mix_run.specs.declared.fault.ToolFault.TheVariants as faults
-use Rattle.mix_run.specs.PrintOutput.{Prints, with_cards, outcome_of_run, print_outcome, print_output}
-use Rattle.mix_run.specs.UnitsRead.{GivesUnits}
+use Rattle.mix_run.specs.PrintOutput.{Prints, with_cards, outcome_of_run, parts_of, print_outcome, print_output}
+use Rattle.mix_run.specs.UnitsRead.{GivesUnits, deck_given}
 use Rattle.mix_run.specs.declared.print.PrintAnswer.{PrintAnswer}
 use Rattle.mix_run.specs.declared.print.PrintAnswer.TheVariants.{Refused}
 use Rattle.mix_run.specs.declared.print.options.PrintOptions.{PrintOptions}
 use Rattle.mix_run.proofs.RunLemmas.{Keeps-same}
 use Rattle.mix_run.proofs.Truncation.{assembly-take}
 use Rattle.mix_run.proofs.Written.{Appends-nothing}
+
+-- a source is assembled from its first bytes, and so from more of them
+assembly-of-front : (text : List ℕ) → assembly (take 41943041 text) ≡ assembly text
+assembly-of-front text =
+    let same : take 1048577 (take 41943041 text) ≡ take 1048577 text = take-take 1048577 41943041 text (omega arith) in
+    sym (assembly-take (take 41943041 text)) ∙ ap assembly same ∙ assembly-take text
+
+parts-read-as : (text read : List ℕ) → read ≡ take 41943041 text → (v : Bool) → ltb 41943040 (length text) ≡ v
+    → (assembly (parts_of read).source ≡ assembly (parts_of text).source) × ((parts_of read).deck ≡ (parts_of text).deck)
+unfolding parts_of
+parts-read-as text read e true long =
+    let many : 41943041 ≤ length text = omega (arith, ltb-true 41943040 (length text) long) in
+    let more : 41943040 < length read = omega (arith, ap length e ∙ length-take-le 41943041 text many) in
+    rw (lt-ltb 41943040 (length read) more, long) (ap assembly e ∙ assembly-of-front text, refl)
+parts-read-as text read e false few =
+    let none : length text ≤ 41943040 = ltb-false 41943040 (length text) few in
+    let same : read ≡ text = e ∙ take_all 41943041 text (omega arith) in
+    (ap (λ t. assembly (parts_of t).source) same, ap (λ t. (parts_of t).deck) same)
 
 -- a deck that gives no units
 pub gives-no_deck : (deck : Result UnitsState DeckFault) (given : Bool) (cards : List ℕ) (fault : ToolFault) → GivesUnits deck (Err fault) →
@@ -53,19 +73,33 @@ pub Prints-units : (options : PrintOptions) (program : ProgramValue) (given : Re
 unfolding print_outcome
 Prints-units options program given units done old new made met = rw made met
 
+-- the parts of a text that was read up to one byte more than a bundle may have
+pub parts-read : (text read : List ℕ) → read ≡ take 41943041 text
+    → (assembly (parts_of read).source ≡ assembly (parts_of text).source) × ((parts_of read).deck ≡ (parts_of text).deck)
+parts-read text read e = parts-read-as text read e (ltb 41943040 (length text)) refl
+
+-- one that is assembled is not refused
+pub parts-taken : (text read source : List ℕ) (program : ProgramValue) (fault : AsmFault) → read ≡ take 41943041 text → source ≡ (parts_of read).source
+    → assembly source ≡ Ok program → assembly (parts_of text).source ≡ Err fault → ⊥
+parts-taken text read source program fault e s taken refused =
+    let same : assembly source ≡ assembly (parts_of text).source = ap assembly s ∙ (parts-read text read e).0 in cc
+
 -- a refused source
-pub Prints-refused : (options : PrintOptions) (source read deck cards : List ℕ) (fault : AsmFault) (answer : PrintAnswer) (told : Option (List ℕ)) →
-    read ≡ take 1048577 source → assembly read ≡ Err fault → answer ≡ Refused fault → Prints (print_output options source deck cards) (Ok answer) told told
+pub Prints-refused : (options : PrintOptions) (text read source deck cards : List ℕ) (fault : AsmFault) (answer : PrintAnswer) (told : Option (List ℕ)) →
+    read ≡ take 41943041 text → source ≡ (parts_of read).source → assembly source ≡ Err fault → answer ≡ Refused fault
+    → Prints (print_output options text deck cards) (Ok answer) told told
 unfolding print_output print_outcome
-Prints-refused options source read deck cards fault answer told e f is =
-    let here : assembly source ≡ Err fault = sym (ap assembly e ∙ assembly-take source) ∙ f in
+Prints-refused options text read source deck cards fault answer told e s f is =
+    let here : assembly (parts_of text).source ≡ Err fault = sym (parts-read text read e).0 ∙ sym (ap assembly s) ∙ f in
     rw (here, is) (refl, Appends-nothing told)
 
--- a source that was read up to one byte more than it may have
-pub Prints-source : (options : PrintOptions) (source read deck cards : List ℕ) (program : ProgramValue) (done : Result PrintAnswer ToolFault) (old new : Option (List ℕ)) →
-    read ≡ take 1048577 source → assembly read ≡ Ok program →
-    Prints (print_outcome options (Ok program) (with_cards (deck_of deck) options.cards cards)) done old new → Prints (print_output options source deck cards) done old new
+-- a source, with the deck of its bundle
+pub Prints-parts : (options : PrintOptions) (text read source own deck cards : List ℕ) (program : ProgramValue) (done : Result PrintAnswer ToolFault)
+    (old new : Option (List ℕ)) → read ≡ take 41943041 text → source ≡ (parts_of read).source → own ≡ (parts_of read).deck → assembly source ≡ Ok program →
+    Prints (print_outcome options (Ok program) (with_cards (deck_of (deck_given options.deck own deck)) options.cards cards)) done old new
+    → Prints (print_output options text deck cards) done old new
 unfolding print_output
-Prints-source options source read deck cards program done old new e f met =
-    let here : assembly source ≡ Ok program = sym (ap assembly e ∙ assembly-take source) ∙ f in
-    rw here met
+Prints-parts options text read source own deck cards program done old new e s o made met =
+    let here : assembly (parts_of text).source ≡ Ok program = sym (parts-read text read e).0 ∙ sym (ap assembly s) ∙ made in
+    let deck-here : own ≡ (parts_of text).deck = o ∙ (parts-read text read e).1 in
+    rw here (rw deck-here at met)

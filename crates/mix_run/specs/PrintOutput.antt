@@ -1,5 +1,5 @@
--- What `run` writes and answers: a function of the source, the deck, the cards, and what is asked for.
-use Rattle.std.specs.Prelude.{◌≡◌, ℕ, Bool, Option, List, [], Result, Ok, Err, if◌then◌else◌}
+-- What `run` writes and answers: a function of the source or bundle, the deck, the cards, and what is asked for.
+use Rattle.std.specs.Prelude.{◌≡◌, ℕ, Bool, Option, List, [], Result, Ok, Err, length, nat_lt, if◌then◌else◌}
 use Rattle.std.specs.Io.KnownBytes.{Appends, Keeps}
 use Rattle.mixal_asm.specs.Assembly.{assembly}
 use Rattle.mixal_asm.specs.Program.{ProgramValue}
@@ -11,7 +11,10 @@ use Rattle.mix_machine.specs.declared.units.deck_fault.DeckFault.{DeckFault}
 use Rattle.mix_run.specs.declared.fault.ToolFault.{ToolFault}
 use Rattle.mix_run.specs.declared.fault.ToolFault.TheVariants as faults
 use Rattle.mix_stream.specs.Stream.{AppendsFront}
+use Rattle.mix_run.specs.Bundle.{Cut, cut_of}
+use Rattle.mix_run.specs.Output.{max_bundle_bytes}
 use Rattle.mix_run.specs.Print.{Run, printed, line_at}
+use Rattle.mix_run.specs.UnitsRead.{deck_given}
 use Rattle.mix_run.specs.declared.print.PrintAnswer.{PrintAnswer}
 use Rattle.mix_run.specs.declared.print.PrintAnswer.TheVariants.{Ran, Refused}
 use Rattle.mix_run.specs.declared.print.RanTo.{RanTo}
@@ -43,9 +46,15 @@ print_outcome options (Err fault) units = Answered [] (Refused fault)
 print_outcome options (Ok program) (Err fault) = UnitsRefused fault
 print_outcome options (Ok program) (Ok units) = outcome_of_run options program units
 
--- source, deck and cards
+-- the source and the deck of a text: those of a bundle; a text that is longer than a bundle may be is a source alone
+unfoldable pub parts_of : List ℕ → Cut
+parts_of text = if nat_lt max_bundle_bytes (length text) then record { source = text; deck = []; script = [] } else cut_of text
+
+-- a bundle or a source, a deck that is given in place of its own, and cards
 unfoldable pub print_output : PrintOptions → List ℕ → List ℕ → List ℕ → PrintOutcome
-print_output options source deck cards = print_outcome options (assembly source) (with_cards (deck_of deck) options.cards cards)
+print_output options text deck cards =
+    let parts = parts_of text in
+    print_outcome options (assembly parts.source) (with_cards (deck_of (deck_given options.deck parts.deck deck)) options.cards cards)
 
 -- the bytes that an outcome writes
 abbrev pub bytes_of : PrintOutcome → List ℕ

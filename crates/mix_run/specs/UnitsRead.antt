@@ -1,5 +1,5 @@
 -- What the reading of units answers: the units of a deck or of cards, or why there are none.
-use Rattle.std.specs.Prelude.{◌≡◌, ⊤, Result, Ok, Err}
+use Rattle.std.specs.Prelude.{◌≡◌, ⊤, ℕ, Bool, List, Result, Ok, Err, if◌then◌else◌}
 use Rattle.mix_machine.specs.units.Units.{UnitsState}
 use Rattle.mix_machine.specs.declared.units.deck_fault.DeckFault.{DeckFault}
 use Rattle.mix_run.specs.declared.fault.ToolFault.{ToolFault}
@@ -13,3 +13,7 @@ GivesUnits expected (Err faults.Memory) = ⊤
 GivesUnits expected (Err faults.Read) = ⊤
 GivesUnits expected (Err faults.Write) = ⊥
 GivesUnits expected (Err faults.Long) = ⊥
+
+-- a deck that is given is in the place of the one that a bundle has
+abbrev pub deck_given : Bool → List ℕ → List ℕ → List ℕ
+deck_given given own deck = if given then deck else own

@@ -3,6 +3,7 @@
 ghost use Rattle.std.specs.Prelude.{◌≡◌, ◌≢◌, ◌<◌, ◌+◌, ◌-◌, ◌^◌, ℕ, List, Some, Err, IfOk};
 ghost use Rattle.std.specs.Io.KnownBytes.{Keeps};
 ghost use Rattle.mix_run.specs.Bundle.{after_marker, before_marker, cut_of};
+ghost use Rattle.mix_run.specs.PrintOutput.{parts_of};
 ghost use Rattle.mix_run.specs.Output.{Meets, IsStatus, output, bundle_output, max_bundle_bytes};
 ghost use Rattle.mix_stream.specs.Stream.{ConsumesAtMost, CountsFailure};
 
@@ -17,7 +18,7 @@ use mixal_asm::assemble;
 use std::alloc::Global;
 
 /// The most bytes that a bundle may have.
-const MAX_BUNDLE_BYTES: usize = 41_943_040;
+pub(crate) const MAX_BUNDLE_BYTES: usize = 41_943_040;
 
 const DEVICES: &[u8] = b"%DEVICES";
 
@@ -44,6 +45,23 @@ pub(crate) fn cut(bundle: &[u8]) -> BundleParts<'_>
         deck,
         script,
     }
+}
+
+/// Cuts a text as a bundle; one that is longer than a bundle may be is a source alone.
+#[tactic(auto, unfolding(crate::specs::PrintOutput::parts_of))]
+pub(crate) fn parts_of(text: &[u8]) -> BundleParts<'_>
+    ensures source { result.source.now ≡ (parts_of text.now).source }
+    ensures deck { result.deck.now ≡ (parts_of text.now).deck }
+    ensures script { result.script.now ≡ (parts_of text.now).script }
+{
+    if text.len() > MAX_BUNDLE_BYTES {
+        return BundleParts {
+            source: text,
+            deck: b"",
+            script: b"",
+        };
+    }
+    cut(text)
 }
 
 #[tactic(auto, using(crate::proofs::CutLemmas::cutting))]

@@ -1,9 +1,9 @@
 //! The units that a run begins with: those of a deck, and the cards of a text.
-ghost use Rattle.std.specs.Prelude.{◌≡◌, ◌≢◌, ◌<◌, ◌+◌, ◌-◌, ◌^◌, ℕ, List, Some, Ok, Err, IfErr, IfOk, drop};
+ghost use Rattle.std.specs.Prelude.{◌≡◌, ◌≢◌, ◌<◌, ◌+◌, ◌-◌, ◌^◌, ℕ, List, Some, Ok, Err, IfErr, IfOk, drop, false, true};
 ghost use Rattle.mix_machine.specs.units.deck.Deck.{deck_of, cards_of, max_deck_bytes};
 ghost use Rattle.mix_stream.specs.Stream.{ConsumesAtMost, CountsFailure};
 ghost use Rattle.mix_run.specs.Output.{IsDeckRefusal};
-ghost use Rattle.mix_run.specs.UnitsRead.{GivesUnits};
+ghost use Rattle.mix_run.specs.UnitsRead.{GivesUnits, deck_given};
 
 use crate::fault::ToolFault;
 use mix_machine::{MAX_DECK_BYTES, Units};
@@ -34,6 +34,28 @@ pub(crate) fn read_units<D: In>(alloc: Global, deck: &mut D) -> Result<Units, To
 {
     let text = read_up_to(alloc, deck, MAX_DECK_BYTES + 1)?;
     units_of(alloc, &text)
+}
+
+/// The units of a deck that is read if it is given, and otherwise of a text.
+pub(crate) fn given_units<D: In>(
+    alloc: Global,
+    own: &[u8],
+    deck: &mut D,
+    given: bool,
+) -> Result<Units, ToolFault>
+    requires { D.failed deck.old < 2 ^ 64 - 1 }
+    ensures units { (d : List ℕ) → D.rest deck.old ≡ Some d → GivesUnits (deck_of (deck_given given own.now d)) result }
+    ensures whole { (d : List ℕ) → D.rest deck.old ≡ Some d → given ≡ true → IfOk result (λ _. D.rest deck.new ≡ Some (drop (max_deck_bytes + 1) d)) }
+    ensures read { CountsFailure (result ≡ Err ToolFault.Read) (D.failed deck.old) (D.failed deck.new) }
+    ensures deck { ConsumesAtMost (D.rest deck.old) (D.rest deck.new) (max_deck_bytes + 1) }
+    ensures unread { given ≡ false → deck.new ≡ deck.old }
+    ensures only { result ≢ Err ToolFault.Write }
+{
+    if given {
+        read_units(alloc, deck)
+    } else {
+        units_of(alloc, own)
+    }
 }
 
 /// Units with the cards of a text in place of those of unit 16; the text is read up to one byte more than it may have.

@@ -102,8 +102,8 @@ abbrev pub units_of : Printing → UnitSet
 units_of printing =
     record { card_punch = printing.punch; printer = printing.printer; typewriter = printing.typewriter; paper_tape = printing.tape }
 
-abbrev pub options_of : {Name : Type 0} → Option Name → ℕ → Printing → PrintOptions
-options_of cards steps printing = record { steps = steps; units = units_of printing; cards = is_some cards }
+abbrev pub options_of : {Name : Type 0} → Option Name → Option Name → ℕ → Printing → PrintOptions
+options_of devices cards steps printing = record { steps = steps; units = units_of printing; deck = is_some devices; cards = is_some cards }
 
 -- what is seen of some streams
 abbrev pub seen : {R W E : Type 0} → (R → Option (List ℕ)) → (W → Option (List ℕ)) → (E → Option (List ℕ)) → (E → ℕ) → Streams R W E → Seen
@@ -128,7 +128,7 @@ RunsOn all (plan.Check sources json) given talker status before after =
     Runs (check_output json (named_of all (map string_bytes sources.items))) status before after
 RunsOn all (plan.Debug source script devices) given talker status before after = DebugsOn script given talker status before after
 RunsOn all (plan.Run source cards devices steps printing) given talker status before after =
-    PrintRuns (print_output (options_of cards steps printing) given.source given.deck given.cards) status before after
+    PrintRuns (print_output (options_of devices cards steps printing) given.source given.deck given.cards) status before after
 RunsOn all plan.Dap given talker status before after = status ≤ 2
 
 -- the first file that can't be opened is told and why, and the status is 2; if there is none, the run is made

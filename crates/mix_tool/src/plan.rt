@@ -59,8 +59,13 @@ fn names_in(plan: &Plan) -> Names<'_>
 }
 
 // What is asked of a run.
-fn options_of(cards: &Option<String>, steps: u64, printing: Printing) -> PrintOptions
-    ensures { result ≡ options_of cards.now steps printing }
+fn options_of(
+    devices: &Option<String>,
+    cards: &Option<String>,
+    steps: u64,
+    printing: Printing,
+) -> PrintOptions
+    ensures { result ≡ options_of devices.now cards.now steps printing }
 {
     PrintOptions {
         steps,
@@ -70,6 +75,7 @@ fn options_of(cards: &Option<String>, steps: u64, printing: Printing) -> PrintOp
             typewriter: printing.typewriter,
             paper_tape: printing.tape,
         },
+        deck: devices.is_some(),
         cards: cards.is_some(),
     }
 }
@@ -151,11 +157,11 @@ fn run_on<O: Opener + Library, C: Read, R: In, W: Out, E: Out>(
         Plan::Run {
             source,
             cards,
+            devices,
             steps,
             printing,
-            ..
         } => {
-            let options = options_of(cards, *steps, *printing);
+            let options = options_of(devices, cards, *steps, *printing);
             let mut texts = texts.of_run();
             let (out, errors) = (&mut streams.out, &mut streams.errors);
             let outcome = run_printed(alloc, source, &mut texts, options, out, errors);
@@ -170,7 +176,7 @@ fn run_on<O: Opener + Library, C: Read, R: In, W: Out, E: Out>(
 
 /// Does what a plan asks for: a bundle or a talk from the input, a listing, a check, a run or a session of files, or what a client of the debug adapter asks
 /// for. All go to the output. The files of a plan are opened before any is read, in the order source, deck, cards or script; without a deck all
-/// units are empty. Each source of a check is read before the next is opened, and nothing is written before all were read.
+/// units are empty, but a run takes that of its bundle. Each source of a check is read before the next is opened, and nothing is written before all were read.
 ///
 /// The status is that of the run. It is 2 where the tool itself fails; then that fault stands on the error output, as
 /// `mixrev: T2 read failed`, or for the first file that cannot be opened `mixrev: T4 not opened: NAME: REASON`. A write there that

@@ -44,6 +44,7 @@ fn printed_by(alloc: Global, fields: &[&str], size: usize) -> Option<String> {
     let options = PrintOptions {
         steps: number(steps)?,
         units: units_of(units)?,
+        deck: true,
         cards: is_given,
     };
     let mut out = Sink::of(size, 0);

@@ -1,4 +1,4 @@
-//! What is asked of a run: how many steps, the rows of which units, and whether cards are given.
+//! What is asked of a run: how many steps, the rows of which units, and whether a deck and cards are given.
 ghost use Rattle.std.specs.Prelude.{◌≡◌, true, false};
 
 /// The units whose rows are printed (1.3.1): of the card punch, unit 17, the printer, 18, the typewriter, 19, and the paper tape, 20, those that
@@ -36,6 +36,8 @@ pub struct PrintOptions {
     pub steps: u64,
     /// The units whose rows are printed.
     pub units: UnitSet,
+    /// Whether the deck is read from a text of its own, in place of that of the bundle.
+    pub deck: bool,
     /// Whether the cards of unit 16 are read from a text of their own, in place of those of the deck.
     pub cards: bool,
 }
