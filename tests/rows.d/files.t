@@ -36,6 +36,22 @@ A bundle is run with its deck; a deck or cards of a file are in place of that, a
   stderr: mixrev: T5 deck refused at line 1: K1 bad header
   [2]
 
+A binary of mixasm is named as one, and its status is that of a refused source.
+
+  $ printf '\255\336\357\276\1\0\0\0' >hello.mix
+  $ mixrev run hello.mix </dev/null
+  stderr: hello.mix: error: this is a binary of mixasm, not a source
+  [1]
+
+  $ printf '' | mixrev debug hello.mix
+  line 1: A1 bad byte
+  stderr: hello.mix: error: this is a binary of mixasm, not a source
+  [1]
+
+  $ printf '\255\336\357' >three.mix
+  $ mixrev run three.mix </dev/null 2>&1 | head -n 1
+  stderr: three.mix:1:1: error: A1 bad byte
+
 The first of two reads to the end.
 
   $ printf ' END 0\n' | mixrev debug - -

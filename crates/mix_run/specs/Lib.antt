@@ -8,5 +8,6 @@ pub mod Print
 pub mod PrintOutput
 pub mod PrintSteps
 pub mod Recall
+pub mod Refusal
 pub mod Talk
 pub mod UnitsRead
