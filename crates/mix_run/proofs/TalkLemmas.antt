@@ -20,7 +20,7 @@ use Rattle.mix_stream.specs.Stream.{AppendsFront}
 use Rattle.mix_run.specs.Output.{replies}
 use Rattle.mix_run.specs.Recall.{RecallState, meant, meant_by, nothing, recalled}
 use Rattle.mix_run.specs.Talk.{AnswersRead, Talks, after_lines, answers, asked, is_over, is_end, is_quit, is_too_long, is_whole, max_line_bytes, recalled_all}
-use Rattle.mix_run.specs.Hearing.{Begins, Hears}
+use Rattle.mix_run.specs.Hearing.{Hears}
 use Rattle.mix_run.specs.Person.{kind_of, person_line}
 use Rattle.mix_run.specs.declared.talk.person.Line.{Line}
 use Rattle.mix_run.specs.declared.talk.person.Line.TheVariants as line_kind
@@ -333,22 +333,6 @@ Hears-nothing s talker r last left told a same none is = record {
   written = Appends-nothing a;
 }
 
--- a part with no line feed is heard, and nothing is answered
-pub Hears-part : (s : SessionState) (talker : Talker) (r : RecallState) (left : List ℕ) (told : Told) (a : Option (List ℕ)) → told ≡ (replies s []).told
-    → list_any is_line_feed left ≡ false → Appends a a [] → Hears s talker r left left s r told false a a
-unfolding lines
-Hears-part s talker r left told a is part nothing = record {
-  front = [];
-  parts = refl;
-  whole = refl;
-  part = part;
-  session = refl;
-  recall = refl;
-  told = is;
-  over = refl;
-  written = nothing;
-}
-
 -- ---- one line of a text
 
 pub not_so : (v : Bool) → (v ≡ true → ⊥) → v ≡ false
@@ -464,52 +448,39 @@ module _ (s : SessionState) (talker : Talker) (r : RecallState) (rest : List ℕ
 
 -- ---- some bytes more
 
-pub err-any : {T E : Type 0} (r : Result T E) (P : Type 0) → P → IfErr r (λ _. P)
-err-any (Ok x) P h = tt
-err-any (Err e) P h = h
+-- some bytes after those that are left: the lines that are whole, and what stands after them
+module _ (left part front rest : List ℕ) (parts : part ≡ front ++ rest) where
+  -- no line is whole yet
+  pub more-parts : front ≡ [] → left ++ part ≡ left ++ rest
+  more-parts none = ap (λ t. left ++ t) (parts ∙ ap (λ l. l ++ rest) none)
 
--- no line is whole yet
-module _ (left part front rest : List ℕ) (parts : part ≡ front ++ rest) (line : list_any is_line_feed left ≡ false) where
-  pub Hears-more : (s : SessionState) (talker : Talker) (r : RecallState) (told : Told) (a : Option (List ℕ)) → front ≡ [] → list_any is_line_feed rest ≡ false
-      → told ≡ (replies s []).told → Appends a a [] → Hears s talker r (left ++ part) (left ++ rest) s r told false a a
-  Hears-more s talker r told a none after is nothing =
-      let same : part ≡ rest = parts ∙ ap (λ l. l ++ rest) none in
-      let clear : list_any is_line_feed (left ++ rest) ≡ false =
-      list_any-append is_line_feed left rest ∙ ap (λ v. v || list_any is_line_feed rest) line ∙ after in
-      subst (λ t. Hears s talker r (left ++ t) (left ++ rest) s r told false a a) (sym same) (Hears-part s talker r (left ++ rest) told a is clear nothing)
-
-  joined-parts : left ++ part ≡ (left ++ front) ++ rest
-  joined-parts = ap (λ t. left ++ t) parts ∙ sym (append_assoc left front rest)
+  pub more-clear : list_any is_line_feed left ≡ false → list_any is_line_feed rest ≡ false → list_any is_line_feed (left ++ rest) ≡ false
+  more-clear line after = list_any-append is_line_feed left rest ∙ ap (λ v. v || list_any is_line_feed rest) line ∙ after
 
   -- the line that was begun, and those that end it
-  module _ (s : SessionState) (talker : Talker) (r : RecallState) (text : List ℕ) (is : text ≡ left ++ front) (some : 0 < length front) (whole : is_whole front ≡ true) where
-    text-whole : is_whole text ≡ true
-    text-whole = ap is_whole is ∙ whole-onto left front some whole
+  pub joined-parts : left ++ part ≡ (left ++ front) ++ rest
+  joined-parts = ap (λ t. left ++ t) parts ∙ sym (append_assoc left front rest)
 
-    text-parts : left ++ part ≡ text ++ rest
-    text-parts = joined-parts ∙ ap (λ t. t ++ rest) (sym is)
+  pub joined-whole : 0 < length front → is_whole front ≡ true → is_whole (left ++ front) ≡ true
+  joined-whole some whole = whole-onto left front some whole
 
-    pub Begins-more : (a b : Option (List ℕ)) → AppendsFront a b (answers s talker r (lines text)).bytes → Begins s talker r (left ++ part) a b
-    Begins-more a b begun = (text, rest, text-parts, text-whole, begun)
-
-    pub Hears-answered : (now : SessionState) (last : RecallState) (said : Told) (ends : Bool) (later : List ℕ) (a b : Option (List ℕ)) → later ≡ rest
-        → list_any is_line_feed rest ≡ false → now ≡ after_lines s (asked s talker r (lines text)) → last ≡ recalled_all s talker r (lines text) → ends ≡ is_over talker (lines text)
-        → (said ≡ (answers s talker r (lines text)).told) × Appends a b (answers s talker r (lines text)).bytes
-        → Hears s talker r (left ++ part) later now last said ends a b
-    Hears-answered now last said ends later a b same after session recall over replied = record {
-      front = text;
-      parts = text-parts ∙ ap (λ t. text ++ t) (sym same);
-      whole = text-whole;
-      part = ap (list_any is_line_feed) same ∙ after;
-      session = session;
-      recall = recall;
-      told = replied.0;
-      over = over;
-      written = replied.1;
-    }
-
-pub Begins-nothing : (s : SessionState) (talker : Talker) (r : RecallState) (bytes : List ℕ) (a : Option (List ℕ)) → Begins s talker r bytes a a
-Begins-nothing s talker r bytes a = ([], bytes, refl, refl, (0, omega arith, Appends-nothing a))
+-- the whole lines among some bytes are answered
+pub Hears-lines : (s : SessionState) (talker : Talker) (r : RecallState) (bytes text left given : List ℕ) (now : SessionState) (last : RecallState) (said : Told)
+    (ends : Bool) (a b : Option (List ℕ)) → bytes ≡ text ++ left → is_whole text ≡ true → list_any is_line_feed left ≡ false → given ≡ text
+    → now ≡ after_lines s (asked s talker r (lines given)) → last ≡ recalled_all s talker r (lines given) → ends ≡ is_over talker (lines given)
+    → (said ≡ (answers s talker r (lines given)).told) × Appends a b (answers s talker r (lines given)).bytes
+    → Hears s talker r bytes left now last said ends a b
+Hears-lines s talker r bytes text left given now last said ends a b parts whole part is session recall over replied = record {
+  front = given;
+  parts = parts ∙ ap (λ t. t ++ left) (sym is);
+  whole = ap is_whole is ∙ whole;
+  part = part;
+  session = session;
+  recall = recall;
+  told = replied.0;
+  over = over;
+  written = replied.1;
+}
 
 pub some-from_length : (xs : List ℕ) → false ≡ eqb (length xs) 0 → 0 < length xs
 some-from_length [] e = absurd (true≢false (sym e))
@@ -607,17 +578,17 @@ module _ (s mid : SessionState) (talker : Talker) (between : RecallState) (bytes
         let ys = (answers mid talker between (lines text)).bytes in
         AppendsFront-after a b c said-before ys [] (answers s talker nothing (lines t)).bytes h.written begun (last-bytes ∙ ap (λ l. said-before ++ l) (sym (append-nil ys)))
 
-  pub more-begun : (t part rest : List ℕ) (c : Option (List ℕ)) → t ≡ (bytes ++ part) ++ rest → Begins mid talker between (left ++ part) b c
-      → AppendsFront a c (answers s talker nothing (lines t)).bytes
-  more-begun t part rest c e k =
-      let later = k.1 ++ rest in
-      let front = front-said mid talker between k.0 later k.3 in
-      let text : left ++ (part ++ rest) ≡ k.0 ++ later =
-      sym (append_assoc left part rest) ∙ ap (λ l. l ++ rest) k.2 ∙ append_assoc k.0 k.1 rest in
-      let whole : (answers s talker nothing (lines t)).bytes ≡ said-before ++ ((answers mid talker between (lines k.0)).bytes ++ front.0) =
+  pub more-begun : (t part rest text more : List ℕ) (c : Option (List ℕ)) → t ≡ (bytes ++ part) ++ rest → left ++ part ≡ text ++ more → is_whole text ≡ true
+      → AppendsFront b c (answers mid talker between (lines text)).bytes → AppendsFront a c (answers s talker nothing (lines t)).bytes
+  more-begun t part rest text more c e parts is_text begun =
+      let later = more ++ rest in
+      let front = front-said mid talker between text later is_text in
+      let same : left ++ (part ++ rest) ≡ text ++ later =
+      sym (append_assoc left part rest) ∙ ap (λ l. l ++ rest) parts ∙ append_assoc text more rest in
+      let whole : (answers s talker nothing (lines t)).bytes ≡ said-before ++ ((answers mid talker between (lines text)).bytes ++ front.0) =
       ap (λ l. (answers s talker nothing (lines l)).bytes) (e ∙ append_assoc bytes part rest) ∙ bytes-step (part ++ rest)
-      ∙ ap (λ l. said-before ++ (answers mid talker between (lines l)).bytes) text ∙ ap (λ l. said-before ++ l) front.1 in
-      AppendsFront-after a b c said-before (answers mid talker between (lines k.0)).bytes front.0 (answers s talker nothing (lines t)).bytes h.written k.4 whole
+      ∙ ap (λ l. said-before ++ (answers mid talker between (lines l)).bytes) same ∙ ap (λ l. said-before ++ l) front.1 in
+      AppendsFront-after a b c said-before (answers mid talker between (lines text)).bytes front.0 (answers s talker nothing (lines t)).bytes h.written begun whole
 
 -- a part of a line that is longer than a line may be
 pub too-long : (s now : SessionState) (talker : Talker) (last : RecallState) (bytes left : List ℕ) (told : Told) (ends : Bool) (a b : Option (List ℕ))
@@ -629,6 +600,14 @@ too-long s now talker last bytes left told ends a b h over t rest e =
     ∙ ap (list_any is_too_long) (lines-append h.front (left ++ rest) h.whole)
     ∙ list_any-append is_too_long (lines h.front) (lines (left ++ rest))
     ∙ ap (λ v. list_any is_too_long (lines h.front) || v) (long-first left rest h.part over) ∙ or-true (list_any is_too_long (lines h.front))
+
+-- and the text has more bytes than a line may have
+pub long-text : (s now : SessionState) (talker : Talker) (last : RecallState) (bytes left : List ℕ) (told : Told) (ends : Bool) (a b : Option (List ℕ))
+    → Hears s talker nothing bytes left now last told ends a b → max_line_bytes + 2 < length left → (t rest : List ℕ) → t ≡ bytes ++ rest
+    → max_line_bytes < length t
+long-text s now talker last bytes left told ends a b h over t rest e =
+    let same : t ≡ h.front ++ (left ++ rest) = e ∙ ap (λ l. l ++ rest) h.parts ∙ append_assoc h.front left rest in
+    rw (same, length-append, length-append) (omega (arith, over))
 
 -- a line ended the talk
 pub ended : (s now : SessionState) (talker : Talker) (last : RecallState) (bytes left : List ℕ) (told all : Told) (ends : Bool) (a b : Option (List ℕ))

@@ -7,7 +7,6 @@ use Rattle.mix_session.specs.Session.{SessionState}
 use Rattle.mix_session.specs.declared.reply.Told.{Told}
 use Rattle.mix_run.specs.Talk.{after_lines, answers, asked, is_over, is_whole, recalled_all}
 use Rattle.mix_run.specs.Recall.{RecallState}
-use Rattle.mix_stream.specs.Stream.{AppendsFront}
 use Rattle.mix_run.specs.declared.talk.aside.Talker.{Talker}
 
 -- some bytes were heard: the whole lines among them are answered, and what is left is part of a line
@@ -21,8 +20,3 @@ pub record Hears (s : SessionState) (talker : Talker) (r : RecallState) (bytes l
   pub told : said ≡ (answers s talker r (lines front)).told
   pub over : ends ≡ is_over talker (lines front)
   pub written : Appends old new (answers s talker r (lines front)).bytes
-
--- a beginning of the replies to the whole lines among some bytes was written
-abbrev pub Begins : SessionState → Talker → RecallState → List ℕ → Option (List ℕ) → Option (List ℕ) → Type 0
-Begins s talker r bytes old new =
-    (front : List ℕ) × (left : List ℕ) × (bytes ≡ front ++ left) × (is_whole front ≡ true) × AppendsFront old new (answers s talker r (lines front)).bytes

@@ -8,7 +8,6 @@ ghost use Rattle.mix_machine.specs.declared.units.deck_fault.DeckFault.{DeckFaul
 ghost use Rattle.mix_run.specs.Fault.{IsMemoryOrWrite};
 ghost use Rattle.mix_run.specs.Recall.{nothing};
 ghost use Rattle.mix_run.specs.Talk.{Talks, after_lines, answers, asked, is_over, is_quit, is_too_long, is_whole, max_line_bytes, recalled_all};
-ghost use Rattle.mix_run.specs.Hearing.{Begins, Hears};
 ghost use Rattle.mix_stream.specs.Stream.{AppendsFront, CountsFailure};
 
 use crate::fault::ToolFault;
@@ -19,6 +18,8 @@ use mix_lines::split_line;
 use mix_refused::Memory;
 use mix_session::{Session, Told};
 use mix_stream::{CHUNK, In, Out};
+use std::alloc::Global;
+use std::mem;
 
 /// The most bytes that a line of a talk may have with its end, which has at most two.
 const MAX_WHOLE_LINE_BYTES: usize = 1_048_578;
@@ -29,11 +30,6 @@ pub(crate) struct Heard {
     told: Told,
     is_over: bool,
 }
-
-const NOTHING: Heard = Heard {
-    told: Told::Accepted,
-    is_over: false,
-};
 
 // The lines of a text, one after the other, up to the one that ends the talk.
 fn answer_lines<W: Out, E: Out>(
@@ -107,35 +103,22 @@ fn keep(pending: &mut Vec<u8>, bytes: &[u8]) -> Result<(), Memory>
     Ok(())
 }
 
-// Some bytes more: the lines that are whole now are answered, and what stands after them is left.
-fn hear<W: Out, E: Out>(
-    session: &mut Session,
-    talker: Talker,
-    recall: &mut Recall,
-    pending: &mut Vec<u8>,
-    part: &[u8],
-    out: &mut W,
-    errors: &mut E,
-) -> Result<Heard, ToolFault>
-    requires line { list_any is_line_feed pending.old.items ≡ false }
-    requires count { W.failed out.old < 2 ^ 64 - 1 }
-    ensures heard { IfOk result (λ heard. Hears session.old talker recall.old (pending.old.items ++ part.now) pending.new.items session.new recall.new heard.told heard.is_over
-        (W.told out.old) (W.told out.new)) }
-    ensures begun { IfErr result (λ _. Begins session.old talker recall.old (pending.old.items ++ part.now) (W.told out.old) (W.told out.new)) }
-    ensures write { CountsFailure (result ≡ Err ToolFault.Write) (W.failed out.old) (W.failed out.new) }
-    ensures only { IfErr result IsMemoryOrWrite }
-    ensures quiet { talker ≡ Talker.Program → errors.new ≡ errors.old }
+// Some bytes more, after those that are pending: the lines that are whole now are taken, and what stands after them is left.
+fn take_lines(alloc: Global, pending: &mut Vec<u8>, part: &[u8]) -> Result<Vec<u8>, Memory>
+    requires { list_any is_line_feed pending.old.items ≡ false }
+    ensures parts { IfOk result (λ text. pending.old.items ++ part.now ≡ text.items ++ pending.new.items) }
+    ensures whole { IfOk result (λ text. is_whole text.items ≡ true) }
+    ensures rest { IfOk result (λ _. list_any is_line_feed pending.new.items ≡ false) }
 {
     let (whole, rest) = split_whole(part);
     if whole.is_empty() {
         keep(pending, rest)?;
-        return Ok(NOTHING);
+        return Ok(Vec::new(alloc));
     }
-    keep(pending, whole)?;
-    let heard = answer_lines(session, talker, recall, pending, out, errors)?;
-    pending.clear();
+    let mut text = mem::replace(pending, Vec::new(alloc));
+    keep(&mut text, whole)?;
     keep(pending, rest)?;
-    Ok(heard)
+    Ok(text)
 }
 
 /// Executes the lines of an input as they come, up to its end or to the line that ends the talk. It fails with T1 where memory is refused,
@@ -160,7 +143,8 @@ pub(crate) fn talk<R: In, W: Out, E: Out>(
     ensures write { CountsFailure (result ≡ Err ToolFault.Write) (W.failed out.old) (W.failed out.new) }
     ensures quiet { talker ≡ Talker.Program → errors.new ≡ errors.old }
 {
-    let mut pending = Vec::new(recall.allocator());
+    let alloc = recall.allocator();
+    let mut pending = Vec::new(alloc);
     let mut buffer = [0; CHUNK];
     let mut told = Told::Accepted;
     prompt(talker, errors);
@@ -176,16 +160,11 @@ pub(crate) fn talk<R: In, W: Out, E: Out>(
                 Err(fault) => return Err(fault),
             }
         }
-        let part = &buffer[..count];
-        let heard = match hear(
-            session,
-            talker,
-            &mut recall,
-            &mut pending,
-            part,
-            out,
-            errors,
-        ) {
+        let text = match take_lines(alloc, &mut pending, &buffer[..count]) {
+            Ok(text) => text,
+            Err(Memory) => return Err(ToolFault::Memory),
+        };
+        let heard = match answer_lines(session, talker, &mut recall, &text, out, errors) {
             Ok(heard) => heard,
             Err(fault) => return Err(fault),
         };

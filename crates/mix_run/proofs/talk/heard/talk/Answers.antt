@@ -1,7 +1,9 @@
 -- What is said of the parts that were read holds of the whole text.
-use Rattle.std.proofs.Common.{◌≡◌, ◌∙◌, ◌<◌, [], length, take, ap, refl, arith, rules}
+use Rattle.std.proofs.Common.{◌≡◌, ◌∙◌, ◌<◌, [], ◌++◌, length, take, ap, refl, sym, arith, rules}
+use Rattle.mix_run.specs.Talk.{is_whole}
 use Rattle.std.proofs.KnownBytes.{Consumes-nil, Consumes-trans}
-use Rattle.mix_run.proofs.TalkLemmas.{Hears-nothing, Hears-on, Hears-then, Talks-begun, all-read, end-begun, end-said, ended, left-known, more-begun, read-more, too-long, unread}
+use Rattle.mix_run.proofs.TalkLemmas.{Hears-lines, Hears-nothing, Hears-on, Hears-then, Talks-begun, all-read, end-begun, end-said, ended, left-known, long-text, more-begun, read-more, too-long, unread}
+use Rattle.mix_run.proofs.Written.{Appends-nothing}
 use Rattle.mix_run.proofs.talk.heard.talk.Goals as goal
 
 pub loop-reads-init : goal.loop-reads-init
@@ -31,32 +33,60 @@ returns-in-Err-answer_lines-clause-talks g c t e =
     (end-begun c.args.session.now c.loop-reads.session c.args.talker c.loop-reads.recall so_far.0 c.loop-reads.pending.items c.loop-reads.told _ _ so_far.3
     t c.deref.result.now all c.deref.ensures.value _ c.in-Err-answer_lines.ensures.begun)
 
-pub returns-in-Err-hear-clause-talks : goal.returns-in-Err-hear-clause-talks
-returns-in-Err-hear-clause-talks g c t e =
+pub returns-in-Err-take_lines-clause-talks : goal.returns-in-Err-take_lines-clause-talks
+returns-in-Err-take_lines-clause-talks g c t e =
     let so_far = c.loop-reads.invariant.heard in
     let known = left-known _ _ t _ e (Consumes-trans _ _ _ _ _ so_far.1 c.in-Ok.ensures.bytes.0) in
-    Talks-begun c.args.session.now c.args.talker t c.in-Err-hear.fault _ _ _ c.in-Err-hear.ensures.only
+    more-begun c.args.session.now c.loop-reads.session c.args.talker c.loop-reads.recall so_far.0 c.loop-reads.pending.items c.loop-reads.told _ _ so_far.3
+    t _ known.0 [] _ _ known.2 refl refl (0, omega arith, Appends-nothing _)
+
+pub returns-in-Err-answer_lines-2-clause-write : goal.returns-in-Err-answer_lines-2-clause-write
+returns-in-Err-answer_lines-2-clause-write g c =
+    let w = rw c.loop-reads.invariant.written at c.in-Err-answer_lines-2.ensures.write in
+    ((λ e. w.0.0 cc, λ n. let e = w.0.1 n in cc), λ no. w.1 (λ e. no cc))
+
+pub returns-in-Err-answer_lines-2-clause-talks : goal.returns-in-Err-answer_lines-2-clause-talks
+returns-in-Err-answer_lines-2-clause-talks g c t e =
+    let so_far = c.loop-reads.invariant.heard in
+    let known = left-known _ _ t _ e (Consumes-trans _ _ _ _ _ so_far.1 c.in-Ok.ensures.bytes.0) in
+    Talks-begun c.args.session.now c.args.talker t c.in-Err-answer_lines-2.fault _ _ _ c.in-Err-answer_lines-2.ensures.only
     (more-begun c.args.session.now c.loop-reads.session c.args.talker c.loop-reads.recall so_far.0 c.loop-reads.pending.items c.loop-reads.told _ _ so_far.3
-    t _ known.0 _ known.2 c.in-Err-hear.ensures.begun)
+    t _ known.0 c.deref-in-loop-reads.result.now _ _ known.2
+    (c.in-Ok-take_lines.ensures.parts ∙ ap (λ l. l ++ c.take_lines.new.pending.items) (sym c.deref-in-loop-reads.ensures.value))
+    (ap is_whole c.deref-in-loop-reads.ensures.value ∙ c.in-Ok-take_lines.ensures.whole) c.in-Err-answer_lines-2.ensures.begun)
 
 pub returns-then-heard-clause-talks : goal.returns-then-heard-clause-talks
 returns-then-heard-clause-talks g c t e =
     let so_far = c.loop-reads.invariant.heard in
     let known = left-known _ _ t _ e (Consumes-trans _ _ _ _ _ so_far.1 c.in-Ok.ensures.bytes.0) in
-    ended _ _ _ _ _ _ _ c.and-told.result _ _ _ (Hears-then _ _ _ _ _ _ _ _ _ _ _ _ _ _ _ _ _ so_far.3 c.in-Ok-hear.ensures.heard) c.if-heard.true c.and-told.ensures
+    ended _ _ _ _ _ _ _ c.and-told.result _ _ _ (Hears-then _ _ _ _ _ _ _ _ _ _ _ _ _ _ _ _ _ so_far.3 (Hears-lines _ _ _ _ _ _ _ _ _ _ _ _ _ c.in-Ok-take_lines.ensures.parts c.in-Ok-take_lines.ensures.whole
+    c.in-Ok-take_lines.ensures.rest c.deref-in-loop-reads.ensures.value c.in-Ok-answer_lines-2.ensures.session c.in-Ok-answer_lines-2.ensures.recall
+    c.in-Ok-answer_lines-2.ensures.over c.in-Ok-answer_lines-2.ensures.replies)) c.if-heard.true c.and-told.ensures
     t known.0 known.2
 
 pub returns-then-len-gt-MAX_WHOLE_LINE_BYTES-clause-talks : goal.returns-then-len-gt-MAX_WHOLE_LINE_BYTES-clause-talks
 returns-then-len-gt-MAX_WHOLE_LINE_BYTES-clause-talks g c t e =
     let so_far = c.loop-reads.invariant.heard in
     let known = left-known _ _ t _ e (Consumes-trans _ _ _ _ _ so_far.1 c.in-Ok.ensures.bytes.0) in
-    unread _ _ _ _ _ _ _ _ _ _ _ (Hears-then _ _ _ _ _ _ _ _ _ _ _ _ _ _ _ _ _ so_far.3 c.in-Ok-hear.ensures.heard) t known.0 known.1 known.2
+    unread _ _ _ _ _ _ _ _ _ _ _ (Hears-then _ _ _ _ _ _ _ _ _ _ _ _ _ _ _ _ _ so_far.3 (Hears-lines _ _ _ _ _ _ _ _ _ _ _ _ _ c.in-Ok-take_lines.ensures.parts c.in-Ok-take_lines.ensures.whole
+    c.in-Ok-take_lines.ensures.rest c.deref-in-loop-reads.ensures.value c.in-Ok-answer_lines-2.ensures.session c.in-Ok-answer_lines-2.ensures.recall
+    c.in-Ok-answer_lines-2.ensures.over c.in-Ok-answer_lines-2.ensures.replies)) t known.0 known.1 known.2
+
+pub returns-then-len-gt-MAX_WHOLE_LINE_BYTES-clause-long : goal.returns-then-len-gt-MAX_WHOLE_LINE_BYTES-clause-long
+returns-then-len-gt-MAX_WHOLE_LINE_BYTES-clause-long g c long t e =
+    let so_far = c.loop-reads.invariant.heard in
+    let known = left-known _ _ t _ e (Consumes-trans _ _ _ _ _ so_far.1 c.in-Ok.ensures.bytes.0) in
+    long-text _ _ _ _ _ _ _ _ _ _ (Hears-then _ _ _ _ _ _ _ _ _ _ _ _ _ _ _ _ _ so_far.3 (Hears-lines _ _ _ _ _ _ _ _ _ _ _ _ _ c.in-Ok-take_lines.ensures.parts c.in-Ok-take_lines.ensures.whole
+    c.in-Ok-take_lines.ensures.rest c.deref-in-loop-reads.ensures.value c.in-Ok-answer_lines-2.ensures.session c.in-Ok-answer_lines-2.ensures.recall
+    c.in-Ok-answer_lines-2.ensures.over c.in-Ok-answer_lines-2.ensures.replies)) (search rules) t known.0 known.2
 
 pub returns-then-len-gt-MAX_WHOLE_LINE_BYTES-clause-long_line : goal.returns-then-len-gt-MAX_WHOLE_LINE_BYTES-clause-long_line
 returns-then-len-gt-MAX_WHOLE_LINE_BYTES-clause-long_line g c long t e counted =
     let so_far = c.loop-reads.invariant.heard in
     let known = left-known _ _ t _ e (Consumes-trans _ _ _ _ _ so_far.1 c.in-Ok.ensures.bytes.0) in
-    too-long _ _ _ _ _ _ _ _ _ _ (Hears-then _ _ _ _ _ _ _ _ _ _ _ _ _ _ _ _ _ so_far.3 c.in-Ok-hear.ensures.heard) (search rules) t known.0 known.2
+    too-long _ _ _ _ _ _ _ _ _ _ (Hears-then _ _ _ _ _ _ _ _ _ _ _ _ _ _ _ _ _ so_far.3 (Hears-lines _ _ _ _ _ _ _ _ _ _ _ _ _ c.in-Ok-take_lines.ensures.parts c.in-Ok-take_lines.ensures.whole
+    c.in-Ok-take_lines.ensures.rest c.deref-in-loop-reads.ensures.value c.in-Ok-answer_lines-2.ensures.session c.in-Ok-answer_lines-2.ensures.recall
+    c.in-Ok-answer_lines-2.ensures.over c.in-Ok-answer_lines-2.ensures.replies)) (search rules) t known.0 known.2
 
 pub loop-reads-preserved : goal.loop-reads-preserved
 loop-reads-preserved g c =
@@ -66,9 +96,11 @@ loop-reads-preserved g c =
         _,
         Consumes-trans _ _ _ _ _ so_far.1 c.in-Ok.ensures.bytes.0,
         read-more _ _ _ _ so_far.2 (omega (arith, c.if-count-eq0.false)) c.in-Ok.ensures.bound,
-        Hears-on _ _ _ _ _ _ _ c.and-told.result _ _ _ (Hears-then _ _ _ _ _ _ _ _ _ _ _ _ _ _ _ _ _ so_far.3 c.in-Ok-hear.ensures.heard) c.if-heard.false c.and-told.ensures,
+        Hears-on _ _ _ _ _ _ _ c.and-told.result _ _ _ (Hears-then _ _ _ _ _ _ _ _ _ _ _ _ _ _ _ _ _ so_far.3 (Hears-lines _ _ _ _ _ _ _ _ _ _ _ _ _ c.in-Ok-take_lines.ensures.parts c.in-Ok-take_lines.ensures.whole
+            c.in-Ok-take_lines.ensures.rest c.deref-in-loop-reads.ensures.value c.in-Ok-answer_lines-2.ensures.session c.in-Ok-answer_lines-2.ensures.recall
+            c.in-Ok-answer_lines-2.ensures.over c.in-Ok-answer_lines-2.ensures.replies)) c.if-heard.false c.and-told.ensures,
       );
       read = c.in-Ok.ensures.ok ∙ c.loop-reads.invariant.read;
-      written = c.in-Ok-hear.ensures.write.1 (λ e. cc) ∙ c.loop-reads.invariant.written;
-      quiet = λ e. c.in-Ok-hear.ensures.quiet e ∙ c.loop-reads.invariant.quiet e;
+      written = c.in-Ok-answer_lines-2.ensures.write.1 (λ e. cc) ∙ c.loop-reads.invariant.written;
+      quiet = λ e. c.in-Ok-answer_lines-2.ensures.quiet e ∙ c.loop-reads.invariant.quiet e;
     }
