@@ -7,7 +7,7 @@ ghost use Rattle.mix_dap.specs.Sent.{Sends};
 use crate::adapter::{Adapter, Flow};
 use crate::broken::{Broken, tell};
 use crate::hear::{Ear, Heard};
-use crate::launch::{FileLibrary, Library, Texts};
+use crate::launch::{FileLibrary, Library};
 use crate::waiting::{Asked, Waiting};
 use dap_frame::frame;
 use dap_message::{MessageFault, Outbox, Request};
@@ -86,16 +86,10 @@ fn talk<L: Library, R: Read, W: Out>(
             Asked::Answered => Flow::On,
             Asked::Over => Flow::Over,
             Asked::Launch(texts) => {
-                debug(
-                    alloc,
-                    &waiting,
-                    &texts,
-                    &request,
-                    &mut ear,
-                    input,
-                    &mut outbox,
-                    out,
-                )?
+                match Adapter::open(alloc, &waiting, &texts, &request, &mut outbox)? {
+                    Some(adapter) => debug(alloc, adapter, &mut ear, input, &mut outbox, out)?,
+                    None => Flow::On,
+                }
             }
         };
         send(alloc, &mut outbox, out)?;
@@ -128,9 +122,7 @@ fn next_request<R: Read>(
 // A launched program is debugged until the client is done.
 fn debug<R: Read, W: Out>(
     alloc: Global,
-    waiting: &Waiting,
-    texts: &Texts,
-    request: &Request,
+    mut adapter: Adapter<'_>,
     ear: &mut Ear,
     input: &mut R,
     outbox: &mut Outbox,
@@ -139,9 +131,6 @@ fn debug<R: Read, W: Out>(
     requires { W.failed out.old < 2 ^ 64 - 1 }
     ensures { OnOk result (W.failed out.new ≡ W.failed out.old) }
 {
-    let Some(mut adapter) = Adapter::open(alloc, waiting, texts, request, outbox)? else {
-        return Ok(Flow::On);
-    };
     'turns: for _ in 0..u64::MAX {
         send(alloc, outbox, out)?;
         run_on(alloc, &mut adapter, outbox, out)?;
