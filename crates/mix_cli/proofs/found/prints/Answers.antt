@@ -5,7 +5,7 @@ use Rattle.clap.specs.Words.{Text}
 use Rattle.std.specs.Prelude.{List, Option, Bool}
 use Rattle.mix_cli.specs.Plan.{names_unit}
 use Rattle.mix_cli.proofs.Numbers.{any_of}
-use Rattle.mix_cli.proofs.words.prints.Goals as goal
+use Rattle.mix_cli.proofs.found.prints.Goals as goal
 
 pub returns-in-Some : goal.returns-in-Some
 returns-in-Some c =

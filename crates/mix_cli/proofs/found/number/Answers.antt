@@ -1,5 +1,5 @@
 use Rattle.mix_cli.proofs.Numbers.{number_read, no_number}
-use Rattle.mix_cli.proofs.words.number.Goals as goal
+use Rattle.mix_cli.proofs.found.number.Goals as goal
 
 pub returns-in-Ok : goal.returns-in-Ok
 returns-in-Ok c = number_read c.args.text.now c.in-Ok.number c.in-Ok.ensures.value.0

@@ -1,0 +1,143 @@
+//! What clap found of a command line, as values.
+
+ghost use Rattle.std.specs.Prelude.{◌≡◌, IfOk, IsSome, Some, map, true, string_bytes, option_map};
+ghost use Rattle.std.specs.List.{list_any};
+ghost use Rattle.clap.specs.Words.{all_of, first_of, found_of, rows_of};
+ghost use Rattle.mix_cli.specs.Plan.{is_set, names_unit, number_of, printing_of, prints, steps_of};
+
+use crate::words::Printing;
+use clap::ArgMatches;
+use std::alloc::{AllocError, Global};
+
+/// How many steps a run does at most where no number is given.
+const STEPS: u64 = 1_000_000_000;
+
+// The first value of an argument.
+fn first<'a>(words: &ArgMatches<'a>, id: &str) -> Option<&'a str>
+    ensures { option_map (λ s. s.now) result ≡ first_of id.now (rows_of (found_of words.now)) }
+{
+    words.get_str(id)
+}
+
+// All values of an argument.
+fn all<'w, 'a>(words: &'w ArgMatches<'a>, id: &str) -> Option<&'w [&'a str]>
+    ensures { option_map (λ texts. map (λ s. s.now) texts.now) result ≡ all_of id.now (rows_of (found_of words.now)) }
+{
+    words.get_strs(id)
+}
+
+// The name of a file that the words have to give.
+pub(crate) fn required(
+    alloc: Global,
+    words: &ArgMatches<'_>,
+    id: &str,
+) -> Result<String, AllocError>
+    requires { IsSome (first_of id.now (rows_of (found_of words.now))) }
+    ensures { IfOk result (λ s. first_of id.now (rows_of (found_of words.now)) ≡ Some (string_bytes s)) }
+{
+    String::from_str(alloc, first(words, id).unwrap())
+}
+
+// Some texts, each as a string of its own.
+fn owned(alloc: Global, texts: &[&str]) -> Result<Vec<String>, AllocError>
+    ensures { IfOk result (λ names. map string_bytes names.items ≡ map (λ s. s.now) texts.now) }
+{
+    let mut names = Vec::new(alloc);
+    for text in texts {
+        names.push(String::from_str(alloc, text)?)?;
+    }
+    Ok(names)
+}
+
+// The names of files of which the words have to give one or more.
+pub(crate) fn several(
+    alloc: Global,
+    words: &ArgMatches<'_>,
+    id: &str,
+) -> Result<Vec<String>, AllocError>
+    requires { IsSome (all_of id.now (rows_of (found_of words.now))) }
+    ensures { IfOk result (λ names. all_of id.now (rows_of (found_of words.now)) ≡ Some (map string_bytes names.items)) }
+{
+    owned(alloc, all(words, id).unwrap())
+}
+
+// The name of a file that the words may give.
+pub(crate) fn optional(
+    alloc: Global,
+    words: &ArgMatches<'_>,
+    id: &str,
+) -> Result<Option<String>, AllocError>
+    ensures { IfOk result (λ o. first_of id.now (rows_of (found_of words.now)) ≡ option_map string_bytes o) }
+{
+    match first(words, id) {
+        Some(name) => Ok(Some(String::from_str(alloc, name)?)),
+        None => Ok(None),
+    }
+}
+
+// Whether an option without a value is there.
+pub(crate) fn is_set(words: &ArgMatches<'_>, id: &str) -> bool
+    ensures { result ≡ is_set id.now (rows_of (found_of words.now)) }
+{
+    match first(words, id) {
+        Some(text) => text == "true",
+        None => false,
+    }
+}
+
+// The number that a text writes.
+fn number(text: &str) -> Option<u64>
+    ensures { result ≡ number_of text.now }
+{
+    match text.parse::<u64>() {
+        Ok(number) => Some(number),
+        Err(_) => None,
+    }
+}
+
+pub(crate) fn steps(words: &ArgMatches<'_>) -> u64
+    ensures { result ≡ steps_of (rows_of (found_of words.now)) }
+{
+    match first(words, "steps") {
+        Some(text) => number(text).unwrap_or(STEPS),
+        None => STEPS,
+    }
+}
+
+fn names_unit(unit: u64, text: &str) -> bool
+    ensures { result ≡ names_unit unit text.now }
+{
+    match number(text) {
+        Some(number) => number == unit,
+        None => false,
+    }
+}
+
+// Whether one of some texts is the number of a unit.
+fn one_names(texts: &[&str], unit: u64) -> bool
+    ensures { result ≡ list_any (λ s. names_unit unit s.now) texts.now }
+{
+    texts.iter().any(|text| names_unit(unit, text))
+}
+
+// Whether a unit is to be printed.
+#[tactic(auto, using(crate::proofs::Numbers::any_of))]
+fn prints(words: &ArgMatches<'_>, unit: u64) -> bool
+    ensures { result ≡ prints (rows_of (found_of words.now)) unit }
+{
+    match all(words, "unit") {
+        Some(texts) => one_names(texts, unit),
+        None => true,
+    }
+}
+
+pub(crate) fn what_is_printed(words: &ArgMatches<'_>) -> Printing
+    ensures { result ≡ printing_of (rows_of (found_of words.now)) }
+{
+    Printing {
+        punch: prints(words, 17),
+        printer: prints(words, 18),
+        typewriter: prints(words, 19),
+        tape: prints(words, 20),
+    }
+}
