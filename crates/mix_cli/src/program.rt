@@ -116,7 +116,7 @@ fn devices_option<'a>(alloc: Global) -> Arg<'a>
         alloc,
         "devices",
         "FILE",
-        "The deck: what tapes, disks and cards hold; without it all are empty",
+        "The deck: what tapes, disks and cards hold; without one all are empty",
     )
 }
 
