@@ -157,7 +157,7 @@ def faults(page, native, count):
     page.press(" JUMP 0", Keys.ENTER)
     wanted = native.bundle(" JUMP 0\n" + good).strip()
     count.same("fault: told", page.told(), wanted.capitalize().replace(" a", " A", 1) + ". JUMP is none.")
-    count.row("fault: at its line", page.text("wrong-text") == wanted.split(": ")[1] and "wrong" in page.all("#gutter .line")[0].get_attribute("class"), page.text("wrong-text"))
+    count.row("fault: at its line", page.text("wrong-text") == wanted.split(": ")[1] + ": JUMP" and "wrong" in page.all("#gutter .line")[0].get_attribute("class"), page.text("wrong-text"))
     count.same("fault: no step is offered", page.one("step").is_enabled(), False)
     page.put("text", good)
     count.same("fault: gone, and the session is back", page.log(), [("step 1", "ran 1 to 0001 clock 1: limit\n")])
