@@ -70,14 +70,14 @@ unfolding report diagnostic_text help_of
 report-take name source =
     said-take (diagnostic_text name)
     (λ s t. ap (λ place. with_shown name long_source (mend place) place)
-        (shown_nowhere (slice_get (lines s) 0) ∙ sym (shown_nowhere (slice_get (lines t) 0)))) source
+    (shown_nowhere (slice_get (lines s) 0) ∙ sym (shown_nowhere (slice_get (lines t) 0)))) source
 
 json_report-take : (name source : List ℕ) → json_report name (take 1048577 source) ≡ json_report name source
 unfolding json_report json_diagnostic help_of
 json_report-take name source =
     said-take (json_diagnostic name)
     (λ s t. ap (λ place. json_line name long_source (option_map columns_of place) (mend place))
-        (shown_nowhere (slice_get (lines s) 0) ∙ sym (shown_nowhere (slice_get (lines t) 0)))) source
+    (shown_nowhere (slice_get (lines s) 0) ∙ sym (shown_nowhere (slice_get (lines t) 0)))) source
 
 report_of-take : (json : Bool) (name source : List ℕ)
     → report_of json (record { name = name; text = take 1048577 source }) ≡ report_of json (record { name = name; text = source })

@@ -345,10 +345,12 @@ quit-meant line_kind.Quit typed e = refl
 quit-meant line_kind.Command typed e = absurd (true≢false (sym e))
 quit-meant line_kind.Help typed e = absurd (true≢false (sym e))
 quit-meant line_kind.Listing typed e = absurd (true≢false (sym e))
+quit-meant line_kind.Watch typed e = absurd (true≢false (sym e))
+quit-meant line_kind.Delete typed e = absurd (true≢false (sym e))
 
 quit-said : (s : SessionState) (talker : Talker) (r : RecallState) (line : List ℕ) → is_quit talker line ≡ true → meant s talker r line ≡ []
 quit-said s talkers.Program r line e = absurd (true≢false (sym e))
-quit-said s talkers.Person r line e = quit-meant (kind_of (words line)) (person_line r.again line) e
+quit-said s talkers.Person r line e = quit-meant (kind_of (words line)) (person_line r.again r.watch line) e
 
 module _ (s : SessionState) (talker : Talker) (r : RecallState) (line : List ℕ) (all more : List (List ℕ)) (e : all ≡ line ∷ more) where
   abbrev said-one : List (List ℕ)

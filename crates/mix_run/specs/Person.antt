@@ -1,5 +1,5 @@
 -- What a person types at a prompt, and the line of a script that it stands for.
-use Rattle.std.specs.Prelude.{ℕ, List, [], ◌∷◌, ◌++◌, ◌&&◌, ◌||◌, ◌==◌, false, nat_le, length, take, find, Option, None, Some, Bool, codes, if◌then◌else◌}
+use Rattle.std.specs.Prelude.{ℕ, List, [], ◌∷◌, ◌++◌, ◌&&◌, ◌||◌, ◌==◌, false, nat_le, length, take, drop, find, Option, None, Some, Bool, codes, if◌then◌else◌}
 use Rattle.std.specs.Str.{str_eq_ignore_ascii_case}
 use Rattle.std.specs.List.{list_any}
 use Rattle.mix_lines.specs.Lines.{words}
@@ -7,7 +7,7 @@ use Rattle.mix_word.specs.Register.{all_registers, name_of_register}
 use Rattle.mix_run.specs.declared.talk.person.Line.{Line}
 use Rattle.mix_run.specs.declared.talk.person.Line.TheVariants as line_kind
 use Rattle.mix_run.specs.declared.talk.person.PersonWord.{PersonWord}
-use Rattle.mix_run.specs.declared.talk.person.PersonWord.TheVariants.{Step, Next, Run, Trace, Break, Back, Forth, Goto, Continue, Clear, Set, Show, Quit, Help, Question, Print, Listing, Where, Until, Examine, Exit}
+use Rattle.mix_run.specs.declared.talk.person.PersonWord.TheVariants.{Step, Next, Run, Trace, Break, Back, Forth, Goto, Continue, Clear, Set, Show, Quit, Help, Question, Print, Listing, Where, Watch, Delete, Until, Examine, Exit}
 
 -- the words that a person may begin a line with
 abbrev pub name_of : PersonWord → List ℕ
@@ -29,6 +29,8 @@ name_of Question = codes "?"
 name_of Print = codes "print"
 name_of Listing = codes "list"
 name_of Where = codes "where"
+name_of Watch = codes "watch"
+name_of Delete = codes "delete"
 name_of Until = codes "until"
 name_of Examine = codes "x"
 name_of Exit = codes "exit"
@@ -37,7 +39,7 @@ name_of Exit = codes "exit"
 abbrev pub all_words : List PersonWord
 all_words =
     Step ∷ Next ∷ Run ∷ Trace ∷ Break ∷ Back ∷ Forth ∷ Goto ∷ Continue ∷ Clear ∷ Set ∷ Show ∷ Quit ∷ Help ∷ Question
-    ∷ Print ∷ Listing ∷ Where ∷ Until ∷ Examine ∷ Exit ∷ []
+    ∷ Print ∷ Listing ∷ Where ∷ Watch ∷ Delete ∷ Until ∷ Examine ∷ Exit ∷ []
 
 -- the command that each stands for
 abbrev pub command_of : PersonWord → List ℕ
@@ -46,6 +48,7 @@ command_of Continue = codes "run"
 command_of Question = codes "help"
 command_of Print = codes "show"
 command_of Where = codes "show"
+command_of Watch = codes "run"
 command_of Until = codes "run"
 command_of Examine = codes "show"
 command_of Exit = codes "quit"
@@ -82,20 +85,34 @@ plain_first (word ∷ rest) = plain word ∷ rest
 abbrev pub until_of : List ℕ → List ℕ
 until_of word = if is_beginning word (codes "until") then codes "until" else word
 
--- what follows the number of steps of `run`
-abbrev pub limit_of : List (List ℕ) → List (List ℕ)
-limit_of [] = []
-limit_of (word ∷ rest) = until_of word ∷ plain_first rest
+-- words, each with a blank before it
+abbrev pub spaced : List (List ℕ) → List ℕ
+spaced [] = []
+spaced (word ∷ rest) = 32 ∷ (word ++ spaced rest)
+
+-- what follows the number of steps of `run`: until what is watched, where nothing is said
+abbrev pub limit_of : List ℕ → List (List ℕ) → List ℕ
+limit_of watch [] = watch
+limit_of watch (word ∷ rest) = spaced (until_of word ∷ plain_first rest)
+
+-- as many steps as one command may do, until a condition
+abbrev pub most_until : List (List ℕ) → List ℕ
+most_until rest = spaced (codes "1000000" ∷ codes "until" ∷ plain_first rest)
 
 -- what follows `run`: as many steps as one command may do, where no number is said
-abbrev pub steps_of : List (List ℕ) → List (List ℕ)
-steps_of [] = codes "1000000" ∷ []
-steps_of (word ∷ rest) = if is_beginning word (codes "until") then codes "1000000" ∷ codes "until" ∷ plain_first rest else word ∷ limit_of rest
+abbrev pub steps_of : List ℕ → List (List ℕ) → List ℕ
+steps_of watch [] = spaced (codes "1000000" ∷ []) ++ watch
+steps_of watch (word ∷ rest) = if is_beginning word (codes "until") then most_until rest else spaced (word ∷ []) ++ limit_of watch rest
 
--- what follows `back` and `forth`: one change, where nothing is said
-abbrev pub changes_of : List (List ℕ) → List (List ℕ)
-changes_of [] = codes "1" ∷ []
-changes_of (word ∷ rest) = until_of word ∷ plain_first rest
+-- what follows `back` and `forth` alone: until what is watched, or one change, where nothing is
+abbrev pub one_of : List ℕ → List ℕ
+one_of [] = spaced (codes "1" ∷ [])
+one_of (byte ∷ watch) = byte ∷ watch
+
+-- what follows `back` and `forth`
+abbrev pub changes_of : List ℕ → List (List ℕ) → List ℕ
+changes_of watch [] = one_of watch
+changes_of watch (word ∷ rest) = spaced (until_of word ∷ plain_first rest)
 
 -- from a cell to a cell: one alone is the first and the last
 abbrev pub last_of : List ℕ → List (List ℕ) → List (List ℕ)
@@ -135,36 +152,38 @@ abbrev pub shown : List (List ℕ) → List (List ℕ)
 shown [] = []
 shown (word ∷ rest) = shown_as word rest
 
--- what follows each command
-abbrev pub after_of : PersonWord → List (List ℕ) → List (List ℕ)
-after_of Run rest = steps_of rest
-after_of Continue rest = steps_of rest
-after_of Until rest = codes "1000000" ∷ codes "until" ∷ plain_first rest
-after_of Back rest = changes_of rest
-after_of Forth rest = changes_of rest
-after_of Set rest = plain_first rest
-after_of Show rest = shown rest
-after_of Print rest = printed rest
-after_of Where rest = codes "code" ∷ range_of rest
-after_of Examine rest = codes "values" ∷ range_of rest
-after_of word rest = rest
+-- what follows each command, where this is watched
+abbrev pub after_of : List ℕ → PersonWord → List (List ℕ) → List ℕ
+after_of watch Run rest = steps_of watch rest
+after_of watch Continue rest = steps_of watch rest
+after_of watch Until rest = most_until rest
+after_of watch Watch rest = most_until rest
+after_of watch Back rest = changes_of watch rest
+after_of watch Forth rest = changes_of watch rest
+after_of watch Set rest = spaced (plain_first rest)
+after_of watch Show rest = spaced (shown rest)
+after_of watch Print rest = spaced (printed rest)
+after_of watch Where rest = spaced (codes "code" ∷ range_of rest)
+after_of watch Examine rest = spaced (codes "values" ∷ range_of rest)
+after_of watch word rest = spaced rest
 
--- words, each with a blank before it
-abbrev pub spaced : List (List ℕ) → List ℕ
-spaced [] = []
-spaced (word ∷ rest) = 32 ∷ (word ++ spaced rest)
+abbrev pub line_begun : List ℕ → List ℕ → Option PersonWord → List (List ℕ) → List ℕ
+line_begun watch line None rest = line
+line_begun watch line (Some word) rest = command_of word ++ after_of watch word rest
 
-abbrev pub line_begun : List ℕ → Option PersonWord → List (List ℕ) → List ℕ
-line_begun line None rest = line
-line_begun line (Some word) rest = command_of word ++ spaced (after_of word rest)
+abbrev pub line_of_words : List ℕ → List ℕ → List ℕ → List (List ℕ) → List ℕ
+line_of_words again watch line [] = again
+line_of_words again watch line (word ∷ rest) = line_begun watch line (word_begun word) rest
 
-abbrev pub line_of_words : List ℕ → List ℕ → List (List ℕ) → List ℕ
-line_of_words again line [] = again
-line_of_words again line (word ∷ rest) = line_begun line (word_begun word) rest
+-- the line of a script that a person's line stands for: itself, where it begins with no word that is known, and `again` where it is blank; what is
+-- watched is the end of `run`, `back` and `forth`, where they say no other. The line `watch COND` is read as `run 1000000 until COND`, which is not
+-- executed.
+unfoldable pub person_line : List ℕ → List ℕ → List ℕ → List ℕ
+person_line again watch line = line_of_words again watch line (words line)
 
--- the line of a script that a person's line stands for: itself, where it begins with no word that is known, and this one where it is blank
-unfoldable pub person_line : List ℕ → List ℕ → List ℕ
-person_line again line = line_of_words again line (words line)
+-- what is watched, said so: from `until` on
+abbrev pub watched_in : List ℕ → List ℕ
+watched_in typed = drop (length (codes "run 1000000")) typed
 
 -- what a line is that begins with such a word: `quit` alone ends the talk
 abbrev pub kind_of_word : Option PersonWord → List (List ℕ) → Line
@@ -172,6 +191,9 @@ kind_of_word None rest = line_kind.Command
 kind_of_word (Some Help) rest = line_kind.Help
 kind_of_word (Some Question) rest = line_kind.Help
 kind_of_word (Some Listing) rest = line_kind.Listing
+kind_of_word (Some Watch) rest = line_kind.Watch
+kind_of_word (Some Delete) [] = line_kind.Delete
+kind_of_word (Some Delete) (word ∷ rest) = line_kind.Command
 kind_of_word (Some Quit) [] = line_kind.Quit
 kind_of_word (Some Exit) [] = line_kind.Quit
 kind_of_word (Some Quit) (word ∷ rest) = line_kind.Command

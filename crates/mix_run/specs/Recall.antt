@@ -5,7 +5,7 @@ use Rattle.mix_session.specs.Session.{SessionState, request_in}
 use Rattle.mix_session.specs.declared.fault.Refusal.{Refusal}
 use Rattle.mix_session.specs.declared.request.Request.{Request}
 use Rattle.mix_session.specs.declared.request.Request.TheVariants as ask
-use Rattle.mix_run.specs.Person.{kind_of, person_line}
+use Rattle.mix_run.specs.Person.{kind_of, person_line, watched_in}
 use Rattle.mix_run.specs.declared.talk.aside.After.{After}
 use Rattle.mix_run.specs.declared.talk.aside.After.TheVariants as after
 use Rattle.mix_run.specs.declared.talk.aside.Talker.{Talker}
@@ -13,13 +13,15 @@ use Rattle.mix_run.specs.declared.talk.aside.Talker.TheVariants.{Program, Person
 use Rattle.mix_run.specs.declared.talk.person.Line.{Line}
 use Rattle.mix_run.specs.declared.talk.person.Line.TheVariants as line_kind
 
--- the line of a script that a blank line stands for: the last one that took steps, or changes back; an empty one before that
+-- the line of a script that a blank line stands for: the last one that took steps, or changes back; an empty one before that. And what is watched, from
+-- its `until` on; empty, where nothing is
 pub record RecallState : Type 0 where
   pub again : List ℕ
+  pub watch : List ℕ
 
 -- nothing yet
 abbrev pub nothing : RecallState
-nothing = record { again = [] }
+nothing = record { again = []; watch = [] }
 
 -- what a request leads to: a stop after steps, or after changes that were taken back, which a blank line repeats; one after other changes that were done;
 -- another stop; or none
@@ -47,31 +49,46 @@ after_read (Err refusal) = after.Refused
 
 -- what is recalled when a line of a script was executed
 abbrev pub recalled_after : After → List ℕ → RecallState → RecallState
-recalled_after after.Stepped typed r = record { again = typed }
-recalled_after after.Repeated typed r = record { again = typed }
+recalled_after after.Stepped typed r = record r { again = typed }
+recalled_after after.Repeated typed r = record r { again = typed }
 recalled_after after.Done typed r = r
 recalled_after after.Stop typed r = r
 recalled_after after.Nothing typed r = r
 recalled_after after.Refused typed r = r
 
--- and what when a person's line was answered
+-- what is watched after a line that asks for it: one condition alone, until that is forgotten
+abbrev pub watched_after : List ℕ → List ℕ → List ℕ
+watched_after [] typed = watched_in typed
+watched_after (byte ∷ watch) typed = byte ∷ watch
+
+-- and what is recalled: a condition must be one
+abbrev pub recalled_watch : Result Request Refusal → List ℕ → RecallState → RecallState
+recalled_watch (Ok request) typed r = record r { watch = watched_after r.watch typed }
+recalled_watch (Err refusal) typed r = r
+
+-- what is recalled when a person's line was answered
 abbrev pub recalled_by : SessionState → Line → List ℕ → RecallState → RecallState
 recalled_by s line_kind.Command typed r = recalled_after (after_read (request_in s typed)) typed r
 recalled_by s line_kind.Help typed r = r
 recalled_by s line_kind.Listing typed r = r
+recalled_by s line_kind.Watch typed r = recalled_watch (request_in s typed) typed r
+recalled_by s line_kind.Delete typed r = record r { watch = [] }
 recalled_by s line_kind.Quit typed r = r
 
 abbrev pub recalled : SessionState → Talker → RecallState → List ℕ → RecallState
 recalled s Program r line = r
-recalled s Person r line = recalled_by s (kind_of (words line)) (person_line r.again line) r
+recalled s Person r line = recalled_by s (kind_of (words line)) (person_line r.again r.watch line) r
 
--- the lines of a script that a line stands for: a program's stands for itself; help is no command, nor is a listing of the source or the end of a talk
+-- the lines of a script that a line stands for: a program's stands for itself; help is no command, nor is a listing of the source, what is watched, or the end of
+-- a talk
 abbrev pub meant_by : Line → List ℕ → List (List ℕ)
 meant_by line_kind.Command typed = typed ∷ []
 meant_by line_kind.Help typed = []
 meant_by line_kind.Listing typed = []
+meant_by line_kind.Watch typed = []
+meant_by line_kind.Delete typed = []
 meant_by line_kind.Quit typed = []
 
 abbrev pub meant : SessionState → Talker → RecallState → List ℕ → List (List ℕ)
 meant s Program r line = line ∷ []
-meant s Person r line = meant_by (kind_of (words line)) (person_line r.again line)
+meant s Person r line = meant_by (kind_of (words line)) (person_line r.again r.watch line)

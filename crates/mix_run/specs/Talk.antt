@@ -35,6 +35,8 @@ is_end line_kind.Quit = true
 is_end line_kind.Command = false
 is_end line_kind.Help = false
 is_end line_kind.Listing = false
+is_end line_kind.Watch = false
+is_end line_kind.Delete = false
 
 abbrev pub is_quit : Talker → List ℕ → Bool
 is_quit Program line = false

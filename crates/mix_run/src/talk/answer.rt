@@ -46,6 +46,14 @@ fn answer_person<W: Out, E: Out>(
             recall.list(session, &typed, errors)?;
             Ok(Some(Told::Accepted))
         }
+        Line::Watch => {
+            recall.watch(session, &typed, errors)?;
+            Ok(Some(Told::Accepted))
+        }
+        Line::Delete => {
+            recall.delete();
+            Ok(Some(Told::Accepted))
+        }
         Line::Command => {
             let after = after_reply(session, &typed);
             let told = command(session, &typed, out)?;

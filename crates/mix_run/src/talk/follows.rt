@@ -1,7 +1,7 @@
 //! What follows the first word of a person's line, as the words of the line of a script that it stands for.
 
 ghost use Rattle.std.specs.Prelude.{◌≡◌, ◌++◌, ◌∷◌, [], OnOk, codes};
-ghost use Rattle.mix_run.specs.Person.{after_of, changes_of, is_register, limit_of, plain, plain_first, printed, range_of, shown, spaced, steps_of, until_of};
+ghost use Rattle.mix_run.specs.Person.{after_of, changes_of, is_register, limit_of, most_until, one_of, plain, plain_first, printed, range_of, shown, spaced, steps_of, until_of};
 
 use crate::talk::person::{PersonWord, is_beginning};
 use crate::talk::shown::{put_printed, put_shown, put_topic};
@@ -81,44 +81,63 @@ fn put_until(text: &mut Vec<u8>, word: &[u8], words: &mut Words) -> Result<(), M
     put_plain(text, words)
 }
 
-fn put_changes(text: &mut Vec<u8>, words: &mut Words) -> Result<(), Memory>
-    ensures { OnOk result (text.new.items ≡ text.old.items ++ spaced (changes_of words.old)) }
+// What is watched, from its `until` on.
+fn put_watch(text: &mut Vec<u8>, watch: &[u8]) -> Result<(), Memory>
+    ensures { OnOk result (text.new.items ≡ text.old.items ++ watch.now) }
+{
+    text.extend_from_slice(watch)?;
+    Ok(())
+}
+
+// What is watched, or one change.
+fn put_one(text: &mut Vec<u8>, watch: &[u8]) -> Result<(), Memory>
+    ensures { OnOk result (text.new.items ≡ text.old.items ++ one_of watch.now) }
+{
+    match watch.split_first() {
+        None => put(text, b"1"),
+        Some(_) => put_watch(text, watch),
+    }
+}
+
+fn put_changes(text: &mut Vec<u8>, watch: &[u8], words: &mut Words) -> Result<(), Memory>
+    ensures { OnOk result (text.new.items ≡ text.old.items ++ changes_of watch.now words.old) }
 {
     match words.next() {
-        None => put(text, b"1"),
+        None => put_one(text, watch),
         Some(word) => put_until(text, word, words),
     }
 }
 
-fn put_limit(text: &mut Vec<u8>, words: &mut Words) -> Result<(), Memory>
-    ensures { OnOk result (text.new.items ≡ text.old.items ++ spaced (limit_of words.old)) }
+fn put_limit(text: &mut Vec<u8>, watch: &[u8], words: &mut Words) -> Result<(), Memory>
+    ensures { OnOk result (text.new.items ≡ text.old.items ++ limit_of watch.now words.old) }
 {
     match words.next() {
-        None => Ok(()),
+        None => put_watch(text, watch),
         Some(word) => put_until(text, word, words),
     }
 }
 
 // As many steps as one command may do, until a condition is met.
 fn put_most_until(text: &mut Vec<u8>, words: &mut Words) -> Result<(), Memory>
-    ensures { OnOk result (text.new.items ≡ text.old.items ++ spaced (codes "1000000" ∷ codes "until" ∷ plain_first words.old)) }
+    ensures { OnOk result (text.new.items ≡ text.old.items ++ most_until words.old) }
 {
     put(text, b"1000000")?;
     put(text, b"until")?;
     put_plain(text, words)
 }
 
-fn put_steps(text: &mut Vec<u8>, words: &mut Words) -> Result<(), Memory>
-    ensures { OnOk result (text.new.items ≡ text.old.items ++ spaced (steps_of words.old)) }
+fn put_steps(text: &mut Vec<u8>, watch: &[u8], words: &mut Words) -> Result<(), Memory>
+    ensures { OnOk result (text.new.items ≡ text.old.items ++ steps_of watch.now words.old) }
 {
     let Some(word) = words.next() else {
-        return put(text, b"1000000");
+        put(text, b"1000000")?;
+        return put_watch(text, watch);
     };
     if is_beginning(word, b"until") {
         put_most_until(text, words)
     } else {
         put(text, word)?;
-        put_limit(text, words)
+        put_limit(text, watch, words)
     }
 }
 
@@ -146,15 +165,16 @@ pub(crate) fn put_two(
 /// The words that follow the command, each after a blank.
 pub(crate) fn put_after(
     text: &mut Vec<u8>,
+    watch: &[u8],
     word: PersonWord,
     words: &mut Words,
 ) -> Result<(), Memory>
-    ensures { OnOk result (text.new.items ≡ text.old.items ++ spaced (after_of word words.old)) }
+    ensures { OnOk result (text.new.items ≡ text.old.items ++ after_of watch.now word words.old) }
 {
     match word {
-        PersonWord::Run | PersonWord::Continue => put_steps(text, words),
-        PersonWord::Until => put_most_until(text, words),
-        PersonWord::Back | PersonWord::Forth => put_changes(text, words),
+        PersonWord::Run | PersonWord::Continue => put_steps(text, watch, words),
+        PersonWord::Until | PersonWord::Watch => put_most_until(text, words),
+        PersonWord::Back | PersonWord::Forth => put_changes(text, watch, words),
         PersonWord::Set => put_plain(text, words),
         PersonWord::Show => put_shown(text, words),
         PersonWord::Print => put_printed(text, words),

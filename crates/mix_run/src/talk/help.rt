@@ -8,6 +8,7 @@ show                 shows the machine, its code, its past, counts
 quit                 ends the session
 Beginnings will do: s for step, b for break, ba for back, u for until; n is step too, c is run.
 back and forth alone take 1, run alone 1000000. Who wrote cell 100? run, then back until cell 100.
+watch COND stops run, back and forth at that from now on; delete forgets it.
 print shows a register, cell E or a word W; list shows the source, where what comes next.
 help COMMAND explains one, as help back. A blank line repeats the last step or back.
 ";
@@ -77,6 +78,8 @@ show takes regs, all, cells E E, unit N, code, value W, values, last N, diff N, 
 clock, breaks, changes or symbols
 ";
 
+const WATCH_TAKES: &str = "watch takes COND: a register, over, cmp, cell E, unit N or loc E\n";
+
 const QUIT: &str = "\
 quit             ends the session, as the end of the input does
 ";
@@ -88,6 +91,12 @@ print W          shows the word W in the same way; a symbol is its cell
 where            shows what comes next, as show code
 list             shows the lines of the source around what comes next
 list LINE        shows those around a line, or around the line of a symbol
+";
+
+const WATCH: &str = "\
+watch COND       run stops there too from now on, back and forth alone go up to it: until COND
+delete           nothing is watched any more
+One condition can be watched. COND is as after until; help until says more.
 ";
 
 const LIST: &str = "list takes the number of a line, a symbol, or nothing\n";
@@ -125,12 +134,24 @@ pub(crate) fn form_of(word: Option<&[u8]>) -> &'static str {
             }
         }
     }
+    form_elsewhere(word)
+}
+
+// What stands here for a command that other debuggers have.
+fn form_elsewhere(word: Option<&[u8]>) -> &'static str {
+    if let Some(word) = word {
+        for (name, form) in &ELSEWHERE {
+            if word.eq_ignore_ascii_case(name.as_bytes()) {
+                return form;
+            }
+        }
+    }
     NO_COMMAND
 }
 
 // Each word that there is help on: what it takes, as a refusal says it, and the help.
 #[rattlefmt::skip]
-static TOPICS: [(&str, &str, &str); 18] = [
+static TOPICS: [(&str, &str, &str); 20] = [
     ("step", "step takes a number, 1 to 1000000, or nothing\n", STEP),
     ("run", "run takes a number, 1 to 1000000, until COND, both or nothing\n", RUN),
     ("trace", "trace takes a number, 1 to 1000000, or nothing\n", TRACE),
@@ -148,5 +169,40 @@ static TOPICS: [(&str, &str, &str); 18] = [
     ("x", NO_COMMAND, PRINT),
     ("where", NO_COMMAND, PRINT),
     ("list", LIST, PRINT),
+    ("watch", WATCH_TAKES, WATCH),
+    ("delete", "delete takes nothing: it forgets what is watched; clear E takes a breakpoint away\n", WATCH),
     ("help", NO_COMMAND, ALL),
+];
+
+const FROM_A_SHELL: &str = "mixrev debug SOURCE opens a source; quit ends this session\n";
+
+const SHOWS_REGISTERS: &str =
+    "print shows the registers, print A too; show regs has the toggle and the indicator\n";
+
+const GOES_BACK: &str = "back takes a number, all, break or until COND\n";
+
+const GOES_ON: &str = "run takes a number, 1 to 1000000, until COND, both or nothing\n";
+
+const SHOWS_CELLS: &str = "print cell E shows a cell, x E E cells\n";
+
+const SETS: &str =
+    "set REG W sets a register, set cell E W a cell, set over on the toggle, set cmp L\n";
+
+const BREAKS: &str = "break takes E, a cell, or line N; watch takes COND\n";
+
+const SHOWS_PAST: &str =
+    "show last N shows what the last N changes altered; trace N shows each step\n";
+
+// The commands of other debuggers, and what to type here.
+#[rattlefmt::skip]
+static ELSEWHERE: [(&str, &str); 44] = [
+    ("load", FROM_A_SHELL), ("file", FROM_A_SHELL), ("start", GOES_ON), ("info", SHOW_TAKES), ("i", SHOW_TAKES),
+    ("preg", SHOWS_REGISTERS), ("pflags", SHOWS_REGISTERS), ("pc", SHOWS_REGISTERS), ("pstat", SHOWS_REGISTERS), ("pall", "show all shows everything in use\n"),
+    ("pmem", SHOWS_CELLS), ("psym", "show symbols shows them all, print SYMBOL one\n"), ("weval", "print takes W, a word\n"), ("w2d", "print takes W, a word\n"),
+    ("sreg", SETS), ("smem", SETS), ("scmp", SETS), ("sover", SETS), ("ssym", SETS), ("jump", "set loc E sets the location; goto takes a number of changes\n"),
+    ("sbp", BREAKS), ("sbpa", BREAKS), ("sbpr", BREAKS), ("sbpm", BREAKS), ("sbpc", BREAKS), ("sbpo", BREAKS), ("tbreak", BREAKS),
+    ("cbp", "clear takes E, a cell, or line N\n"), ("cbpa", "clear takes E, a cell, or line N\n"), ("cabp", "clear takes E, a cell, or line N\n"),
+    ("strace", SHOWS_PAST), ("pbt", SHOWS_PAST), ("sbt", SHOWS_PAST), ("bt", SHOWS_PAST), ("backtrace", SHOWS_PAST),
+    ("stime", "show clock shows the time\n"), ("ptime", "show clock shows the time\n"), ("finish", GOES_ON), ("reverse-step", GOES_BACK), ("reverse-continue", GOES_BACK),
+    ("rs", GOES_BACK), ("rc", GOES_BACK), ("undo", GOES_BACK), ("pline", "list takes the number of a line, a symbol, or nothing\n"),
 ];

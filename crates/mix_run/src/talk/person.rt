@@ -9,12 +9,14 @@ use mix_lines::Words;
 use mix_refused::Memory;
 use std::alloc::Global;
 
-/// What a person's line is: a command, a question for help, a listing of the source, or the end of the talk.
+/// What a person's line is: a command, a question for help, a listing of the source, what is watched, or the end of the talk.
 #[derive(Clone, Copy)]
 pub(crate) enum Line {
     Command,
     Help,
     Listing,
+    Watch,
+    Delete,
     Quit,
 }
 
@@ -39,6 +41,8 @@ pub(crate) enum PersonWord {
     Print,
     Listing,
     Where,
+    Watch,
+    Delete,
     Until,
     Examine,
     Exit,
@@ -52,7 +56,8 @@ fn all_words() -> &'static [PersonWord]
     &[
         PersonWord::Step, PersonWord::Next, PersonWord::Run, PersonWord::Trace, PersonWord::Break, PersonWord::Back, PersonWord::Forth,
         PersonWord::Goto, PersonWord::Continue, PersonWord::Clear, PersonWord::Set, PersonWord::Show, PersonWord::Quit, PersonWord::Help,
-        PersonWord::Question, PersonWord::Print, PersonWord::Listing, PersonWord::Where, PersonWord::Until, PersonWord::Examine, PersonWord::Exit,
+        PersonWord::Question, PersonWord::Print, PersonWord::Listing, PersonWord::Where, PersonWord::Watch,
+        PersonWord::Delete, PersonWord::Until, PersonWord::Examine, PersonWord::Exit,
     ]
 }
 
@@ -79,6 +84,8 @@ impl PersonWord {
             PersonWord::Print => "print",
             PersonWord::Listing => "list",
             PersonWord::Where => "where",
+            PersonWord::Watch => "watch",
+            PersonWord::Delete => "delete",
             PersonWord::Until => "until",
             PersonWord::Examine => "x",
             PersonWord::Exit => "exit",
@@ -91,7 +98,7 @@ impl PersonWord {
     {
         match self {
             PersonWord::Next => "step",
-            PersonWord::Continue | PersonWord::Until => "run",
+            PersonWord::Continue | PersonWord::Until | PersonWord::Watch => "run",
             PersonWord::Question => "help",
             PersonWord::Print | PersonWord::Where | PersonWord::Examine => "show",
             PersonWord::Exit => "quit",
@@ -116,10 +123,15 @@ fn word_begun(word: &[u8]) -> Option<PersonWord>
         .find(|known| is_beginning(word, known.name().as_bytes()))
 }
 
-/// The line of a script that a person's line stands for, which is `again` for a blank line.
+/// The line of a script that a person's line stands for, which is `again` for a blank line; with what is watched.
 #[tactic(auto, unfolding(crate::specs::Person::person_line))]
-pub(crate) fn person_line(alloc: Global, again: &[u8], line: &[u8]) -> Result<Vec<u8>, Memory>
-    ensures { IfOk result (λ text. text.items ≡ person_line again.now line.now) }
+pub(crate) fn person_line(
+    alloc: Global,
+    again: &[u8],
+    watch: &[u8],
+    line: &[u8],
+) -> Result<Vec<u8>, Memory>
+    ensures { IfOk result (λ text. text.items ≡ person_line again.now watch.now line.now) }
 {
     let mut text = Vec::new(alloc);
     let mut words = Words::of(line);
@@ -129,7 +141,7 @@ pub(crate) fn person_line(alloc: Global, again: &[u8], line: &[u8]) -> Result<Ve
             None => text.extend_from_slice(line)?,
             Some(known) => {
                 text.extend_from_slice(known.command().as_bytes())?;
-                put_after(&mut text, known, &mut words)?;
+                put_after(&mut text, watch, known, &mut words)?;
             }
         },
     }
@@ -142,6 +154,8 @@ fn kind_of_word(word: Option<PersonWord>, words: &Words) -> Line
     match word {
         Some(PersonWord::Help | PersonWord::Question) => Line::Help,
         Some(PersonWord::Listing) => Line::Listing,
+        Some(PersonWord::Watch) => Line::Watch,
+        Some(PersonWord::Delete) if words.is_end() => Line::Delete,
         Some(PersonWord::Quit | PersonWord::Exit) if words.is_end() => Line::Quit,
         _ => Line::Command,
     }

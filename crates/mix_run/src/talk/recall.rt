@@ -1,10 +1,12 @@
 //! What a talk recalls of a person's lines, and what it reads them with.
 
-ghost use Rattle.std.specs.Prelude.{◌≡◌, IfOk, OnOk};
-ghost use Rattle.mix_run.specs.Recall.{nothing, recalled_after};
-ghost use Rattle.mix_run.specs.Person.{person_line};
+ghost use Rattle.std.specs.Prelude.{◌≡◌, [], IfOk, OnOk};
+ghost use Rattle.mix_run.specs.Recall.{nothing, recalled_after, recalled_watch};
+ghost use Rattle.mix_session.specs.Session.{request_in};
+ghost use Rattle.mix_run.specs.Person.{person_line, watched_in};
 
-use crate::talk::aside::After;
+use crate::talk::aside::{After, say};
+use crate::talk::help::form_of;
 use crate::talk::listing::list;
 use crate::talk::person::person_line;
 use mix_refused::Memory;
@@ -13,13 +15,25 @@ use mix_stream::Out;
 use std::alloc::Global;
 use std::marker::Model;
 
-/// The line of a script that a blank line stands for: the last one that took steps, or changes back; an empty one before that. With it the source
-/// whose lines may be listed.
+/// The line of a script that a blank line stands for: the last one that took steps, or changes back; an empty one before that. With it what is
+/// watched, and the source whose lines may be listed.
 #[derive(Drop)]
 pub(crate) struct Recall<'s> {
     alloc: Global,
     source: &'s [u8],
     again: Vec<u8>,
+    watch: Vec<u8>,
+}
+
+const WATCHED: &str = "watch takes one condition; delete forgets it\n";
+
+const RUN_LEN: usize = 11;
+
+// What is watched, of a line that runs until it: from its `until` on.
+fn watched_in(line: &[u8]) -> &[u8]
+    ensures { result.now ≡ watched_in line.now }
+{
+    &line[RUN_LEN.min(line.len())..]
 }
 
 impl<'s> Model for Recall<'s> {
@@ -27,7 +41,7 @@ impl<'s> Model for Recall<'s> {
 
     ghost Value = { RecallState };
 
-    ghost view = { λ r. record { again = r.again.items } };
+    ghost view = { λ r. record { again = r.again.items; watch = r.watch.items } };
 }
 
 impl<'s> Recall<'s> {
@@ -38,6 +52,7 @@ impl<'s> Recall<'s> {
             alloc,
             source,
             again: Vec::new(alloc),
+            watch: Vec::new(alloc),
         }
     }
 
@@ -47,9 +62,9 @@ impl<'s> Recall<'s> {
 
     /// The line of a script that a person's line stands for.
     pub(crate) fn line(&self, line: &[u8]) -> Result<Vec<u8>, Memory>
-        ensures { IfOk result (λ text. text.items ≡ person_line self.now.again line.now) }
+        ensures { IfOk result (λ text. text.items ≡ person_line self.now.again self.now.watch line.now) }
     {
-        person_line(self.alloc, &self.again, line)
+        person_line(self.alloc, &self.again, &self.watch, line)
     }
 
     /// The lines of the source that a person's line asks for.
@@ -60,6 +75,33 @@ impl<'s> Recall<'s> {
         errors: &mut E,
     ) -> Result<(), Memory> {
         list(self.alloc, session, self.source, line, errors)
+    }
+
+    /// What a line asks for is watched, if it has a condition, and nothing is watched yet; a person is told what is not.
+    pub(crate) fn watch<E: Out>(
+        &mut self,
+        session: &Session,
+        line: &[u8],
+        errors: &mut E,
+    ) -> Result<(), Memory>
+        ensures { OnOk result (self.new ≡ recalled_watch (request_in session.now line.now) line.now self.old) }
+    {
+        if session.read(line).is_err() {
+            say(form_of(Some(b"watch")), errors);
+        } else {
+            match self.watch.split_first() {
+                Some(_) => say(WATCHED, errors),
+                None => self.watch.extend_from_slice(watched_in(line))?,
+            }
+        }
+        Ok(())
+    }
+
+    /// Nothing is watched any more.
+    pub(crate) fn delete(&mut self)
+        ensures { self.new ≡ record self.old { watch = [] } }
+    {
+        self.watch.clear();
     }
 
     /// A line of a script was executed, and this follows it.

@@ -40,6 +40,11 @@ returns-in-Err-take_lines-clause-talks g c t e =
     more-begun c.args.session.now c.loop-reads.session c.args.talker c.loop-reads.recall so_far.0 c.loop-reads.pending.items c.loop-reads.told _ _ so_far.3
     t _ known.0 [] _ _ known.2 refl refl (0, omega arith, Appends-nothing _)
 
+pub returns-in-Err-answer_lines-clause-write : goal.returns-in-Err-answer_lines-clause-write
+returns-in-Err-answer_lines-clause-write g c =
+    let w = rw c.loop-reads.invariant.written at c.in-Err-answer_lines.ensures.write in
+    ((λ e. w.0.0 cc, λ n. let e = w.0.1 n in cc), λ no. w.1 (λ e. no cc))
+
 pub returns-in-Err-answer_lines-2-clause-write : goal.returns-in-Err-answer_lines-2-clause-write
 returns-in-Err-answer_lines-2-clause-write g c =
     let w = rw c.loop-reads.invariant.written at c.in-Err-answer_lines-2.ensures.write in
