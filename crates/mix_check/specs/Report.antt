@@ -1,5 +1,5 @@
 -- What there is to say of a source, as a compiler reports it: `FILE:LINE:COLUMN: error: A2 no such operation: PRNT`, the line, and a mark.
-use Rattle.std.specs.Prelude.{ℕ, ◌-◌, Bool, not, List, [], ◌∷◌, ◌++◌, take, flat_map, Option, None, Some, codes, decimal}
+use Rattle.std.specs.Prelude.{ℕ, Bool, not, List, [], ◌∷◌, ◌++◌, take, flat_map, Option, None, Some, codes, decimal}
 use Rattle.std.specs.List.{list_any}
 use Rattle.mixal_asm.specs.declared.fault.AsmKind.{AsmKind}
 use Rattle.mixal_asm.specs.declared.diagnostic.Diagnostic.{Diagnostic}

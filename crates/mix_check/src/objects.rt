@@ -1,27 +1,22 @@
 //! What there is to say of a source, as one JSON object a line.
 
-ghost use Rattle.std.specs.Prelude.{List, ℕ, ◌≡◌, ◌++◌, IfOk, OnOk};
-ghost use Rattle.std.specs.Map.{lookup};
-ghost use Rattle.std.specs.Str.{bytes_eq};
-ghost use Rattle.mix_check.specs.Later.{line_of_symbol};
-ghost use Rattle.mix_check.specs.Json.{column_members, json_diagnostic, json_line, json_report, meaning_members, number_member, place_members, text_member};
+ghost use Rattle.std.specs.Prelude.{◌≡◌, ◌++◌, IfOk, OnOk};
+ghost use Rattle.mix_check.specs.Json.{column_members, json_line, json_report, meaning_members, number_member, place_members, text_member};
 ghost use Rattle.mix_check.specs.Report.{has_faults};
 
 use crate::help::help_of;
-use crate::place::shown_of;
+use crate::place::{rest_at, shown_first, whole};
 use crate::report::has_fault;
 use crate::values::{code, columns_of, meaning_with, severity};
-use indexmap::IndexMap;
 use json::Writer;
 use mix_refused::Memory;
 use mixal_asm::{Diagnostic, Finding, Role, diagnose, first_mentions};
-use mixal_text::Symbol;
 use std::alloc::{AllocError, Global};
 
 /// Appends what there is to say of a source to a text as `add_report` does, but as JSON, and says whether it has a fault: of each
 /// fault and of each warning one object a line, with its file, its line, the column of its first byte and that of what follows its
 /// last byte, its severity, its number or name, and its text (1.3.2). A fault that is about no part of a line, as A13, has no columns.
-#[tactic(auto, unfolding(crate::specs::Json::json_report))]
+#[tactic(auto, unfolding(crate::specs::Json::json_report, crate::specs::Json::json_diagnostic))]
 pub fn add_json_report(
     alloc: Global,
     name: &str,
@@ -33,29 +28,15 @@ pub fn add_json_report(
 {
     let diagnostics = diagnose(alloc, source)?;
     let definitions = first_mentions(alloc, Role::Definition, source)?;
+    let mut rest = whole(source);
     for diagnostic in diagnostics.iter() {
-        add_diagnostic(alloc, name, source, &definitions, diagnostic, text)?;
+        rest = rest_at(source, rest, diagnostic.line);
+        let place = shown_first(rest.text, diagnostic);
+        let help = help_of(alloc, source, &definitions, diagnostic, place)?;
+        let columns = columns_of(place);
+        add_line(alloc, name, diagnostic, columns, help.as_slice(), text)?;
     }
     Ok(has_fault(&diagnostics))
-}
-
-// Appends a diagnostic of a source.
-#[tactic(auto, unfolding(crate::specs::Json::json_diagnostic))]
-fn add_diagnostic(
-    alloc: Global,
-    name: &str,
-    source: &[u8],
-    definitions: &IndexMap<Symbol, u32>,
-    diagnostic: &Diagnostic,
-    text: &mut Vec<u8>,
-) -> Result<(), Memory>
-    requires known { (name : List ℕ) → lookup (bytes_eq name) definitions.now.entries ≡ line_of_symbol source.now name }
-    ensures { OnOk result (text.new.items ≡ text.old.items ++ json_diagnostic name.now source.now diagnostic.now) }
-{
-    let place = shown_of(source, diagnostic);
-    let help = help_of(alloc, source, definitions, diagnostic, place)?;
-    let columns = columns_of(place);
-    add_line(alloc, name, diagnostic, columns, help.as_slice(), text)
 }
 
 // Appends the object of a diagnostic, and a line feed.

@@ -1,28 +1,24 @@
 //! What there is to say of a source, as a compiler reports it.
 
-ghost use Rattle.std.specs.Prelude.{List, ℕ, ◌≡◌, [], ◌++◌, IfOk, OnOk, not};
+ghost use Rattle.std.specs.Prelude.{◌≡◌, ◌≤◌, [], ◌++◌, IfOk, IfSome, OnOk, length, not, option_map};
 ghost use Rattle.std.specs.List.{list_any};
 ghost use Rattle.mixal_asm.specs.Diagnose.{is_warning};
 ghost use Rattle.mixal_asm.specs.declared.diagnostic.Finding.TheVariants.{Warning as AWarning};
-ghost use Rattle.std.specs.Map.{lookup};
-ghost use Rattle.std.specs.Str.{bytes_eq};
-ghost use Rattle.mix_check.specs.Later.{line_of_symbol};
-ghost use Rattle.mix_check.specs.Report.{column_text, diagnostic_text, error_text, finding_text, has_faults, headline, place_text, report};
+ghost use Rattle.mix_check.specs.Report.{column_text, error_text, finding_text, has_faults, headline, place_text, report, with_shown};
 
 use crate::help::help_of;
 use crate::mark::{add_marked, column_after};
-use crate::place::shown_of;
-use indexmap::IndexMap;
+use crate::place::{rest_at, shown_first, whole};
 use mix_refused::Memory;
 use mixal_asm::{AsmKind, Diagnostic, Finding, Role, Warning, diagnose, first_mentions};
-use mixal_text::Symbol;
+use mixal_text::Span;
 use std::alloc::Global;
 
 /// Appends what there is to say of a source to a text, and says whether it has a fault: of each fault `FILE:LINE:COLUMN: error: A7
 /// undefined symbol`, of each warning `FILE:LINE:COLUMN: warning: X is defined nowhere: .. [undefined-symbol]`, the line, and a mark
 /// under what that is about (1.3.2). The columns are counted from 1, with tab stops at each eighth. A fault that is about no part of
 /// a line, as A13, has neither a column nor the line. Control characters of the source are shown as question marks.
-#[tactic(auto, unfolding(crate::specs::Report::report))]
+#[tactic(auto, unfolding(crate::specs::Report::report, crate::specs::Report::diagnostic_text))]
 pub fn add_report(
     alloc: Global,
     name: &str,
@@ -34,8 +30,12 @@ pub fn add_report(
 {
     let diagnostics = diagnose(alloc, source)?;
     let definitions = first_mentions(alloc, Role::Definition, source)?;
+    let mut rest = whole(source);
     for diagnostic in diagnostics.iter() {
-        add_diagnostic(alloc, name, source, &definitions, diagnostic, text)?;
+        rest = rest_at(source, rest, diagnostic.line);
+        let place = shown_first(rest.text, diagnostic);
+        let help = help_of(alloc, source, &definitions, diagnostic, place)?;
+        add_diagnostic(alloc, name, diagnostic, place, help.as_slice(), text)?;
     }
     Ok(has_fault(&diagnostics))
 }
@@ -47,29 +47,28 @@ pub(crate) fn has_fault(diagnostics: &[Diagnostic]) -> bool
     diagnostics.iter().any(|diagnostic| matches!(diagnostic.finding, Finding::Fault(_)))
 }
 
-// Appends a diagnostic of a source.
-#[tactic(auto, unfolding(crate::specs::Report::diagnostic_text))]
+// Appends a diagnostic, by what is shown of its line and what helps to mend it.
 fn add_diagnostic(
     alloc: Global,
     name: &str,
-    source: &[u8],
-    definitions: &IndexMap<Symbol, u32>,
     diagnostic: &Diagnostic,
+    place: Option<(&[u8], Span)>,
+    help: &[u8],
     text: &mut Vec<u8>,
 ) -> Result<(), Memory>
-    requires known { (name : List ℕ) → lookup (bytes_eq name) definitions.now.entries ≡ line_of_symbol source.now name }
-    ensures { OnOk result (text.new.items ≡ text.old.items ++ diagnostic_text name.now source.now diagnostic.now) }
+    requires order { IfSome place (λ p. p.1.from ≤ p.1.to) }
+    requires within { IfSome place (λ p. p.1.to ≤ length p.0.now) }
+    requires bound { IfSome place (λ p. length p.0.now ≤ 1048576) }
+    ensures { OnOk result (text.new.items ≡ text.old.items ++ with_shown name.now diagnostic.now help.now (option_map (λ p. (p.0.now, p.1)) place.entry)) }
 {
-    let place = shown_of(source, diagnostic);
-    let help = help_of(alloc, source, definitions, diagnostic, place)?;
     match place {
         Some((line, span)) => {
             let column = column_after(&line[..span.from]);
-            add_headline(alloc, name, diagnostic, Some(column), help.as_slice(), text)?;
+            add_headline(alloc, name, diagnostic, Some(column), help, text)?;
             add_marked(text, line, span)?;
             Ok(())
         }
-        None => add_headline(alloc, name, diagnostic, None, help.as_slice(), text),
+        None => add_headline(alloc, name, diagnostic, None, help, text),
     }
 }
 
