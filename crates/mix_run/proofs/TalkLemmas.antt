@@ -347,6 +347,8 @@ quit-meant line_kind.Help typed e = absurd (true≢false (sym e))
 quit-meant line_kind.Listing typed e = absurd (true≢false (sym e))
 quit-meant line_kind.Watch typed e = absurd (true≢false (sym e))
 quit-meant line_kind.Delete typed e = absurd (true≢false (sym e))
+quit-meant line_kind.Display typed e = absurd (true≢false (sym e))
+quit-meant line_kind.Undisplay typed e = absurd (true≢false (sym e))
 
 quit-said : (s : SessionState) (talker : Talker) (r : RecallState) (line : List ℕ) → is_quit talker line ≡ true → meant s talker r line ≡ []
 quit-said s talkers.Program r line e = absurd (true≢false (sym e))

@@ -7,7 +7,7 @@ use Rattle.mix_word.specs.Register.{all_registers, name_of_register}
 use Rattle.mix_run.specs.declared.talk.person.Line.{Line}
 use Rattle.mix_run.specs.declared.talk.person.Line.TheVariants as line_kind
 use Rattle.mix_run.specs.declared.talk.person.PersonWord.{PersonWord}
-use Rattle.mix_run.specs.declared.talk.person.PersonWord.TheVariants.{Step, Next, Run, Trace, Break, Back, Forth, Goto, Continue, Clear, Set, Show, Quit, Help, Question, Print, Listing, Where, Watch, Delete, Until, Examine, Exit}
+use Rattle.mix_run.specs.declared.talk.person.PersonWord.TheVariants.{Step, Next, Run, Trace, Break, Back, Forth, Goto, Continue, Clear, Set, Show, Quit, Help, Question, Print, Listing, Where, Watch, Delete, Display, Until, Undisplay, Examine, Exit}
 
 -- the words that a person may begin a line with
 abbrev pub name_of : PersonWord → List ℕ
@@ -31,7 +31,9 @@ name_of Listing = codes "list"
 name_of Where = codes "where"
 name_of Watch = codes "watch"
 name_of Delete = codes "delete"
+name_of Display = codes "display"
 name_of Until = codes "until"
+name_of Undisplay = codes "undisplay"
 name_of Examine = codes "x"
 name_of Exit = codes "exit"
 
@@ -39,7 +41,7 @@ name_of Exit = codes "exit"
 abbrev pub all_words : List PersonWord
 all_words =
     Step ∷ Next ∷ Run ∷ Trace ∷ Break ∷ Back ∷ Forth ∷ Goto ∷ Continue ∷ Clear ∷ Set ∷ Show ∷ Quit ∷ Help ∷ Question
-    ∷ Print ∷ Listing ∷ Where ∷ Watch ∷ Delete ∷ Until ∷ Examine ∷ Exit ∷ []
+    ∷ Print ∷ Listing ∷ Where ∷ Watch ∷ Delete ∷ Display ∷ Until ∷ Undisplay ∷ Examine ∷ Exit ∷ []
 
 -- the command that each stands for
 abbrev pub command_of : PersonWord → List ℕ
@@ -49,6 +51,7 @@ command_of Question = codes "help"
 command_of Print = codes "show"
 command_of Where = codes "show"
 command_of Watch = codes "run"
+command_of Display = codes "show"
 command_of Until = codes "run"
 command_of Examine = codes "show"
 command_of Exit = codes "quit"
@@ -163,6 +166,7 @@ after_of watch Forth rest = changes_of watch rest
 after_of watch Set rest = spaced (plain_first rest)
 after_of watch Show rest = spaced (shown rest)
 after_of watch Print rest = spaced (printed rest)
+after_of watch Display rest = spaced (printed rest)
 after_of watch Where rest = spaced (codes "code" ∷ range_of rest)
 after_of watch Examine rest = spaced (codes "values" ∷ range_of rest)
 after_of watch word rest = spaced rest
@@ -177,7 +181,7 @@ line_of_words again watch line (word ∷ rest) = line_begun watch line (word_beg
 
 -- the line of a script that a person's line stands for: itself, where it begins with no word that is known, and `again` where it is blank; what is
 -- watched is the end of `run`, `back` and `forth`, where they say no other. The line `watch COND` is read as `run 1000000 until COND`, which is not
--- executed.
+-- executed; nor is `display`, which is read as `print` is.
 unfoldable pub person_line : List ℕ → List ℕ → List ℕ → List ℕ
 person_line again watch line = line_of_words again watch line (words line)
 
@@ -194,6 +198,9 @@ kind_of_word (Some Listing) rest = line_kind.Listing
 kind_of_word (Some Watch) rest = line_kind.Watch
 kind_of_word (Some Delete) [] = line_kind.Delete
 kind_of_word (Some Delete) (word ∷ rest) = line_kind.Command
+kind_of_word (Some Display) rest = line_kind.Display
+kind_of_word (Some Undisplay) [] = line_kind.Undisplay
+kind_of_word (Some Undisplay) (word ∷ rest) = line_kind.Command
 kind_of_word (Some Quit) [] = line_kind.Quit
 kind_of_word (Some Exit) [] = line_kind.Quit
 kind_of_word (Some Quit) (word ∷ rest) = line_kind.Command

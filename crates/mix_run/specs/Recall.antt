@@ -1,5 +1,5 @@
 -- What a talk recalls of a person's lines, and the lines of a script that the next one then stands for.
-use Rattle.std.specs.Prelude.{ℕ, List, [], ◌∷◌, Result, Ok, Err}
+use Rattle.std.specs.Prelude.{ℕ, List, [], ◌∷◌, ◌++◌, Result, Ok, Err}
 use Rattle.mix_lines.specs.Lines.{words}
 use Rattle.mix_session.specs.Session.{SessionState, request_in}
 use Rattle.mix_session.specs.declared.fault.Refusal.{Refusal}
@@ -14,14 +14,15 @@ use Rattle.mix_run.specs.declared.talk.person.Line.{Line}
 use Rattle.mix_run.specs.declared.talk.person.Line.TheVariants as line_kind
 
 -- the line of a script that a blank line stands for: the last one that took steps, or changes back; an empty one before that. And what is watched, from
--- its `until` on; empty, where nothing is
+-- its `until` on; empty, where nothing is. And the lines of a script that show what is displayed after each stop
 pub record RecallState : Type 0 where
   pub again : List ℕ
   pub watch : List ℕ
+  pub displays : List ℕ
 
 -- nothing yet
 abbrev pub nothing : RecallState
-nothing = record { again = []; watch = [] }
+nothing = record { again = []; watch = []; displays = [] }
 
 -- what a request leads to: a stop after steps, or after changes that were taken back, which a blank line repeats; one after other changes that were done;
 -- another stop; or none
@@ -66,6 +67,11 @@ abbrev pub recalled_watch : Result Request Refusal → List ℕ → RecallState 
 recalled_watch (Ok request) typed r = record r { watch = watched_after r.watch typed }
 recalled_watch (Err refusal) typed r = r
 
+-- what is displayed after a line that asks for more: that must be there to be shown
+abbrev pub recalled_display : Result Request Refusal → List ℕ → RecallState → RecallState
+recalled_display (Ok request) typed r = record r { displays = r.displays ++ (typed ++ 10 ∷ []) }
+recalled_display (Err refusal) typed r = r
+
 -- what is recalled when a person's line was answered
 abbrev pub recalled_by : SessionState → Line → List ℕ → RecallState → RecallState
 recalled_by s line_kind.Command typed r = recalled_after (after_read (request_in s typed)) typed r
@@ -73,20 +79,24 @@ recalled_by s line_kind.Help typed r = r
 recalled_by s line_kind.Listing typed r = r
 recalled_by s line_kind.Watch typed r = recalled_watch (request_in s typed) typed r
 recalled_by s line_kind.Delete typed r = record r { watch = [] }
+recalled_by s line_kind.Display typed r = recalled_display (request_in s typed) typed r
+recalled_by s line_kind.Undisplay typed r = record r { displays = [] }
 recalled_by s line_kind.Quit typed r = r
 
 abbrev pub recalled : SessionState → Talker → RecallState → List ℕ → RecallState
 recalled s Program r line = r
 recalled s Person r line = recalled_by s (kind_of (words line)) (person_line r.again r.watch line) r
 
--- the lines of a script that a line stands for: a program's stands for itself; help is no command, nor is a listing of the source, what is watched, or the end of
--- a talk
+-- the lines of a script that a line stands for: a program's stands for itself; help is no command, nor is a listing of the source, what is watched or
+-- displayed, or the end of a talk
 abbrev pub meant_by : Line → List ℕ → List (List ℕ)
 meant_by line_kind.Command typed = typed ∷ []
 meant_by line_kind.Help typed = []
 meant_by line_kind.Listing typed = []
 meant_by line_kind.Watch typed = []
 meant_by line_kind.Delete typed = []
+meant_by line_kind.Display typed = []
+meant_by line_kind.Undisplay typed = []
 meant_by line_kind.Quit typed = []
 
 abbrev pub meant : SessionState → Talker → RecallState → List ℕ → List (List ℕ)

@@ -37,6 +37,8 @@ is_end line_kind.Help = false
 is_end line_kind.Listing = false
 is_end line_kind.Watch = false
 is_end line_kind.Delete = false
+is_end line_kind.Display = false
+is_end line_kind.Undisplay = false
 
 abbrev pub is_quit : Talker → List ℕ → Bool
 is_quit Program line = false

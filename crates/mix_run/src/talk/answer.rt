@@ -54,10 +54,19 @@ fn answer_person<W: Out, E: Out>(
             recall.delete();
             Ok(Some(Told::Accepted))
         }
+        Line::Display => {
+            recall.display(session, &typed, errors)?;
+            Ok(Some(Told::Accepted))
+        }
+        Line::Undisplay => {
+            recall.undisplay();
+            Ok(Some(Told::Accepted))
+        }
         Line::Command => {
             let after = after_reply(session, &typed);
             let told = command(session, &typed, out)?;
             tell(after, told, session, &typed, errors);
+            recall.tell_displays(after, session, errors);
             recall.keep(after, &typed)?;
             Ok(Some(told))
         }

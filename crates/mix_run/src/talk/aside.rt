@@ -1,5 +1,5 @@
 //! What is written beside the replies, on the error output, where a person talks: the warnings of the source, a greeting, prompts, help, what the last
-//! step altered and the next instruction after a stop, and the form of a command that is refused.
+//! step altered, the next instruction and what is displayed after a stop, and the form of a command that is refused.
 
 ghost use Rattle.std.specs.Prelude.{◌≡◌};
 ghost use Rattle.mix_run.specs.Recall.{after_read, after_request};
@@ -7,7 +7,7 @@ ghost use Rattle.mix_session.specs.Session.{request_in};
 
 use crate::beside::tell_report;
 use crate::talk::help::{form_of, help_on};
-use mix_lines::Words;
+use mix_lines::{Words, split_line};
 use mix_machine::Place;
 use mix_refused::Memory;
 use mix_session::{Answer, Request, Session, Told, Topic};
@@ -160,5 +160,18 @@ fn tell_topic<E: Out>(session: &Session, topic: Topic, errors: &mut E) {
     match session.text(&Answer::Shows(topic)) {
         Ok(text) => say_bytes(&text, errors),
         Err(Memory) => {}
+    }
+}
+
+/// What some lines of a script show now.
+pub(crate) fn tell_shown<E: Out>(session: &Session, lines: &[u8], errors: &mut E) {
+    let mut rest = lines;
+    while !rest.is_empty() {
+        let (line, after) = split_line(rest);
+        match session.read(line) {
+            Ok(Request::Show(topic)) => tell_topic(session, topic, errors),
+            Ok(_) | Err(_) => {}
+        }
+        rest = after;
     }
 }

@@ -177,7 +177,7 @@ pub(crate) fn put_after(
         PersonWord::Back | PersonWord::Forth => put_changes(text, watch, words),
         PersonWord::Set => put_plain(text, words),
         PersonWord::Show => put_shown(text, words),
-        PersonWord::Print => put_printed(text, words),
+        PersonWord::Print | PersonWord::Display => put_printed(text, words),
         PersonWord::Where => put_topic(text, b"code", words),
         PersonWord::Examine => put_topic(text, b"values", words),
         _ => put_all(text, words),

@@ -10,6 +10,7 @@ Beginnings will do: s for step, b for break, ba for back, u for until; n is step
 back and forth alone take 1, run alone 1000000. Who wrote cell 100? run, then back until cell 100.
 watch COND stops run, back and forth at that from now on; delete forgets it.
 print shows a register, cell E or a word W; list shows the source, where what comes next.
+display shows what print shows after each stop; undisplay ends that.
 help COMMAND explains one, as help back. A blank line repeats the last step or back.
 ";
 
@@ -99,6 +100,12 @@ delete           nothing is watched any more
 One condition can be watched. COND is as after until; help until says more.
 ";
 
+const DISPLAY: &str = "\
+display A        shows the registers now, and after each stop from now on
+display cell E   shows cell E, and display W a word, in the same way: as print does
+undisplay        nothing is displayed any more
+";
+
 const LIST: &str = "list takes the number of a line, a symbol, or nothing\n";
 
 const UNTIL: &str = "\
@@ -151,7 +158,7 @@ fn form_elsewhere(word: Option<&[u8]>) -> &'static str {
 
 // Each word that there is help on: what it takes, as a refusal says it, and the help.
 #[rattlefmt::skip]
-static TOPICS: [(&str, &str, &str); 20] = [
+static TOPICS: [(&str, &str, &str); 22] = [
     ("step", "step takes a number, 1 to 1000000, or nothing\n", STEP),
     ("run", "run takes a number, 1 to 1000000, until COND, both or nothing\n", RUN),
     ("trace", "trace takes a number, 1 to 1000000, or nothing\n", TRACE),
@@ -171,6 +178,8 @@ static TOPICS: [(&str, &str, &str); 20] = [
     ("list", LIST, PRINT),
     ("watch", WATCH_TAKES, WATCH),
     ("delete", "delete takes nothing: it forgets what is watched; clear E takes a breakpoint away\n", WATCH),
+    ("display", "display takes a register, cell E or a word W, as print does\n", DISPLAY),
+    ("undisplay", "undisplay takes nothing: nothing is displayed any more\n", DISPLAY),
     ("help", NO_COMMAND, ALL),
 ];
 

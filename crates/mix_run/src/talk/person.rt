@@ -9,7 +9,7 @@ use mix_lines::Words;
 use mix_refused::Memory;
 use std::alloc::Global;
 
-/// What a person's line is: a command, a question for help, a listing of the source, what is watched, or the end of the talk.
+/// What a person's line is: a command, a question for help, a listing of the source, what is watched or displayed, or the end of the talk.
 #[derive(Clone, Copy)]
 pub(crate) enum Line {
     Command,
@@ -17,6 +17,8 @@ pub(crate) enum Line {
     Listing,
     Watch,
     Delete,
+    Display,
+    Undisplay,
     Quit,
 }
 
@@ -43,7 +45,9 @@ pub(crate) enum PersonWord {
     Where,
     Watch,
     Delete,
+    Display,
     Until,
+    Undisplay,
     Examine,
     Exit,
 }
@@ -57,7 +61,7 @@ fn all_words() -> &'static [PersonWord]
         PersonWord::Step, PersonWord::Next, PersonWord::Run, PersonWord::Trace, PersonWord::Break, PersonWord::Back, PersonWord::Forth,
         PersonWord::Goto, PersonWord::Continue, PersonWord::Clear, PersonWord::Set, PersonWord::Show, PersonWord::Quit, PersonWord::Help,
         PersonWord::Question, PersonWord::Print, PersonWord::Listing, PersonWord::Where, PersonWord::Watch,
-        PersonWord::Delete, PersonWord::Until, PersonWord::Examine, PersonWord::Exit,
+        PersonWord::Delete, PersonWord::Display, PersonWord::Until, PersonWord::Undisplay, PersonWord::Examine, PersonWord::Exit,
     ]
 }
 
@@ -86,7 +90,9 @@ impl PersonWord {
             PersonWord::Where => "where",
             PersonWord::Watch => "watch",
             PersonWord::Delete => "delete",
+            PersonWord::Display => "display",
             PersonWord::Until => "until",
+            PersonWord::Undisplay => "undisplay",
             PersonWord::Examine => "x",
             PersonWord::Exit => "exit",
         }
@@ -100,7 +106,8 @@ impl PersonWord {
             PersonWord::Next => "step",
             PersonWord::Continue | PersonWord::Until | PersonWord::Watch => "run",
             PersonWord::Question => "help",
-            PersonWord::Print | PersonWord::Where | PersonWord::Examine => "show",
+            PersonWord::Print | PersonWord::Where | PersonWord::Examine | PersonWord::Display =>
+                "show",
             PersonWord::Exit => "quit",
             _ => self.name(),
         }
@@ -156,6 +163,8 @@ fn kind_of_word(word: Option<PersonWord>, words: &Words) -> Line
         Some(PersonWord::Listing) => Line::Listing,
         Some(PersonWord::Watch) => Line::Watch,
         Some(PersonWord::Delete) if words.is_end() => Line::Delete,
+        Some(PersonWord::Display) => Line::Display,
+        Some(PersonWord::Undisplay) if words.is_end() => Line::Undisplay,
         Some(PersonWord::Quit | PersonWord::Exit) if words.is_end() => Line::Quit,
         _ => Line::Command,
     }

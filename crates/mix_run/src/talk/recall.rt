@@ -1,11 +1,11 @@
 //! What a talk recalls of a person's lines, and what it reads them with.
 
 ghost use Rattle.std.specs.Prelude.{◌≡◌, [], IfOk, OnOk};
-ghost use Rattle.mix_run.specs.Recall.{nothing, recalled_after, recalled_watch};
+ghost use Rattle.mix_run.specs.Recall.{nothing, recalled_after, recalled_display, recalled_watch};
 ghost use Rattle.mix_session.specs.Session.{request_in};
 ghost use Rattle.mix_run.specs.Person.{person_line, watched_in};
 
-use crate::talk::aside::{After, say};
+use crate::talk::aside::{After, say, tell_shown};
 use crate::talk::help::form_of;
 use crate::talk::listing::list;
 use crate::talk::person::person_line;
@@ -16,13 +16,14 @@ use std::alloc::Global;
 use std::marker::Model;
 
 /// The line of a script that a blank line stands for: the last one that took steps, or changes back; an empty one before that. With it what is
-/// watched, and the source whose lines may be listed.
+/// watched, the lines of a script that show what is displayed, and the source whose lines may be listed.
 #[derive(Drop)]
 pub(crate) struct Recall<'s> {
     alloc: Global,
     source: &'s [u8],
     again: Vec<u8>,
     watch: Vec<u8>,
+    displays: Vec<u8>,
 }
 
 const WATCHED: &str = "watch takes one condition; delete forgets it\n";
@@ -41,7 +42,7 @@ impl<'s> Model for Recall<'s> {
 
     ghost Value = { RecallState };
 
-    ghost view = { λ r. record { again = r.again.items; watch = r.watch.items } };
+    ghost view = { λ r. record { again = r.again.items; watch = r.watch.items; displays = r.displays.items } };
 }
 
 impl<'s> Recall<'s> {
@@ -53,6 +54,7 @@ impl<'s> Recall<'s> {
             source,
             again: Vec::new(alloc),
             watch: Vec::new(alloc),
+            displays: Vec::new(alloc),
         }
     }
 
@@ -102,6 +104,42 @@ impl<'s> Recall<'s> {
         ensures { self.new ≡ record self.old { watch = [] } }
     {
         self.watch.clear();
+    }
+
+    /// What a line asks for is shown, now and after each stop, if it is there to be shown.
+    pub(crate) fn display<E: Out>(
+        &mut self,
+        session: &Session,
+        line: &[u8],
+        errors: &mut E,
+    ) -> Result<(), Memory>
+        ensures { OnOk result (self.new ≡ recalled_display (request_in session.now line.now) line.now self.old) }
+    {
+        if session.read(line).is_err() {
+            say(form_of(Some(b"display")), errors);
+        } else {
+            self.displays.extend_from_slice(line)?;
+            self.displays.extend_from_slice(b"\n")?;
+            tell_shown(session, line, errors);
+        }
+        Ok(())
+    }
+
+    /// Nothing is displayed any more.
+    pub(crate) fn undisplay(&mut self)
+        ensures { self.new ≡ record self.old { displays = [] } }
+    {
+        self.displays.clear();
+    }
+
+    /// After a stop a person is told what is displayed.
+    pub(crate) fn tell_displays<E: Out>(&self, after: After, session: &Session, errors: &mut E) {
+        match after {
+            After::Nothing | After::Refused => {}
+            After::Stop | After::Done | After::Stepped | After::Repeated => {
+                tell_shown(session, &self.displays, errors)
+            }
+        }
     }
 
     /// A line of a script was executed, and this follows it.
