@@ -13,7 +13,7 @@ case $words[1] in
     _arguments '(- *)'{-h,--help}'[writes help]' '--cards=[the cards of the reader]:cards:_files' $devices '--steps=[the most steps]:number:' \
       '*--unit=[writes only the rows of this unit]:unit:(17 18 19 20)' $source
     ;;
-  debug) _arguments '(- *)'{-h,--help}'[writes help]' $devices $source '2:script:_files' ;;
+  debug) _arguments '(- *)'{-h,--help}'[writes help]' $devices '--echo[writes each command before its reply]' $source '2:script:_files' ;;
   list) _arguments '(- *)'{-h,--help}'[writes help]' $source ;;
   check) _arguments '(- *)'{-h,--help}'[writes help]' '--json[writes each fault as one JSON object a line]' '*:source:_files' ;;
   dap) _arguments '(- *)'{-h,--help}'[writes help]' ;;

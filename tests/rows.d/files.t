@@ -85,3 +85,23 @@ A file whose name is a dash.
 
   $ mixrev list "$(printf '%256s' '' | tr ' ' a)" </dev/null 2>&1 | sed 's/a\{256\}/A/'
   stderr: mixrev: T4 not opened: A: File name too long
+
+Each line of a script stands before its reply.
+
+  $ printf ' ENTA 5\n HLT\n END 0\n' >echo.mixal
+  $ printf 'step\n* a note\r\n STEP 9 9\nback 2\nshow clock' | mixrev debug echo.mixal - --echo
+  step
+  ran 1 to 0001 clock 1: limit
+  * a note
+   STEP 9 9
+  ? C2 bad argument
+  back 2
+  ? C4 fewer changes than asked
+  show clock
+  clock 1
+  [3]
+
+A session has its commands already.
+
+  $ printf 'step\n' | mixrev debug echo.mixal --echo
+  ran 1 to 0001 clock 1: limit

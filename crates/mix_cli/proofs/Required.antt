@@ -102,7 +102,7 @@ run_solid =
     (source_solid 1, (option_solid 2 (codes "cards"), (option_solid 2 (codes "devices"), (steps_solid 2, (unit_solid 2, (help_solid 2, tt))))))
 
 debug_solid : AllSolid debug_shape.rules
-debug_solid = (source_solid 1, (free_word_solid 2 (codes "SCRIPT"), (option_solid 3 (codes "devices"), (help_solid 3, tt))))
+debug_solid = (source_solid 1, (free_word_solid 2 (codes "SCRIPT"), (option_solid 3 (codes "devices"), (flag_solid 3 (codes "echo"), (help_solid 3, tt)))))
 
 list_solid : AllSolid list_shape.rules
 list_solid = (source_solid 1, (help_solid 2, tt))

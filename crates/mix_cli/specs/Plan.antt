@@ -11,13 +11,13 @@ use Rattle.mix_cli.specs.declared.words.Plan.{Plan}
 use Rattle.mix_cli.specs.declared.words.Plan.TheVariants as plan
 use Rattle.mix_cli.specs.declared.words.Printing.{Printing}
 
--- a bundle; a listing of a source; a check of some sources, in JSON or not; a session of a source, of a script where it is named, and of a deck where it is named; a run of a source, of
+-- a bundle; a listing of a source; a check of some sources, in JSON or not; a session of a source, of a script where it is named, and of a deck where it is named, with the commands of the script echoed or not; a run of a source, of
 -- cards and a deck where they are named, of so many steps at most and of what is printed; the debug adapter
 pub data Planned : Type 0 where
   bundle : Planned
   lists : Text → Planned
   checks : List Text → Bool → Planned
-  debugs : Text → Option Text → Option Text → Planned
+  debugs : Text → Option Text → Option Text → Bool → Planned
   runs : Text → Option Text → Option Text → ℕ → Printing → Planned
   adapts : Planned
 
@@ -25,7 +25,7 @@ abbrev pub planned_of : Plan → Planned
 planned_of plan.Bundle = bundle
 planned_of (plan.List source) = lists (string_bytes source)
 planned_of (plan.Check sources json) = checks (map string_bytes sources.items) json
-planned_of (plan.Debug source script devices) = debugs (string_bytes source) (option_map string_bytes script) (option_map string_bytes devices)
+planned_of (plan.Debug source script devices echo) = debugs (string_bytes source) (option_map string_bytes script) (option_map string_bytes devices) echo
 planned_of (plan.Run source cards devices steps printing) =
     runs (string_bytes source) (option_map string_bytes cards) (option_map string_bytes devices) steps printing
 planned_of plan.Dap = adapts
@@ -66,7 +66,9 @@ check_planned rows = option_map (λ sources. checks sources (is_set (codes "json
 
 -- of the words after `debug`
 abbrev pub debug_planned : List Row → Option Planned
-debug_planned rows = option_map (λ source. debugs source (first_of (codes "SCRIPT") rows) (first_of (codes "devices") rows)) (first_of (codes "SOURCE") rows)
+debug_planned rows =
+    option_map (λ source. debugs source (first_of (codes "SCRIPT") rows) (first_of (codes "devices") rows) (is_set (codes "echo") rows))
+    (first_of (codes "SOURCE") rows)
 
 -- of the words after `run`
 abbrev pub run_planned : List Row → Option Planned

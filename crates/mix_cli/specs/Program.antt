@@ -1,5 +1,5 @@
 -- The words that the program takes, as clap reads them: `list SOURCE`; `check` with one SOURCE or several, and with `--json`;
--- `debug SOURCE SCRIPT`, of which SCRIPT may be left out, with the option `--devices FILE`; and `run SOURCE` with options of its own.
+-- `debug SOURCE SCRIPT`, of which SCRIPT may be left out, with `--devices FILE` and `--echo`; and `run SOURCE` with options of its own.
 use Rattle.std.specs.Prelude.{ℕ, true, Some, codes}
 use Rattle.clap.specs.Words.{App, Rule, Text, new_app, new_rule, with_rule, with_subcommand}
 use Rattle.clap.specs.Simple.{on_top}
@@ -60,7 +60,7 @@ check_app = with_rule of_sources (flag_named (codes "json"))
 
 -- without a script it is a talk
 abbrev pub debug_app : App
-debug_app = with_rule (with_rule (of_source (codes "debug")) (new_rule (codes "SCRIPT"))) devices_option
+debug_app = with_rule (with_rule (with_rule (of_source (codes "debug")) (new_rule (codes "SCRIPT"))) devices_option) (flag_named (codes "echo"))
 
 -- what goes in, and what is asked of the run
 abbrev pub run_inputs : App

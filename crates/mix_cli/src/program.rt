@@ -98,14 +98,15 @@ fn option_named<'a>(alloc: Global, name: &'a str, value: &'a str, help: &'a str)
         .help(help)
 }
 
-fn json_option<'a>(alloc: Global) -> Arg<'a>
-    ensures rule { rule_of result ≡ flag_named (codes "json") }
+// An option without a value.
+fn flag_named<'a>(alloc: Global, name: &'a str, help: &'a str) -> Arg<'a>
+    ensures rule { rule_of result ≡ flag_named name.entry.now }
     ensures local { result.global ≡ false }
 {
-    Arg::new(alloc, "json")
-        .long("json")
+    Arg::new(alloc, name)
+        .long(name)
         .action(ArgAction::SetTrue)
-        .help("Writes each fault as one JSON object a line")
+        .help(help)
 }
 
 fn devices_option<'a>(alloc: Global) -> Arg<'a>
@@ -187,17 +188,19 @@ fn check_command<'a>(alloc: Global) -> Result<Command<'a>, AllocError>
     of_sources(alloc)?
         .about("Reports all faults of sources")
         .after_help(MORE_ON_CHECK)
-        .arg(json_option(alloc))
+        .arg(flag_named(alloc, "json", "Writes each fault as one JSON object a line"))
 }
 
-// The subcommand `debug` with its two words, SOURCE and SCRIPT.
+// The subcommand `debug` with its two words, SOURCE and SCRIPT, and its deck.
 fn of_script<'a>(alloc: Global) -> Result<Command<'a>, AllocError>
-    ensures app { IfOk result (λ c. app_of c ≡ with_rule (of_source (codes "debug")) (new_rule (codes "SCRIPT"))) }
+    ensures app { IfOk result (λ c. app_of c ≡ with_rule (with_rule (of_source (codes "debug")) (new_rule (codes "SCRIPT"))) devices_option) }
 {
     let script = Arg::new(alloc, "SCRIPT").help(
         "The file with the commands, one a line; without it each line of standard input is one",
     );
-    of_source(alloc, "debug")?.arg(script)
+    of_source(alloc, "debug")?
+        .arg(script)?
+        .arg(devices_option(alloc))
 }
 
 fn debug_command<'a>(alloc: Global) -> Result<Command<'a>, AllocError>
@@ -206,7 +209,11 @@ fn debug_command<'a>(alloc: Global) -> Result<Command<'a>, AllocError>
     of_script(alloc)?
         .about("Executes commands on the program of a source, forwards and backwards")
         .after_help(MORE_ON_DEBUG)
-        .arg(devices_option(alloc))
+        .arg(flag_named(
+            alloc,
+            "echo",
+            "Writes each command of SCRIPT before its reply",
+        ))
 }
 
 // The subcommand `run` with what goes into the run: the source, the cards and the deck.

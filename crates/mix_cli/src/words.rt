@@ -15,7 +15,7 @@ use clap::{ArgMatches, Error};
 use std::alloc::{AllocError, Global};
 
 /// What the program is to do: a bundle from standard input; the listing of a source; a check of sources, in JSON or not; a session of a source, with a deck where one is named, by a
-/// script or, where none is named, a talk; a run of a source, with cards and a deck where they are named, of so many steps at most, 1 to 10^18;
+/// script, whose commands are echoed or not, or, where none is named, a talk; a run of a source, with cards and a deck where they are named, of so many steps at most, 1 to 10^18;
 /// or to be a debug adapter. The texts are names of files.
 #[derive(Drop)]
 pub enum Plan {
@@ -29,6 +29,7 @@ pub enum Plan {
         source: String,
         script: Option<String>,
         devices: Option<String>,
+        echo: bool,
     },
     Run {
         source: String,
@@ -74,6 +75,7 @@ fn debug_plan(alloc: Global, words: &ArgMatches<'_>) -> Result<Plan, AllocError>
         source: required(alloc, words, "SOURCE")?,
         script: optional(alloc, words, "SCRIPT")?,
         devices: optional(alloc, words, "devices")?,
+        echo: is_set(words, "echo"),
     })
 }
 

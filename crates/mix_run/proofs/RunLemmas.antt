@@ -1,5 +1,5 @@
 -- A script goes on by one line: what was written so far and the replies to the lines that are left stay the replies to all.
-use Rattle.std.proofs.Common.{◌≡◌, ℕ, List, [], ◌∷◌, ◌++◌, true, Option, None, Some, Result, Ok, Err, IfOk, IfErr, ◌-◌, ◌<◌, ◌≤◌, refl, sym, ap, ◌∙◌, append_assoc, length, eqb, take, arith}
+use Rattle.std.proofs.Common.{◌≡◌, ℕ, Bool, List, [], ◌∷◌, ◌++◌, true, false, Option, None, Some, Result, Ok, Err, IfOk, IfErr, ◌-◌, ◌<◌, ◌≤◌, refl, sym, ap, ◌∙◌, append_assoc, length, eqb, take, arith}
 use Rattle.std.proofs.lemmas.Bool.{eqb-true, lt-ltb, le-ltb}
 use Rattle.std.proofs.lemmas.List.{append-nil}
 use Rattle.std.specs.Io.KnownBytes.{Appends, Keeps}
@@ -7,7 +7,7 @@ use Rattle.mix_session.specs.Session.{SessionState, opened, effect_in}
 use Rattle.mix_session.specs.Command.{after, reply_of}
 use Rattle.mix_session.specs.Answer.{told_of}
 use Rattle.mix_lines.specs.Lines.{lines, lines-nil}
-use Rattle.mix_run.specs.Output.{IsDeckRefusal, Outcome, Meets, outcome_of, replies, outcome_of_script, bundle_output, output, list_output, list_outcome, status_of, refusal_of, TooLong, Ended}
+use Rattle.mix_run.specs.Output.{IsDeckRefusal, Outcome, Meets, outcome_of, replies_of, said_of, outcome_of_script, bundle_output, output, list_output, list_outcome, status_of, refusal_of, TooLong, Ended}
 use Rattle.mix_stream.specs.Stream.{AppendsFront, ConsumesAtMost}
 use Rattle.mix_run.specs.Bundle.{cut_of}
 use Rattle.mix_run.specs.UnitsRead.{GivesUnits}
@@ -30,24 +30,24 @@ use Rattle.mix_session.specs.declared.reply.Told.TheVariants.{Accepted, Refused}
 use Rattle.mix_run.proofs.Written.{Appends-then, Appends-same, Appends-nothing, AppendsFront-after}
 
 -- one line more is written
-pub written-next : (s next : SessionState) (line : List ℕ) (rest more : List (List ℕ)) (a b c : Option (List ℕ)) (whole : List ℕ) →
+pub written-next : (echo : Bool) (s next : SessionState) (line : List ℕ) (rest more : List (List ℕ)) (a b c : Option (List ℕ)) (whole : List ℕ) →
     rest ≡ line ∷ more → next ≡ record s { timeline = after (effect_in s line) } →
-    (done : List ℕ) × Appends a b done × (whole ≡ done ++ (replies s rest).bytes) → Appends b c (reply_of s.program (effect_in s line)) →
-    (done : List ℕ) × Appends a c done × (whole ≡ done ++ (replies next more).bytes)
-written-next s next line rest more a b c whole split changed so_far reply =
-    let said = reply_of s.program (effect_in s line) in
-    let rest_said : (replies s rest).bytes ≡ said ++ (replies next more).bytes = rw (split, changed) refl in (
+    (done : List ℕ) × Appends a b done × (whole ≡ done ++ (replies_of echo s rest).bytes) → Appends b c (said_of echo s line) →
+    (done : List ℕ) × Appends a c done × (whole ≡ done ++ (replies_of echo next more).bytes)
+written-next echo s next line rest more a b c whole split changed so_far reply =
+    let said = said_of echo s line in
+    let rest_said : (replies_of echo s rest).bytes ≡ said ++ (replies_of echo next more).bytes = rw (split, changed) refl in (
       so_far.0 ++ said,
       Appends-then a b c so_far.0 said so_far.1 reply,
-      so_far.2 ∙ ap (λ bytes. so_far.0 ++ bytes) rest_said ∙ sym (append_assoc so_far.0 said (replies next more).bytes),
+      so_far.2 ∙ ap (λ bytes. so_far.0 ++ bytes) rest_said ∙ sym (append_assoc so_far.0 said (replies_of echo next more).bytes),
     )
 
 -- a beginning of one line more is written
-pub begun-at : (s : SessionState) (line : List ℕ) (rest more : List (List ℕ)) (a b c : Option (List ℕ)) (whole : List ℕ) → rest ≡ line ∷ more →
-    (done : List ℕ) × Appends a b done × (whole ≡ done ++ (replies s rest).bytes) → AppendsFront b c (reply_of s.program (effect_in s line)) →
+pub begun-at : (echo : Bool) (s : SessionState) (line : List ℕ) (rest more : List (List ℕ)) (a b c : Option (List ℕ)) (whole : List ℕ) → rest ≡ line ∷ more →
+    (done : List ℕ) × Appends a b done × (whole ≡ done ++ (replies_of echo s rest).bytes) → AppendsFront b c (said_of echo s line) →
     AppendsFront a c whole
-begun-at s line rest more a b c whole split so_far reply =
-    AppendsFront-after a b c so_far.0 (reply_of s.program (effect_in s line)) (replies (record s { timeline = after (effect_in s line) }) more).bytes whole so_far.1 reply
+begun-at echo s line rest more a b c whole split so_far reply =
+    AppendsFront-after a b c so_far.0 (said_of echo s line) (replies_of echo (record s { timeline = after (effect_in s line) }) more).bytes whole so_far.1 reply
     (so_far.2 ∙ ap (λ bytes. so_far.0 ++ bytes) (rw split refl))
 
 pub both-assoc : (a b c : Told) → told_of_both (told_of_both a b) c ≡ told_of_both a (told_of_both b c)
@@ -59,22 +59,22 @@ both-accepted Accepted = refl
 both-accepted Refused = refl
 
 -- what was reported so far, and of the lines that are left, is reported of all; so it is after one line more
-pub told-next : (s next : SessionState) (line : List ℕ) (rest more : List (List ℕ)) (so_far one whole : Told) → rest ≡ line ∷ more →
-    next ≡ record s { timeline = after (effect_in s line) } → told_of_both so_far (replies s rest).told ≡ whole → one ≡ told_of (effect_in s line).answer →
-    told_of_both (told_of_both so_far one) (replies next more).told ≡ whole
-told-next s next line rest more so_far one whole split changed before here =
-    let rest_told : (replies s rest).told ≡ told_of_both one (replies next more).told = rw (split, changed, here) refl in
-    both-assoc so_far one (replies next more).told ∙ ap (told_of_both so_far) (sym rest_told) ∙ before
+pub told-next : (echo : Bool) (s next : SessionState) (line : List ℕ) (rest more : List (List ℕ)) (so_far one whole : Told) → rest ≡ line ∷ more →
+    next ≡ record s { timeline = after (effect_in s line) } → told_of_both so_far (replies_of echo s rest).told ≡ whole → one ≡ told_of (effect_in s line).answer →
+    told_of_both (told_of_both so_far one) (replies_of echo next more).told ≡ whole
+told-next echo s next line rest more so_far one whole split changed before here =
+    let rest_told : (replies_of echo s rest).told ≡ told_of_both one (replies_of echo next more).told = rw (split, changed, here) refl in
+    both-assoc so_far one (replies_of echo next more).told ∙ ap (told_of_both so_far) (sym rest_told) ∙ before
 
 -- no line is left
-pub all-said : (s : SessionState) (a b : Option (List ℕ)) (whole rest : List ℕ) → rest ≡ [] →
-    (done : List ℕ) × Appends a b done × (whole ≡ done ++ (replies s (lines rest)).bytes) → Appends a b whole
-all-said s a b whole rest none so_far =
+pub all-said : (echo : Bool) (s : SessionState) (a b : Option (List ℕ)) (whole rest : List ℕ) → rest ≡ [] →
+    (done : List ℕ) × Appends a b done × (whole ≡ done ++ (replies_of echo s (lines rest)).bytes) → Appends a b whole
+all-said echo s a b whole rest none so_far =
     Appends-same a b so_far.0 whole (sym (so_far.2 ∙ (rw (none, lines-nil) (append-nil so_far.0)))) so_far.1
 
-pub all-told : (s : SessionState) (so_far whole : Told) (rest : List ℕ) → rest ≡ [] →
-    told_of_both so_far (replies s (lines rest)).told ≡ whole → so_far ≡ whole
-all-told s so_far whole rest none before =
+pub all-told : (echo : Bool) (s : SessionState) (so_far whole : Told) (rest : List ℕ) → rest ≡ [] →
+    told_of_both so_far (replies_of echo s (lines rest)).told ≡ whole → so_far ≡ whole
+all-told echo s so_far whole rest none before =
     sym (both-accepted so_far) ∙ (rw (none, lines-nil) at before)
 
 -- a list of length 0
@@ -83,22 +83,22 @@ nil-from_length [] e = refl
 nil-from_length (x ∷ xs) e = absurd (omega (arith, eqb-true (length (x ∷ xs)) 0 (sym e)))
 
 -- a script is read from its first 1,048,577 bytes
-pub outcome_of_script-take : (s : SessionState) (script : List ℕ) → outcome_of_script s (take 1048577 script) ≡ outcome_of_script s script
+pub outcome_of_script-take : (echo : Bool) (s : SessionState) (script : List ℕ) → outcome_of_script echo s (take 1048577 script) ≡ outcome_of_script echo s script
 unfolding outcome_of_script
-outcome_of_script-take s script =
-    limited-take 1048576 TooLong (λ text. let all = replies s (lines text) in Ended all.bytes (status_of all.told)) script
+outcome_of_script-take echo s script =
+    limited-take 1048576 TooLong (λ text. let all = replies_of echo s (lines text) in Ended all.bytes (status_of all.told)) script
 
 -- a bundle is read from its first 41,943,041 bytes
 pub bundle_output-take : (bundle : List ℕ) → bundle_output (take 41943041 bundle) ≡ bundle_output bundle
 unfolding bundle_output
 bundle_output-take bundle =
-    limited-take 41943040 TooLong (λ text. let parts = cut_of text in output parts.source parts.deck parts.script) bundle
+    limited-take 41943040 TooLong (λ text. let parts = cut_of text in output false parts.source parts.deck parts.script) bundle
 
 -- a script that was read up to one byte more than it may have
-pub Meets-script : (s : SessionState) (script read : List ℕ) (done : Result ℕ ToolFault) (old new : Option (List ℕ)) →
-    read ≡ take 1048577 script → Meets (outcome_of_script s read) done old new → Meets (outcome_of_script s script) done old new
-Meets-script s script read done old new e met =
-    let whole : outcome_of_script s read ≡ outcome_of_script s script = ap (outcome_of_script s) e ∙ outcome_of_script-take s script in
+pub Meets-script : (echo : Bool) (s : SessionState) (script read : List ℕ) (done : Result ℕ ToolFault) (old new : Option (List ℕ)) →
+    read ≡ take 1048577 script → Meets (outcome_of_script echo s read) done old new → Meets (outcome_of_script echo s script) done old new
+Meets-script echo s script read done old new e met =
+    let whole : outcome_of_script echo s read ≡ outcome_of_script echo s script = ap (outcome_of_script echo s) e ∙ outcome_of_script-take echo s script in
     rw whole at met
 
 -- nothing was read
@@ -143,26 +143,26 @@ gives-unread expected (reads.Fault _) = tt
 pub cards_of-read : (units : UnitsState) (cards read : List ℕ) → read ≡ take 33554433 cards → cards_of units read ≡ cards_of units cards
 cards_of-read units cards read e = ap (cards_of units) e ∙ cards_of-take units cards
 
-pub Meets-no_units : (program : ProgramValue) (units : Result UnitsState DeckFault) (script : List ℕ) (fault : ToolFault) (told : Option (List ℕ)) →
-    GivesUnits units (Err fault) → Meets (outcome_of (Ok program) units script) (Err fault) told told
+pub Meets-no_units : (echo : Bool) (program : ProgramValue) (units : Result UnitsState DeckFault) (script : List ℕ) (fault : ToolFault) (told : Option (List ℕ)) →
+    GivesUnits units (Err fault) → Meets (outcome_of echo (Ok program) units script) (Err fault) told told
 unfolding outcome_of
-Meets-no_units program units script faults.Memory told refused = (0, omega arith, Appends-nothing told)
-Meets-no_units program units script (faults.Deck fault) told refused = rw refused (refl, Keeps-same told)
-Meets-no_units program units script faults.Read told refused = Keeps-same told
-Meets-no_units program units script faults.Write told refused = absurd refused
-Meets-no_units program units script faults.Long told refused = absurd refused
+Meets-no_units echo program units script faults.Memory told refused = (0, omega arith, Appends-nothing told)
+Meets-no_units echo program units script (faults.Deck fault) told refused = rw refused (refl, Keeps-same told)
+Meets-no_units echo program units script faults.Read told refused = Keeps-same told
+Meets-no_units echo program units script faults.Write told refused = absurd refused
+Meets-no_units echo program units script faults.Long told refused = absurd refused
 
-pub Meets-units : (program : ProgramValue) (units : UnitsState) (deck script : List ℕ) (done : Result ℕ ToolFault) (old new : Option (List ℕ)) →
+pub Meets-units : (echo : Bool) (program : ProgramValue) (units : UnitsState) (deck script : List ℕ) (done : Result ℕ ToolFault) (old new : Option (List ℕ)) →
     deck_of deck ≡ Ok units →
-    Meets (outcome_of_script (opened program units) script) done old new → Meets (outcome_of (Ok program) (deck_of deck) script) done old new
+    Meets (outcome_of_script echo (opened program units) script) done old new → Meets (outcome_of echo (Ok program) (deck_of deck) script) done old new
 unfolding outcome_of
-Meets-units program units deck script done old new made met = rw made met
+Meets-units echo program units deck script done old new made met = rw made met
 
 -- a source that was read up to one byte more than it may have
-pub Meets-source : (source read deck script : List ℕ) (made : Result ProgramValue AsmFault) (done : Result ℕ ToolFault) (old new : Option (List ℕ)) →
-    read ≡ take 1048577 source → assembly read ≡ made → Meets (outcome_of made (deck_of deck) script) done old new → Meets (output source deck script) done old new
+pub Meets-source : (echo : Bool) (source read deck script : List ℕ) (made : Result ProgramValue AsmFault) (done : Result ℕ ToolFault) (old new : Option (List ℕ)) →
+    read ≡ take 1048577 source → assembly read ≡ made → Meets (outcome_of echo made (deck_of deck) script) done old new → Meets (output echo source deck script) done old new
 unfolding output
-Meets-source source read deck script made done old new e f met =
+Meets-source echo source read deck script made done old new e f met =
     let here : assembly source ≡ made = sym (ap assembly e ∙ assembly-take source) ∙ f in
     rw here met
 
@@ -175,11 +175,11 @@ Meets-listed source read made done old new e f met =
     rw here met
 
 -- a refused source
-pub Meets-refused : (source read deck script : List ℕ) (fault : AsmFault) (done : Result ℕ ToolFault) (old new : Option (List ℕ)) →
+pub Meets-refused : (echo : Bool) (source read deck script : List ℕ) (fault : AsmFault) (done : Result ℕ ToolFault) (old new : Option (List ℕ)) →
     read ≡ take 1048577 source → assembly read ≡ Err fault → Meets (refusal_of fault) done old new →
-    Meets (output source deck script) done old new
+    Meets (output echo source deck script) done old new
 unfolding outcome_of
-Meets-refused source read deck script fault done old new e f met = Meets-source source read deck script (Err fault) done old new e f met
+Meets-refused echo source read deck script fault done old new e f met = Meets-source echo source read deck script (Err fault) done old new e f met
 
 -- a bundle that was read up to one byte more than it may have
 pub Meets-bundle : (bundle read : List ℕ) (done : Result ℕ ToolFault) (old new : Option (List ℕ)) →
@@ -196,7 +196,7 @@ Meets-long read told long = rw (lt-ltb 41943040 (length read) long) (refl, Keeps
 -- one that is not, by its parts
 pub Meets-parts : (read source deck script : List ℕ) (done : Result ℕ ToolFault) (old new : Option (List ℕ)) → length read ≤ 41943040 →
     source ≡ (cut_of read).source → deck ≡ (cut_of read).deck → script ≡ (cut_of read).script →
-    Meets (output source deck script) done old new → Meets (bundle_output read) done old new
+    Meets (output false source deck script) done old new → Meets (bundle_output read) done old new
 unfolding bundle_output
 Meets-parts read source deck script done old new short e f g met =
     rw (le-ltb 41943040 (length read) short) (rw (e, f, g) at met)

@@ -1,5 +1,5 @@
 -- A talk that is not begun, and a talk as a script.
-use Rattle.std.proofs.Common.{◌≡◌, ◌∙◌, ◌+◌, ◌<◌, ◌≤◌, ℕ, List, [], ◌∷◌, ◌++◌, length, take, Option, None, Some, Result, Ok, Err, refl, sym, ap, subst, arith}
+use Rattle.std.proofs.Common.{◌≡◌, ◌∙◌, ◌+◌, ◌<◌, ◌≤◌, ℕ, false, List, [], ◌∷◌, ◌++◌, length, take, Option, None, Some, Result, Ok, Err, refl, sym, ap, subst, arith}
 use Rattle.std.proofs.lemmas.Bool.{le-ltb}
 use Rattle.std.specs.Io.KnownBytes.{Appends, Keeps}
 use Rattle.mix_lines.specs.Lines.{lines}
@@ -89,7 +89,7 @@ asked-all s r [] = refl
 asked-all s r (line ∷ rest) = ap (λ l. line ∷ l) (asked-all (after_lines s (line ∷ [])) r rest)
 
 script-said : (s : SessionState) (t : List ℕ) → length t ≤ max_script_bytes
-    → outcome_of_script s t ≡ Ended (answers s Program nothing (lines t)).bytes (status_of (answers s Program nothing (lines t)).told)
+    → outcome_of_script false s t ≡ Ended (answers s Program nothing (lines t)).bytes (status_of (answers s Program nothing (lines t)).told)
 unfolding outcome_of_script
 script-said s t le = rw (le-ltb max_script_bytes (length t) le, asked-all s nothing (lines t)) refl
 
@@ -108,7 +108,7 @@ module _ (s : SessionState) (t : List ℕ) (le : length t ≤ max_script_bytes) 
 pub TalksWith-script : (program : Result ProgramValue AsmFault) (units : Result UnitsState DeckFault) (talker : Talker) (t : List ℕ) (result : Result ℕ ToolFault)
     (left old new : Option (List ℕ)) → talker ≡ Program → length t ≤ max_script_bytes → (result ≡ Err faults.Read → ⊥)
     → (result ≡ Err faults.Long → max_script_bytes < length t) → TalksWith program units talker t result left old new
-    → Meets (outcome_of program units t) result old new
+    → Meets (outcome_of false program units t) result old new
 unfolding outcome_of
 TalksWith-script (Err fault) units talker t result left old new is le read long talks = talks
 TalksWith-script (Ok p) (Err fault) talker t result left old new is le read long talks = talks

@@ -1,5 +1,5 @@
 -- What the tool writes and the status with which it ends: a function of the source, the deck and the script.
-use Rattle.std.specs.Prelude.{◌≡◌, ◌≢◌, ◌≤◌, ⊤, ℕ, Option, List, [], ◌∷◌, ◌++◌, Result, Ok, Err, length, nat_lt, if◌then◌else◌}
+use Rattle.std.specs.Prelude.{◌≡◌, ◌≢◌, ◌≤◌, ⊤, ℕ, Bool, true, false, Option, List, [], ◌∷◌, ◌++◌, Result, Ok, Err, length, nat_lt, if◌then◌else◌}
 use Rattle.std.specs.Io.KnownBytes.{Appends, Keeps}
 use Rattle.mixal_asm.specs.Assembly.{assembly}
 use Rattle.mixal_asm.specs.Fault.{asm_fault_line}
@@ -40,13 +40,26 @@ pub record Replies : Type 0 where
   pub bytes : List ℕ
   pub told : Told
 
+-- what is written before the reply to a line: the line itself, where the commands of a script are echoed
+abbrev pub echo_of : Bool → List ℕ → List ℕ
+echo_of true line = line ++ 10 ∷ []
+echo_of false line = []
+
+-- what is written of a line: the reply, after the line where it is echoed
+abbrev pub said_of : Bool → SessionState → List ℕ → List ℕ
+said_of echo s line = echo_of echo line ++ reply_of s.program (effect_in s line)
+
 -- the replies to the lines, one after the other, each in the session that the ones before it left
-abbrev pub replies : SessionState → List (List ℕ) → Replies
-replies s [] = record { bytes = []; told = Accepted }
-replies s (line ∷ rest) =
+abbrev pub replies_of : Bool → SessionState → List (List ℕ) → Replies
+replies_of echo s [] = record { bytes = []; told = Accepted }
+replies_of echo s (line ∷ rest) =
     let effect = effect_in s line in
-    let more = replies (record s { timeline = after effect }) rest in
-    record { bytes = reply_of s.program effect ++ more.bytes; told = told_of_both (told_of effect.answer) more.told }
+    let more = replies_of echo (record s { timeline = after effect }) rest in
+    record { bytes = said_of echo s line ++ more.bytes; told = told_of_both (told_of effect.answer) more.told }
+
+-- the replies alone
+abbrev pub replies : SessionState → List (List ℕ) → Replies
+replies s all = replies_of false s all
 
 -- the status of a script: 0 where each command is accepted, else 3
 abbrev pub status_of : Told → ℕ
@@ -62,16 +75,16 @@ abbrev pub refusal_of : AsmFault → Outcome
 refusal_of fault = Ended (asm_fault_line fault ++ 10 ∷ []) 1
 
 -- a script in a session
-unfoldable pub outcome_of_script : SessionState → List ℕ → Outcome
-outcome_of_script s script =
+unfoldable pub outcome_of_script : Bool → SessionState → List ℕ → Outcome
+outcome_of_script echo s script =
     if nat_lt max_script_bytes (length script) then TooLong
-    else (let all = replies s (lines script) in Ended all.bytes (status_of all.told))
+    else (let all = replies_of echo s (lines script) in Ended all.bytes (status_of all.told))
 
 -- an assembled program, with its deck and its script
-unfoldable pub outcome_of : Result ProgramValue AsmFault → Result UnitsState DeckFault → List ℕ → Outcome
-outcome_of (Err fault) deck script = refusal_of fault
-outcome_of (Ok program) (Err fault) script = DeckRefused fault
-outcome_of (Ok program) (Ok units) script = outcome_of_script (opened program units) script
+unfoldable pub outcome_of : Bool → Result ProgramValue AsmFault → Result UnitsState DeckFault → List ℕ → Outcome
+outcome_of echo (Err fault) deck script = refusal_of fault
+outcome_of echo (Ok program) (Err fault) script = DeckRefused fault
+outcome_of echo (Ok program) (Ok units) script = outcome_of_script echo (opened program units) script
 
 -- why a deck gives no units: out of memory, or its own fault
 abbrev pub IsDeckRefusal : Result UnitsState DeckFault → ToolFault → Type 0
@@ -81,15 +94,15 @@ IsDeckRefusal deck faults.Read = ⊥
 IsDeckRefusal deck faults.Write = ⊥
 IsDeckRefusal deck faults.Long = ⊥
 
--- source, deck and script
-unfoldable pub output : List ℕ → List ℕ → List ℕ → Outcome
-output source deck script = outcome_of (assembly source) (deck_of deck) script
+-- source, deck and script, whose commands are echoed or not
+unfoldable pub output : Bool → List ℕ → List ℕ → List ℕ → Outcome
+output echo source deck script = outcome_of echo (assembly source) (deck_of deck) script
 
 -- a bundle, cut into its parts
 unfoldable pub bundle_output : List ℕ → Outcome
 bundle_output input =
     if nat_lt max_bundle_bytes (length input) then TooLong
-    else (let parts = cut_of input in output parts.source parts.deck parts.script)
+    else (let parts = cut_of input in output false parts.source parts.deck parts.script)
 
 -- a listing, or the first fault of its source
 abbrev pub list_outcome : Result ProgramValue AsmFault → Outcome

@@ -1,6 +1,6 @@
 //! A bundle: its parts, and their run.
 
-ghost use Rattle.std.specs.Prelude.{◌≡◌, ◌≢◌, ◌<◌, ◌+◌, ◌-◌, ◌^◌, ℕ, List, Some, Err, IfOk};
+ghost use Rattle.std.specs.Prelude.{◌≡◌, ◌≢◌, ◌<◌, ◌+◌, ◌-◌, ◌^◌, ℕ, List, Some, Err, IfOk, false};
 ghost use Rattle.std.specs.Io.KnownBytes.{Keeps};
 ghost use Rattle.mix_run.specs.Bundle.{after_marker, before_marker, cut_of};
 ghost use Rattle.mix_run.specs.PrintOutput.{parts_of};
@@ -90,7 +90,7 @@ fn run_parts<W: Out>(
     out: &mut W,
 ) -> Result<u8, ToolFault>
     requires { W.failed out.old < 2 ^ 64 - 1 }
-    ensures output { Meets (output source.now deck.now script.now) result (W.told out.old) (W.told out.new) }
+    ensures output { Meets (output false source.now deck.now script.now) result (W.told out.old) (W.told out.new) }
     ensures write { CountsFailure (result ≡ Err ToolFault.Write) (W.failed out.old) (W.failed out.new) }
     ensures unread { result ≢ Err ToolFault.Read }
     ensures ends { IfOk result IsStatus }
@@ -100,7 +100,7 @@ fn run_parts<W: Out>(
         Err(Refused::Fault(fault)) => refuse_source(alloc, fault, out),
         Ok(program) => {
             let units = units_of(alloc, deck)?;
-            open_and_execute(alloc, program, units, script, out)
+            open_and_execute(alloc, program, units, script, false, out)
         }
     }
 }

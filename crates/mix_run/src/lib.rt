@@ -5,6 +5,7 @@
 mod beside;
 mod bundle;
 mod check;
+mod commands;
 mod fault;
 mod list;
 mod print;

@@ -1,26 +1,22 @@
 //! The run of a source, a deck and a script, each from a reader of its own.
 
-ghost use Rattle.std.specs.Prelude.{◌≡◌, ◌⊎◌, drop, ◌≢◌, ◌<◌, ◌≤◌, ◌+◌, ◌-◌, ◌^◌, ℕ, List, Some, Ok, Err, IfOk, IfErr};
-ghost use Rattle.std.specs.Io.KnownBytes.{Appends, Keeps};
+ghost use Rattle.std.specs.Prelude.{◌≡◌, ◌⊎◌, drop, ◌≢◌, ◌<◌, ◌≤◌, ◌+◌, ◌-◌, ◌^◌, ℕ, List, Some, Ok, Err, IfOk};
+ghost use Rattle.std.specs.Io.KnownBytes.{Keeps};
 ghost use Rattle.mixal_asm.specs.declared.fault.AsmFault.{AsmFault};
 ghost use Rattle.mix_machine.specs.declared.units.deck_fault.DeckFault.{DeckFault};
-ghost use Rattle.mix_lines.specs.Lines.{lines};
 ghost use Rattle.mixal_asm.specs.Assembly.{assembly, max_source_bytes};
 ghost use Rattle.mix_machine.specs.units.deck.Deck.{deck_of, max_deck_bytes};
-ghost use Rattle.mix_session.specs.Answer.{told_of};
-ghost use Rattle.mix_session.specs.Command.{after, reply_of};
-ghost use Rattle.mix_session.specs.Session.{opened, effect_in};
-ghost use Rattle.mix_run.specs.Fault.{IsMemoryOrWrite};
-ghost use Rattle.mix_run.specs.Output.{Meets, IsStatus, output, outcome_of, outcome_of_script, replies, max_script_bytes};
-ghost use Rattle.mix_stream.specs.Stream.{AppendsFront, ConsumesAtMost, CountsFailure};
+ghost use Rattle.mix_session.specs.Session.{opened};
+ghost use Rattle.mix_run.specs.Output.{Meets, IsStatus, output, outcome_of, outcome_of_script, max_script_bytes};
+ghost use Rattle.mix_stream.specs.Stream.{ConsumesAtMost, CountsFailure};
 
+use crate::commands::execute_lines;
 use crate::fault::ToolFault;
 use crate::statuses::{refuse_source, status};
 use crate::units::read_units;
-use mix_lines::split_line;
 use mix_machine::Units;
 use mix_refused::Refused;
-use mix_session::{Session, Told};
+use mix_session::Session;
 use mix_stream::{In, Out, read_up_to};
 use mixal_asm::{MAX_SOURCE_BYTES, Program, assemble};
 use std::alloc::Global;
@@ -28,55 +24,16 @@ use std::alloc::Global;
 /// The most bytes that a script may have.
 const MAX_SCRIPT_BYTES: usize = 1_048_576;
 
-/// One line of a script: it is executed, and its reply is written.
-pub(crate) fn command<W: Out>(
-    session: &mut Session,
-    line: &[u8],
-    out: &mut W,
-) -> Result<Told, ToolFault>
-    requires { W.failed out.old < 2 ^ 64 - 1 }
-    ensures effect { let effect = effect_in session.old line.now in
-        IfOk result (λ told. (session.new ≡ record session.old { timeline = after effect }) × (told ≡ told_of effect.answer)
-        × Appends (W.told out.old) (W.told out.new) (reply_of session.old.program effect)) }
-    ensures begun { AppendsFront (W.told out.old) (W.told out.new) (reply_of session.old.program (effect_in session.old line.now)) }
-    ensures write { CountsFailure (result ≡ Err ToolFault.Write) (W.failed out.old) (W.failed out.new) }
-    ensures only { IfErr result IsMemoryOrWrite }
-{
-    match session.command(line, out) {
-        Ok(told) => Ok(told),
-        Err(Refused::Memory) => Err(ToolFault::Memory),
-        Err(Refused::Fault(_)) => Err(ToolFault::Write),
-    }
-}
-
-// The lines of a script, one after the other; accepted where each is.
-fn execute_lines<W: Out>(
-    session: &mut Session,
-    script: &[u8],
-    out: &mut W,
-) -> Result<Told, ToolFault>
-    requires { W.failed out.old < 2 ^ 64 - 1 }
-    ensures replies { let all = replies session.old (lines script.now) in
-        IfOk result (λ told. (told ≡ all.told) × Appends (W.told out.old) (W.told out.new) all.bytes) }
-    ensures begun { AppendsFront (W.told out.old) (W.told out.new) (replies session.old (lines script.now)).bytes }
-    ensures write { CountsFailure (result ≡ Err ToolFault.Write) (W.failed out.old) (W.failed out.new) }
-    ensures only { IfErr result IsMemoryOrWrite }
-{
-    let mut told = Told::Accepted;
-    let mut rest = script;
-    while !rest.is_empty() {
-        let (line, after) = split_line(rest);
-        told = told.and(command(session, line, out)?);
-        rest = after;
-    }
-    Ok(told)
-}
-
 // A script in a session.
 #[tactic(auto, unfolding(crate::specs::Output::outcome_of_script))]
-fn execute<W: Out>(session: &mut Session, script: &[u8], out: &mut W) -> Result<u8, ToolFault>
+fn execute<W: Out>(
+    session: &mut Session,
+    script: &[u8],
+    echo: bool,
+    out: &mut W,
+) -> Result<u8, ToolFault>
     requires { W.failed out.old < 2 ^ 64 - 1 }
-    ensures output { Meets (outcome_of_script session.old script.now) result (W.told out.old) (W.told out.new) }
+    ensures output { Meets (outcome_of_script echo session.old script.now) result (W.told out.old) (W.told out.new) }
     ensures write { CountsFailure (result ≡ Err ToolFault.Write) (W.failed out.old) (W.failed out.new) }
     ensures unread { result ≢ Err ToolFault.Read }
     ensures status { result ≢ Ok 1 }
@@ -86,7 +43,7 @@ fn execute<W: Out>(session: &mut Session, script: &[u8], out: &mut W) -> Result<
     if script.len() > MAX_SCRIPT_BYTES {
         return Err(ToolFault::Long);
     }
-    let told = execute_lines(session, script, out)?;
+    let told = execute_lines(session, script, echo, out)?;
     Ok(status(told))
 }
 
@@ -96,10 +53,11 @@ pub(crate) fn open_and_execute<W: Out>(
     program: Program,
     units: Units,
     script: &[u8],
+    echo: bool,
     out: &mut W,
 ) -> Result<u8, ToolFault>
     requires { W.failed out.old < 2 ^ 64 - 1 }
-    ensures output { Meets (outcome_of_script (opened program.entry units) script.now) result (W.told out.old) (W.told out.new) }
+    ensures output { Meets (outcome_of_script echo (opened program.entry units) script.now) result (W.told out.old) (W.told out.new) }
     ensures write { CountsFailure (result ≡ Err ToolFault.Write) (W.failed out.old) (W.failed out.new) }
     ensures unread { result ≢ Err ToolFault.Read }
     ensures status { result ≢ Ok 1 }
@@ -107,7 +65,7 @@ pub(crate) fn open_and_execute<W: Out>(
     ensures ends { IfOk result IsStatus }
 {
     let mut session = Session::open(alloc, program, units)?;
-    execute(&mut session, script, out)
+    execute(&mut session, script, echo, out)
 }
 
 // The script of an assembled source, with the units of its deck.
@@ -116,12 +74,13 @@ fn run_script<C: In, W: Out>(
     program: Program,
     units: Units,
     script: &mut C,
+    echo: bool,
     out: &mut W,
 ) -> Result<u8, ToolFault>
     requires script_count { C.failed script.old < 2 ^ 64 - 1 }
     requires out_count { W.failed out.old < 2 ^ 64 - 1 }
     ensures output { (t : List ℕ) → C.rest script.old ≡ Some t
-        → Meets (outcome_of_script (opened program.entry units) t) result (W.told out.old) (W.told out.new) }
+        → Meets (outcome_of_script echo (opened program.entry units) t) result (W.told out.old) (W.told out.new) }
     ensures read { CountsFailure (result ≡ Err ToolFault.Read) (C.failed script.old) (C.failed script.new) }
     ensures write { CountsFailure (result ≡ Err ToolFault.Write) (W.failed out.old) (W.failed out.new) }
     ensures unread { result ≡ Err ToolFault.Read → Keeps (W.told out.old) (W.told out.new) }
@@ -131,7 +90,7 @@ fn run_script<C: In, W: Out>(
     ensures ends { IfOk result IsStatus }
 {
     let commands = read_up_to(alloc, script, MAX_SCRIPT_BYTES + 1)?;
-    open_and_execute(alloc, program, units, &commands, out)
+    open_and_execute(alloc, program, units, &commands, echo, out)
 }
 
 // The deck and the script of an assembled source.
@@ -140,13 +99,14 @@ fn run_program<D: In, C: In, W: Out>(
     program: Program,
     deck: &mut D,
     script: &mut C,
+    echo: bool,
     out: &mut W,
 ) -> Result<u8, ToolFault>
     requires deck_count { D.failed deck.old < 2 ^ 64 - 1 }
     requires script_count { C.failed script.old < 2 ^ 64 - 1 }
     requires out_count { W.failed out.old < 2 ^ 64 - 1 }
     ensures output { (d t : List ℕ) → D.rest deck.old ≡ Some d → C.rest script.old ≡ Some t
-        → Meets (outcome_of (Ok program.entry) (deck_of d) t) result (W.told out.old) (W.told out.new) }
+        → Meets (outcome_of echo (Ok program.entry) (deck_of d) t) result (W.told out.old) (W.told out.new) }
     ensures read { CountsFailure (result ≡ Err ToolFault.Read) (D.failed deck.old + C.failed script.old) (D.failed deck.new + C.failed script.new) }
     ensures reads { (D.failed deck.old ≤ D.failed deck.new) × (C.failed script.old ≤ C.failed script.new) }
     ensures write { CountsFailure (result ≡ Err ToolFault.Write) (W.failed out.old) (W.failed out.new) }
@@ -162,10 +122,11 @@ fn run_program<D: In, C: In, W: Out>(
     ensures ends { IfOk result IsStatus }
 {
     let units = read_units(alloc, deck)?;
-    run_script(alloc, program, units, script, out)
+    run_script(alloc, program, units, script, echo, out)
 }
 
-/// Assembles a source, reads a deck and a script, and executes the script on the loaded machine. The status is 0 where each command
+/// Assembles a source, reads a deck and a script, and executes the script on the loaded machine; with `echo` each of its lines is written before
+/// its reply. The status is 0 where each command
 /// was accepted, 3 where one was refused, and 1 where the source is refused: then its first fault is written. At most 1,048,577
 /// bytes of the source are read, 33,554,433 of the deck and 1,048,577 of the script, all of them before the first byte is written;
 /// the deck is read after the source, and the script after the deck. After a refusal or a read that failed nothing else is read.
@@ -177,6 +138,7 @@ pub fn run_debug<S: In, D: In, C: In, W: Out>(
     source: &mut S,
     deck: &mut D,
     script: &mut C,
+    echo: bool,
     out: &mut W,
 ) -> Result<u8, ToolFault>
     requires source_count { S.failed source.old < 2 ^ 64 - 1 }
@@ -186,7 +148,7 @@ pub fn run_debug<S: In, D: In, C: In, W: Out>(
 
     // The headline.
     ensures output { (s d t : List ℕ) → S.rest source.old ≡ Some s → D.rest deck.old ≡ Some d → C.rest script.old ≡ Some t
-        → Meets (output s d t) result (W.told out.old) (W.told out.new) }
+        → Meets (output echo s d t) result (W.told out.old) (W.told out.new) }
 
     // A read or a write has failed exactly where that is answered.
     ensures read { CountsFailure (result ≡ Err ToolFault.Read) (S.failed source.old + D.failed deck.old + C.failed script.old)
@@ -223,6 +185,6 @@ pub fn run_debug<S: In, D: In, C: In, W: Out>(
     match assemble(alloc, &text) {
         Err(Refused::Memory) => Err(ToolFault::Memory),
         Err(Refused::Fault(fault)) => refuse_source(alloc, fault, out),
-        Ok(program) => run_program(alloc, program, deck, script, out),
+        Ok(program) => run_program(alloc, program, deck, script, echo, out),
     }
 }

@@ -1,6 +1,6 @@
 //! A talk with the program of a source: each line is a command, which is done and answered before the next is read.
 
-ghost use Rattle.std.specs.Prelude.{◌≡◌, ◌≢◌, ◌⊎◌, ◌<◌, ◌≤◌, ◌+◌, ◌-◌, ◌^◌, ℕ, List, Some, Ok, Err, IfErr, IfOk, drop, length, true};
+ghost use Rattle.std.specs.Prelude.{◌≡◌, ◌≢◌, ◌⊎◌, ◌<◌, ◌≤◌, ◌+◌, ◌-◌, ◌^◌, ℕ, List, Some, Ok, Err, IfErr, IfOk, drop, false, length, true};
 ghost use Rattle.mixal_asm.specs.declared.fault.AsmFault.{AsmFault};
 ghost use Rattle.mix_machine.specs.declared.units.deck_fault.DeckFault.{DeckFault};
 ghost use Rattle.mixal_asm.specs.Assembly.{assembly, max_source_bytes};
@@ -193,7 +193,7 @@ pub fn run_talk<S: In, D: In, R: In, W: Out, E: Out>(
     // Where no read fails, it is what a script of these lines writes.
     ensures as_script { (s d t : List ℕ) → S.rest source.old ≡ Some s → D.rest deck.old ≡ Some d → R.rest streams.old.input ≡ Some t
         → streams.old.talker ≡ Talker.Program → length t ≤ max_script_bytes → result ≢ Err ToolFault.Read
-        → Meets (output s d t) result (W.told streams.old.out) (W.told streams.new.out) }
+        → Meets (output false s d t) result (W.told streams.old.out) (W.told streams.new.out) }
 
     // T6 is answered only where a line is longer than one may be, unless the input has 2^64 - 1 bytes or more; so never for many short lines.
     ensures long { result ≡ Err ToolFault.Long → (d t : List ℕ) → D.rest deck.old ≡ Some d → R.rest streams.old.input ≡ Some t → max_script_bytes < length t }

@@ -29,7 +29,7 @@ abbrev pub names_of : Plan → FileNames
 names_of plan.Bundle = record { source = None; deck = None; cards = None; script = None }
 names_of (plan.List source) = record { source = Some (string_bytes source); deck = None; cards = None; script = None }
 names_of (plan.Check sources json) = record { source = None; deck = None; cards = None; script = None }
-names_of (plan.Debug source script devices) =
+names_of (plan.Debug source script devices echo) =
     record { source = Some (string_bytes source); deck = option_map string_bytes devices; cards = None; script = option_map string_bytes script }
 names_of (plan.Run source cards devices steps printing) =
     record { source = Some (string_bytes source); deck = option_map string_bytes devices; cards = option_map string_bytes cards; script = None }
@@ -44,7 +44,7 @@ abbrev pub sources_of : Plan → List (List ℕ)
 sources_of plan.Bundle = []
 sources_of (plan.List source) = []
 sources_of (plan.Check sources json) = map string_bytes sources.items
-sources_of (plan.Debug source script devices) = []
+sources_of (plan.Debug source script devices echo) = []
 sources_of (plan.Run source cards devices steps printing) = []
 sources_of plan.Dap = []
 
@@ -109,10 +109,10 @@ options_of devices cards steps printing = record { steps = steps; units = units_
 abbrev pub seen : {R W E : Type 0} → (R → Option (List ℕ)) → (W → Option (List ℕ)) → (E → Option (List ℕ)) → (E → ℕ) → Streams R W E → Seen
 seen rest told errors failed s = record { input = rest s.input; out = told s.out; errors = errors s.errors; failed = failed s.errors }
 
--- a session by a script, or without one by the lines of the input
-abbrev pub DebugsOn : {Name : Type 0} → Option Name → Given → Talker → ℕ → Seen → Seen → Type 0
-DebugsOn (Some script) given talker status before after = Runs (output given.source given.deck given.script) status before after
-DebugsOn None given talker status before after =
+-- a session by a script, whose commands are echoed or not, or without one by the lines of the input
+abbrev pub DebugsOn : {Name : Type 0} → Bool → Option Name → Given → Talker → ℕ → Seen → Seen → Type 0
+DebugsOn echo (Some script) given talker status before after = Runs (output echo given.source given.deck given.script) status before after
+DebugsOn echo None given talker status before after =
     (t : List ℕ) → before.input ≡ Some t → TalkRuns (assembly given.source) (deck_of given.deck) talker t status before after
 
 -- whether a session is by the lines of the input
@@ -126,7 +126,7 @@ RunsOn all plan.Bundle given talker status before after = (b : List ℕ) → bef
 RunsOn all (plan.List source) given talker status before after = Runs (list_output given.source) status before after
 RunsOn all (plan.Check sources json) given talker status before after =
     Runs (check_output json (named_of all (map string_bytes sources.items))) status before after
-RunsOn all (plan.Debug source script devices) given talker status before after = DebugsOn script given talker status before after
+RunsOn all (plan.Debug source script devices echo) given talker status before after = DebugsOn echo script given talker status before after
 RunsOn all (plan.Run source cards devices steps printing) given talker status before after =
     PrintRuns (print_output (options_of devices cards steps printing) given.source given.deck given.cards) status before after
 RunsOn all plan.Dap given talker status before after = status ≤ 2
@@ -148,7 +148,7 @@ abbrev pub reads_input : Plan → Bool
 reads_input plan.Bundle = true
 reads_input (plan.List source) = false
 reads_input (plan.Check sources json) = false
-reads_input (plan.Debug source script devices) = is_talk script
+reads_input (plan.Debug source script devices echo) = is_talk script
 reads_input (plan.Run source cards devices steps printing) = false
 reads_input plan.Dap = false
 
@@ -157,7 +157,7 @@ abbrev pub hears_client : Plan → Bool
 hears_client plan.Bundle = false
 hears_client (plan.List source) = false
 hears_client (plan.Check sources json) = false
-hears_client (plan.Debug source script devices) = false
+hears_client (plan.Debug source script devices echo) = false
 hears_client (plan.Run source cards devices steps printing) = false
 hears_client plan.Dap = true
 
@@ -166,6 +166,6 @@ abbrev pub is_quiet : Plan → Bool
 is_quiet plan.Bundle = true
 is_quiet (plan.List source) = true
 is_quiet (plan.Check sources json) = true
-is_quiet (plan.Debug source script devices) = not (is_talk script)
+is_quiet (plan.Debug source script devices echo) = not (is_talk script)
 is_quiet (plan.Run source cards devices steps printing) = false
 is_quiet plan.Dap = true

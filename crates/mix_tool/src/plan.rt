@@ -38,6 +38,7 @@ fn names_in(plan: &Plan) -> Names<'_>
             source,
             script,
             devices,
+            ..
         } => Names {
             source: Some(source),
             deck: devices.as_deref(),
@@ -85,6 +86,7 @@ fn debug_on<F: In + Drop, R: In, W: Out, E: Out>(
     alloc: Global,
     name: &str,
     script: &Option<String>,
+    echo: bool,
     texts: Texts<F>,
     streams: &mut Streams<R, W, E>,
 ) -> u8
@@ -93,7 +95,7 @@ fn debug_on<F: In + Drop, R: In, W: Out, E: Out>(
     requires out_count { W.failed streams.old.out < 2 ^ 64 - 1 }
     requires errors_count { E.failed streams.old.errors < 2 ^ 64 - 1 }
     ensures runs { (given : Given) → HoldTexts F.rest texts given
-        → DebugsOn script.now given streams.old.talker result (seen R.rest W.told E.told E.failed streams.old) (seen R.rest W.told E.told E.failed streams.new) }
+        → DebugsOn echo script.now given streams.old.talker result (seen R.rest W.told E.told E.failed streams.old) (seen R.rest W.told E.told E.failed streams.new) }
     ensures input { is_talk script.now ≡ false → streams.new.input ≡ streams.old.input }
     ensures range { result ≤ 3 }
     ensures written { result ≢ 2 → W.failed streams.new.out ≡ W.failed streams.old.out }
@@ -108,7 +110,14 @@ fn debug_on<F: In + Drop, R: In, W: Out, E: Out>(
     let (mut source, mut deck, mut lines) = (source, deck, lines);
     match script {
         Some(_) => {
-            let outcome = run_debug(alloc, &mut source, &mut deck, &mut lines, &mut streams.out);
+            let outcome = run_debug(
+                alloc,
+                &mut source,
+                &mut deck,
+                &mut lines,
+                echo,
+                &mut streams.out,
+            );
             status(alloc, outcome, &mut streams.errors)
         }
         None => {
@@ -153,7 +162,12 @@ fn run_on<O: Opener + Library, C: Read, R: In, W: Out, E: Out>(
             status(alloc, outcome, &mut streams.errors)
         }
         Plan::Check { sources, json } => check_files(files, alloc, sources, *json, streams),
-        Plan::Debug { source, script, .. } => debug_on(alloc, source, script, texts, streams),
+        Plan::Debug {
+            source,
+            script,
+            echo,
+            ..
+        } => debug_on(alloc, source, script, *echo, texts, streams),
         Plan::Run {
             source,
             cards,

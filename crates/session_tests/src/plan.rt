@@ -68,6 +68,7 @@ fn plan_of(alloc: Global, line: &str) -> Option<Plan> {
             source: named(alloc, words.next()?)??,
             script: named(alloc, words.next()?)?,
             devices: named(alloc, words.next()?)?,
+            echo: words.next() == Some("echo"),
         }),
         "run" => Some(Plan::Run {
             steps: number(words.next()?)?,

@@ -8,8 +8,8 @@ ghost use Rattle.mix_run.specs.Recall.{meant, recalled};
 ghost use Rattle.mix_run.specs.Talk.{after_lines, is_quit};
 ghost use Rattle.mix_stream.specs.Stream.{AppendsFront, CountsFailure};
 
+use crate::commands::command;
 use crate::fault::ToolFault;
-use crate::run::command;
 use crate::talk::aside::{Talker, after_reply, help, tell};
 use crate::talk::person::{Line, kind_of};
 use crate::talk::recall::Recall;

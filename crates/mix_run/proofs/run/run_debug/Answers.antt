@@ -12,7 +12,7 @@ returns-in-Err-Memory-clause-script g c = ConsumesAtMost-none _ _
 
 pub returns-in-Err-Fault-clause-output : goal.returns-in-Err-Fault-clause-output
 returns-in-Err-Fault-clause-output g c s d t hs hd ht =
-    Meets-refused s _ d t _ _ _ _ (c.deref.ensures.value ∙ (c.in_ok-text.ensures.whole s hs).0) (rw c.in-Err-Fault.field-0-is at c.in-Err-Fault.ensures.fault)
+    Meets-refused c.args.echo s _ d t _ _ _ _ (c.deref.ensures.value ∙ (c.in_ok-text.ensures.whole s hs).0) (rw c.in-Err-Fault.field-0-is at c.in-Err-Fault.ensures.fault)
     c.refuse_source.ensures.output
 
 pub returns-in-Err-Fault-clause-deck : goal.returns-in-Err-Fault-clause-deck
@@ -23,7 +23,7 @@ returns-in-Err-Fault-clause-script g c = ConsumesAtMost-none _ _
 
 pub returns-clause-output : goal.returns-clause-output
 returns-clause-output g c s d t hs hd ht =
-    Meets-source s _ d t _ _ _ _ (c.deref.ensures.value ∙ (c.in_ok-text.ensures.whole s hs).0) c.in-Ok.ensures.ok (c.run_program.ensures.output d t hd ht)
+    Meets-source c.args.echo s _ d t _ _ _ _ (c.deref.ensures.value ∙ (c.in_ok-text.ensures.whole s hs).0) c.in-Ok.ensures.ok (c.run_program.ensures.output d t hd ht)
 
 pub returns-clause-bad_source : goal.returns-clause-bad_source
 returns-clause-bad_source g c s f hs refused =

@@ -7,11 +7,11 @@ use Rattle.mix_run.proofs.run.run_program.Goals as goal
 pub returns-in_err-units-clause-output : goal.returns-in_err-units-clause-output
 returns-in_err-units-clause-output g c d t hd ht =
     let p = err_from_is_err_and c.from_residual.result c.from_residual.ensures.1 in
-    rw (p.1, p.2) (Meets-no_units c.args.program (deck_of d) t _ (g.W.Out.told c.args.out.now) (c.in_err-units.ensures.units d hd))
+    rw (p.1, p.2) (Meets-no_units c.args.echo c.args.program (deck_of d) t _ (g.W.Out.told c.args.out.now) (c.in_err-units.ensures.units d hd))
 
 pub returns-clause-output : goal.returns-clause-output
 returns-clause-output g c d t hd ht =
-    Meets-units _ _ d t _ _ _ (c.in_ok-units.ensures.units d hd) (c.run_script.ensures.output t ht)
+    Meets-units c.args.echo _ _ d t _ _ _ (c.in_ok-units.ensures.units d hd) (c.run_script.ensures.output t ht)
 
 pub returns-clause-bad_deck : goal.returns-clause-bad_deck
 returns-clause-bad_deck g c d f hd refused =
