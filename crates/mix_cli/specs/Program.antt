@@ -72,10 +72,10 @@ run_app = with_rule (with_rule run_inputs steps_option) unit_option
 abbrev pub dap_app : App
 dap_app = new_app (codes "dap")
 
--- a subcommand has to be there, and `help` is none; it has a version
+-- a subcommand has to be there, and `help` is none; it has a version, and one in long form
 abbrev pub bare_app : App
 bare_app =
-    on_top (λ s. record s { subcommand_required = true; disable_help_subcommand = true; has_version = true })
+    on_top (λ s. record s { subcommand_required = true; disable_help_subcommand = true; has_version = true; has_long_version = true })
     (helpful (new_app (codes "mixrev")))
 
 -- the subcommands `run` and `debug`, and then all five

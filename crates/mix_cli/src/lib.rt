@@ -3,6 +3,7 @@
 
 mod fault;
 mod found;
+mod help;
 mod program;
 mod words;
 
