@@ -75,6 +75,16 @@ VIEWS = [
     ("mix/state", {"cells": [[0, 4000]]}, '"id":306'), ("mix/units", {"unit": 21}, '"id":306'),
     ("mix/check", {"source": " JUMP 0\n"}, '"body":{"diagnostics":[{"code":"A2","column":2,"endColumn":6,"line":1,"severity":"error","text":"'),
     ("mix/check", {}, '"id":302'), ("mix/check", {"source": 5}, '"id":302'),
+    # how breakpoints are told: of lines, of another source, of instructions, of data, and those of which there are none
+    ("setBreakpoints", {"breakpoints": [{"line": 1}, {"line": 6}, {}]}, '"body":{"breakpoints":[{"instructionReference":"0x0000","line":2,"verified":true},'
+     '{"message":"no word from this line on","verified":false},{"instructionReference":"0x0000","line":2,"verified":true}]}'),
+    ("setBreakpoints", {"breakpoints": [{"line": 2}], "source": {"path": "another.program.mixal"}},
+     '"body":{"breakpoints":[{"message":"another source","verified":false}]}'),
+    ("setInstructionBreakpoints", {"breakpoints": [{"instructionReference": "0x0000", "offset": 12}, {"instructionReference": "24000"}]},
+     '"body":{"breakpoints":[{"instructionReference":"0x000c","verified":true},{"message":"no such cell","verified":false}]}'),
+    ("setDataBreakpoints", {"breakpoints": [{"dataId": "cell A"}, {"dataId": "B"}]},
+     '"body":{"breakpoints":[{"verified":true},{"message":"no such part of the machine","verified":false}]}'),
+    ("setDataBreakpoints", {}, '"body":{"breakpoints":[]}'), ("setFunctionBreakpoints", {"breakpoints": [{"name": "A"}]}, '"body":{"breakpoints":[]}'),
     # refusals of commands, by number and text
     ("evaluate", {"expression": "stop", "context": "repl"}, '"format":"C1 no such command","id":201,'),
     ("evaluate", {"expression": "set A", "context": "repl"}, '"format":"C2 bad argument","id":202,'),
@@ -83,6 +93,18 @@ VIEWS = [
     ("setVariable", {"variablesReference": 1, "name": "cell", "value": "100 5"}, '"id":306'), ("setVariable", {"variablesReference": 1, "name": "loc", "value": "5"}, '"id":306'),
     ("setVariable", {"variablesReference": 2, "name": "A", "value": "5"}, '"id":306'), ("setVariable", {"variablesReference": 1000, "name": "0100", "value": "5"}, '"id":306'),
     ("setVariable", {"variablesReference": 3, "name": "16", "value": "5"}, '"id":306'), ("setVariable", {"variablesReference": 2, "name": "clock", "value": "5"}, '"id":202'),
+    # the same by expressions: a part is set, and shown as it is then; a W-value, as a symbol is, a unit, the clock, no value, and one that the machine refuses
+    ("setExpression", {"expression": "cell A+1", "value": "7"}, '"body":{"value":"+ 00 00 00 00 07 = 7"}'), ("evaluate", {"expression": "cell 101"}, '"result":"+ 00 00 00 00 07 = 7"'),
+    ("setExpression", {"expression": "rI2", "value": "-3"}, '"body":{"value":"- 00 03 = -3"}'), ("setExpression", {"expression": "over", "value": "on"}, '"body":{"value":"on"}'),
+    ("setExpression", {"expression": "loc", "value": "1"}, '"body":{"value":"0001"}'), ("setExpression", {"expression": "A+1", "value": "7"}, '"id":306'),
+    ("setExpression", {"expression": "A", "value": "7"}, '"id":306'), ("setExpression", {"expression": "a", "value": "7"}, '"body":{"value":"+ 00 00 00 00 07 = 7"}'),
+    ("setExpression", {"expression": "unit 16", "value": "7"}, '"id":306'), ("setExpression", {"expression": "clock", "value": "7"}, '"id":202'),
+    ("setExpression", {"expression": "rA"}, '"id":302'), ("setExpression", {"value": "7"}, '"id":302'), ("setExpression", {"expression": "I1", "value": "4096"}, '"id":205'),
+    # what would be watched: a part by its scope, or by what it is after `until`; no cell of another page, no location, no text without a name; no fault
+    ("dataBreakpointInfo", {"variablesReference": 1001, "name": "0100"}, '"dataId":"cell 0100"'), ("dataBreakpointInfo", {"variablesReference": 3, "name": "16"}, '"dataId":"unit 16"'),
+    ("dataBreakpointInfo", {"name": "cell A"}, '"dataId":"cell A"'), ("dataBreakpointInfo", {"variablesReference": 1000, "name": "0100"}, '"dataId":null'),
+    ("dataBreakpointInfo", {"variablesReference": 2, "name": "loc"}, '"dataId":null'), ("dataBreakpointInfo", {"variablesReference": 1}, '"id":302'),
+    ("exceptionInfo", {}, '"id":306'),
     # a text where a number is due, a number where a text is, and each as it is to be
     ("setVariable", {"variablesReference": "1", "name": "A", "value": "1"}, '"id":302'), ("setVariable", {"variablesReference": 1, "name": 1, "value": "1"}, '"id":302'),
     ("setVariable", {"variablesReference": 1, "name": "A", "value": "1"}, '"success":true')]

@@ -36,7 +36,7 @@ CALLS = os.path.join(PROGRAMS, "calls.mixal")
 # the state after n steps: line, location, clock
 AFTER = {0: (3, 10, 0), 1: (4, 11, 1), 2: (6, 12, 2), 3: (7, 13, 4), 4: (8, 14, 5), 5: (6, 12, 6), 6: (7, 13, 8), 7: (8, 14, 9), 8: (6, 12, 10),
          9: (7, 13, 12), 10: (8, 14, 13), 11: (9, 15, 14), 12: (11, 17, 15), 13: (12, 18, 17), 14: (13, 19, 18), 15: (10, 16, 19), 16: (11, 17, 29)}
-ABLE = ["ConfigurationDoneRequest", "StepBack", "SetVariable", "EvaluateForHovers", "RestartRequest", "ExceptionInfoRequest", "DataBreakpoints",
+ABLE = ["ConfigurationDoneRequest", "StepBack", "SetVariable", "SetExpression", "EvaluateForHovers", "RestartRequest", "ExceptionInfoRequest", "DataBreakpoints",
         "ReadMemoryRequest", "WriteMemoryRequest", "DisassembleRequest", "InstructionBreakpoints", "GotoTargetsRequest"]
 
 
@@ -201,7 +201,10 @@ def evaluates(talk, count):
     count.row("watch of the W-value of the book", "- 15 40 00 00 01" in found, found)
     found = talk.body("evaluate", expression="A", context="hover")["result"]
     count.row("hover of a register", "+ 00 00 00 00 05" in found, found)
-    for context, expression in (("hover", "NOWHERE"), ("watch", "1+"), ("repl", "jump"), ("repl", "back 0"), ("repl", "set I1 4096"), ("watch", "\u00e9\u4e16")):
+    for expression, wanted in (("rA", "+ 00 00 00 00 05 = 5"), ("I1", "+ 00 00 = 0"), ("rI1", "+ 00 00 = 0"), ("over", "off"), ("cmp", "E"), ("loc", "0011"), ("clock", "1"),
+                               ("cell LOOP", "+ 01 36 01 05 24 = 26218840"), ("cell *", "+ 00 03 00 02 49 = 786609")):
+        count.same(f"watch of {expression}", talk.body("evaluate", expression=expression, context="watch")["result"], wanted)
+    for context, expression in (("hover", "unit 16"), ("watch", "cell 4000"), ("watch", "cell"), ("watch", "rB"), ("watch", "r"), ("hover", "NOWHERE"), ("watch", "1+"), ("repl", "jump"), ("repl", "back 0"), ("repl", "set I1 4096"), ("watch", "\u00e9\u4e16")):
         count.row(f"{context} of {expression} is refused", talk.refused("evaluate", expression=expression, context=context), "it is not")
     count.same("a command", talk.repl("step 2"), "ran 2 to 0013 clock 4: limit")
     count.same("it moved", talk.state(), AFTER[3])

@@ -19,6 +19,7 @@ command_name command.StackTrace = codes "stackTrace"
 command_name command.Scopes = codes "scopes"
 command_name command.Variables = codes "variables"
 command_name command.SetVariable = codes "setVariable"
+command_name command.SetExpression = codes "setExpression"
 command_name command.Evaluate = codes "evaluate"
 command_name command.ExceptionInfo = codes "exceptionInfo"
 command_name command.Continue = codes "continue"
@@ -48,7 +49,7 @@ abbrev pub all_commands : List Command
 all_commands =
     command.Initialize ∷ command.Launch ∷ command.ConfigurationDone ∷ command.SetBreakpoints ∷ command.SetFunctionBreakpoints ∷
     command.SetInstructionBreakpoints ∷ command.SetDataBreakpoints ∷ command.SetExceptionBreakpoints ∷ command.DataBreakpointInfo ∷ command.Threads ∷
-    command.StackTrace ∷ command.Scopes ∷ command.Variables ∷ command.SetVariable ∷ command.Evaluate ∷
+    command.StackTrace ∷ command.Scopes ∷ command.Variables ∷ command.SetVariable ∷ command.SetExpression ∷ command.Evaluate ∷
     command.ExceptionInfo ∷ command.Continue ∷ command.Next ∷ command.StepIn ∷ command.StepOut ∷
     command.StepBack ∷ command.ReverseContinue ∷ command.Pause ∷ command.Goto ∷ command.GotoTargets ∷
     command.ReadMemory ∷ command.WriteMemory ∷ command.Disassemble ∷ command.Restart ∷ command.Disconnect ∷

@@ -1,11 +1,14 @@
 -- Facts of lists of numbered things.
-use Rattle.std.proofs.Common.{◌≡◌, ℕ, zero, suc, ◌+◌, List, [], ◌∷◌, ◌++◌, take, drop, map, flat_map, refl, sym, ap, ◌∙◌, add-zero, append_assoc, arith}
+use Rattle.std.proofs.Common.{◌≡◌, ℕ, zero, suc, ◌+◌, ◌<◌, ◌≤◌, List, [], ◌∷◌, ◌++◌, take, drop, map, flat_map, length, refl, sym, ap, ◌∙◌, add-zero, append_assoc, arith}
 use Rattle.std.proofs.lemmas.List.{append-nil}
 use Rattle.std.proofs.lemmas.Grind.{flat_map-append}
 use Rattle.std.specs.List.{range_with_len}
+use Rattle.std.specs.Prelude.{None, slice_get}
+use Rattle.serde_json.specs.Data.{Data}
+use Rattle.mix_dap.specs.List.{numbered}
 
 -- one number more
-range-suc : (a n : ℕ) → range_with_len a (suc n) ≡ range_with_len a n ++ (a + n) ∷ []
+pub range-suc : (a n : ℕ) → range_with_len a (suc n) ≡ range_with_len a n ++ (a + n) ∷ []
 range-suc a zero = rw (add-zero a) refl
 range-suc a (suc n) = let next : (a + 1) + n ≡ a + suc n = omega arith in ap (λ t. a ∷ t) (range-suc (a + 1) n ∙ rw next refl)
 
@@ -40,3 +43,29 @@ pub take_shown : {X Y : Type 0} (f : X → Y) (n : ℕ) (xs : List X) → map f 
 take_shown f zero xs = refl
 take_shown f (suc n) [] = refl
 take_shown f (suc n) (x ∷ xs) = ap (λ ys. f x ∷ ys) (take_shown f n xs)
+
+-- of no thing nothing is shown, and of one more what is shown of it comes last
+pub numbered_none : (f : ℕ → List Data) → numbered 0 f ≡ []
+unfolding numbered
+numbered_none f = refl
+
+pub numbered_next : (f : ℕ → List Data) (k : ℕ) → numbered (k + 1) f ≡ numbered k f ++ f k
+unfolding numbered
+numbered_next f k = sym (flat_map-next f k)
+
+-- what is shown is the same where it is the same of each
+same-range : {Y : Type 0} (f g : ℕ → List Y) (a n : ℕ) → ((p : ℕ) → p < a + n → f p ≡ g p) → flat_map f (range_with_len a n) ≡ flat_map g (range_with_len a n)
+same-range f g a zero same = refl
+same-range f g a (suc n) same =
+    ap (λ t. t ++ flat_map f (range_with_len (a + 1) n)) (same a (omega arith))
+    ∙ ap (λ t. g a ++ t) (same-range f g (a + 1) n (λ p within. same p (omega arith)))
+
+pub same_numbered : (f g : ℕ → List Data) (n : ℕ) → ((p : ℕ) → p < n → f p ≡ g p) → numbered n f ≡ numbered n g
+unfolding numbered
+same_numbered f g n same = same-range f g 0 n (λ p within. same p (omega arith))
+
+-- past the end there is nothing
+pub none_past : {X : Type 0} (xs : List X) (n : ℕ) → length xs ≤ n → slice_get xs n ≡ None
+none_past [] n past = refl
+none_past (x ∷ xs) zero past = absurd (omega arith)
+none_past (x ∷ xs) (suc n) past = none_past xs n (omega arith)

@@ -1,15 +1,17 @@
 -- What a request of the client asks of the machine: a request of the session, one step, cells that get words, or nothing, where a run is only begun;
 -- or what refuses it.
-use Rattle.std.specs.Prelude.{ℕ, List, codes, Bool, true, false, Option, None, Some, Result, Ok, Err, ok_or, nat_lt, if◌then◌else◌}
-use Rattle.std.specs.Option.{option_map}
+use Rattle.std.specs.Prelude.{ℕ, ◌==◌, List, [], ◌∷◌, codes, Bool, true, false, Option, None, Some, option_and_then, Result, Ok, Err, ok_or, nat_lt, if◌then◌else◌}
+use Rattle.std.specs.Option.{option_map, option_or}
 use Rattle.std.specs.Str.{bytes_eq}
 use Rattle.mixal_text.specs.Steps.{◌>>=◌}
 use Rattle.mixal_text.specs.WValue.{w_value_of}
 use Rattle.mixal_text.specs.declared.fault.TextFault.{TextFault}
 use Rattle.mix_word.specs.Register.{register_named}
 use Rattle.mix_word.specs.Word.{WordValue, plus}
+use Rattle.mix_word.specs.declared.register.Reg.{Reg}
 use Rattle.mix_machine.specs.declared.old.Change.TheVariants as change
 use Rattle.mix_machine.specs.declared.part.Part.{Part}
+use Rattle.mix_machine.specs.declared.part.Part.TheVariants as part
 use Rattle.mix_session.specs.Client.{setting_at}
 use Rattle.mix_session.specs.Command.{Effect, at_once, effect_of, effect_of_run}
 use Rattle.mix_session.specs.Stops.{no_stops}
@@ -23,7 +25,8 @@ use Rattle.mix_session.specs.declared.fault.Refusal.TheVariants.{BadArgument}
 use Rattle.mix_session.specs.declared.request.Request.TheVariants as ask
 use Rattle.dap_message.specs.Request.{text_of, number_of}
 use Rattle.dap_message.specs.declared.request.Request.{Request}
-use Rattle.mix_dap.specs.Scope.{scope_of, part_of}
+use Rattle.mix_dap.specs.Scope.{scope_of, part_of, flag_named}
+use Rattle.mix_dap.specs.Watch.{part_named}
 use Rattle.mix_dap.specs.declared.deed.Deed.{Deed}
 use Rattle.mix_dap.specs.declared.deed.Deed.TheVariants as deed
 use Rattle.mix_dap.specs.declared.deed.Worth.{Worth}
@@ -96,16 +99,46 @@ line_deed s line = do
   request ← or_refusal (request_in s line)
   Ok (deed.Do request)
 
--- what an expression is worth: the word of a W-value, or else what the register of this name holds
-abbrev pub register_worth : List ℕ → Option Worth
-register_worth text = option_map worth.Register (register_named text)
+-- a register as the book writes it, with an r before its name
+abbrev pub register_written : List ℕ → Option Reg
+register_written [] = None
+register_written (byte ∷ rest) = if byte == 114 then register_named rest else None
 
-abbrev pub worth_by : Result WordValue TextFault → List ℕ → Option Worth
-worth_by (Ok word) text = Some (worth.Word word)
-worth_by (Err fault) text = register_worth text
+-- a part whose content is one value; a unit holds more
+abbrev pub unless_unit : Part → Option Part
+unless_unit (part.Register r) = Some (part.Register r)
+unless_unit part.Over = Some part.Over
+unless_unit part.Cmp = Some part.Cmp
+unless_unit part.Loc = Some part.Loc
+unless_unit part.Clock = Some part.Clock
+unless_unit (part.Cell place) = Some (part.Cell place)
+unless_unit (part.Unit n) = None
+
+-- the part of the machine that a text names: a register, as `rA`; `over`, `cmp`, `loc`, `clock`; or what it names after `until`, as `A` and `cell E`
+abbrev pub part_meant : SessionState → List ℕ → Option Part
+part_meant s text = option_or (option_map part.Register (register_written text)) (option_or (flag_named text) (option_and_then unless_unit (part_named s text)))
+
+-- what an expression is worth: the word of a W-value, or else what the part that it names holds
+abbrev pub worth_by : Result WordValue TextFault → Option Part → Option Worth
+worth_by (Ok word) meant = Some (worth.Word word)
+worth_by (Err fault) meant = option_map worth.Held meant
 
 abbrev pub worth_of : SessionState → List ℕ → Option Worth
-worth_of s text = worth_by (w_value_of (names_of s.program) (plus (world_of s.timeline).loc) text) text
+worth_of s text = worth_by (w_value_of (names_of s.program) (plus (world_of s.timeline).loc) text) (part_meant s text)
+
+-- the part that holds what an expression is worth; the word of a W-value is in none
+abbrev pub holder_of : Option Worth → Option Part
+holder_of None = None
+holder_of (Some (worth.Word word)) = None
+holder_of (Some (worth.Held part)) = Some part
+
+-- `setExpression`
+unfoldable pub set_expression_deed : SessionState → Request → Result Deed Fault
+set_expression_deed s r = do
+  text ← ok_or (text_of r (codes "expression")) fault.BadArgument
+  value ← ok_or (text_of r (codes "value")) fault.BadArgument
+  holder ← ok_or (holder_of (worth_of s text)) fault.NoSuchThing
+  change_deed s holder value
 
 -- an expression is only looked at, if it is worth anything
 abbrev pub looked_at : Option Worth → Result Deed Fault
@@ -128,6 +161,7 @@ deed_of act.ReverseContinue r s = Ok deed.Nothing
 deed_of act.Begin r s = Ok deed.Nothing
 deed_of act.Goto r s = goto_deed (number_of r (codes "targetId"))
 deed_of act.SetVariable r s = set_deed s r
+deed_of act.SetExpression r s = set_expression_deed s r
 deed_of act.Evaluate r s = evaluate_deed s r
 
 -- what is done of it: a step is a run of one, that nothing stops

@@ -16,7 +16,7 @@ use Rattle.dap_message.specs.declared.request.Request.{Request}
 use Rattle.mix_dap.specs.Check.{checked}
 use Rattle.mix_dap.specs.Deed.{deed_of, effect_of_deed}
 use Rattle.mix_dap.specs.Kind.{kind_of}
-use Rattle.mix_dap.specs.Written.{SetsCells}
+use Rattle.mix_dap.specs.Written.{Written, WrittenSome, write_asked}
 use Rattle.mix_dap.specs.declared.adapter.Flow.{Flow}
 use Rattle.mix_dap.specs.declared.adapter.Flow.TheVariants as flow
 use Rattle.mix_dap.specs.declared.deed.Deed.{Deed}
@@ -51,13 +51,13 @@ Leaves (Err wrong) t new (Ok done) = ⊥
 Leaves (Err wrong) t new (Err (refused.Fault fault)) = (new ≡ t) × (fault ≡ wrong)
 Leaves (Err wrong) t new (Err refused.Memory) = new ≡ t
 
--- What a request of a kind leaves where it is answered: only a restart takes all changes back, a write of the memory sets cells, and only an act does
--- anything besides, with the machine at rest. A launch is always refused.
+-- What a request of a kind leaves where it is answered: only a restart takes all changes back, a write of the memory sets the cells that it asks for,
+-- and only an act does anything besides, with the machine at rest. A launch is always refused.
 abbrev pub KindAnswered : Bool → Kind → Request → SessionState → Timeline → Type 0
 KindAnswered runs kind.Initialize r s new = new ≡ s.timeline
-KindAnswered runs kind.Look r s new = new ≡ s.timeline
+KindAnswered runs (kind.Look look) r s new = new ≡ s.timeline
 KindAnswered runs kind.Check r s new = new ≡ s.timeline
-KindAnswered runs kind.Points r s new = new ≡ s.timeline
+KindAnswered runs (kind.Points target) r s new = new ≡ s.timeline
 KindAnswered runs kind.Pause r s new = new ≡ s.timeline
 KindAnswered runs kind.Terminate r s new = new ≡ s.timeline
 KindAnswered runs kind.Restart r s new = new ≡ after (effect_of s.timeline ask.BackAll)
@@ -65,17 +65,17 @@ KindAnswered runs kind.Cancel r s new = new ≡ s.timeline
 KindAnswered runs kind.Launch r s new = ⊥
 KindAnswered runs kind.Disconnect r s new = new ≡ s.timeline
 KindAnswered true kind.Write r s new = ⊥
-KindAnswered false kind.Write r s new = SetsCells s.timeline new
+KindAnswered false kind.Write r s new = Written (write_asked s r) s.timeline new
 KindAnswered true (kind.Act act) r s new = ⊥
 KindAnswered false (kind.Act act) r s new = Leaves {T = Fault} (deed_of act r s) s.timeline new (Ok fault.Launched)
 
--- Why a request of a kind is refused, where it is: one that looks, sets breakpoints or writes by its arguments; a launch always; an act while the
--- program runs, and at rest where it asks for nothing that is there, or the session refuses it. No other is.
+-- Why a request of a kind is refused, where it is: one that looks by its arguments; a launch always; a write or an act while the program runs, and at
+-- rest where it asks for nothing that is there, or the session refuses it. No other is.
 abbrev pub KindRefused : Bool → Kind → Request → SessionState → Fault → Type 0
 KindRefused runs kind.Initialize r s why = ⊥
-KindRefused runs kind.Look r s why = Unit {0}
+KindRefused runs (kind.Look look) r s why = Unit {0}
 KindRefused runs kind.Check r s why = checked r ≡ Err why
-KindRefused runs kind.Points r s why = Unit {0}
+KindRefused runs (kind.Points target) r s why = ⊥
 KindRefused runs kind.Pause r s why = ⊥
 KindRefused runs kind.Terminate r s why = ⊥
 KindRefused runs kind.Restart r s why = ⊥
@@ -83,23 +83,23 @@ KindRefused runs kind.Cancel r s why = ⊥
 KindRefused runs kind.Launch r s why = why ≡ fault.Launched
 KindRefused runs kind.Disconnect r s why = ⊥
 KindRefused true kind.Write r s why = why ≡ fault.Running
-KindRefused false kind.Write r s why = Unit {0}
+KindRefused false kind.Write r s why = write_asked s r ≡ Err why
 KindRefused true (kind.Act act) r s why = why ≡ fault.Running
 KindRefused false (kind.Act act) r s why = Leaves {T = Fault} (deed_of act r s) s.timeline s.timeline (Err (refused.Fault why))
 
 -- what stands for want of memory
 abbrev pub KindBegun : Bool → Kind → Request → SessionState → Timeline → Type 0
 KindBegun runs kind.Restart r s new = Begun (effect_of s.timeline ask.BackAll) new
-KindBegun false kind.Write r s new = SetsCells s.timeline new
+KindBegun false kind.Write r s new = WrittenSome (write_asked s r) s.timeline new
 KindBegun false (kind.Act act) r s new = Leaves {T = Fault} (deed_of act r s) s.timeline new (Err refused.Memory)
 KindBegun runs other r s new = new ≡ s.timeline
 
 -- whether the client has more to ask after a request of a kind that was answered
 abbrev pub flow_of : Kind → Flow
 flow_of kind.Initialize = flow.On
-flow_of kind.Look = flow.On
+flow_of (kind.Look look) = flow.On
 flow_of kind.Check = flow.On
-flow_of kind.Points = flow.On
+flow_of (kind.Points target) = flow.On
 flow_of kind.Pause = flow.On
 flow_of kind.Terminate = flow.On
 flow_of kind.Restart = flow.On

@@ -19,6 +19,12 @@ list_members name list = put name (array (items_of list)) no_members
 abbrev pub list_alone : List ℕ → List Data → Data
 list_alone name list = object (list_members name list)
 
+-- a call gives what was found, seen so, or is refused for this reason; for want of memory it is neither
+abbrev pub Gives : {X Y : Type 0} → (X → Y) → Result Y Fault → Result X (Refused Fault) → Type 0
+Gives see found (Ok x) = found ≡ Ok (see x)
+Gives see found (Err (refused.Fault why)) = found ≡ Err why
+Gives see found (Err refused.Memory) = Unit {0}
+
 -- a request is answered by this, or refused for this reason; for want of memory it is neither
 abbrev pub ShowsBy : (Result Data Fault → Type 0) → Result Value (Refused Fault) → Type 0
 ShowsBy holds (Ok value) = holds (Ok (view value))

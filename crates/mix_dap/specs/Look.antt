@@ -1,8 +1,11 @@
--- What is looked at: the one thread, its one frame, which is the instruction at the location with its line, and the scopes.
-use Rattle.std.specs.Prelude.{ℕ, ◌-◌, ◌==◌, Bool, true, false, List, [], ◌∷◌, ◌++◌, codes, Option, None, Some, option_and_then, unwrap_or, nat_lt, if◌then◌else◌}
+-- What is looked at: the one thread, its one frame, which is the instruction at the location with its line, the scopes, and the fault of a run.
+use Rattle.std.specs.Prelude.{ℕ, ◌+◌, ◌-◌, ◌^◌, ◌==◌, min, Bool, true, false, List, [], ◌∷◌, ◌++◌, codes, decimal, Option, None, Some, Result, Ok, Err, option_and_then, unwrap_or, nat_lt, if◌then◌else◌}
+use Rattle.std.specs.Path.{path_file_name}
 use Rattle.serde_json.specs.Data.{Data, Members, boolean, string, number, unsigned, object, no_members, put}
 use Rattle.mix_word.specs.Instruction.{instruction_text}
 use Rattle.mix_machine.specs.World.{WorldState, cell_of}
+use Rattle.mix_machine.specs.Fault.{fault_number, fault_text}
+use Rattle.mix_machine.specs.declared.fault.MixFault.{MixFault}
 use Rattle.mixal_asm.specs.PassOne.{SourceValue, Line, OfLiteral, OfName}
 use Rattle.mixal_asm.specs.Program.{ProgramValue}
 use Rattle.mixal_asm.specs.Source.{source_at}
@@ -13,10 +16,16 @@ use Rattle.dap_message.specs.declared.request.Request.{Request}
 use Rattle.mix_dap.specs.Layout.{reference_of}
 use Rattle.mix_dap.specs.List.{list_members}
 use Rattle.mix_dap.specs.Value.{cell_name}
+use Rattle.mix_dap.specs.declared.fault.Fault.{Fault}
+use Rattle.mix_dap.specs.declared.fault.Fault.TheVariants as fault
 
 -- the only thread
 abbrev pub threads : Data
 threads = object (list_members (codes "threads") (object (put (codes "name") (string (codes "MIX")) (put (codes "id") (number (unsigned 1)) no_members)) ∷ []))
+
+-- the name of a file, without the folders before it
+abbrev pub short_name : List ℕ → List ℕ
+short_name whole = unwrap_or (path_file_name whole) whole
 
 -- the source: its short name, and its whole name
 abbrev pub source : List ℕ → List ℕ → Data
@@ -26,15 +35,23 @@ source short whole = object (put (codes "path") (string whole) (put (codes "name
 abbrev pub line_for : ℕ → ℕ → ℕ
 line_for first line = line - (1 - first)
 
+-- the same line as the source counts it, from 1 on: a number of 64 bits
+abbrev pub source_line : ℕ → ℕ → ℕ
+source_line first line = min (line + (1 - first)) (2 ^ 64 - 1)
+
 -- the line of the source that put a word somewhere; an inserted line has no number
 abbrev pub line_of : SourceValue → Option ℕ
 line_of (Line line text) = Some line
 line_of (OfLiteral text) = None
 line_of (OfName symbol) = None
 
+-- the line of the word of a cell
+abbrev pub line_of_cell : ProgramValue → ℕ → Option ℕ
+line_of_cell program cell = option_and_then line_of (source_at program cell)
+
 -- the line of the word at the location
 abbrev pub line_at : ProgramValue → WorldState → Option ℕ
-line_at program w = if nat_lt w.loc 4000 then option_and_then line_of (source_at program w.loc) else None
+line_at program w = if nat_lt w.loc 4000 then line_of_cell program w.loc else None
 
 -- the frame is named by the location and the instruction there
 abbrev pub frame_name : WorldState → List ℕ
@@ -66,3 +83,13 @@ abbrev pub scopes : Data
 scopes = object (list_members (codes "scopes")
     (object (put (codes "presentationHint") (string (codes "registers")) (scope_members (codes "Registers") 1 false))
     ∷ object (scope_members (codes "Flags") 2 false) ∷ object (scope_members (codes "Units") 3 true) ∷ object (scope_members (codes "Memory") 4 true) ∷ []))
+
+-- the answer to `exceptionInfo`: the fault that the last run has ended with, by its number and its text
+abbrev pub exception_shown : MixFault → Data
+exception_shown f =
+    object (put (codes "breakMode") (string (codes "always")) (put (codes "description") (string (fault_text f))
+    (put (codes "exceptionId") (string (codes "M" ++ decimal (fault_number f))) no_members)))
+
+abbrev pub exception_of : Option MixFault → Result Data Fault
+exception_of None = Err fault.NoSuchThing
+exception_of (Some f) = Ok (exception_shown f)

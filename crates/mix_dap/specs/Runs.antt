@@ -8,21 +8,21 @@ use Rattle.mix_session.specs.declared.answer.Answer.TheVariants as answers
 use Rattle.mix_session.specs.declared.command.stops.Way.TheVariants as session
 use Rattle.mix_session.specs.declared.reply.End.{End}
 use Rattle.mix_session.specs.declared.reply.End.TheVariants as ends
+use Rattle.mix_dap.specs.Points.{PointsState, stop_cells}
 use Rattle.mix_dap.specs.declared.adapter.Way.{Way}
 use Rattle.mix_dap.specs.declared.adapter.Way.TheVariants as way
-use Rattle.mix_dap.specs.declared.points.Points.{Points}
 
 -- what stops a run of the client: its breakpoints, and a location that is waited for; the breakpoints of the machine don't
-abbrev pub stops_of : Points → Option ℕ → StopsState
+abbrev pub stops_of : PointsState → Option ℕ → StopsState
 stops_of points location =
-    record { breaks = false; cells = points.cells.items; watched = points.data.items; location = location }
+    record { breaks = false; cells = stop_cells points; watched = points.watched; location = location }
 
 -- the most changes of a piece of a run
 abbrev pub piece : ℕ
 piece = 100000
 
 -- the next piece of a run: steps, those that stand ahead done again; or changes taken back
-abbrev pub effect_of_piece : Way → Points → Timeline → Effect
+abbrev pub effect_of_piece : Way → PointsState → Timeline → Effect
 effect_of_piece (way.Forth location) points t = effect_of_run session.Again (stops_of points location) t piece
 effect_of_piece way.Back points t = effect_of_run session.Back (stops_of points None) t piece
 
@@ -42,7 +42,7 @@ goes_on other = false
 
 -- What the next piece leaves, and whether the program still runs: the piece is done, and it runs on if nothing but its number of changes has ended it;
 -- or, for want of memory, a stage of it stands, and the program runs no more. Of a program that does not run nothing is done.
-abbrev pub Advances : Option Way → Points → Timeline → Timeline → Bool → Type 0
+abbrev pub Advances : Option Way → PointsState → Timeline → Timeline → Bool → Type 0
 Advances None points t new runs = (new ≡ t) × (runs ≡ false)
 Advances (Some way) points t new runs =
     let effect = effect_of_piece way points t in

@@ -1,7 +1,8 @@
 -- `mix/state`: the machine as it is, the cells that are asked for, and what the last change altered.
-use Rattle.std.specs.Prelude.{ℕ, ◌-◌, Bool, false, ◌&&◌, List, [], ◌∷◌, codes, Option, None, Some, length, map, slice_index_or, if◌then◌else◌}
+use Rattle.std.specs.Prelude.{ℕ, ◌-◌, Bool, false, ◌&&◌, List, [], ◌∷◌, codes, Option, None, Some, length, map, Result, Ok, if◌then◌else◌}
 use Rattle.serde_json.specs.Data.{Data, Members, array, boolean, string, number, unsigned, object, no_members, put}
 use Rattle.serde_json.specs.View.{items_of}
+use Rattle.mixal_text.specs.Steps.{◌>>=◌}
 use Rattle.mix_word.specs.Word.{WordValue}
 use Rattle.mix_word.specs.Instruction.{number_text, instruction_text}
 use Rattle.mix_word.specs.Register.{all_registers, name_of_register}
@@ -17,11 +18,16 @@ use Rattle.mix_session.specs.Counts.{is_step}
 use Rattle.mix_session.specs.Keyword.{indicator_name}
 use Rattle.mix_session.specs.Show.{value_text}
 use Rattle.mix_session.specs.ShowUnit.{letters_text}
+use Rattle.mix_session.specs.Session.{SessionState}
 use Rattle.mix_session.specs.ShowValue.{short_letters}
 use Rattle.mix_session.specs.Timeline.{Timeline, world_of}
 use Rattle.mix_session.specs.declared.altered.Altered.{Altered}
+use Rattle.dap_message.specs.Request.{flag_of}
+use Rattle.dap_message.specs.declared.request.Request.{Request}
+use Rattle.mix_dap.specs.Asked.{is_asked, ranges_asked}
 use Rattle.mix_dap.specs.List.{numbered}
 use Rattle.mix_dap.specs.View.{put_digits, put_texts, put_word, part_name}
+use Rattle.mix_dap.specs.declared.fault.Fault.{Fault}
 
 -- the location, the clock, the toggle and the indicator
 abbrev pub put_flags : WorldState → Members → Members
@@ -52,8 +58,8 @@ cell_shown w p =
     object (put (codes "text") (string (instruction_text (cell_of w p))) (put_word (cell_of w p) (put (codes "cell") (number (unsigned p)) no_members)))
 
 -- it is shown if it is asked for
-abbrev pub cell_if_asked : WorldState → List Bool → ℕ → List Data
-cell_if_asked w asked p = if slice_index_or asked p false then cell_shown w p ∷ [] else []
+abbrev pub cell_if_asked : WorldState → Bool → List (ℕ × ℕ) → ℕ → List Data
+cell_if_asked w nonzero ranges p = if is_asked w nonzero ranges p then cell_shown w p ∷ [] else []
 
 -- whether the last change that is done was a HLT, and the names of the parts that it altered; none is done at the beginning
 abbrev pub before_last : Timeline → WorldState
@@ -80,12 +86,16 @@ put_last t change members = put_altered (altered_names t change) (was_halt t cha
 abbrev pub put_counts : Timeline → Members → Members
 put_counts t members = put (codes "ahead") (number (unsigned (length t.ahead))) (put (codes "done") (number (unsigned (length t.changes))) members)
 
-abbrev pub machine_members : Timeline → List Bool → Members
-machine_members t asked =
+abbrev pub machine_members : Timeline → Bool → List (ℕ × ℕ) → Members
+machine_members t nonzero ranges =
     let w = world_of t in
-    put (codes "cells") (array (items_of (numbered 4000 (cell_if_asked w asked)))) (put (codes "registers") (array (items_of (map (register_shown w) all_registers)))
+    put (codes "cells") (array (items_of (numbered 4000 (cell_if_asked w nonzero ranges)))) (put (codes "registers") (array (items_of (map (register_shown w) all_registers)))
     (put_flags w (put_counts t no_members)))
 
--- the answer, with the cells of which this list says that they are asked for
-abbrev pub state_of : Timeline → List Bool → Data
-state_of t asked = object (put_last t (change_numbered t (length t.changes)) (machine_members t asked))
+-- the machine, with the cells in some ranges, and those that are not +0 where these are asked for
+abbrev pub state_of : Timeline → Bool → List (ℕ × ℕ) → Data
+state_of t nonzero ranges = object (put_last t (change_numbered t (length t.changes)) (machine_members t nonzero ranges))
+
+-- the answer
+abbrev pub state_asked : SessionState → Request → Result Data Fault
+state_asked s r = ranges_asked r >>= (λ ranges. Ok (state_of s.timeline (flag_of r (codes "nonzero")) ranges))

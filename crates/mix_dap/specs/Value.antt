@@ -1,14 +1,26 @@
 -- The values of the machine as texts.
-use Rattle.std.specs.Prelude.{ℕ, List, ◌++◌, codes, decimal}
+use Rattle.std.specs.Prelude.{ℕ, List, [], ◌++◌, codes, decimal, Option, None, Some, option_and_then, unwrap_or}
 use Rattle.std.specs.Str.{trim_end}
 use Rattle.mix_word.specs.Word.{WordValue}
-use Rattle.mix_word.specs.Text.{word_text}
+use Rattle.mix_word.specs.Text.{word_text, location_text}
 use Rattle.mix_word.specs.Instruction.{number_text}
 use Rattle.mix_word.specs.declared.register.Reg.{Reg}
-use Rattle.mix_machine.specs.World.{WorldState, register_of}
+use Rattle.mix_machine.specs.World.{WorldState, register_of, cell_of}
+use Rattle.mix_machine.specs.declared.part.Part.{Part}
+use Rattle.mix_machine.specs.declared.part.Part.TheVariants as part
+use Rattle.mix_session.specs.Keyword.{toggle_name, indicator_name}
+use Rattle.mix_session.specs.Session.{SessionState}
 use Rattle.mix_session.specs.Show.{value_text}
 use Rattle.mix_session.specs.ShowUnit.{characters_text}
+use Rattle.mix_session.specs.Timeline.{world_of}
+use Rattle.dap_message.specs.Request.{text_of, number_of}
+use Rattle.dap_message.specs.declared.request.Request.{Request}
+use Rattle.mix_dap.specs.Deed.{worth_of}
 use Rattle.mix_dap.specs.Layout.{in_four_digits}
+use Rattle.mix_dap.specs.Scope.{scope_of, part_of}
+use Rattle.mix_dap.specs.declared.deed.Worth.{Worth}
+use Rattle.mix_dap.specs.declared.deed.Worth.TheVariants as worth
+use Rattle.mix_dap.specs.declared.scope.Scope.{Scope}
 
 -- a cell by its number
 abbrev pub cell_name : ℕ → List ℕ
@@ -25,3 +37,45 @@ register_value w r = value_text r (register_of w r) ++ codes " = " ++ number_tex
 -- words in characters, without the blanks at their end
 abbrev pub row_characters : List WordValue → List ℕ
 row_characters words = trim_end (characters_text words)
+
+-- what a part of the machine holds, as its variable shows it; nothing of a unit, which holds more than a value
+abbrev pub part_value : WorldState → Part → List ℕ
+part_value w (part.Register r) = register_value w r
+part_value w part.Over = toggle_name w.over
+part_value w part.Cmp = indicator_name w.cmp
+part_value w part.Loc = location_text w.loc
+part_value w part.Clock = decimal w.clock
+part_value w (part.Cell place) = word_value (cell_of w place)
+part_value w (part.Unit n) = []
+
+abbrev pub value_of_part : WorldState → Option Part → List ℕ
+value_of_part w None = []
+value_of_part w (Some part) = part_value w part
+
+-- the variable that a request names: its scope by a reference, and its name
+abbrev pub variable_named : Request → Scope → Option Part
+variable_named r scope = part_of scope (unwrap_or (text_of r (codes "name")) [])
+
+abbrev pub variable_asked : Request → Option Part
+variable_asked r = option_and_then (variable_named r) (option_and_then scope_of (number_of r (codes "variablesReference")))
+
+-- the answer to `setVariable`: what the variable holds then
+abbrev pub value_asked : WorldState → Request → List ℕ
+value_asked w r = value_of_part w (variable_asked r)
+
+-- what an expression is worth, as its watch shows it
+abbrev pub worth_text : WorldState → Worth → List ℕ
+worth_text w (worth.Word word) = word_value word
+worth_text w (worth.Held part) = part_value w part
+
+abbrev pub text_of_worth : WorldState → Option Worth → List ℕ
+text_of_worth w None = []
+text_of_worth w (Some worth) = worth_text w worth
+
+-- what the expression of a request is worth
+abbrev pub expression_asked : SessionState → Request → Option Worth
+expression_asked s r = option_and_then (worth_of s) (text_of r (codes "expression"))
+
+-- the answer to `evaluate`, but for a line of the script, and to `setExpression`
+abbrev pub worth_asked : SessionState → Request → List ℕ
+worth_asked s r = text_of_worth (world_of s.timeline) (expression_asked s r)

@@ -1,16 +1,20 @@
 //! The adapter of a program that was launched.
 
 ghost use Rattle.std.specs.Prelude.{◌≡◌, ◌⊎◌, IfErr, IfOk, IfNone, IfSome, IsErr, OnOk, Ok, is_some, true, false};
+ghost use Rattle.mix_dap.specs.Answer.{HasTexts, launch_shown, answer_of, answer_to};
+ghost use Rattle.mix_dap.specs.Replies.{Replies, Tells, answer_message};
 ghost use Rattle.mix_refused.specs.Refused.{IfFault, IfMemory};
 ghost use Rattle.dap_message.specs.Message.{waits};
 ghost use Rattle.dap_message.specs.Request.{command_of};
 ghost use Rattle.dap_message.specs.Told.{response_to, done, Answers};
 ghost use Rattle.mix_dap.specs.Leaves.{flow_of, KindAnswered, KindRefused, KindBegun, Begins, FlowLeaves};
 ghost use Rattle.mix_dap.specs.Kind.{kind_of};
+ghost use Rattle.mix_dap.specs.Stays.{GoesOn, KindTells, points_of, way_after};
 ghost use Rattle.mix_dap.specs.Launched.{launched_of};
-ghost use Rattle.mix_dap.specs.Told.{outcome_of, outcome_of_launch, CommandShows, KindShows};
+ghost use Rattle.mix_dap.specs.Told.{outcome_of, outcome_of_launch};
 
 mod act;
+mod ends;
 mod run;
 mod show;
 mod tell;
@@ -19,6 +23,8 @@ use crate::capabilities::{Client, capabilities};
 use crate::fault::{Fault, refuse};
 use crate::kind::Kind;
 use crate::launch::{Texts, session_of};
+use crate::list::nothing;
+use crate::look::Name;
 use crate::points::Points;
 use crate::printed::Printed;
 use crate::view::tell_check;
@@ -54,7 +60,7 @@ pub(crate) enum Way {
 pub struct Adapter<'s> {
     alloc: Global,
     session: Session<'s>,
-    name: &'s str,
+    name: Name<'s>,
     client: Client,
     stops: bool,
     points: Points,
@@ -87,9 +93,9 @@ fn flow_of(kind: Kind) -> Flow
     match kind {
         Kind::Disconnect => Flow::Over,
         Kind::Initialize
-        | Kind::Look
+        | Kind::Look(_)
         | Kind::Check
-        | Kind::Points
+        | Kind::Points(_)
         | Kind::Pause
         | Kind::Terminate
         | Kind::Restart
@@ -103,7 +109,7 @@ fn flow_of(kind: Kind) -> Flow
 impl<'s> Adapter<'s> {
     /// Launches a program, and answers the request that asked for it: the machine is that of the texts, with no change, and it does not run yet. No
     /// adapter exactly where one of the texts is refused.
-    #[tactic(auto, using(dap_message::proofs::Telling::telling))]
+    #[tactic(auto, using(dap_message::proofs::Telling::telling, crate::proofs::RepliesLemmas::replying))]
     pub fn open(
         alloc: Global,
         waiting: &Waiting,
@@ -114,6 +120,9 @@ impl<'s> Adapter<'s> {
         ensures opened { IfOk result (λ o. IfSome o (λ a. launched_of texts.now ≡ Ok a.session)) }
         ensures refused { IfOk result (λ o. IfNone o (IsErr (launched_of texts.now))) }
         ensures rests { IfOk result (λ o. IfSome o (λ a. is_some a.way ≡ false)) }
+        ensures texts { IfOk result (λ o. IfSome o (λ a. HasTexts a texts.now)) }
+        ensures client { IfOk result (λ o. IfSome o (λ a. a.client ≡ waiting.now.client)) }
+        ensures shows { OnOk result (Replies (answer_message request.now (launch_shown (launched_of texts.now))) out.old out.new) }
         ensures answers { OnOk result (Answers (response_to request.now (outcome_of_launch (launched_of texts.now))) (waits out.old) (waits out.new)) }
     {
         let session = match session_of(alloc, texts) {
@@ -124,12 +133,12 @@ impl<'s> Adapter<'s> {
             }
             Err(Refused::Memory) => return Err(Memory),
         };
-        out.reply(request, Value::Null)?;
-        out.event("initialized", Value::Null)?;
+        out.reply(request, nothing())?;
+        out.event("initialized", nothing())?;
         Ok(Some(Adapter {
             alloc,
             session,
-            name: texts.name.as_str(),
+            name: Name::of(texts.name.as_str()),
             client: waiting.client(),
             stops: texts.stops,
             points: Points::new(alloc),
@@ -156,7 +165,7 @@ impl<'s> Adapter<'s> {
     /// Answers a request. What it does to the timeline of the session is what the session's own request does that it stands for; a request that is
     /// refused changes nothing, nor does one that only looks. One that moves or changes the machine is refused while the program runs, and else exactly
     /// where it asks for nothing that is there, or the session refuses it. Out of memory, nothing is done, or a stage of that effect stands.
-    #[tactic(auto, using(crate::proofs::ShownLemmas::refusal_shown))]
+    #[tactic(auto, using(crate::proofs::RepliesLemmas::replying))]
     pub fn receive(&mut self, request: &Request, out: &mut Outbox) -> Result<Flow, Memory>
         ensures program { self.new.session.program ≡ self.old.session.program }
         ensures first { self.new.session.timeline.first ≡ self.old.session.timeline.first }
@@ -164,7 +173,9 @@ impl<'s> Adapter<'s> {
         ensures begun { IfErr result (λ _. (self.new.session.timeline ≡ self.old.session.timeline)
             ⊎ Begins (is_some self.old.way) (command_of request.now) request.now self.old.session self.new.session.timeline) }
         ensures answers { IfOk result (λ flow. Answers (response_to request.now (outcome_of flow)) (waits out.old) (waits out.new)) }
-        ensures shows { OnOk result (CommandShows (command_of request.now) request.now out.old out.new) }
+        ensures shows { OnOk result (Replies (answer_message request.now (answer_to (command_of request.now) request.now self.old)) out.old out.new) }
+        ensures keeps { (self.new.name ≡ self.old.name) × (self.new.client ≡ self.old.client) × (self.new.stops ≡ self.old.stops) }
+        ensures goes { IfOk result (λ flow. GoesOn flow (command_of request.now) request.now self.old self.new (waits out.new)) }
     {
         match request.command() {
             None => self.refuse(request, Fault::NoSuchRequest, out),
@@ -189,7 +200,7 @@ impl<'s> Adapter<'s> {
     }
 
     // What a request asks for, by what it is about.
-    #[tactic(auto, using(dap_message::proofs::Telling::telling))]
+    #[tactic(auto, using(dap_message::proofs::Telling::telling, crate::proofs::RepliesLemmas::replying))]
     fn answer(
         &mut self,
         command: Command,
@@ -204,31 +215,31 @@ impl<'s> Adapter<'s> {
         ensures begun { IfMemory result ((self.new.session.timeline ≡ self.old.session.timeline)
             ⊎ KindBegun (is_some self.old.way) (kind_of command) request.now self.old.session self.new.session.timeline) }
         ensures answers { OnOk result (Answers (response_to request.now done) (waits out.old) (waits out.new)) }
-        ensures untold { IfFault result (λ _. out.new ≡ out.old) }
-        ensures shows { OnOk result (KindShows (kind_of command) request.now out.old out.new) }
+        ensures shows { Tells (answer_of (kind_of command) request.now self.old) request.now out.old out.new result }
+        ensures keeps { (self.new.name ≡ self.old.name) × (self.new.client ≡ self.old.client) × (self.new.stops ≡ self.old.stops) }
+        ensures way { OnOk result (self.new.way ≡ way_after (kind_of command) self.old self.new.session.timeline) }
+        ensures points { OnOk result (self.new.points ≡ points_of (kind_of command) request.now self.old) }
+        ensures waits { IfFault result (λ _. (self.new.way ≡ self.old.way) × (self.new.points ≡ self.old.points)) }
+        ensures tells { OnOk result (KindTells (kind_of command) request.now self.old self.new.session.timeline (waits out.new)) }
     {
         match Kind::of(command) {
             Kind::Initialize => {
                 let body = capabilities(self.alloc)?;
                 Ok(out.reply(request, body)?)
             }
-            Kind::Look => {
-                let body = self.show(command, request)?;
+            Kind::Look(look) => {
+                let body = self.show(look, request)?;
                 Ok(out.reply(request, body)?)
             }
             Kind::Check => tell_check(self.alloc, request, out),
-            Kind::Points => {
-                let body = self.set_points(command, request)?;
+            Kind::Points(target) => {
+                let body = self.set_points(target, request)?;
                 Ok(out.reply(request, body)?)
             }
             Kind::Pause => Ok(self.pause(request, out)?),
-            Kind::Terminate => {
-                self.way = None;
-                out.reply(request, Value::Null)?;
-                Ok(out.event("terminated", Value::Null)?)
-            }
+            Kind::Terminate => Ok(self.terminate(request, out)?),
             Kind::Restart => Ok(self.restart(request, out)?),
-            Kind::Cancel | Kind::Disconnect => Ok(out.reply(request, Value::Null)?),
+            Kind::Cancel | Kind::Disconnect => Ok(out.reply(request, nothing())?),
             Kind::Launch => Err(Refused::Fault(Fault::Launched)),
             Kind::Write => {
                 self.at_rest()?;

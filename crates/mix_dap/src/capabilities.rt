@@ -1,14 +1,20 @@
 //! What the adapter can do, and what the client is like.
 
+ghost use Rattle.std.specs.Prelude.{◌≡◌, IfOk, OnOk, map};
+ghost use Rattle.serde_json.specs.View.{view};
+ghost use Rattle.dap_message.specs.Fields.{members_in};
+ghost use Rattle.mix_dap.specs.Capabilities.{put_abilities, capabilities, first_by, client_of, unknown_client};
+
 use dap_message::{Fields, Request};
 use mix_refused::Memory;
 use serde_json::Value;
 use std::alloc::Global;
 
-const ABLE: [&str; 14] = [
+const ABLE: [&str; 15] = [
     "supportsConfigurationDoneRequest",
     "supportsStepBack",
     "supportsSetVariable",
+    "supportsSetExpression",
     "supportsGotoTargetsRequest",
     "supportsEvaluateForHovers",
     "supportsRestartRequest",
@@ -23,12 +29,21 @@ const ABLE: [&str; 14] = [
 ];
 
 /// What `initialize` is answered.
-pub(crate) fn capabilities(alloc: Global) -> Result<Value, Memory> {
+pub(crate) fn capabilities(alloc: Global) -> Result<Value, Memory>
+    ensures { IfOk result (λ v. view v ≡ capabilities) }
+{
     let mut body = Fields::new(alloc);
-    for name in ABLE.iter() {
+    put_abilities(&mut body, &ABLE)?;
+    Ok(body.done())
+}
+
+fn put_abilities(body: &mut Fields, names: &[&str]) -> Result<(), Memory>
+    ensures { OnOk result (members_in body.new ≡ put_abilities (map (λ name. name.now) names.now) (members_in body.old)) }
+{
+    for name in names {
         body.flag(name, true)?;
     }
-    Ok(body.done())
+    Ok(())
 }
 
 /// What the client says of itself: the number of its first line and column, 0 or 1, and whether it hears that what it shows is out of date.
@@ -40,7 +55,9 @@ pub(crate) struct Client {
 
 impl Client {
     /// A client that has said nothing.
-    pub(crate) fn unknown() -> Client {
+    pub(crate) fn unknown() -> Client
+        ensures { result ≡ unknown_client }
+    {
         Client {
             first: 1,
             hears_invalidated: false,
@@ -48,14 +65,23 @@ impl Client {
     }
 
     /// What `initialize` says of the client.
-    pub(crate) fn of(request: &Request) -> Client {
-        let starts_at_zero = match request.argument("linesStartAt1").and_then(Value::as_bool) {
-            Some(is_one) => !is_one,
-            None => false,
-        };
+    pub(crate) fn of(request: &Request) -> Client
+        ensures { result ≡ client_of request.now }
+    {
+        let starts_at_one = request.argument("linesStartAt1").and_then(Value::as_bool);
         Client {
-            first: if starts_at_zero { 0 } else { 1 },
+            first: first_by(starts_at_one),
             hears_invalidated: request.flag("supportsInvalidatedEvent"),
         }
+    }
+}
+
+// The number of the first line and column.
+fn first_by(starts_at_one: Option<bool>) -> u64
+    ensures { result ≡ first_by starts_at_one }
+{
+    match starts_at_one {
+        Some(false) => 0,
+        Some(true) | None => 1,
     }
 }

@@ -2,11 +2,12 @@
 
 ghost use Rattle.std.specs.Prelude.{◌≡◌, codes};
 ghost use Rattle.dap_message.specs.Request.{text_of, number_of};
-ghost use Rattle.mix_dap.specs.Deed.{or_refusal, goto_cell, goto_deed, is_settable, scope_asked, settable_part, change_deed, set_deed, is_console_of, line_deed, register_worth, worth_by, worth_of, looked_at, evaluate_deed, deed_of};
+ghost use Rattle.mix_dap.specs.Deed.{or_refusal, goto_cell, goto_deed, is_settable, scope_asked, settable_part, change_deed, set_deed, is_console_of, line_deed, register_written, unless_unit, part_meant, worth_by, worth_of, holder_of, set_expression_deed, looked_at, evaluate_deed, deed_of};
 
 use crate::fault::Fault;
 use crate::kind::Act;
-use crate::scope::{Scope, part_of, scope_of};
+use crate::scope::{Scope, flag_named, part_of, scope_of};
+use crate::watch::part_named;
 use dap_message::Request;
 use mix_machine::{Change, Part, Place, Reg, Sign, Word};
 use mix_session::{Refusal, Session};
@@ -28,8 +29,8 @@ pub(crate) enum Deed {
 pub(crate) enum Worth {
     /// The word of a W-value.
     Word(Word),
-    /// What a register holds.
-    Register(Reg),
+    /// What a part of the machine holds.
+    Held(Part),
 }
 
 /// What a request asks of the machine that moves or changes it, or why it is refused.
@@ -42,6 +43,7 @@ pub(crate) fn deed_of(act: Act, request: &Request, session: &Session) -> Result<
         Act::Continue | Act::StepOut | Act::ReverseContinue | Act::Begin => Ok(Deed::Nothing),
         Act::Goto => goto_deed(request.number("targetId")),
         Act::SetVariable => set_deed(request, session),
+        Act::SetExpression => set_expression_deed(request, session),
         Act::Evaluate => evaluate_deed(request, session),
     }
 }
@@ -116,6 +118,27 @@ fn settable_part(scope: Scope, name: &str) -> Result<Part, Fault>
     }
 }
 
+// What an expression names is set to what a text says.
+#[tactic(auto, unfolding(crate::specs::Deed::set_expression_deed))]
+fn set_expression_deed(request: &Request, session: &Session) -> Result<Deed, Fault>
+    ensures { result ≡ set_expression_deed session.now request.now }
+{
+    let text = request.text("expression").ok_or(Fault::BadArgument)?;
+    let value = request.text("value").ok_or(Fault::BadArgument)?;
+    let holder = holder_of(worth_of(session, text)).ok_or(Fault::NoSuchThing)?;
+    change_deed(session, holder, value)
+}
+
+// The part that holds what an expression is worth; the word of a W-value is in none.
+fn holder_of(worth: Option<Worth>) -> Option<Part>
+    ensures { result ≡ holder_of worth }
+{
+    match worth {
+        Some(Worth::Held(part)) => Some(part),
+        Some(Worth::Word(_)) | None => None,
+    }
+}
+
 // In the console a line of the script, elsewhere an expression.
 #[tactic(auto, unfolding(crate::specs::Deed::evaluate_deed))]
 fn evaluate_deed(request: &Request, session: &Session) -> Result<Deed, Fault>
@@ -155,7 +178,39 @@ pub(crate) fn worth_of(session: &Session, text: &str) -> Option<Worth>
     let here = Word::of(Sign::Plus, u32::from(session.world().loc()));
     match w_value(text.as_bytes(), session.program(), here) {
         Ok(word) => Some(Worth::Word(word)),
-        Err(_) => Some(Worth::Register(Reg::named(text.as_bytes())?)),
+        Err(_) => Some(Worth::Held(part_meant(session, text)?)),
+    }
+}
+
+// The part of the machine that a text names: a register, as `rA`; `over`, `cmp`, `loc`, `clock`; or what it names after `until` in a command.
+fn part_meant(session: &Session, text: &str) -> Option<Part>
+    ensures { result ≡ part_meant session.now text.now }
+{
+    match register_written(text.as_bytes()) {
+        Some(register) => Some(Part::Register(register)),
+        None => flag_named(text).or(part_named(session, text).and_then(unless_unit)),
+    }
+}
+
+// A register as the book writes it, with an r before its name.
+fn register_written(name: &[u8]) -> Option<Reg>
+    ensures { result ≡ register_written name.now }
+{
+    match name {
+        [b'r', rest @ ..] => Reg::named(rest),
+        _ => None,
+    }
+}
+
+// A part whose content is one value; a unit holds more.
+fn unless_unit(part: Part) -> Option<Part>
+    ensures { result ≡ unless_unit part }
+{
+    match part {
+        Part::Unit(_) => None,
+        Part::Register(_) | Part::Over | Part::Cmp | Part::Loc | Part::Clock | Part::Cell(_) => {
+            Some(part)
+        }
     }
 }
 

@@ -11,11 +11,11 @@ pub(crate) enum Kind {
     /// What the adapter can do.
     Initialize,
     /// It only looks.
-    Look,
+    Look(Look),
     /// What there is to say of a text, whether a program is launched or not.
     Check,
     /// Breakpoints, in place of those that stand.
-    Points,
+    Points(Target),
     /// A run, which pauses.
     Pause,
     /// The end of the program.
@@ -32,6 +32,52 @@ pub(crate) enum Kind {
     Write,
     /// The machine, which has to be at rest.
     Act(Act),
+}
+
+/// What is looked at.
+#[derive(Clone, Copy)]
+pub(crate) enum Look {
+    /// The threads.
+    Threads,
+    /// The frames.
+    Frames,
+    /// The scopes of the variables.
+    Scopes,
+    /// The variables of a scope.
+    Variables,
+    /// The fault at which the program stopped.
+    Fault,
+    /// Bytes of the memory.
+    Memory,
+    /// Cells as instructions.
+    Instructions,
+    /// Where a `goto` may lead.
+    Targets,
+    /// What a data breakpoint would watch.
+    Watch,
+    /// The program as it was assembled.
+    Program,
+    /// How often each instruction was executed.
+    Counts,
+    /// The machine as it is.
+    State,
+    /// The units.
+    Units,
+    /// A change by its number.
+    Change,
+}
+
+/// What breakpoints are set on.
+#[derive(Clone, Copy)]
+pub(crate) enum Target {
+    /// Lines of the source.
+    Lines,
+    /// Instructions, by their cells.
+    Instructions,
+    /// What is written, by the parts of the machine.
+    Data,
+    /// What the machine does not have: functions and kinds of exceptions.
+    Nothing,
 }
 
 /// What is done with the machine.
@@ -53,6 +99,8 @@ pub(crate) enum Act {
     Goto,
     /// A register, a flag or a cell is set.
     SetVariable,
+    /// What an expression names is set.
+    SetExpression,
     /// An expression is looked at, or a line of the script is executed.
     Evaluate,
 }
@@ -64,26 +112,27 @@ impl Kind {
     {
         match command {
             Command::Initialize => Kind::Initialize,
-            Command::Threads
-            | Command::StackTrace
-            | Command::Scopes
-            | Command::Variables
-            | Command::ExceptionInfo
-            | Command::ReadMemory
-            | Command::Disassemble
-            | Command::GotoTargets
-            | Command::DataBreakpointInfo
-            | Command::ViewProgram
-            | Command::ViewCounts
-            | Command::ViewState
-            | Command::ViewUnits
-            | Command::ViewChange => Kind::Look,
+            Command::Threads => Kind::Look(Look::Threads),
+            Command::StackTrace => Kind::Look(Look::Frames),
+            Command::Scopes => Kind::Look(Look::Scopes),
+            Command::Variables => Kind::Look(Look::Variables),
+            Command::ExceptionInfo => Kind::Look(Look::Fault),
+            Command::ReadMemory => Kind::Look(Look::Memory),
+            Command::Disassemble => Kind::Look(Look::Instructions),
+            Command::GotoTargets => Kind::Look(Look::Targets),
+            Command::DataBreakpointInfo => Kind::Look(Look::Watch),
+            Command::ViewProgram => Kind::Look(Look::Program),
+            Command::ViewCounts => Kind::Look(Look::Counts),
+            Command::ViewState => Kind::Look(Look::State),
+            Command::ViewUnits => Kind::Look(Look::Units),
+            Command::ViewChange => Kind::Look(Look::Change),
             Command::ViewCheck => Kind::Check,
-            Command::SetBreakpoints
-            | Command::SetInstructionBreakpoints
-            | Command::SetDataBreakpoints
-            | Command::SetFunctionBreakpoints
-            | Command::SetExceptionBreakpoints => Kind::Points,
+            Command::SetBreakpoints => Kind::Points(Target::Lines),
+            Command::SetInstructionBreakpoints => Kind::Points(Target::Instructions),
+            Command::SetDataBreakpoints => Kind::Points(Target::Data),
+            Command::SetFunctionBreakpoints | Command::SetExceptionBreakpoints => {
+                Kind::Points(Target::Nothing)
+            }
             Command::Pause => Kind::Pause,
             Command::Terminate => Kind::Terminate,
             Command::Restart => Kind::Restart,
@@ -98,6 +147,7 @@ impl Kind {
             Command::ConfigurationDone => Kind::Act(Act::Begin),
             Command::Goto => Kind::Act(Act::Goto),
             Command::SetVariable => Kind::Act(Act::SetVariable),
+            Command::SetExpression => Kind::Act(Act::SetExpression),
             Command::WriteMemory => Kind::Write,
             Command::Evaluate => Kind::Act(Act::Evaluate),
         }

@@ -1,10 +1,14 @@
 //! The texts that a launch asks for: given in the request, or read by their names.
 
-ghost use Rattle.std.specs.Prelude.{◌≡◌, IfOk, Ok, Err};
+ghost use Rattle.std.specs.Prelude.{◌≡◌, ℕ, List, None, Some, IfOk, Ok, Err};
 ghost use Rattle.std.specs.Option.{option_map};
 ghost use Rattle.mix_refused.specs.Refused.{IfFault};
 ghost use Rattle.mix_dap.specs.Launch.{launched, or_source, units_launched, cards_launched};
+ghost use Rattle.serde_json.specs.Data.{null};
+ghost use Rattle.mix_dap.specs.Answer.{launch_shown};
 ghost use Rattle.mix_dap.specs.Launched.{launched_of};
+ghost use Rattle.mix_dap.specs.declared.fault.Fault.TheVariants.{NotOpened};
+ghost use Rattle.mix_dap.specs.Texts.{Known, Gives, IsText, AreCards, AreTexts, RefusesTexts, IsFileFault};
 ghost use Rattle.mixal_asm.specs.Assembly.{assembly};
 
 use crate::fault::Fault;
@@ -20,8 +24,12 @@ use std::rt::Files;
 
 /// Where texts are found by their names.
 pub trait Library {
-    /// The text of a name, of at most so many bytes; of a longer one as many and one more. Where it can't be had, the fault says why.
-    fn text(&self, alloc: Global, name: &str, most: usize) -> Result<Vec<u8>, Refused<Fault>>;
+    // What is known of the text of each name.
+    ghost knows: { Self → List ℕ → Known };
+
+    /// The text of a name, of which at most so many bytes are given. Where it can't be had, the fault says why: T2 or T4.
+    fn text(&self, alloc: Global, name: &str, most: usize) -> Result<Vec<u8>, Refused<Fault>>
+        ensures { Gives (knows self.now name.now) most result };
 }
 
 /// A library of files.
@@ -43,6 +51,9 @@ impl<'f, F: Files> FileLibrary<'f, F> {
 }
 
 impl<F: Files> Library for FileLibrary<'_, F> {
+    // What a file holds is known only when it is read.
+    ghost knows = { λ _ _. None };
+
     fn text(&self, alloc: Global, name: &str, most: usize) -> Result<Vec<u8>, Refused<Fault>> {
         match fs::open(self.files, name) {
             Ok(file) => {
@@ -63,6 +74,8 @@ impl<F: Files> Library for FileLibrary<'_, F> {
 pub struct NoLibrary;
 
 impl Library for NoLibrary {
+    ghost knows = { λ _ _. Some (Err NotOpened) };
+
     fn text(&self, _alloc: Global, _name: &str, _most: usize) -> Result<Vec<u8>, Refused<Fault>> {
         Err(Refused::Fault(Fault::NotOpened))
     }
@@ -84,7 +97,10 @@ pub(crate) fn texts_of<L: Library>(
     alloc: Global,
     library: &L,
     request: &Request,
-) -> Result<Texts, Refused<Fault>> {
+) -> Result<Texts, Refused<Fault>>
+    ensures texts { IfOk result (λ texts. AreTexts (L.knows library.now) request.now texts) }
+    ensures refused { IfFault result (λ why. RefusesTexts request.now why) }
+{
     let program = request.text("program");
     let given = request.text("sourceText");
     if program.is_none() && given.is_none() {
@@ -94,11 +110,7 @@ pub(crate) fn texts_of<L: Library>(
     let (given, named) = (request.text("devicesText"), request.text("devices"));
     let deck = text_of(alloc, library, given, named, MAX_DECK_BYTES + 1)?;
     let (given, named) = (request.text("cardsText"), request.text("cards"));
-    let cards = if given.is_none() && named.is_none() {
-        None
-    } else {
-        Some(text_of(alloc, library, given, named, MAX_DECK_BYTES + 1)?)
-    };
+    let cards = cards_of(alloc, library, given, named)?;
     let name = String::from_str(alloc, program.unwrap_or("program.mixal"))?;
     let stops = request.flag("stopOnEntry");
     Ok(Texts {
@@ -110,6 +122,22 @@ pub(crate) fn texts_of<L: Library>(
     })
 }
 
+// The cards that are given or named, if there are any.
+fn cards_of<L: Library>(
+    alloc: Global,
+    library: &L,
+    given: Option<&str>,
+    name: Option<&str>,
+) -> Result<Option<Vec<u8>>, Refused<Fault>>
+    ensures cards { IfOk result (λ cards. AreCards (L.knows library.now) (option_map (λ t. t.now) given.entry) (option_map (λ t. t.now) name.entry) (option_map (λ c. c.items) cards)) }
+    ensures refused { IfFault result (λ why. IsFileFault why) }
+{
+    if given.is_none() && name.is_none() {
+        return Ok(None);
+    }
+    Ok(Some(text_of(alloc, library, given, name, MAX_DECK_BYTES + 1)?))
+}
+
 // A text that is given, or else the one of a name, or else none.
 fn text_of<L: Library>(
     alloc: Global,
@@ -117,7 +145,10 @@ fn text_of<L: Library>(
     given: Option<&str>,
     name: Option<&str>,
     most: usize,
-) -> Result<Vec<u8>, Refused<Fault>> {
+) -> Result<Vec<u8>, Refused<Fault>>
+    ensures text { IfOk result (λ text. IsText (L.knows library.now) most (option_map (λ t. t.now) given.entry) (option_map (λ t. t.now) name.entry) text.items) }
+    ensures refused { IfFault result (λ why. IsFileFault why) }
+{
     match (given, name) {
         (Some(text), _) => Ok(Vec::from_slice(alloc, text.as_bytes())?),
         (None, Some(name)) => library.text(alloc, name, most),
@@ -130,6 +161,8 @@ fn text_of<L: Library>(
 pub(crate) fn session_of<'s>(alloc: Global, texts: &'s Texts) -> Result<Session<'s>, Refused<Fault>>
     ensures ok { IfOk result (λ s. launched_of texts.now ≡ Ok s) }
     ensures fault { IfFault result (λ f. launched_of texts.now ≡ Err f) }
+    ensures done { IfOk result (λ _. launch_shown (launched_of texts.now) ≡ Ok null) }
+    ensures refused { IfFault result (λ f. launch_shown (launched_of texts.now) ≡ Err f) }
 {
     let program = program_of(alloc, texts.source.as_slice())?;
     let units = units_of(alloc, texts.deck.as_slice(), texts.cards.as_deref())?;

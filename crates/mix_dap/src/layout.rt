@@ -1,7 +1,8 @@
 //! The memory as bytes: a cell is six, its sign (0 for +, 1 for -) and its five bytes of 0 to 63; cell N begins at byte 6N.
 
-ghost use Rattle.std.specs.Prelude.{◌≡◌, ◌<◌, ◌≤◌, IfOk, IfSome, string_bytes};
-ghost use Rattle.mix_dap.specs.Layout.{byte_reference, reference_of, sign_byte, cell_byte, memory_byte};
+ghost use Rattle.std.specs.Prelude.{◌≡◌, ◌∷◌, [], ◌<◌, ◌≤◌, IfOk, IfSome, string_bytes};
+ghost use Rattle.std.specs.Str.Parse.{without_leading_plus};
+ghost use Rattle.mix_dap.specs.Layout.{byte_reference, reference_of, byte_of_reference, byte_named, byte_at, byte_written, within, cell_of_reference, cell_of_byte, sign_byte, cell_byte, memory_byte, word_of, sign_of};
 
 use crate::value::place_at;
 use mix_machine::{Place, Sign, Word, World};
@@ -31,28 +32,79 @@ pub(crate) fn byte_reference(alloc: Global, byte: u64) -> Result<String, Memory>
 pub(crate) const MEMORY_BYTES: u64 = 24_000;
 
 /// The byte that a reference names, as `0x` and hexadecimal digits or as decimal digits, with an offset in bytes: within the memory or at its end.
+#[tactic(auto, using(crate::proofs::WholeLemmas::too_far))]
 pub(crate) fn byte_of_reference(reference: &str, offset: i64) -> Option<u64>
-    ensures { IfSome result (λ byte. byte ≤ 24000) }
+    ensures is { result ≡ byte_of_reference reference.now offset }
+    ensures bound { IfSome result (λ byte. byte ≤ 24000) }
 {
-    let start = match reference.strip_prefix("0x") {
-        Some(digits) => u64::from_str_radix(digits, 16).ok()?,
-        None => reference.parse::<u64>().ok()?,
-    };
-    if start > MEMORY_BYTES {
-        return None;
+    let start = byte_named(reference)?;
+    match (start as i64).checked_add(offset) {
+        Some(byte) => byte_at(byte),
+        None => None,
     }
-    let start = start as i64;
-    let byte = start.checked_add(offset)?;
+}
+
+// The byte of a whole number.
+fn byte_at(byte: i64) -> Option<u64>
+    ensures is { result ≡ byte_at byte }
+    ensures bound { IfSome result (λ byte. byte ≤ 24000) }
+{
     match u64::try_from(byte) {
-        Ok(byte) if byte <= MEMORY_BYTES => Some(byte),
-        _ => None,
+        Ok(byte) => within(byte),
+        Err(_) => None,
+    }
+}
+
+// The byte that a text names.
+fn byte_named(reference: &str) -> Option<u64>
+    ensures is { result ≡ byte_named reference.now }
+    ensures bound { IfSome result (λ byte. byte ≤ 24000) }
+{
+    match reference.strip_prefix("0x") {
+        Some(digits) => byte_written(digits, 16),
+        None => byte_written(reference, 10),
+    }
+}
+
+// The byte of the number that digits write.
+fn byte_written(text: &str, radix: u32) -> Option<u64>
+    requires low { 2 ≤ radix }
+    requires high { radix ≤ 36 }
+    ensures is { result ≡ byte_written radix (without_leading_plus text.now) }
+    ensures bound { IfSome result (λ byte. byte ≤ 24000) }
+{
+    match u64::from_str_radix(text, radix) {
+        Ok(byte) => within(byte),
+        Err(_) => None,
+    }
+}
+
+// A number, if it is one of a byte of the memory or of its end.
+fn within(byte: u64) -> Option<u64>
+    ensures is { result ≡ within byte }
+    ensures bound { IfSome result (λ byte. byte ≤ 24000) }
+{
+    if byte <= MEMORY_BYTES {
+        Some(byte)
+    } else {
+        None
     }
 }
 
 /// The cell in which the byte of a reference with an offset lies.
-pub(crate) fn cell_of_reference(reference: &str, offset: i64) -> Option<Place> {
-    let byte = byte_of_reference(reference, offset)?;
-    u16::try_from(byte / CELL_BYTES).ok().and_then(Place::of)
+#[tactic(auto, unfolding(crate::specs::Layout::cell_of_reference))]
+pub(crate) fn cell_of_reference(reference: &str, offset: i64) -> Option<Place>
+    ensures { result ≡ cell_of_reference reference.now offset }
+{
+    cell_of_byte(byte_of_reference(reference, offset)?)
+}
+
+/// The cell in which a byte lies, if it is one of the memory.
+fn cell_of_byte(byte: u64) -> Option<Place>
+    requires { byte ≤ 24000 }
+    ensures { result ≡ cell_of_byte byte }
+{
+    Place::of((byte / CELL_BYTES) as u16)
 }
 
 /// A byte of the memory.
@@ -84,29 +136,25 @@ fn sign_byte(sign: Sign) -> u8
     }
 }
 
-/// The six bytes of a word.
-pub(crate) fn bytes_of(word: Word) -> [u8; 6] {
-    [
-        sign_byte(word.sign()),
-        word.byte(1),
-        word.byte(2),
-        word.byte(3),
-        word.byte(4),
-        word.byte(5),
-    ]
-}
-
-/// The word of six bytes, unless the first is over 1 or another over 63.
-pub(crate) fn word_of(bytes: [u8; 6]) -> Option<Word> {
-    let [sign, a, b, c, d, e] = bytes;
-    let sign = match sign {
-        0 => Sign::Plus,
-        1 => Sign::Minus,
-        _ => return None,
-    };
-    if a > 63 || b > 63 || c > 63 || d > 63 || e > 63 {
+/// The word of the six bytes of a cell, unless the first is over 1 or another over 63.
+pub(crate) fn word_of(sign: u8, a: u8, b: u8, c: u8, d: u8, e: u8) -> Option<Word>
+    ensures { result ≡ word_of (sign ∷ a ∷ b ∷ c ∷ d ∷ e ∷ []) }
+{
+    if sign > 1 || a > 63 || b > 63 || c > 63 || d > 63 || e > 63 {
         return None;
     }
     let high = (u32::from(a) * 64 + u32::from(b)) * 64 + u32::from(c);
-    Some(Word::of(sign, (high * 64 + u32::from(d)) * 64 + u32::from(e)))
+    Some(Word::of(
+        sign_of(sign),
+        (high * 64 + u32::from(d)) * 64 + u32::from(e),
+    ))
+}
+
+fn sign_of(byte: u8) -> Sign
+    ensures { result ≡ sign_of byte }
+{
+    match byte {
+        0 => Sign::Plus,
+        _ => Sign::Minus,
+    }
 }

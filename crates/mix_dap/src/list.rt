@@ -1,7 +1,7 @@
 //! Lists of values, of things that are numbered.
 
 ghost use Rattle.std.specs.Prelude.{◌≡◌, ◌++◌, ◌∷◌, [], ◌<◌, ℕ, List, IfOk, OnOk, map};
-ghost use Rattle.serde_json.specs.Data.{Data};
+ghost use Rattle.serde_json.specs.Data.{Data, null};
 ghost use Rattle.serde_json.specs.View.{view};
 ghost use Rattle.mix_dap.specs.List.{numbered, list_alone};
 
@@ -67,4 +67,11 @@ pub(crate) fn list_alone(alloc: Global, name: &str, list: Vec<Value>) -> Result<
     let mut body = Fields::new(alloc);
     body.list(name, list)?;
     Ok(body.done())
+}
+
+/// No body.
+pub(crate) fn nothing() -> Value
+    ensures { view result ≡ null }
+{
+    Value::Null
 }

@@ -5,20 +5,21 @@ ghost use Rattle.serde_json.specs.View.{view};
 ghost use Rattle.dap_message.specs.Fields.{members_in};
 ghost use Rattle.mixal_asm.specs.Row.{source_value};
 ghost use Rattle.mix_session.specs.Timeline.{world_of};
-ghost use Rattle.mix_dap.specs.Look.{threads, source, line_for, line_of, line_at, frame_name, put_line, frame_members, frame, stack_trace, scope_members, scopes};
+ghost use Rattle.mix_dap.specs.Look.{short_name, threads, source, line_for, source_line, line_of, line_of_cell, line_at, frame_name, put_line, frame_members, frame, stack_trace, scope_members, scopes};
 
 use crate::layout::reference_of;
 use crate::list::{add, list_alone};
 use crate::scope::{ALL_UNITS, FLAGS, MEMORY, REGISTERS};
 use crate::value::{cell_at, cell_name};
 use dap_message::{Fields, Request};
-use mix_machine::World;
+use mix_machine::{Place, World};
 use mix_refused::Memory;
 use mix_session::Session;
 use mix_word::Instruction;
 use mixal_asm::{Program, Source};
 use serde_json::Value;
 use std::alloc::Global;
+use std::path::Path;
 
 /// The number of the only thread.
 pub(crate) const THREAD: u64 = 1;
@@ -108,15 +109,28 @@ pub(crate) fn line_for(first: u64, line: u64) -> u64
     line.saturating_sub(1u64.saturating_sub(first))
 }
 
+/// A line that the client counts as the source counts it, from 1 on.
+pub(crate) fn source_line(first: u64, line: u64) -> u64
+    ensures { result ≡ source_line first line }
+{
+    line.saturating_add(1u64.saturating_sub(first))
+}
+
 // The line of the source that put the word at the location there.
 fn line_at(program: &Program, world: &World) -> Option<u64>
     ensures { result ≡ line_at program.now world.now }
 {
-    let place = cell_at(world)?;
-    line_of(program.source_at(place)?)
+    line_of_cell(program, cell_at(world)?)
 }
 
-/// The number of a line of the source; none of an inserted line.
+/// The line of the source that put the word of a cell there.
+pub(crate) fn line_of_cell(program: &Program, cell: Place) -> Option<u64>
+    ensures { result ≡ line_of_cell program.now cell }
+{
+    line_of(program.source_at(cell)?)
+}
+
+// The number of a line of the source; none of an inserted line.
 pub(crate) fn line_of(source: &Source) -> Option<u64>
     ensures { result ≡ line_of (source_value source.now) }
 {
@@ -150,7 +164,7 @@ pub(crate) fn source(alloc: Global, name: Name<'_>) -> Result<Value, Memory>
     Ok(source.done())
 }
 
-/// The name of the source as the launch gave it, and what stands behind its last slash.
+/// The name of the source as the launch gave it, and that of its file.
 #[derive(Clone, Copy)]
 pub(crate) struct Name<'a> {
     pub short: &'a str,
@@ -159,12 +173,10 @@ pub(crate) struct Name<'a> {
 
 impl<'a> Name<'a> {
     pub(crate) fn of(whole: &'a str) -> Name<'a>
-        ensures { result.whole.now ≡ whole.now }
+        ensures whole { result.whole.now ≡ whole.now }
+        ensures short { result.short.now ≡ short_name whole.now }
     {
-        let short = match whole.rsplit_once("/") {
-            Some((_, last)) => last,
-            None => whole,
-        };
+        let short = Path::new(whole).file_name().unwrap_or(whole);
         Name { short, whole }
     }
 }

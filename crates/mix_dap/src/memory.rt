@@ -1,30 +1,51 @@
-//! The memory as bytes and as instructions.
+//! The memory as bytes.
 
-ghost use Rattle.std.specs.Prelude.{◌≤◌, IfOk};
+ghost use Rattle.std.specs.Prelude.{◌≡◌, ◌+◌, ◌-◌, ◌≤◌, IfOk, IfSome, OnOk, Ok, Err, codes, map};
+ghost use Rattle.std.specs.List.{range_with_len};
+ghost use Rattle.serde_json.specs.View.{view};
+ghost use Rattle.mix_refused.specs.Refused.{IfFault};
+ghost use Rattle.dap_message.specs.Fields.{members_in};
+ghost use Rattle.mix_dap.specs.Layout.{byte_of_reference, memory_byte};
+ghost use Rattle.mix_dap.specs.List.{Shows};
+ghost use Rattle.mix_dap.specs.Memory.{integer_asked, start_asked, bytes_from, put_missing, memory_shown, memory_asked};
 
 use crate::fault::Fault;
-use crate::layout::{
-    CELL_BYTES, MEMORY_BYTES, byte_of_reference, byte_reference, memory_byte, reference_of,
-};
-use crate::look::{Name, line_for, line_of, source};
+use crate::layout::{MEMORY_BYTES, byte_of_reference, byte_reference, memory_byte};
 use base64::engine::general_purpose::STANDARD;
 use dap_message::{Fields, Request};
-use mix_machine::{Place, World};
+use mix_machine::World;
 use mix_refused::{Memory, Refused};
-use mix_session::Session;
-use mix_word::Instruction;
 use serde_json::Value;
 use std::alloc::Global;
 
+/// A whole number that a request has, or 0.
+pub(crate) fn integer_asked(request: &Request, name: &str) -> i64
+    ensures { result ≡ integer_asked request.now name.now }
+{
+    request.integer(name).unwrap_or(0)
+}
+
 /// The byte that a request about the memory names.
 pub(crate) fn start_of(request: &Request) -> Result<u64, Refused<Fault>>
-    ensures { IfOk result (λ start. start ≤ 24000) }
+    ensures is { IfOk result (λ start. start_asked request.now ≡ Ok start) }
+    ensures bound { IfOk result (λ start. start ≤ 24000) }
+    ensures refused { IfFault result (λ why. start_asked request.now ≡ Err why) }
 {
     let Some(reference) = request.text("memoryReference") else {
         return Err(Refused::Fault(Fault::BadArgument));
     };
-    let offset = request.integer("offset").unwrap_or(0);
-    byte_of_reference(reference, offset).ok_or(Refused::Fault(Fault::NoSuchThing))
+    match byte_asked(request, reference) {
+        Some(start) => Ok(start),
+        None => Err(Refused::Fault(Fault::NoSuchThing)),
+    }
+}
+
+// The byte of a reference, with the offset that a request has.
+fn byte_asked(request: &Request, reference: &str) -> Option<u64>
+    ensures is { result ≡ byte_of_reference reference.now (integer_asked request.now (codes "offset")) }
+    ensures bound { IfSome result (λ byte. byte ≤ 24000) }
+{
+    byte_of_reference(reference, integer_asked(request, "offset"))
 }
 
 /// Bytes of the memory, in base64; those beyond it can't be read.
@@ -32,98 +53,55 @@ pub(crate) fn read_memory(
     alloc: Global,
     world: &World,
     request: &Request,
-) -> Result<Value, Refused<Fault>> {
+) -> Result<Value, Refused<Fault>>
+    ensures { Shows (memory_asked world.now request.now) result }
+{
     let start = start_of(request)?;
     let Some(count) = request.number("count") else {
         return Err(Refused::Fault(Fault::BadArgument));
     };
-    let there = count.min(MEMORY_BYTES.saturating_sub(start));
-    let mut bytes = Vec::new(alloc);
-    for at in start..start.saturating_add(there) {
-        bytes.push(byte_at(world, at))?;
-    }
+    Ok(memory_shown(alloc, world, start, count)?)
+}
+
+fn memory_shown(alloc: Global, world: &World, start: u64, count: u64) -> Result<Value, Memory>
+    requires { start ≤ 24000 }
+    ensures { IfOk result (λ v. view v ≡ memory_shown world.now start count) }
+{
+    let bytes = bytes_from(alloc, world, start, count)?;
     let data = STANDARD.encode(alloc, bytes.as_slice())?;
     let mut body = Fields::new(alloc);
     body.text("address", byte_reference(alloc, start)?.as_str())?;
     body.text("data", data.as_str())?;
-    if there < count {
-        body.number("unreadableBytes", count - there)?;
-    }
+    put_missing(&mut body, count.saturating_sub(MEMORY_BYTES - start))?;
     Ok(body.done())
 }
 
-// One byte of the memory, and 0 beyond it.
-fn byte_at(world: &World, at: u64) -> u8 {
-    if at < MEMORY_BYTES {
-        memory_byte(world, at)
-    } else {
-        0
+fn put_missing(body: &mut Fields, missing: u64) -> Result<(), Memory>
+    ensures { OnOk result (members_in body.new ≡ put_missing missing (members_in body.old)) }
+{
+    match missing {
+        0 => Ok(()),
+        _ => body.number("unreadableBytes", missing),
     }
 }
 
-// The most instructions of one answer.
-const MAX_INSTRUCTIONS: u64 = 8_000;
-
-/// Cells as instructions, from one on that is counted from a reference; cells beyond the memory are told as invalid.
-pub(crate) fn disassemble(
-    alloc: Global,
-    session: &Session,
-    name: Name<'_>,
-    first: u64,
-    request: &Request,
-) -> Result<Value, Refused<Fault>> {
-    let start = start_of(request)? / CELL_BYTES;
-    let Some(count) = request.number("instructionCount") else {
-        return Err(Refused::Fault(Fault::BadArgument));
-    };
-    let skipped = request.integer("instructionOffset").unwrap_or(0);
-    let Some(from) = (start as i64).checked_add(skipped) else {
-        return Err(Refused::Fault(Fault::BadArgument));
-    };
-    let mut list = Vec::new(alloc);
-    for i in 0..count.min(MAX_INSTRUCTIONS) {
-        let at = from.saturating_add(i as i64);
-        let place = u16::try_from(at).ok().and_then(Place::of);
-        match place {
-            Some(place) => list.push(instruction(alloc, session, name, first, place)?)?,
-            None => list.push(no_instruction(alloc, at)?)?,
-        }
-    }
-    let mut body = Fields::new(alloc);
-    body.list("instructions", list)?;
-    Ok(body.done())
+// So many bytes of the memory from one on, or those that are there.
+#[tactic(auto, using(crate::proofs::MemoryLemmas::bytes_there))]
+fn bytes_from(alloc: Global, world: &World, start: u64, count: u64) -> Result<Vec<u8>, Memory>
+    requires { start ≤ 24000 }
+    ensures { IfOk result (λ bytes. bytes.items ≡ bytes_from world.now start count) }
+{
+    let there = count.min(MEMORY_BYTES - start);
+    bytes_at(alloc, world, start, there)
 }
 
-fn instruction(
-    alloc: Global,
-    session: &Session,
-    name: Name<'_>,
-    first: u64,
-    place: Place,
-) -> Result<Value, Memory> {
-    let word = session.world().cell(place);
-    let mut fields = Fields::new(alloc);
-    fields.text("address", reference_of(alloc, place.number())?.as_str())?;
-    let text = format!(in alloc; "{word}")?;
-    fields.text("instructionBytes", text.as_str())?;
-    let shown = Instruction(word);
-    let text = format!(in alloc; "{shown}")?;
-    fields.text("instruction", text.as_str())?;
-    if let Some(line) = session.program().source_at(place).and_then(line_of) {
-        fields.number("line", line_for(first, line))?;
-        fields.put("location", source(alloc, name)?)?;
+fn bytes_at(alloc: Global, world: &World, start: u64, count: u64) -> Result<Vec<u8>, Memory>
+    requires { start + count ≤ 24000 }
+    ensures { IfOk result (λ bytes. bytes.items ≡ map (memory_byte world.now) (range_with_len start count)) }
+{
+    let mut bytes = Vec::new(alloc);
+    for i in 0..count {
+        bytes.push(memory_byte(world, start + i))?;
     }
-    Ok(fields.done())
-}
-
-fn no_instruction(alloc: Global, at: i64) -> Result<Value, Memory> {
-    let mut fields = Fields::new(alloc);
-    let byte = at.saturating_mul(6);
-    let sign = if byte < 0 { "-" } else { "" };
-    let byte = byte.unsigned_abs();
-    let address = format!(in alloc; "{sign}0x{byte:04x}")?;
-    fields.text("address", address.as_str())?;
-    fields.text("instruction", "no cell")?;
-    fields.text("presentationHint", "invalid")?;
-    Ok(fields.done())
+    Ok(bytes)
 }

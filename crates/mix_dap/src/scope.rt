@@ -68,8 +68,8 @@ pub(crate) fn part_of(scope: Scope, name: &str) -> Option<Part>
     }
 }
 
-// A flag by its name, the location or the clock.
-fn flag_named(name: &str) -> Option<Part>
+/// A flag by its name, the location or the clock.
+pub(crate) fn flag_named(name: &str) -> Option<Part>
     ensures { result ≡ flag_named name.now }
 {
     if name == "over" {

@@ -1,35 +1,38 @@
 //! The adapter over a stream: requests are heard and answered until the client is done.
 
-ghost use Rattle.std.specs.Prelude.{◌≡◌, ◌≢◌, ◌<◌, ◌≤◌, ◌-◌, ◌^◌, OnOk};
-ghost use Rattle.serde_json.specs.View.{view};
-ghost use Rattle.mix_dap.specs.Sent.{Sends};
+ghost use Rattle.std.specs.Prelude.{◌≡◌, ◌≢◌, ◌<◌, ◌≤◌, ◌-◌, ◌^◌, false, is_some, [], Ok, Err, IfNone, IfOk, IfSome, IsErr, OnOk};
+ghost use Rattle.mix_stream.specs.Stream.{CountsFailure};
+ghost use Rattle.dap_message.specs.Message.{waits};
+ghost use Rattle.dap_message.specs.Told.{response_to, Answers};
+ghost use Rattle.dap_stream.specs.Hearing.{unheard};
+ghost use Rattle.dap_stream.specs.declared.broken.Broken.{Broken};
+ghost use Rattle.dap_stream.specs.declared.broken.Broken.TheVariants as broken;
+ghost use Rattle.mix_dap.specs.Dialogue.{DialogueAs, PartAs, TellsBroken};
+ghost use Rattle.mix_dap.specs.Launched.{launched_of};
+ghost use Rattle.mix_dap.specs.Told.{outcome_of_launch};
 
-use crate::adapter::{Adapter, Flow};
-use crate::broken::{Broken, tell};
-use crate::hear::{Ear, Heard};
-use crate::launch::{FileLibrary, Library};
-use crate::waiting::{Asked, Waiting};
-use dap_frame::frame;
-use dap_message::{MessageFault, Outbox, Request};
+use crate::adapter::Adapter;
+use crate::broken::tell;
+use crate::launch::{FileLibrary, Library, Texts};
+use crate::served::Before;
+use crate::waiting::Waiting;
+use dap_message::{Outbox, Request};
+use dap_stream::{Broken, Talk, Talked, send};
 use mix_refused::Memory;
-use mix_stream::{Out, write_all};
-use serde_json::Value;
+use mix_stream::{In, Out};
 use std::alloc::Global;
-use std::io::Read;
 use std::rt::Files;
-
-// How many pieces a run has at most: 1,000,000 changes.
-const PIECES: u32 = 10;
 
 /// Answers a client until it disconnects or its input ends at the end of a frame, status 0. The status is 2 where the input ends within a frame or
 /// has one that is too long, a read or a write fails, or memory is refused; then a line on the error output says so.
-pub fn serve<F: Files, R: Read, W: Out, E: Out>(
+pub fn serve<F: Files, R: In, W: Out, E: Out>(
     files: &F,
     alloc: Global,
     input: &mut R,
     out: &mut W,
     errors: &mut E,
 ) -> u8
+    requires in_count { R.failed input.old < 2 ^ 64 - 1 }
     requires out_count { W.failed out.old < 2 ^ 64 - 1 }
     requires errors_count { E.failed errors.old < 2 ^ 64 - 1 }
     ensures range { result ≤ 2 }
@@ -37,24 +40,37 @@ pub fn serve<F: Files, R: Read, W: Out, E: Out>(
     // In a talk that ends well no write failed, and nothing was told on the error output.
     ensures written { result ≢ 2 → W.failed out.new ≡ W.failed out.old }
     ensures quiet { result ≢ 2 → errors.new ≡ errors.old }
+    // Status 0: the dialogue came to its end, and nothing failed. Status 2: this broke it off, and a line on the error output tells it.
+    ensures done { result ≢ 2 → (result ≡ 0) × DialogueAs (Ok tt) (R.rest input.old) (R.rest input.new) (W.told out.old) (W.told out.new)
+        × (R.failed input.new ≡ R.failed input.old) }
+    ensures broken { result ≡ 2 → (why : Broken) × DialogueAs (Err why) (R.rest input.old) (R.rest input.new) (W.told out.old) (W.told out.new)
+        × CountsFailure (why ≡ broken.Read) (R.failed input.old) (R.failed input.new) × CountsFailure (why ≡ broken.Write) (W.failed out.old) (W.failed out.new)
+        × (E.failed errors.new ≡ E.failed errors.old → TellsBroken why (E.told errors.old) (E.told errors.new)) }
 {
     let library = FileLibrary::of(files);
     serve_from(&library, alloc, input, out, errors)
 }
 
 /// The same, where texts are found by their names in any library.
-pub fn serve_from<L: Library, R: Read, W: Out, E: Out>(
+pub fn serve_from<L: Library, R: In, W: Out, E: Out>(
     library: &L,
     alloc: Global,
     input: &mut R,
     out: &mut W,
     errors: &mut E,
 ) -> u8
+    requires in_count { R.failed input.old < 2 ^ 64 - 1 }
     requires out_count { W.failed out.old < 2 ^ 64 - 1 }
     requires errors_count { E.failed errors.old < 2 ^ 64 - 1 }
     ensures range { result ≤ 2 }
     ensures written { result ≢ 2 → W.failed out.new ≡ W.failed out.old }
     ensures quiet { result ≢ 2 → errors.new ≡ errors.old }
+    // Status 0: the dialogue came to its end, and nothing failed. Status 2: this broke it off, and a line on the error output tells it.
+    ensures done { result ≢ 2 → (result ≡ 0) × DialogueAs (Ok tt) (R.rest input.old) (R.rest input.new) (W.told out.old) (W.told out.new)
+        × (R.failed input.new ≡ R.failed input.old) }
+    ensures broken { result ≡ 2 → (why : Broken) × DialogueAs (Err why) (R.rest input.old) (R.rest input.new) (W.told out.old) (W.told out.new)
+        × CountsFailure (why ≡ broken.Read) (R.failed input.old) (R.failed input.new) × CountsFailure (why ≡ broken.Write) (W.failed out.old) (W.failed out.new)
+        × (E.failed errors.new ≡ E.failed errors.old → TellsBroken why (E.told errors.old) (E.told errors.new)) }
 {
     match talk(library, alloc, input, out) {
         Ok(()) => 0,
@@ -65,150 +81,80 @@ pub fn serve_from<L: Library, R: Read, W: Out, E: Out>(
     }
 }
 
-fn talk<L: Library, R: Read, W: Out>(
+// A launch that is refused ends a part of the dialogue, and another part follows it.
+fn talk<L: Library, R: In, W: Out>(
     library: &L,
     alloc: Global,
     input: &mut R,
     out: &mut W,
 ) -> Result<(), Broken>
-    requires { W.failed out.old < 2 ^ 64 - 1 }
-    ensures { OnOk result (W.failed out.new ≡ W.failed out.old) }
+    requires read { R.failed input.old < 2 ^ 64 - 1 }
+    requires written { W.failed out.old < 2 ^ 64 - 1 }
+    ensures dialogue { DialogueAs result (R.rest input.old) (R.rest input.new) (W.told out.old) (W.told out.new) }
+    ensures read { CountsFailure (result ≡ Err broken.Read) (R.failed input.old) (R.failed input.new) }
+    ensures written { CountsFailure (result ≡ Err broken.Write) (W.failed out.old) (W.failed out.new) }
 {
-    let mut ear = Ear::new(alloc);
-    let mut outbox = Outbox::new(alloc);
-    let mut waiting = Waiting::new(alloc);
-    'requests: for _ in 0..u64::MAX {
-        let Some(request) = next_request(&mut ear, input, &mut outbox)? else {
-            return send(alloc, &mut outbox, out);
-        };
-        let asked = waiting.receive(library, &request, &mut outbox)?;
-        let flow = match asked {
-            Asked::Answered => Flow::On,
-            Asked::Over => Flow::Over,
-            Asked::Launch(texts) => {
-                match Adapter::open(alloc, &waiting, &texts, &request, &mut outbox)? {
-                    Some(adapter) => debug(alloc, adapter, &mut ear, input, &mut outbox, out)?,
-                    None => Flow::On,
-                }
-            }
-        };
-        send(alloc, &mut outbox, out)?;
-        if matches!(flow, Flow::Over) {
+    let mut talk = Talk::new(alloc);
+    let mut before = Before::new(alloc, library);
+    let mut launches = 0;
+    'launches: while launches < u64::MAX {
+        let over = launch(alloc, &mut talk, &mut before, input, out)?;
+        if over {
             return Ok(());
         }
+        launches += 1;
     }
     Ok(())
 }
 
-// The next request, waited for; none where the input ends where a frame ends.
-fn next_request<R: Read>(
-    ear: &mut Ear,
-    input: &mut R,
-    outbox: &mut Outbox,
-) -> Result<Option<Request>, Broken> {
-    for _ in 0..u64::MAX {
-        match ear.hear(input)? {
-            Heard::Request(request) => return Ok(Some(request)),
-            Heard::Unclear(fault) => tell_unclear(outbox, fault)?,
-            Heard::End => return Ok(None),
-            Heard::Cut => return Err(Broken::Cut),
-            Heard::TooLong => return Err(Broken::TooLong),
-            Heard::Failed => return Err(Broken::Read),
-        }
-    }
-    Err(Broken::Read)
-}
-
-// A launched program is debugged until the client is done.
-fn debug<R: Read, W: Out>(
+// Up to a launch the client is talked to without a program, and after it with that program. Whether the dialogue is over: it is not where the launch is
+// refused.
+fn launch<L: Library, R: In, W: Out>(
     alloc: Global,
-    mut adapter: Adapter<'_>,
-    ear: &mut Ear,
+    talk: &mut Talk,
+    before: &mut Before<L>,
     input: &mut R,
-    outbox: &mut Outbox,
     out: &mut W,
-) -> Result<Flow, Broken>
-    requires { W.failed out.old < 2 ^ 64 - 1 }
-    ensures { OnOk result (W.failed out.new ≡ W.failed out.old) }
+) -> Result<bool, Broken>
+    requires none { waits talk.old.outbox ≡ [] }
+    requires read { R.failed input.old < 2 ^ 64 - 1 }
+    requires written { W.failed out.old < 2 ^ 64 - 1 }
+    ensures part { PartAs result (unheard talk.old.ear (R.rest input.old)) (unheard talk.new.ear (R.rest input.new)) (W.told out.old) (W.told out.new) }
+    ensures none { result ≡ Ok false → waits talk.new.outbox ≡ [] }
+    ensures read { CountsFailure (result ≡ Err broken.Read) (R.failed input.old) (R.failed input.new) }
+    ensures written { CountsFailure (result ≡ Err broken.Write) (W.failed out.old) (W.failed out.new) }
 {
-    'turns: for _ in 0..u64::MAX {
-        send(alloc, outbox, out)?;
-        run_on(alloc, &mut adapter, outbox, out)?;
-        match ear.hear(input)? {
-            Heard::Request(request) => {
-                if matches!(adapter.receive(&request, outbox)?, Flow::Over) {
-                    return Ok(Flow::Over);
+    match talk.with(before, input, out)? {
+        Talked::Done => Ok(true),
+        Talked::Left(request) => match before.texts.take() {
+            None => unreachable!(),
+            Some(texts) => {
+                let opened = opened(alloc, &before.waiting, &texts, &request, &mut talk.outbox)?;
+                send(alloc, &mut talk.outbox, out)?;
+                match opened {
+                    None => Ok(false),
+                    Some(mut adapter) => {
+                        talk.with(&mut adapter, input, out)?;
+                        Ok(true)
+                    }
                 }
             }
-            Heard::Unclear(fault) => tell_unclear(outbox, fault)?,
-            Heard::End => return Ok(Flow::Over),
-            Heard::Cut => return Err(Broken::Cut),
-            Heard::TooLong => return Err(Broken::TooLong),
-            Heard::Failed => return Err(Broken::Read),
-        }
+        },
     }
-    Ok(Flow::Over)
 }
 
-// A run is done to its stop, and what each piece of it tells is sent at once. After so many pieces it pauses, so that the client is heard.
-fn run_on<W: Out>(
+// The program of a launch, with what a dialogue has to know of it.
+fn opened<'s>(
     alloc: Global,
-    adapter: &mut Adapter,
-    outbox: &mut Outbox,
-    out: &mut W,
-) -> Result<(), Broken>
-    requires { W.failed out.old < 2 ^ 64 - 1 }
-    ensures { OnOk result (W.failed out.new ≡ W.failed out.old) }
+    waiting: &Waiting,
+    texts: &'s Texts,
+    request: &Request,
+    out: &mut Outbox,
+) -> Result<Option<Adapter<'s>>, Memory>
+    ensures opened { IfOk result (λ o. IfSome o (λ a. launched_of texts.now ≡ Ok a.session)) }
+    ensures refused { IfOk result (λ o. IfNone o (IsErr (launched_of texts.now))) }
+    ensures rests { IfOk result (λ o. IfSome o (λ a. is_some a.way ≡ false)) }
+    ensures answers { OnOk result (Answers (response_to request.now (outcome_of_launch (launched_of texts.now))) (waits out.old) (waits out.new)) }
 {
-    'pieces: for _ in 0..PIECES {
-        if !adapter.is_running() {
-            return Ok(());
-        }
-        adapter.advance(outbox)?;
-        send(alloc, outbox, out)?;
-    }
-    adapter.rest(outbox)?;
-    send(alloc, outbox, out)
-}
-
-fn tell_unclear(outbox: &mut Outbox, fault: Option<MessageFault>) -> Result<(), Memory> {
-    match fault {
-        None => outbox.output("important", "a header without Content-Length\n"),
-        Some(MessageFault::NotJson) => outbox.output("important", "a message that is not JSON\n"),
-        Some(MessageFault::NotRequest) => {
-            outbox.output("important", "a message that is not a request\n")
-        }
-    }
-}
-
-// Sends all messages that wait, each in a frame.
-fn send<W: Out>(alloc: Global, outbox: &mut Outbox, out: &mut W) -> Result<(), Broken>
-    requires { W.failed out.old < 2 ^ 64 - 1 }
-    ensures { OnOk result (W.failed out.new ≡ W.failed out.old) }
-{
-    send_all(alloc, outbox.messages(), out)?;
-    outbox.clear();
-    Ok(())
-}
-
-fn send_all<W: Out>(alloc: Global, messages: &[Value], out: &mut W) -> Result<(), Broken>
-    requires { W.failed out.old < 2 ^ 64 - 1 }
-    ensures { OnOk result (W.failed out.new ≡ W.failed out.old) }
-{
-    for message in messages {
-        send_one(alloc, message, out)?;
-    }
-    Ok(())
-}
-
-// A message is sent as its text, in a frame.
-fn send_one<W: Out>(alloc: Global, message: &Value, out: &mut W) -> Result<(), Broken>
-    requires { W.failed out.old < 2 ^ 64 - 1 }
-    ensures failed { OnOk result (W.failed out.new ≡ W.failed out.old) }
-    ensures sent { OnOk result (Sends (view message.now) (W.told out.old) (W.told out.new)) }
-{
-    let text = message.to_string(alloc)?;
-    let framed = frame(alloc, text.as_str())?;
-    write_all(out, framed.as_bytes())?;
-    Ok(())
+    Adapter::open(alloc, waiting, texts, request, out)
 }

@@ -2,7 +2,7 @@
 
 ghost use Rattle.std.specs.Prelude.{◌≡◌, ◌<◌, Some, None, IfOk, nat_lt, if◌then◌else◌, string_bytes};
 ghost use Rattle.mix_session.specs.Differences.{held_text};
-ghost use Rattle.mix_dap.specs.Value.{cell_name, word_value, register_value, row_characters};
+ghost use Rattle.mix_dap.specs.Value.{cell_name, word_value, register_value, row_characters, part_value, value_of_part, variable_named, variable_asked, value_asked, worth_text, text_of_worth, expression_asked, worth_asked};
 
 use crate::deed::{Worth, worth_of};
 use crate::scope::{part_of, scope_of};
@@ -77,30 +77,34 @@ pub(crate) fn place_at(number: u16) -> Place
 }
 
 /// The value of the variable that a request names, or nothing if there is none.
-pub(crate) fn value_asked(
-    alloc: Global,
-    world: &World,
-    request: &Request,
-) -> Result<String, Memory> {
-    let name = request.text("name").unwrap_or("");
-    let part = request
-        .number("variablesReference")
-        .and_then(scope_of)
-        .and_then(|scope| part_of(scope, name));
-    match part {
+pub(crate) fn value_asked(alloc: Global, world: &World, request: &Request) -> Result<String, Memory>
+    ensures { IfOk result (λ s. string_bytes s ≡ value_asked world.now request.now) }
+{
+    match variable_asked(request) {
         Some(part) => part_value(alloc, world, part),
         None => Ok(String::new(alloc)),
     }
 }
 
+// The variable that a request names: its scope by a reference, and its name.
+fn variable_asked(request: &Request) -> Option<Part>
+    ensures { result ≡ variable_asked request.now }
+{
+    let scope = request.number("variablesReference").and_then(scope_of)?;
+    part_of(scope, request.text("name").unwrap_or(""))
+}
+
 // What a part of the machine holds, as its variable shows it.
-fn part_value(alloc: Global, world: &World, part: Part) -> Result<String, Memory> {
+fn part_value(alloc: Global, world: &World, part: Part) -> Result<String, Memory>
+    ensures { IfOk result (λ s. string_bytes s ≡ part_value world.now part) }
+{
     match part {
         Part::Register(register) => register_value(alloc, world, register),
         Part::Over => held(alloc, world, Altered::Over),
         Part::Cmp => held(alloc, world, Altered::Cmp),
+        Part::Loc => held(alloc, world, Altered::Loc),
+        Part::Clock => held(alloc, world, Altered::Clock),
         Part::Cell(place) => word_value(alloc, world.cell(place)),
-        Part::Loc | Part::Clock => held(alloc, world, Altered::Loc),
         Part::Unit(_) => Ok(String::new(alloc)),
     }
 }
@@ -110,16 +114,26 @@ pub(crate) fn worth_asked(
     alloc: Global,
     session: &Session,
     request: &Request,
-) -> Result<String, Memory> {
-    match worth_of(session, request.text("expression").unwrap_or("")) {
+) -> Result<String, Memory>
+    ensures { IfOk result (λ s. string_bytes s ≡ worth_asked session.now request.now) }
+{
+    match expression_asked(session, request) {
         Some(worth) => worth_text(alloc, session.world(), &worth),
         None => Ok(String::new(alloc)),
     }
 }
 
-fn worth_text(alloc: Global, world: &World, worth: &Worth) -> Result<String, Memory> {
+fn expression_asked(session: &Session, request: &Request) -> Option<Worth>
+    ensures { result ≡ expression_asked session.now request.now }
+{
+    worth_of(session, request.text("expression")?)
+}
+
+fn worth_text(alloc: Global, world: &World, worth: &Worth) -> Result<String, Memory>
+    ensures { IfOk result (λ s. string_bytes s ≡ worth_text world.now worth.now) }
+{
     match worth {
         Worth::Word(word) => word_value(alloc, *word),
-        Worth::Register(register) => register_value(alloc, world, *register),
+        Worth::Held(part) => part_value(alloc, world, *part),
     }
 }

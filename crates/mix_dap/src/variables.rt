@@ -21,8 +21,8 @@ use mix_session::Altered;
 use pages::{PageCells, Pages};
 use serde_json::Value;
 use std::alloc::Global;
-pub(crate) use units::row_text;
 use units::{Units, entries};
+pub(crate) use units::{row_text, unit_at};
 
 /// The variables of a scope, from `start` on and at most `count` where these are given.
 pub(crate) fn variables(

@@ -1,17 +1,20 @@
 //! Before a program is launched.
 
 ghost use Rattle.std.specs.Prelude.{◌≡◌, IfOk, OnOk};
-ghost use Rattle.dap_message.specs.Message.{waits, Adds};
+ghost use Rattle.dap_message.specs.Message.{waits};
 ghost use Rattle.dap_message.specs.Request.{command_of};
 ghost use Rattle.dap_message.specs.Told.{response_to, Answers};
-ghost use Rattle.mix_dap.specs.Before.{Asks, LaunchTells};
+ghost use Rattle.mix_dap.specs.Before.{Asks, LaunchTells, LaunchShows, AskedShows, client_after};
+ghost use Rattle.mix_dap.specs.Capabilities.{unknown_client};
 ghost use Rattle.mix_dap.specs.Check.{checked};
-ghost use Rattle.mix_dap.specs.Told.{outcome_for, answer_message, CommandShows};
+ghost use Rattle.mix_dap.specs.Replies.{Replies, answer_message};
+ghost use Rattle.mix_dap.specs.Told.{outcome_for};
 
 use crate::capabilities::{Client, capabilities};
 use crate::fault::{Fault, refuse};
 use crate::kind::Kind;
 use crate::launch::{Library, Texts, texts_of};
+use crate::list::nothing;
 use crate::view::tell_check;
 use dap_message::{Outbox, Request};
 use mix_refused::{Memory, Refused};
@@ -38,7 +41,9 @@ pub enum Asked {
 
 impl Waiting {
     /// An adapter that has had no request yet.
-    pub fn new(alloc: Global) -> Waiting {
+    pub fn new(alloc: Global) -> Waiting
+        ensures { result.client ≡ unknown_client }
+    {
         Waiting {
             alloc,
             client: Client::unknown(),
@@ -46,7 +51,7 @@ impl Waiting {
     }
 
     /// Answers a request, but for one to launch a program, whose texts are read.
-    #[tactic(auto, using(dap_message::proofs::Telling::telling))]
+    #[tactic(auto, using(dap_message::proofs::Telling::telling, crate::proofs::RepliesLemmas::replying))]
     pub fn receive<L: Library>(
         &mut self,
         library: &L,
@@ -54,7 +59,8 @@ impl Waiting {
         out: &mut Outbox,
     ) -> Result<Asked, Memory>
         ensures asks { IfOk result (λ asked. Asks asked (command_of request.now) request.now (waits out.old) (waits out.new)) }
-        ensures shows { OnOk result (CommandShows (command_of request.now) request.now out.old out.new) }
+        ensures client { OnOk result (self.new.client ≡ client_after (command_of request.now) request.now self.old.client) }
+        ensures shows { IfOk result (λ asked. AskedShows (L.knows library.now) (command_of request.now) asked request.now out.old out.new) }
     {
         let Some(command) = request.command() else {
             refuse(self.alloc, request, Fault::NoSuchRequest, out)?;
@@ -72,16 +78,16 @@ impl Waiting {
                 Ok(Asked::Answered)
             }
             Kind::Disconnect => {
-                out.reply(request, Value::Null)?;
+                out.reply(request, nothing())?;
                 Ok(Asked::Over)
             }
             Kind::Terminate => {
-                out.reply(request, Value::Null)?;
-                out.event("terminated", Value::Null)?;
+                out.reply(request, nothing())?;
+                out.event("terminated", nothing())?;
                 Ok(Asked::Answered)
             }
-            Kind::Look
-            | Kind::Points
+            Kind::Look(_)
+            | Kind::Points(_)
             | Kind::Pause
             | Kind::Restart
             | Kind::Cancel
@@ -93,13 +99,15 @@ impl Waiting {
         }
     }
 
+    #[tactic(auto, using(crate::proofs::RepliesLemmas::replying))]
     fn launch<L: Library>(
         &self,
         library: &L,
         request: &Request,
         out: &mut Outbox,
     ) -> Result<Asked, Memory>
-        ensures { IfOk result (λ asked. LaunchTells asked request.now (waits out.old) (waits out.new)) }
+        ensures asks { IfOk result (λ asked. LaunchTells asked request.now (waits out.old) (waits out.new)) }
+        ensures shows { IfOk result (λ asked. LaunchShows (L.knows library.now) asked request.now out.old out.new) }
     {
         match texts_of(self.alloc, library, request) {
             Ok(texts) => Ok(Asked::Launch(texts)),
@@ -111,8 +119,9 @@ impl Waiting {
         }
     }
 
+    #[tactic(auto, using(crate::proofs::RepliesLemmas::replying))]
     fn check(&self, request: &Request, out: &mut Outbox) -> Result<(), Memory>
-        ensures told { OnOk result (Adds out.old out.new (answer_message request.now (checked request.now))) }
+        ensures told { OnOk result (Replies (answer_message request.now (checked request.now)) out.old out.new) }
         ensures answers { OnOk result (Answers (response_to request.now (outcome_for (checked request.now))) (waits out.old) (waits out.new)) }
     {
         match tell_check(self.alloc, request, out) {
@@ -122,7 +131,9 @@ impl Waiting {
         }
     }
 
-    pub(crate) fn client(&self) -> Client {
+    pub(crate) fn client(&self) -> Client
+        ensures { result ≡ self.now.client }
+    {
         self.client
     }
 }

@@ -1,6 +1,12 @@
 //! What data breakpoints watch.
 
+ghost use Rattle.std.specs.Prelude.{◌≡◌, IfOk, string_bytes};
+ghost use Rattle.serde_json.specs.View.{view};
+ghost use Rattle.mix_dap.specs.List.{Shows};
+ghost use Rattle.mix_dap.specs.Watch.{part_named, unless_time, watched, watch_name, watch_shown, unwatched, watch_of, watch_asked};
+
 use crate::fault::Fault;
+use crate::list::add;
 use crate::scope::{Scope, part_of, scope_of};
 use dap_message::{Fields, Request};
 use mix_machine::Part;
@@ -10,7 +16,9 @@ use serde_json::Value;
 use std::alloc::Global;
 
 /// The part of the machine that a name stands for, as after `until` in a command.
-pub(crate) fn part_named(session: &Session, name: &str) -> Option<Part> {
+pub(crate) fn part_named(session: &Session, name: &str) -> Option<Part>
+    ensures { result ≡ part_named session.now name.now }
+{
     match session.condition(name.as_bytes()) {
         Ok(Condition::Alters(part)) => Some(part),
         Ok(Condition::At(_)) | Err(_) => None,
@@ -22,32 +30,56 @@ pub(crate) fn data_breakpoint_info(
     alloc: Global,
     session: &Session,
     request: &Request,
-) -> Result<Value, Refused<Fault>> {
+) -> Result<Value, Refused<Fault>>
+    ensures { Shows (watch_asked session.now request.now) result }
+{
     let Some(name) = request.text("name") else {
         return Err(Refused::Fault(Fault::BadArgument));
     };
     let scope = request.number("variablesReference").and_then(scope_of);
-    let mut body = Fields::new(alloc);
+    Ok(watch_of(alloc, session, scope, name)?)
+}
+
+fn watch_of(
+    alloc: Global,
+    session: &Session,
+    scope: Option<Scope>,
+    name: &str,
+) -> Result<Value, Memory>
+    ensures { IfOk result (λ v. view v ≡ watch_of session.now scope name.now) }
+{
     match watched(session, scope, name) {
-        Some(_) => {
-            let id = watch_name(alloc, scope, name)?;
-            body.text("dataId", id.as_str())?;
-            body.text("description", id.as_str())?;
-            let mut types = Vec::new(alloc);
-            types.push(Value::try_from_str(alloc, "write")?)?;
-            body.list("accessTypes", types)?;
-            body.flag("canPersist", true)?;
-        }
-        None => {
-            body.put("dataId", Value::Null)?;
-            body.text("description", "no part of the machine")?;
-        }
+        Some(_) => watch_shown(alloc, watch_name(alloc, scope, name)?.as_str()),
+        None => unwatched(alloc),
     }
+}
+
+fn watch_shown(alloc: Global, id: &str) -> Result<Value, Memory>
+    ensures { IfOk result (λ v. view v ≡ watch_shown id.now) }
+{
+    let mut types = Vec::new(alloc);
+    add(&mut types, Value::try_from_str(alloc, "write")?)?;
+    let mut body = Fields::new(alloc);
+    body.text("dataId", id)?;
+    body.text("description", id)?;
+    body.list("accessTypes", types)?;
+    body.flag("canPersist", true)?;
+    Ok(body.done())
+}
+
+fn unwatched(alloc: Global) -> Result<Value, Memory>
+    ensures { IfOk result (λ v. view v ≡ unwatched) }
+{
+    let mut body = Fields::new(alloc);
+    body.put("dataId", Value::Null)?;
+    body.text("description", "no part of the machine")?;
     Ok(body.done())
 }
 
 // The part that is watched: a variable of a scope, or without one what the name stands for.
-fn watched(session: &Session, scope: Option<Scope>, name: &str) -> Option<Part> {
+fn watched(session: &Session, scope: Option<Scope>, name: &str) -> Option<Part>
+    ensures { result ≡ watched session.now scope name.now }
+{
     match scope {
         Some(scope) => unless_time(part_of(scope, name)?),
         None => part_named(session, name),
@@ -55,7 +87,9 @@ fn watched(session: &Session, scope: Option<Scope>, name: &str) -> Option<Part> 
 }
 
 // Each step alters the location and the clock, so these are not watched.
-fn unless_time(part: Part) -> Option<Part> {
+fn unless_time(part: Part) -> Option<Part>
+    ensures { result ≡ unless_time part }
+{
     match part {
         Part::Loc | Part::Clock => None,
         Part::Register(_) | Part::Over | Part::Cmp | Part::Cell(_) | Part::Unit(_) => Some(part),
@@ -63,7 +97,9 @@ fn unless_time(part: Part) -> Option<Part> {
 }
 
 // The name of what is watched, as after `until` in a command.
-fn watch_name(alloc: Global, scope: Option<Scope>, name: &str) -> Result<String, Memory> {
+fn watch_name(alloc: Global, scope: Option<Scope>, name: &str) -> Result<String, Memory>
+    ensures { IfOk result (λ s. string_bytes s ≡ watch_name scope name.now) }
+{
     let id = match scope {
         Some(Scope::Page(_)) => format!(in alloc; "cell {name}")?,
         Some(Scope::Units) => format!(in alloc; "unit {name}")?,

@@ -1,13 +1,15 @@
 -- The sources of a check: one file more, up to the last or the first that can't be opened.
-use Rattle.std.proofs.Common.{◌≡◌, ℕ, ◌-◌, ◌≤◌, Bool, false, List, [], ◌∷◌, ◌++◌, length, take, drop, map, get_or, arith, Option, None, Some, Result, Ok, refl, sym, ap, ◌∙◌, subst, append_assoc}
+use Rattle.std.proofs.Common.{◌≡◌, ◌≢◌, ℕ, ◌-◌, ◌≤◌, Bool, true, false, List, [], ◌∷◌, ◌++◌, length, take, drop, map, get_or, arith, Option, None, Some, Result, Ok, refl, sym, ap, ◌∙◌, subst, append_assoc}
 use Rattle.std.proofs.lemmas.List.{map-append, append-nil, take_all}
+use Rattle.mix_cli.specs.declared.words.Plan.{Plan}
+use Rattle.mix_cli.specs.declared.words.Plan.TheVariants as plan
 use Rattle.mix_run.specs.Check.{Named, Reported}
 use Rattle.mix_run.specs.declared.check.Reports.{Reports}
 use Rattle.mix_run.specs.declared.fault.ToolFault.{ToolFault}
 use Rattle.mix_tool.specs.Ending.{Seen}
-use Rattle.mix_tool.specs.Opening.{Asks, Files, Missing, Opens, asked_of, missing_of, opened_text}
-use Rattle.mix_tool.specs.Plan.{DoneAfter, named_of}
-use Rattle.mix_tool.proofs.OpeningLemmas.{opens-end, opens-then}
+use Rattle.mix_tool.specs.Opening.{Asks, Files, Missing, Opens, asked_of, missing_of, named, opened_text}
+use Rattle.mix_tool.specs.Plan.{DoneAfter, FileNames, hears_client, in_order, named_of, names_of}
+use Rattle.mix_tool.proofs.OpeningLemmas.{named-later, opens-end, opens-then}
 
 -- some of the names are left; those before them were opened, and their sources reported
 abbrev pub SoFar : Files → Bool → List (List ℕ) → List (List ℕ) → Option (List (List ℕ)) → Option (List (List ℕ)) → Result Reports ToolFault → Type 0
@@ -75,3 +77,18 @@ plan-missing all found names sources a b missing same first =
 pub done-as : (there found : Option Missing) (Run : Type 0) (status : ℕ) (before after : Seen) → there ≡ found → DoneAfter found Run status before after
     → DoneAfter there Run status before after
 done-as there found Run status before after same done = subst (λ (m : Option Missing). DoneAfter m Run status before after) (sym same) done
+
+-- a plan that hears a client names no file
+pub client-unnamed : (p : Plan) → hears_client p ≡ true → in_order (names_of p) ≡ []
+client-unnamed plan.Bundle hears = refl
+client-unnamed (plan.List source) hears = absurd cc
+client-unnamed (plan.Check sources json) hears = refl
+client-unnamed (plan.Debug source script devices echo) hears = absurd cc
+client-unnamed (plan.Run source cards devices steps printing) hears = absurd cc
+client-unnamed plan.Dap hears = refl
+
+-- a plan with a script names a file
+pub script-named : (names : FileNames) → named names.script ≢ [] → in_order names ≢ []
+script-named names some =
+    named-later (named names.source) (named names.deck ++ (named names.cards ++ named names.script))
+    (named-later (named names.deck) (named names.cards ++ named names.script) (named-later (named names.cards) (named names.script) some))

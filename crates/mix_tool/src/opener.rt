@@ -72,6 +72,9 @@ impl<F: Files> Opener for SystemFiles<'_, F> {
 }
 
 impl<F: Files> Library for SystemFiles<'_, F> {
+    // What a file holds is known only when it is read.
+    ghost knows = { λ _ _. None };
+
     fn text(&self, alloc: Global, name: &str, most: usize) -> Result<Vec<u8>, Refused<Fault>> {
         FileLibrary::of(self.files).text(alloc, name, most)
     }

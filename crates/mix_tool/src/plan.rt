@@ -1,6 +1,10 @@
 //! A plan is done: its files are opened, and the run is made on their texts.
 
-ghost use Rattle.std.specs.Prelude.{◌≡◌, ◌≢◌, ◌<◌, ◌≤◌, ◌-◌, ◌^◌, Some, true, false};
+ghost use Rattle.std.specs.Prelude.{◌≡◌, ◌≢◌, ◌<◌, ◌≤◌, ◌-◌, ◌^◌, Ok, Err, Some, true, false};
+ghost use Rattle.dap_stream.specs.declared.broken.Broken.{Broken};
+ghost use Rattle.dap_stream.specs.declared.broken.Broken.TheVariants as broken;
+ghost use Rattle.mix_dap.specs.Dialogue.{DialogueAs, TellsBroken};
+ghost use Rattle.mix_stream.specs.Stream.{CountsFailure};
 ghost use Rattle.mix_tool.specs.Opening.{Asks, Files, asked_of, missing_of};
 ghost use Rattle.mix_tool.specs.Plan.{AreFresh, DebugsOn, Given, HoldTexts, DoneAfter, IsDone, RunsOn, files_of, given_of, hears_client, in_order, is_quiet, is_talk, names_in, names_of, options_of, reads_input, seen, sources_of};
 
@@ -15,7 +19,6 @@ use mix_run::{
 };
 use mix_stream::{In, Out};
 use std::alloc::Global;
-use std::io::Read;
 
 // The names of the files of a plan.
 fn names_in(plan: &Plan) -> Names<'_>
@@ -128,7 +131,7 @@ fn debug_on<F: In + Drop, R: In, W: Out, E: Out>(
 }
 
 // The run of a plan on its texts; a check opens its sources, and a client of the debug adapter finds others in a library.
-fn run_on<O: Opener + Library, C: Read, R: In, W: Out, E: Out>(
+fn run_on<O: Opener + Library, C: In, R: In, W: Out, E: Out>(
     files: &mut O,
     alloc: Global,
     plan: &Plan,
@@ -137,6 +140,7 @@ fn run_on<O: Opener + Library, C: Read, R: In, W: Out, E: Out>(
     streams: &mut Streams<R, W, E>,
 ) -> u8
     requires fresh { AreFresh O.Reader.failed texts }
+    requires client_count { C.failed client.old < 2 ^ 64 - 1 }
     requires input_count { R.failed streams.old.input < 2 ^ 64 - 1 }
     requires out_count { W.failed streams.old.out < 2 ^ 64 - 1 }
     requires errors_count { E.failed streams.old.errors < 2 ^ 64 - 1 }
@@ -147,6 +151,14 @@ fn run_on<O: Opener + Library, C: Read, R: In, W: Out, E: Out>(
         result (seen R.rest W.told E.told E.failed streams.old) (seen R.rest W.told E.told E.failed streams.new) }
     ensures input { reads_input plan.now ≡ false → streams.new.input ≡ streams.old.input }
     ensures client { hears_client plan.now ≡ false → client.new ≡ client.old }
+    ensures served { hears_client plan.now ≡ true → result ≢ 2
+        → (result ≡ 0) × DialogueAs (Ok tt) (C.rest client.old) (C.rest client.new) (W.told streams.old.out) (W.told streams.new.out)
+        × (C.failed client.new ≡ C.failed client.old) }
+    ensures broken { hears_client plan.now ≡ true → result ≡ 2
+        → (why : Broken) × DialogueAs (Err why) (C.rest client.old) (C.rest client.new) (W.told streams.old.out) (W.told streams.new.out)
+        × CountsFailure (why ≡ broken.Read) (C.failed client.old) (C.failed client.new)
+        × CountsFailure (why ≡ broken.Write) (W.failed streams.old.out) (W.failed streams.new.out)
+        × (E.failed streams.new.errors ≡ E.failed streams.old.errors → TellsBroken why (E.told streams.old.errors) (E.told streams.new.errors)) }
     ensures range { result ≤ 3 }
     ensures written { result ≢ 2 → W.failed streams.new.out ≡ W.failed streams.old.out }
     ensures quiet { is_quiet plan.now ≡ true → result ≢ 2 → streams.new.errors ≡ streams.old.errors }
@@ -196,13 +208,14 @@ fn run_on<O: Opener + Library, C: Read, R: In, W: Out, E: Out>(
 /// `mixrev: T2 read failed`, or for the first file that cannot be opened `mixrev: T4 not opened: NAME: REASON`. A write there that
 /// fails changes no status. Of a talk the prompts and the help stand there too, of a run where it came to if not to a halt, and of both a refused source
 /// with its line and a mark.
-pub fn run_plan<O: Opener + Library, C: Read, R: In, W: Out, E: Out>(
+pub fn run_plan<O: Opener + Library, C: In, R: In, W: Out, E: Out>(
     files: &mut O,
     alloc: Global,
     plan: &Plan,
     client: &mut C,
     streams: &mut Streams<R, W, E>,
 ) -> u8
+    requires client_count { C.failed client.old < 2 ^ 64 - 1 }
     requires input_count { R.failed streams.old.input < 2 ^ 64 - 1 }
     requires out_count { W.failed streams.old.out < 2 ^ 64 - 1 }
     requires errors_count { E.failed streams.old.errors < 2 ^ 64 - 1 }
@@ -221,6 +234,16 @@ pub fn run_plan<O: Opener + Library, C: Read, R: In, W: Out, E: Out>(
 
     // A client is heard by the debug adapter alone.
     ensures client { hears_client plan.now ≡ false → client.new ≡ client.old }
+
+    // It is served to the end of a dialogue, status 0; or status 2, and a line tells what broke the dialogue off.
+    ensures served { hears_client plan.now ≡ true → result ≢ 2
+        → (result ≡ 0) × DialogueAs (Ok tt) (C.rest client.old) (C.rest client.new) (W.told streams.old.out) (W.told streams.new.out)
+        × (C.failed client.new ≡ C.failed client.old) }
+    ensures broken { hears_client plan.now ≡ true → result ≡ 2
+        → (why : Broken) × DialogueAs (Err why) (C.rest client.old) (C.rest client.new) (W.told streams.old.out) (W.told streams.new.out)
+        × CountsFailure (why ≡ broken.Read) (C.failed client.old) (C.failed client.new)
+        × CountsFailure (why ≡ broken.Write) (W.failed streams.old.out) (W.failed streams.new.out)
+        × (E.failed streams.new.errors ≡ E.failed streams.old.errors → TellsBroken why (E.told streams.old.errors) (E.told streams.new.errors)) }
 
     // A run that ends well wrote all that it had to, and where nothing is told beside, nothing on the error output.
     ensures range { result ≤ 3 }

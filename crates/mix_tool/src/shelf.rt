@@ -1,6 +1,6 @@
 //! Files in memory, for tests: of each name its text, and a note of the names that were asked for.
 
-ghost use Rattle.std.specs.Prelude.{◌≡◌, ◌++◌, ◌∷◌, [], OnOk, option_map, string_bytes, map};
+ghost use Rattle.std.specs.Prelude.{◌≡◌, ◌++◌, ◌∷◌, [], None, OnOk, option_map, string_bytes, map};
 ghost use Rattle.mix_tool.specs.Opening.{Asks};
 ghost use Rattle.mix_tool.specs.Shelf.{text_in};
 
@@ -68,6 +68,9 @@ impl<'a> Opener for Shelf<'a> {
 }
 
 impl Library for Shelf<'_> {
+    // A launch of a test is not said to know what these hold.
+    ghost knows = { λ _ _. None };
+
     fn text(&self, alloc: Global, name: &str, most: usize) -> Result<Vec<u8>, Refused<Fault>> {
         match text_in(self.files, name) {
             Some(text) => Ok(Vec::from_slice(alloc, &text[..most.min(text.len())])?),

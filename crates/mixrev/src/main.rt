@@ -35,7 +35,7 @@ fn run(rt: &HostRuntime, words: &[String]) -> ExitCode {
     match read_words(rt.alloc(), &texts, at_terminal(rt)) {
         Ok(plan) => {
             let mut files = SystemFiles::of(rt);
-            let mut client = rt.stdin();
+            let mut client = Counted::of(rt.stdin());
             let mut streams = Streams {
                 talker: talker(rt),
                 input: Counted::of(rt.reader()),

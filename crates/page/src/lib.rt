@@ -28,7 +28,7 @@ pub extern "C" fn talk(
     ensures kept { result ≡ 3 → out.new ≡ out.old }
     ensures quiet { result ≡ 0 → told.new ≡ 0 }
 {
-    let mut client = input;
+    let mut client = Counted::of(input);
     let mut sent = Counted::of(Vec::new(alloc));
     let mut errors = Counted::of(Vec::new(alloc));
     let status = serve_from(&NoLibrary, alloc, &mut client, &mut sent, &mut errors);

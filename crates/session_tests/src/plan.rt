@@ -1,6 +1,7 @@
 //! A kind of rows: a plan on files in memory. A row ends with its status, what it wrote, what it told on the error output, and the names of the
 //! files that it asked for, in their order.
 use crate::reader::{bytes, number};
+use mix_stream::Counted;
 use mix_stream::fake::{Chunks, Sink};
 use mix_tool::shelf::{Shelf, Shelved};
 use mix_tool::{Plan, Printing, Streams, Talker, run_plan};
@@ -46,7 +47,7 @@ fn done(alloc: Global, plan: &Plan, shelf: &mut Shelf<'_>, input: &[u8]) -> Opti
         out: Sink::of(ALL, 0),
         errors: Sink::of(ALL, 0),
     };
-    let mut client = io::empty();
+    let mut client = Counted::of(io::empty());
     let status = run_plan(shelf, alloc, plan, &mut client, &mut streams);
     let out = String::from_utf8_lossy(alloc, streams.out.bytes()).ok()?;
     let errors = String::from_utf8_lossy(alloc, streams.errors.bytes()).ok()?;

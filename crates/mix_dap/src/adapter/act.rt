@@ -1,16 +1,20 @@
 //! What moves the machine or changes it: it is read into values, done by the session, and told.
 
-ghost use Rattle.std.specs.Prelude.{◌≡◌, IfOk, IfErr, OnOk};
+ghost use Rattle.std.specs.Prelude.{◌≡◌, Ok, IfOk, IfErr, OnOk};
 ghost use Rattle.mix_refused.specs.Refused.{IfFault};
 ghost use Rattle.mix_session.specs.Command.{after, effect_of, effect_of_run, Begun};
 ghost use Rattle.mix_session.specs.Stops.{no_stops};
 ghost use Rattle.mix_session.specs.declared.command.stops.Way.TheVariants as ways;
 ghost use Rattle.mix_session.specs.declared.request.Request.TheVariants.{BackAll};
+ghost use Rattle.serde_json.specs.Data.{null};
 ghost use Rattle.dap_message.specs.Message.{waits};
 ghost use Rattle.dap_message.specs.Told.{response_to, done, Answers};
+ghost use Rattle.mix_dap.specs.Answer.{act_body, continued, done_body, deed_body};
 ghost use Rattle.mix_dap.specs.Deed.{deed_of, effect_of_deed};
 ghost use Rattle.mix_dap.specs.Leaves.{Does, Leaves, unless_refused};
-ghost use Rattle.mix_dap.specs.Written.{SetsCells};
+ghost use Rattle.mix_dap.specs.Replies.{Replies, Tells, answer_message};
+ghost use Rattle.mix_dap.specs.Stays.{Keeps, ActTells, BeginTells, DeedTells, way_begun, way_of_act, word_at};
+ghost use Rattle.mix_dap.specs.Written.{Writes, write_asked, write_shown};
 
 use crate::adapter::Adapter;
 use crate::deed::{Deed, deed_of};
@@ -29,11 +33,16 @@ impl Adapter<'_> {
         request: &Request,
         out: &mut Outbox,
     ) -> Result<(), Refused<Fault>>
+        requires rests { self.old.way ≡ None }
+        ensures keeps { Keeps self.old self.new }
         ensures program { self.new.session.program ≡ self.old.session.program }
         ensures first { self.new.session.timeline.first ≡ self.old.session.timeline.first }
         ensures leaves { Leaves (deed_of act request.now self.old.session) self.old.session.timeline self.new.session.timeline result }
         ensures answers { OnOk result (Answers (response_to request.now done) (waits out.old) (waits out.new)) }
-        ensures untold { IfFault result (λ _. out.new ≡ out.old) }
+        ensures shows { Tells (deed_body act (deed_of act request.now self.old.session) request.now self.old.session) request.now out.old out.new result }
+        ensures way { OnOk result (self.new.way ≡ way_of_act act self.old.stops self.new.session.timeline) }
+        ensures waits { IfFault result (λ _. self.new.way ≡ self.old.way) }
+        ensures tells { OnOk result (DeedTells act (deed_of act request.now self.old.session) self.old self.new.session.timeline (waits out.new)) }
     {
         match deed_of(act, request, &self.session) {
             Ok(deed) => self.act_on(act, deed, request, out),
@@ -48,11 +57,16 @@ impl Adapter<'_> {
         request: &Request,
         out: &mut Outbox,
     ) -> Result<(), Refused<Fault>>
+        requires rests { self.old.way ≡ None }
+        ensures keeps { Keeps self.old self.new }
         ensures program { self.new.session.program ≡ self.old.session.program }
         ensures first { self.new.session.timeline.first ≡ self.old.session.timeline.first }
         ensures does { Does (effect_of_deed deed self.old.session.timeline) self.old.session.timeline self.new.session.timeline result }
         ensures answers { OnOk result (Answers (response_to request.now done) (waits out.old) (waits out.new)) }
-        ensures untold { IfFault result (λ _. out.new ≡ out.old) }
+        ensures shows { Tells (done_body act (effect_of_deed deed self.old.session.timeline) request.now self.old.session) request.now out.old out.new result }
+        ensures way { OnOk result (self.new.way ≡ way_of_act act self.old.stops self.new.session.timeline) }
+        ensures waits { IfFault result (λ _. self.new.way ≡ self.old.way) }
+        ensures tells { OnOk result (ActTells act (effect_of_deed deed self.old.session.timeline).answer (word_at self.old.points self.new.session.timeline) self.old.stops (waits out.new)) }
     {
         match self.done(deed) {
             Ok(answer) => Ok(self.tell(act, answer, request, out)?),
@@ -62,9 +76,11 @@ impl Adapter<'_> {
 
     // What is asked of the machine is done by the session: its answer, unless that is a refusal.
     fn done(&mut self, deed: Deed) -> Result<Answer, Refused<Fault>>
+        ensures keeps { Keeps self.old self.new }
         ensures program { self.new.session.program ≡ self.old.session.program }
         ensures first { self.new.session.timeline.first ≡ self.old.session.timeline.first }
         ensures does { Does (effect_of_deed deed self.old.session.timeline) self.old.session.timeline self.new.session.timeline result }
+        ensures way { self.new.way ≡ self.old.way }
         ensures answer { IfOk result (λ answer. answer ≡ (effect_of_deed deed self.old.session.timeline).answer) }
     {
         match deed {
@@ -77,9 +93,11 @@ impl Adapter<'_> {
     // A step, which is done again where it stands ahead.
     #[tactic(auto, unfolding(mix_session::specs::Command::effect_of_run))]
     fn stepped(&mut self) -> Result<Answer, Refused<Fault>>
+        ensures keeps { Keeps self.old self.new }
         ensures program { self.new.session.program ≡ self.old.session.program }
         ensures first { self.new.session.timeline.first ≡ self.old.session.timeline.first }
         ensures does { Does (effect_of_run ways.Again no_stops self.old.session.timeline 1) self.old.session.timeline self.new.session.timeline result }
+        ensures way { self.new.way ≡ self.old.way }
         ensures answer { IfOk result (λ answer. answer ≡ (effect_of_run ways.Again no_stops self.old.session.timeline 1).answer) }
     {
         let stops = Stops {
@@ -95,9 +113,11 @@ impl Adapter<'_> {
     }
 
     fn executed(&mut self, request: mix_session::Request) -> Result<Answer, Refused<Fault>>
+        ensures keeps { Keeps self.old self.new }
         ensures program { self.new.session.program ≡ self.old.session.program }
         ensures first { self.new.session.timeline.first ≡ self.old.session.timeline.first }
         ensures does { Does (effect_of self.old.session.timeline request) self.old.session.timeline self.new.session.timeline result }
+        ensures way { self.new.way ≡ self.old.way }
         ensures answer { IfOk result (λ answer. answer ≡ (effect_of self.old.session.timeline request).answer) }
     {
         match self.session.execute(request) {
@@ -108,11 +128,15 @@ impl Adapter<'_> {
 
     // The program is at its beginning again, with all changes taken back.
     pub(crate) fn restart(&mut self, request: &Request, out: &mut Outbox) -> Result<(), Memory>
+        ensures keeps { Keeps self.old self.new }
         ensures program { self.new.session.program ≡ self.old.session.program }
         ensures first { self.new.session.timeline.first ≡ self.old.session.timeline.first }
         ensures done { IfOk result (λ _. self.new.session.timeline ≡ after (effect_of self.old.session.timeline BackAll)) }
         ensures begun { IfErr result (λ _. Begun (effect_of self.old.session.timeline BackAll) self.new.session.timeline) }
         ensures answers { OnOk result (Answers (response_to request.now done) (waits out.old) (waits out.new)) }
+        ensures shows { OnOk result (Replies (answer_message request.now (Ok null)) out.old out.new) }
+        ensures way { OnOk result (self.new.way ≡ way_begun self.old.stops) }
+        ensures tells { OnOk result (BeginTells self.old.stops (waits out.new)) }
     {
         self.way = None;
         self.fault = None;
@@ -123,18 +147,19 @@ impl Adapter<'_> {
     }
 
     // Bytes are written into the memory.
-    #[tactic(auto, using(dap_message::proofs::Telling::telling))]
+    #[tactic(auto, using(dap_message::proofs::Telling::telling, crate::proofs::RepliesLemmas::replying, crate::proofs::RepliesLemmas::writing, crate::proofs::WrittenLemmas::some_written))]
     pub(crate) fn write(
         &mut self,
         request: &Request,
         out: &mut Outbox,
     ) -> Result<(), Refused<Fault>>
+        ensures keeps { Keeps self.old self.new }
         ensures program { self.new.session.program ≡ self.old.session.program }
         ensures first { self.new.session.timeline.first ≡ self.old.session.timeline.first }
-        ensures sets { SetsCells self.old.session.timeline self.new.session.timeline }
-        ensures refused { IfFault result (λ _. self.new.session.timeline ≡ self.old.session.timeline) }
+        ensures writes { Writes (write_asked self.old.session request.now) self.old.session.timeline self.new.session.timeline result }
         ensures answers { OnOk result (Answers (response_to request.now done) (waits out.old) (waits out.new)) }
-        ensures untold { IfFault result (λ _. out.new ≡ out.old) }
+        ensures shows { Tells (write_shown self.old.session request.now) request.now out.old out.new result }
+        ensures way { self.new.way ≡ self.old.way }
     {
         let count = write_memory(self.alloc, &mut self.session, request)?;
         let mut body = Fields::new(self.alloc);

@@ -1,18 +1,25 @@
 //! Runs, piece by piece, and what is told of the machine when it stops or is altered.
-#![tactic(auto, using(dap_message::proofs::Telling::telling))]
+#![tactic(auto, using(dap_message::proofs::Telling::telling, crate::proofs::RepliesLemmas::replying))]
 
-ghost use Rattle.std.specs.Prelude.{◌≡◌, IfErr, IfOk, OnOk, false, is_some};
+ghost use Rattle.std.specs.Prelude.{◌≡◌, Ok, IfErr, IfOk, OnOk, None, Some, false, is_some, codes, string_bytes};
+ghost use Rattle.std.specs.Option.{option_map};
+ghost use Rattle.serde_json.specs.Data.{null};
 ghost use Rattle.dap_message.specs.Message.{waits};
 ghost use Rattle.dap_message.specs.Told.{response_to, done, Events, Answers};
 ghost use Rattle.mix_session.specs.Command.{after, Begun};
-ghost use Rattle.mix_dap.specs.Runs.{Advances, effect_of_piece, goes_on, is_limit};
+ghost use Rattle.mix_session.specs.declared.answer.Answer.TheVariants.{Ran};
+ghost use Rattle.mix_dap.specs.Replies.{EndsWith, Replies, answer_message};
+ghost use Rattle.mix_dap.specs.Runs.{Advances, effect_of_piece};
+ghost use Rattle.mix_dap.specs.Stays.{Keeps, AdvanceTells, BeginTells, RestTells, way_begun, word_at};
+ghost use Rattle.mix_dap.specs.Stopped.{reason_of, text_of, terminated_message, fault_at, only, out_of_memory, stopped_message, why_of};
 
+use crate::adapter::ends::{fault_at, is_limit, put_text, text_of};
 use crate::adapter::{Adapter, Way};
-use crate::fault::Fault;
+use crate::list::nothing;
 use crate::look::THREAD;
 use crate::points::Points;
-use dap_message::{Command, Fields, Outbox, Request};
-use mix_refused::{Memory, Refused};
+use dap_message::{Fields, Outbox, Request};
+use mix_refused::Memory;
 use mix_session::{End, Session};
 use serde_json::Value;
 
@@ -21,30 +28,23 @@ const PIECE: u32 = 100_000;
 
 impl Adapter<'_> {
     // A run is begun; the pieces of it are done by `advance`.
-    pub(crate) fn run(
-        &mut self,
-        way: Way,
-        request: &Request,
-        out: &mut Outbox,
-    ) -> Result<(), Memory>
+    pub(crate) fn run(&mut self, way: Way)
+        ensures keeps { Keeps self.old self.new }
         ensures session { self.new.session ≡ self.old.session }
-        ensures answers { OnOk result (Answers (response_to request.now done) (waits out.old) (waits out.new)) }
+        ensures way { self.new.way ≡ Some way }
+        ensures fault { self.new.fault ≡ None }
     {
         self.way = Some(way);
         self.fault = None;
-        match request.command() {
-            Some(Command::Continue) => {
-                let mut body = Fields::new(self.alloc);
-                body.flag("allThreadsContinued", true)?;
-                out.reply(request, body.done())
-            }
-            _ => out.reply(request, Value::Null),
-        }
     }
 
     // The first stop or the first run, as the launch asked.
     pub(crate) fn begin(&mut self, out: &mut Outbox) -> Result<(), Memory>
+        requires rests { self.old.way ≡ None }
+        ensures keeps { Keeps self.old self.new }
         ensures session { self.new.session ≡ self.old.session }
+        ensures way { OnOk result (self.new.way ≡ way_begun self.old.stops) }
+        ensures tells { OnOk result (BeginTells self.old.stops (waits out.new)) }
         ensures events { OnOk result (Events (waits out.old) (waits out.new)) }
     {
         if self.stops {
@@ -57,73 +57,121 @@ impl Adapter<'_> {
 
     /// Does the next piece of a run, of at most 100,000 changes, and tells what was written, and why the run stops if it does.
     pub fn advance(&mut self, out: &mut Outbox) -> Result<(), Memory>
+        ensures keeps { Keeps self.old self.new }
         ensures program { self.new.session.program ≡ self.old.session.program }
         ensures first { self.new.session.timeline.first ≡ self.old.session.timeline.first }
         ensures runs { Advances self.old.way self.old.points self.old.session.timeline self.new.session.timeline (is_some self.new.way) }
+        ensures tells { OnOk result (AdvanceTells self.old.way self.old.points self.old.session.timeline self.new.session.timeline (waits out.old) (waits out.new)) }
         ensures events { OnOk result (Events (waits out.old) (waits out.new)) }
     {
-        let Some(way) = self.way else {
-            return Ok(());
-        };
+        match self.way {
+            Some(way) => self.run_on(way, out),
+            None => Ok(()),
+        }
+    }
+
+    // The next piece of a run this way.
+    #[tactic(auto, using(dap_message::proofs::Telling::telling, crate::proofs::RunLemmas::running))]
+    fn run_on(&mut self, way: Way, out: &mut Outbox) -> Result<(), Memory>
+        requires { self.old.way ≡ Some way }
+        ensures keeps { Keeps self.old self.new }
+        ensures program { self.new.session.program ≡ self.old.session.program }
+        ensures first { self.new.session.timeline.first ≡ self.old.session.timeline.first }
+        ensures runs { Advances (Some way) self.old.points self.old.session.timeline self.new.session.timeline (is_some self.new.way) }
+        ensures tells { OnOk result (AdvanceTells (Some way) self.old.points self.old.session.timeline self.new.session.timeline (waits out.old) (waits out.new)) }
+        ensures events { OnOk result (Events (waits out.old) (waits out.new)) }
+    {
         match run_piece(&mut self.session, &self.points, way) {
-            Ok(End::Limit) => self.printed.tell(self.alloc, self.session.world(), out),
-            Ok(end) => self.stop(end, out),
+            Ok((_, end)) => {
+                if is_limit(end) {
+                    self.printed.tell(self.alloc, self.session.world(), out)
+                } else {
+                    self.stop(end, out)?;
+                    Ok(())
+                }
+            }
             Err(Memory) => self.stop_for_memory(out),
         }
     }
 
     /// A run that has come to no stop pauses, and a run may be asked for again.
     pub fn rest(&mut self, out: &mut Outbox) -> Result<(), Memory>
+        ensures keeps { Keeps self.old self.new }
         ensures session { self.new.session ≡ self.old.session }
         ensures pauses { is_some self.new.way ≡ false }
+        ensures tells { OnOk result (RestTells self.old.way (waits out.old) (waits out.new)) }
         ensures events { OnOk result (Events (waits out.old) (waits out.new)) }
     {
-        if !self.is_running() {
+        let Some(_) = self.way else {
             return Ok(());
-        }
+        };
         self.way = None;
         self.stopped("pause", Some("paused after 1000000 changes"), out)
     }
 
     pub(crate) fn pause(&mut self, request: &Request, out: &mut Outbox) -> Result<(), Memory>
+        ensures keeps { Keeps self.old self.new }
         ensures session { self.new.session ≡ self.old.session }
+        ensures way { self.new.way ≡ None }
         ensures answers { OnOk result (Answers (response_to request.now done) (waits out.old) (waits out.new)) }
+        ensures shows { OnOk result (Replies (answer_message request.now (Ok null)) out.old out.new) }
+        ensures tells { OnOk result (EndsWith (stopped_message (only (codes "pause"))) (waits out.new)) }
     {
         self.way = None;
-        out.reply(request, Value::Null)?;
+        out.reply(request, nothing())?;
         self.stopped("pause", None, out)
+    }
+
+    // The program is at its end, which it may be taken back from.
+    pub(crate) fn terminate(&mut self, request: &Request, out: &mut Outbox) -> Result<(), Memory>
+        ensures keeps { Keeps self.old self.new }
+        ensures session { self.new.session ≡ self.old.session }
+        ensures way { self.new.way ≡ None }
+        ensures answers { OnOk result (Answers (response_to request.now done) (waits out.old) (waits out.new)) }
+        ensures shows { OnOk result (Replies (answer_message request.now (Ok null)) out.old out.new) }
+        ensures tells { OnOk result (EndsWith terminated_message (waits out.new)) }
+    {
+        self.way = None;
+        out.reply(request, nothing())?;
+        terminated(out)
     }
 
     // Tells what was written and why the program stops.
     pub(crate) fn stop(&mut self, end: End, out: &mut Outbox) -> Result<(), Memory>
+        ensures keeps { Keeps self.old self.new }
         ensures session { self.new.session ≡ self.old.session }
-        ensures rests { is_some self.new.way ≡ false }
+        ensures rests { self.new.way ≡ None }
+        ensures fault { OnOk result (self.new.fault ≡ fault_at end) }
+        ensures tells { OnOk result (EndsWith (stopped_message (why_of (word_at self.old.points self.old.session.timeline) end)) (waits out.new)) }
         ensures events { OnOk result (Events (waits out.old) (waits out.new)) }
     {
         self.way = None;
-        self.fault = None;
+        self.fault = fault_at(end);
         self.printed.tell(self.alloc, self.session.world(), out)?;
+        let text = text_of(self.alloc, end)?;
+        self.stopped(self.reason_of(end), text.as_deref(), out)
+    }
+
+    // Why a run has ended so, in the protocol's word.
+    fn reason_of(&self, end: End) -> &'static str
+        ensures { result.now ≡ reason_of (word_at self.now.points self.now.session.timeline) end }
+    {
         match end {
-            End::Halt => self.stopped("halt", Some("HLT"), out),
-            End::Fault(fault) => {
-                self.fault = Some(fault);
-                let text = format!(in self.alloc; "{fault}")?;
-                self.stopped("exception", Some(text.as_str()), out)
-            }
-            End::Until(_) => self.stopped("data breakpoint", None, out),
-            End::Break => {
-                let reason = self.points.reason_at(self.session.world().loc());
-                self.stopped(reason, None, out)
-            }
-            End::Arrived | End::Limit => self.stopped("step", None, out),
-            End::Start => self.stopped("entry", None, out),
+            End::Halt => "halt",
+            End::Fault(_) => "exception",
+            End::Until(_) => "data breakpoint",
+            End::Break => self.points.reason_at(self.session.world().loc()),
+            End::Arrived | End::Limit => "step",
+            End::Start => "entry",
         }
     }
 
     // Tells that memory was refused for a run.
     fn stop_for_memory(&mut self, out: &mut Outbox) -> Result<(), Memory>
+        ensures keeps { Keeps self.old self.new }
         ensures session { self.new.session ≡ self.old.session }
-        ensures rests { is_some self.new.way ≡ false }
+        ensures rests { self.new.way ≡ None }
+        ensures tells { OnOk result (EndsWith (stopped_message out_of_memory) (waits out.new)) }
         ensures events { OnOk result (Events (waits out.old) (waits out.new)) }
     {
         self.way = None;
@@ -138,17 +186,17 @@ impl Adapter<'_> {
         text: Option<&str>,
         out: &mut Outbox,
     ) -> Result<(), Memory>
-        ensures { OnOk result (Events (waits out.old) (waits out.new)) }
+        ensures told { OnOk result (EndsWith (stopped_message (record { reason = reason.now; text = option_map (λ t. t.now) text.entry })) (waits out.new)) }
+        ensures events { OnOk result (Events (waits out.old) (waits out.new)) }
     {
         let mut body = Fields::new(self.alloc);
         body.text("reason", reason)?;
         body.number("threadId", THREAD)?;
         body.flag("allThreadsStopped", true)?;
-        if let Some(text) = text {
-            body.text("description", text)?;
-            body.text("text", text)?;
-        }
-        out.event("stopped", body.done())
+        put_text(&mut body, text)?;
+        let body = body.done();
+        out.event("stopped", body)?;
+        Ok(())
     }
 
     // What the client shows is out of date, after a change that no stop tells of.
@@ -165,33 +213,28 @@ impl Adapter<'_> {
         body.list("areas", areas)?;
         out.event("invalidated", body.done())
     }
+}
 
-    pub(crate) fn exception_info(&self) -> Result<Value, Refused<Fault>> {
-        let Some(fault) = self.fault else {
-            return Err(Refused::Fault(Fault::NoSuchThing));
-        };
-        let number = fault.number();
-        let id = format!(in self.alloc; "M{number}")?;
-        let mut body = Fields::new(self.alloc);
-        body.text("exceptionId", id.as_str())?;
-        body.text("description", fault.text())?;
-        body.text("breakMode", "always")?;
-        Ok(body.done())
-    }
+fn terminated(out: &mut Outbox) -> Result<(), Memory>
+    ensures told { OnOk result (EndsWith terminated_message (waits out.new)) }
+    ensures events { OnOk result (Events (waits out.old) (waits out.new)) }
+{
+    let body = nothing();
+    out.event("terminated", body)?;
+    Ok(())
 }
 
 // The next piece of a run, and how it has ended.
-fn run_piece(session: &mut Session, points: &Points, way: Way) -> Result<End, Memory>
+fn run_piece(session: &mut Session, points: &Points, way: Way) -> Result<(u32, End), Memory>
     ensures program { session.new.program ≡ session.old.program }
     ensures first { session.new.timeline.first ≡ session.old.timeline.first }
     ensures effect { let effect = effect_of_piece way points.now session.old.timeline in
-        IfOk result (λ end. (session.new.timeline ≡ after effect) × (goes_on effect.answer ≡ is_limit end)) }
+        IfOk result (λ ran. (session.new.timeline ≡ after effect) × (effect.answer ≡ Ran ran.0 ran.1)) }
     ensures begun { IfErr result (λ _. Begun (effect_of_piece way points.now session.old.timeline) session.new.timeline) }
 {
     let (way, location) = match way {
         Way::Forth(location) => (mix_session::Way::Again, location),
         Way::Back => (mix_session::Way::Back, None),
     };
-    let (_, end) = session.run(way, PIECE, &points.stops(location))?;
-    Ok(end)
+    session.run(way, PIECE, &points.stops(location))
 }

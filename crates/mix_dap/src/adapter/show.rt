@@ -1,68 +1,95 @@
 //! What only looks, and what sets breakpoints.
 
-ghost use Rattle.std.specs.Prelude.{◌≡◌};
+ghost use Rattle.std.specs.Prelude.{◌≡◌, IfOk, OnOk, OnErr};
+ghost use Rattle.serde_json.specs.View.{view};
+ghost use Rattle.mix_dap.specs.Answer.{shown_of};
+ghost use Rattle.mix_dap.specs.List.{Shows};
+ghost use Rattle.mix_dap.specs.Look.{exception_of, exception_shown};
+ghost use Rattle.mix_dap.specs.Points.{points_after, points_told};
 
 use crate::adapter::Adapter;
+use crate::disassembly::disassemble;
 use crate::fault::Fault;
-use crate::look::{Name, scopes, stack_trace, threads};
-use crate::memory::{disassemble, read_memory};
-use crate::points::breakpoints;
+use crate::kind::{Look, Target};
+use crate::list::list_alone;
+use crate::look::{scopes, stack_trace, threads};
+use crate::memory::read_memory;
 use crate::set::goto_targets;
 use crate::variables::variables;
 use crate::view::{change_view, counts_view, program_view, state_view, units_view};
 use crate::watch::data_breakpoint_info;
-use dap_message::{Command, Request};
-use mix_refused::Refused;
+use dap_message::{Fields, Request};
+use mix_machine::MixFault;
+use mix_refused::{Memory, Refused};
 use serde_json::Value;
+use std::alloc::Global;
 
 impl Adapter<'_> {
     // What changes nothing.
-    pub(crate) fn show(
-        &self,
-        command: Command,
-        request: &Request,
-    ) -> Result<Value, Refused<Fault>> {
+    pub(crate) fn show(&self, look: Look, request: &Request) -> Result<Value, Refused<Fault>>
+        ensures { Shows (shown_of look request.now self.now) result }
+    {
         let alloc = self.alloc;
         let first = self.client.first;
         let session = &self.session;
-        let name = Name::of(self.name);
-        match command {
-            Command::Threads => Ok(threads(alloc)?),
-            Command::StackTrace => Ok(stack_trace(alloc, session, name, first, request)?),
-            Command::Scopes => Ok(scopes(alloc)?),
-            Command::Variables => variables(alloc, session.world(), request),
-            Command::ReadMemory => read_memory(alloc, session.world(), request),
-            Command::Disassemble => disassemble(alloc, session, name, first, request),
-            Command::GotoTargets => goto_targets(alloc, session, first, request),
-            Command::DataBreakpointInfo => data_breakpoint_info(alloc, session, request),
-            Command::ExceptionInfo => self.exception_info(),
-            Command::ViewProgram => Ok(program_view(alloc, session.program())?),
-            Command::ViewCounts => Ok(counts_view(alloc, session)?),
-            Command::ViewState => state_view(alloc, session, request),
-            Command::ViewUnits => units_view(alloc, session.world(), request),
-            Command::ViewChange => change_view(alloc, session, request),
-            _ => Ok(Value::Null),
+        let name = self.name;
+        match look {
+            Look::Threads => Ok(threads(alloc)?),
+            Look::Frames => Ok(stack_trace(alloc, session, name, first, request)?),
+            Look::Scopes => Ok(scopes(alloc)?),
+            Look::Variables => variables(alloc, session.world(), request),
+            Look::Fault => exception_info(alloc, self.fault),
+            Look::Memory => read_memory(alloc, session.world(), request),
+            Look::Instructions => disassemble(alloc, session, name, first, request),
+            Look::Targets => goto_targets(alloc, session, first, request),
+            Look::Watch => data_breakpoint_info(alloc, session, request),
+            Look::Program => Ok(program_view(alloc, session.program())?),
+            Look::Counts => Ok(counts_view(alloc, session)?),
+            Look::State => state_view(alloc, session, request),
+            Look::Units => units_view(alloc, session.world(), request),
+            Look::Change => change_view(alloc, session, request),
         }
     }
 
-    // Breakpoints in place of those that stand.
-    pub(crate) fn set_points(
-        &mut self,
-        command: Command,
-        request: &Request,
-    ) -> Result<Value, Refused<Fault>>
-        ensures { self.new.session ≡ self.old.session }
+    // Breakpoints in place of those that stand; nothing else is altered. None is refused.
+    pub(crate) fn set_points(&mut self, target: Target, request: &Request) -> Result<Value, Memory>
+        ensures stand { OnOk result (self.new ≡ record self.old { points = points_after target self.old.session self.old.name.whole.now self.old.client.first request.now self.old.points }) }
+        ensures same { OnErr result (self.new ≡ self.old) }
+        ensures told { IfOk result (λ v. view v ≡ points_told target self.old.session self.old.name.whole.now self.old.client.first request.now) }
     {
         let alloc = self.alloc;
-        match command {
-            Command::SetBreakpoints => {
+        match target {
+            Target::Lines => {
                 let program = self.session.program();
+                let first = self.client.first;
                 self.points
-                    .set_lines(alloc, program, self.name, request, self.client.first)
+                    .set_lines(alloc, program, self.name.whole, first, request)
             }
-            Command::SetInstructionBreakpoints => self.points.set_instructions(alloc, request),
-            Command::SetDataBreakpoints => self.points.set_data(alloc, &self.session, request),
-            _ => breakpoints(alloc, Vec::new(alloc)),
+            Target::Instructions => self.points.set_instructions(alloc, request),
+            Target::Data => self.points.set_data(alloc, &self.session, request),
+            Target::Nothing => list_alone(alloc, "breakpoints", Vec::new(alloc)),
         }
     }
+}
+
+// The fault at which the program stopped.
+fn exception_info(alloc: Global, fault: Option<MixFault>) -> Result<Value, Refused<Fault>>
+    ensures { Shows (exception_of fault) result }
+{
+    match fault {
+        Some(fault) => Ok(exception_shown(alloc, fault)?),
+        None => Err(Refused::Fault(Fault::NoSuchThing)),
+    }
+}
+
+fn exception_shown(alloc: Global, fault: MixFault) -> Result<Value, Memory>
+    ensures { IfOk result (λ v. view v ≡ exception_shown fault) }
+{
+    let number = fault.number();
+    let id = format!(in alloc; "M{number}")?;
+    let mut body = Fields::new(alloc);
+    body.text("exceptionId", id.as_str())?;
+    body.text("description", fault.text())?;
+    body.text("breakMode", "always")?;
+    Ok(body.done())
 }

@@ -1,9 +1,18 @@
 //! What was done is told: the request is answered, and then comes what the client has to know.
-#![tactic(auto, using(dap_message::proofs::Telling::telling))]
+#![tactic(auto, using(dap_message::proofs::Telling::telling, crate::proofs::RepliesLemmas::replying))]
 
-ghost use Rattle.std.specs.Prelude.{◌≡◌, IfOk, OnOk};
+ghost use Rattle.std.specs.Prelude.{◌≡◌, Ok, IfOk, OnOk, None};
+ghost use Rattle.serde_json.specs.Data.{null};
 ghost use Rattle.dap_message.specs.Message.{waits, refusal_message, Adds};
 ghost use Rattle.dap_message.specs.Told.{response_to, done, Answers};
+ghost use Rattle.mix_session.specs.Answer.{text_of};
+ghost use Rattle.mix_session.specs.Timeline.{world_of};
+ghost use Rattle.std.specs.Str.Lossy.{utf8_lossy};
+ghost use Rattle.mix_dap.specs.Answer.{act_body, value_body, result_body, result_text, continued};
+ghost use Rattle.mix_dap.specs.Replies.{Replies, answer_message};
+ghost use Rattle.mix_dap.specs.Stays.{Keeps, ActTells, BeginTells, way_begun, way_of_act, word_at};
+ghost use Rattle.mix_dap.specs.Stopped.{end_of};
+ghost use Rattle.mix_dap.specs.Value.{value_asked, worth_asked};
 ghost use Rattle.mix_dap.specs.Fault.{fault_number, fault_text, fault_place};
 ghost use Rattle.mix_dap.specs.Told.{refused_for};
 
@@ -11,6 +20,7 @@ use crate::adapter::{Adapter, Flow, Way};
 use crate::deed::is_console;
 use crate::fault::{Fault, refuse};
 use crate::kind::Act;
+use crate::list::nothing;
 use crate::value::{value_asked, worth_asked};
 use dap_message::{Fields, Outbox, Request};
 use mix_machine::Reg;
@@ -27,41 +37,62 @@ impl Adapter<'_> {
         request: &Request,
         out: &mut Outbox,
     ) -> Result<(), Memory>
+        requires rests { self.old.way ≡ None }
+        ensures keeps { Keeps self.old self.new }
         ensures session { self.new.session ≡ self.old.session }
         ensures answers { OnOk result (Answers (response_to request.now done) (waits out.old) (waits out.new)) }
+        ensures shows { OnOk result (Replies (answer_message request.now (Ok (act_body act answer request.now self.old.session))) out.old out.new) }
+        ensures way { OnOk result (self.new.way ≡ way_of_act act self.old.stops self.new.session.timeline) }
+        ensures tells { OnOk result (ActTells act answer (word_at self.old.points self.old.session.timeline) self.old.stops (waits out.new)) }
     {
         match act {
             Act::Step | Act::StepBack => {
-                out.reply(request, Value::Null)?;
+                out.reply(request, nothing())?;
                 self.stop(end_of(answer), out)
             }
-            Act::Continue => self.run(Way::Forth(None), request, out),
+            Act::Continue => {
+                self.run(Way::Forth(None));
+                let mut body = Fields::new(self.alloc);
+                body.flag("allThreadsContinued", true)?;
+                out.reply(request, body.done())
+            }
             Act::StepOut => {
                 let until = self.session.world().register(Reg::J).magnitude();
-                self.run(Way::Forth(u16::try_from(until).ok()), request, out)
+                self.run(Way::Forth(u16::try_from(until).ok()));
+                out.reply(request, nothing())
             }
-            Act::ReverseContinue => self.run(Way::Back, request, out),
+            Act::ReverseContinue => {
+                self.run(Way::Back);
+                out.reply(request, nothing())
+            }
             Act::Begin => {
-                out.reply(request, Value::Null)?;
+                out.reply(request, nothing())?;
                 self.begin(out)
             }
             Act::Goto => {
-                out.reply(request, Value::Null)?;
+                out.reply(request, nothing())?;
                 self.stopped("goto", None, out)
             }
-            Act::SetVariable => self.tell_value(request, out),
+            Act::SetVariable => {
+                let value = value_asked(self.alloc, self.session.world(), request)?;
+                self.tell_value(value.as_str(), request, out)
+            }
+            Act::SetExpression => {
+                let value = worth_asked(self.alloc, &self.session, request)?;
+                self.tell_value(value.as_str(), request, out)
+            }
             Act::Evaluate if is_console(request) => self.tell_command(answer, request, out),
             Act::Evaluate => self.tell_worth(request, out),
         }
     }
 
-    // The value of a variable that was set.
-    fn tell_value(&self, request: &Request, out: &mut Outbox) -> Result<(), Memory>
-        ensures { OnOk result (Answers (response_to request.now done) (waits out.old) (waits out.new)) }
+    // The value of what was set.
+    fn tell_value(&self, value: &str, request: &Request, out: &mut Outbox) -> Result<(), Memory>
+        ensures answers { OnOk result (Answers (response_to request.now done) (waits out.old) (waits out.new)) }
+        ensures shows { OnOk result (Replies (answer_message request.now (Ok (value_body value.now))) out.old out.new) }
     {
-        let value = value_asked(self.alloc, self.session.world(), request)?;
         let mut body = Fields::new(self.alloc);
-        body.text("value", value.as_str())?;
+        body.text("value", value)?;
         out.reply(request, body.done())?;
         self.invalidated(out)
     }
@@ -73,27 +104,34 @@ impl Adapter<'_> {
         request: &Request,
         out: &mut Outbox,
     ) -> Result<(), Memory>
+        requires rests { self.old.way ≡ None }
+        ensures keeps { Keeps self.old self.new }
         ensures session { self.new.session ≡ self.old.session }
         ensures answers { OnOk result (Answers (response_to request.now done) (waits out.old) (waits out.new)) }
+        ensures shows { OnOk result (Replies (answer_message request.now (Ok (result_body (utf8_lossy (text_of answer self.old.session.program self.old.session.timeline))))) out.old out.new) }
+        ensures way { self.new.way ≡ self.old.way }
     {
         self.fault = None;
         let text = self.session.text(&answer)?;
         let text = String::from_utf8_lossy(self.alloc, text.as_slice())?;
         self.tell_result(text.as_str(), request, out)?;
         self.printed.tell(self.alloc, self.session.world(), out)?;
-        self.invalidated(out)
+        self.invalidated(out)?;
+        Ok(())
     }
 
     // What an expression is worth.
     fn tell_worth(&self, request: &Request, out: &mut Outbox) -> Result<(), Memory>
-        ensures { OnOk result (Answers (response_to request.now done) (waits out.old) (waits out.new)) }
+        ensures answers { OnOk result (Answers (response_to request.now done) (waits out.old) (waits out.new)) }
+        ensures shows { OnOk result (Replies (answer_message request.now (Ok (result_body (worth_asked self.now.session request.now)))) out.old out.new) }
     {
         let text = worth_asked(self.alloc, &self.session, request)?;
         self.tell_result(text.as_str(), request, out)
     }
 
     fn tell_result(&self, text: &str, request: &Request, out: &mut Outbox) -> Result<(), Memory>
-        ensures { OnOk result (Answers (response_to request.now done) (waits out.old) (waits out.new)) }
+        ensures answers { OnOk result (Answers (response_to request.now done) (waits out.old) (waits out.new)) }
+        ensures shows { OnOk result (Replies (answer_message request.now (Ok (result_body text.now))) out.old out.new) }
     {
         let mut body = Fields::new(self.alloc);
         body.text("result", text)?;
@@ -122,17 +160,25 @@ impl Adapter<'_> {
         request: &Request,
         out: &mut Outbox,
     ) -> Result<(), Memory>
+        requires rests { self.old.way ≡ None }
+        ensures keeps { Keeps self.old self.new }
         ensures session { self.new.session ≡ self.old.session }
         ensures answers { OnOk result (Answers (response_to request.now done) (waits out.old) (waits out.new)) }
+        ensures shows { OnOk result (Replies (answer_message request.now (Ok null)) out.old out.new) }
+        ensures way { OnOk result (self.new.way ≡ way_begun self.old.stops) }
+        ensures tells { OnOk result (BeginTells self.old.stops (waits out.new)) }
     {
-        out.reply(request, Value::Null)?;
+        out.reply(request, nothing())?;
         self.printed.tell(self.alloc, self.session.world(), out)?;
-        self.begin(out)
+        self.begin(out)?;
+        Ok(())
     }
 }
 
 // How a step has ended; what is no step has come to what was asked.
-fn end_of(answer: Answer) -> End {
+fn end_of(answer: Answer) -> End
+    ensures { result ≡ end_of answer }
+{
     match answer {
         Answer::Ran(_, end) => end,
         _ => End::Limit,

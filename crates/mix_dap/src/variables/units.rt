@@ -33,7 +33,7 @@ impl Numbered for Units<'_> {
 }
 
 /// The unit of a number.
-fn unit_at(number: u16) -> UnitNo
+pub(crate) fn unit_at(number: u16) -> UnitNo
     requires { number < unit_count }
     ensures { result ≡ number }
 {

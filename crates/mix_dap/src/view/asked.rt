@@ -1,7 +1,11 @@
 //! The cells that `mix/state` is asked for, and what is shown of each.
 
-ghost use Rattle.std.specs.Prelude.{◌≡◌, IfOk, false, slice_index_or};
-ghost use Rattle.serde_json.specs.View.{view};
+ghost use Rattle.std.specs.Prelude.{◌≡◌, ◌≤◌, IfOk};
+ghost use Rattle.std.specs.List.{list_any};
+ghost use Rattle.std.specs.Option.{option_map};
+ghost use Rattle.serde_json.specs.View.{view, items_view};
+ghost use Rattle.mix_dap.specs.Asked.{two_in, cells_from, range_of, IsRange, cells_in, range_within, ranges_in, ranges_asked, is_plus_zero, is_in, is_asked};
+ghost use Rattle.mix_dap.specs.List.{Gives};
 ghost use Rattle.mix_dap.specs.State.{cell_shown, cell_if_asked};
 
 use crate::fault::Fault;
@@ -15,108 +19,147 @@ use mix_word::{CELLS, Instruction};
 use serde_json::Value;
 use std::alloc::Global;
 
-/// Of each cell, whether it is asked for.
-pub(crate) fn cells_asked(
+/// The ranges of cells that a request asks for, each by its first cell and its last.
+pub(crate) fn ranges_asked(
     alloc: Global,
-    world: &World,
     request: &Request,
-) -> Result<Vec<bool>, Refused<Fault>> {
-    let mut asked = vec![in alloc; false; usize::from(CELLS)]?;
-    let mut left = u64::from(CELLS);
-    if request.argument("cells").is_some() && request.list("cells").is_none() {
-        return Err(Refused::Fault(Fault::BadArgument));
-    }
-    for range in request.list("cells").unwrap_or(&[]) {
-        let (from, end) = range_of(range)?;
-        left = match left.checked_sub(u64::from(end.saturating_sub(from))) {
-            Some(left) => left,
-            None => return Err(Refused::Fault(Fault::BadArgument)),
-        };
-        for number in from..end {
-            ask(asked.as_mut_slice(), number);
-        }
-    }
-    if request.flag("nonzero") {
-        ask_nonzero(world, asked.as_mut_slice());
-    }
-    Ok(asked)
-}
-
-// Asks for a cell.
-fn ask(asked: &mut [bool], number: u16) {
-    let at = usize::from(number);
-    if at < asked.len() {
-        asked[at] = true;
+) -> Result<Vec<(u16, u16)>, Refused<Fault>>
+    ensures { Gives (λ ranges. ranges.items) (ranges_asked request.now) result }
+{
+    match request.argument("cells") {
+        None => Ok(Vec::new(alloc)),
+        Some(list) => match list.as_array() {
+            Some(list) => ranges_in(alloc, list.as_slice()),
+            None => Err(Refused::Fault(Fault::BadArgument)),
+        },
     }
 }
 
-// The first cell of a range, and the one after its last.
-fn range_of(range: &Value) -> Result<(u16, u16), Refused<Fault>> {
-    let ends = range.as_array().map(|ends| ends.as_slice());
-    let Some([from, to]) = ends else {
-        return Err(Refused::Fault(Fault::BadArgument));
-    };
-    let (Some(from), Some(to)) = (from.as_u64(), to.as_u64()) else {
-        return Err(Refused::Fault(Fault::BadArgument));
-    };
-    if from > to {
-        return Err(Refused::Fault(Fault::BadArgument));
-    }
-    if to >= u64::from(CELLS) {
-        return Err(Refused::Fault(Fault::NoSuchThing));
-    }
-    Ok((from as u16, to as u16 + 1))
-}
-
-// Asks for the cells that are not +0.
-fn ask_nonzero(world: &World, asked: &mut [bool]) {
-    for number in 0..CELLS {
-        if let Some(place) = Place::of(number) {
-            if !is_plus_zero(world.cell(place)) {
-                ask(asked, number);
+fn ranges_in(alloc: Global, list: &[Value]) -> Result<Vec<(u16, u16)>, Refused<Fault>>
+    ensures { Gives (λ ranges. ranges.items) (ranges_in 4000 (items_view list.now)) result }
+{
+    let mut ranges = Vec::new(alloc);
+    let mut left = CELLS;
+    for range in list {
+        match range_within(left, range) {
+            Ok((first, last)) => {
+                left -= cells_in(first, last);
+                ranges.push((first, last))?;
             }
+            Err(why) => return Err(Refused::Fault(why)),
         }
+    }
+    Ok(ranges)
+}
+
+// How many cells are in a range.
+fn cells_in(first: u16, last: u16) -> u16
+    requires { IsRange (first, last) }
+    ensures { result ≡ cells_in (first, last) }
+{
+    last + 1 - first
+}
+
+// A range, where so many cells may still be asked for.
+#[tactic(auto, unfolding(crate::specs::Asked::range_within))]
+fn range_within(left: u16, range: &Value) -> Result<(u16, u16), Fault>
+    ensures is { result ≡ range_within left (view range.now) }
+    ensures range { IfOk result (λ range. IsRange range) }
+    ensures within { IfOk result (λ range. cells_in range ≤ left) }
+{
+    let (first, last) = range_of(range)?;
+    if left < cells_in(first, last) {
+        Err(Fault::BadArgument)
+    } else {
+        Ok((first, last))
     }
 }
 
-fn is_plus_zero(word: Word) -> bool {
-    match word.sign() {
-        Sign::Plus => word.magnitude() == 0,
-        Sign::Minus => false,
+// A range: a list of its first cell and its last.
+#[tactic(auto, unfolding(crate::specs::Asked::range_of))]
+fn range_of(range: &Value) -> Result<(u16, u16), Fault>
+    ensures is { result ≡ range_of (view range.now) }
+    ensures range { IfOk result (λ range. IsRange range) }
+{
+    let list = range.as_array().ok_or(Fault::BadArgument)?;
+    let (first, last) = two_in(list.as_slice()).ok_or(Fault::BadArgument)?;
+    let first = first.as_u64().ok_or(Fault::BadArgument)?;
+    let last = last.as_u64().ok_or(Fault::BadArgument)?;
+    cells_from(first, last)
+}
+
+// The two members of a list of two.
+#[tactic(auto, using(crate::proofs::AskedLemmas::fewer_than_two, crate::proofs::AskedLemmas::more_than_two))]
+fn two_in(list: &[Value]) -> Option<(&Value, &Value)>
+    ensures { option_map (λ two. (view two.0.now, view two.1.now)) result ≡ two_in (items_view list.now) }
+{
+    match list {
+        [first, last] => Some((first, last)),
+        _ => None,
     }
+}
+
+fn cells_from(first: u64, last: u64) -> Result<(u16, u16), Fault>
+    ensures is { result ≡ cells_from first last }
+    ensures range { IfOk result (λ range. IsRange range) }
+{
+    if first > last {
+        return Err(Fault::BadArgument);
+    }
+    if last >= u64::from(CELLS) {
+        return Err(Fault::NoSuchThing);
+    }
+    Ok((first as u16, last as u16))
 }
 
 /// The cells that are asked for.
 #[derive(Clone, Copy)]
 pub(crate) struct AskedCells<'a> {
     pub world: &'a World,
-    pub asked: &'a [bool],
+    pub nonzero: bool,
+    pub ranges: &'a [(u16, u16)],
 }
 
 impl Numbered for AskedCells<'_> {
     ghost size = { λ _. 4000 };
 
-    ghost shown = { λ cells. cell_if_asked cells.world.now cells.asked.now };
+    ghost shown = { λ cells. cell_if_asked cells.world.now cells.nonzero cells.ranges.now };
 
     fn size(&self) -> u16 {
         CELLS
     }
 
     fn add(&self, alloc: Global, number: u16, list: &mut Vec<Value>) -> Result<(), Memory> {
-        if is_asked(self.asked, number) {
-            add(list, cell_shown(alloc, self.world, place_at(number))?)
+        let place = place_at(number);
+        if is_asked(*self, place) {
+            add(list, cell_shown(alloc, self.world, place)?)
         } else {
             Ok(())
         }
     }
 }
 
-fn is_asked(asked: &[bool], number: u16) -> bool
-    ensures { result ≡ slice_index_or asked.now number false }
+fn is_asked(cells: AskedCells<'_>, place: Place) -> bool
+    ensures { result ≡ is_asked cells.entry.world.now cells.entry.nonzero cells.entry.ranges.now place }
 {
-    match asked.get(usize::from(number)) {
-        Some(is_asked) => *is_asked,
-        None => false,
+    is_in_any(cells.ranges, place.number())
+        || (cells.nonzero && !is_plus_zero(cells.world.cell(place)))
+}
+
+fn is_in_any(ranges: &[(u16, u16)], number: u16) -> bool
+    ensures { result ≡ list_any (is_in number) ranges.now }
+{
+    ranges
+        .iter()
+        .any(|range| range.0 <= number && number <= range.1)
+}
+
+fn is_plus_zero(word: Word) -> bool
+    ensures { result ≡ is_plus_zero word }
+{
+    match word.sign() {
+        Sign::Plus => word.magnitude() == 0,
+        Sign::Minus => false,
     }
 }
 

@@ -1,13 +1,21 @@
 //! `mix/change`: a change by its number.
 
+ghost use Rattle.std.specs.Prelude.{◌≡◌, ◌++◌, IfOk, OnOk, map};
+ghost use Rattle.serde_json.specs.View.{view};
+ghost use Rattle.mix_machine.specs.World.{unit_at};
+ghost use Rattle.mix_session.specs.Altered.{unit_differences};
+ghost use Rattle.dap_message.specs.Fields.{members_in};
+ghost use Rattle.mix_dap.specs.Change.{change_asked, change_between, item_members, items_of_change, items_of_part, part_item, put_difference, unit_item};
+ghost use Rattle.mix_dap.specs.List.{Shows};
+
 use crate::fault::Fault;
+use crate::list::add;
+use crate::value::held;
 use crate::view::{part_name, put_digits};
 use dap_message::{Fields, Request};
 use mix_machine::{Change, UnitNo, World};
 use mix_refused::{Memory, Refused};
-use mix_session::{
-    Altered, Held, Session, UnitDifference, altered_by, change_text, unit_differences,
-};
+use mix_session::{Altered, Session, UnitDifference, altered_by, change_text, unit_differences};
 use serde_json::Value;
 use std::alloc::Global;
 
@@ -23,10 +31,12 @@ pub(crate) fn change_view(
     alloc: Global,
     session: &Session,
     request: &Request,
-) -> Result<Value, Refused<Fault>> {
-    let number = request
-        .number("number")
-        .ok_or(Refused::Fault(Fault::BadArgument))?;
+) -> Result<Value, Refused<Fault>>
+    ensures { Shows (change_asked session.now request.now) result }
+{
+    let Some(number) = request.number("number") else {
+        return Err(Refused::Fault(Fault::BadArgument));
+    };
     let at = number as usize;
     let Some(change) = session.change_at(at) else {
         return Err(Refused::Fault(Fault::NoSuchThing));
@@ -41,7 +51,9 @@ pub(crate) fn change_view(
 }
 
 // It borrows the two states: where values are owned that take long to drop, each `?` is dear to prove.
-fn body(alloc: Global, number: u64, change: Change, worlds: Worlds<'_>) -> Result<Value, Memory> {
+fn body(alloc: Global, number: u64, change: Change, worlds: Worlds<'_>) -> Result<Value, Memory>
+    ensures { IfOk result (λ v. view v ≡ change_between number change worlds.entry.before.now worlds.entry.after.now) }
+{
     let mut body = Fields::new(alloc);
     body.number("number", number)?;
     body.number("location", u64::from(worlds.before.loc()))?;
@@ -52,34 +64,49 @@ fn body(alloc: Global, number: u64, change: Change, worlds: Worlds<'_>) -> Resul
     Ok(body.done())
 }
 
-fn items(alloc: Global, change: Change, worlds: Worlds<'_>) -> Result<Vec<Value>, Memory> {
+fn items(alloc: Global, change: Change, worlds: Worlds<'_>) -> Result<Vec<Value>, Memory>
+    ensures { IfOk result (λ list. map view list.items ≡ items_of_change change worlds.entry.before.now worlds.entry.after.now) }
+{
+    let parts = altered_by(alloc, &change, worlds.before, worlds.after)?;
     let mut list = Vec::new(alloc);
-    for part in altered_by(alloc, &change, worlds.before, worlds.after)?.iter() {
-        match *part {
-            Altered::Unit(number) => add_unit(alloc, &mut list, number, worlds)?,
-            part => {
-                let before = held_text(alloc, worlds.before, part)?;
-                let after = held_text(alloc, worlds.after, part)?;
-                let mut item = item_of(alloc, part)?;
-                item.text("before", before.as_str())?;
-                item.text("after", after.as_str())?;
-                list.push(item.done())?;
-            }
-        }
+    for part in parts.iter() {
+        add_part(alloc, &mut list, part, worlds)?;
     }
     Ok(list)
 }
 
-fn item_of(alloc: Global, part: Altered) -> Result<Fields, Memory> {
+fn add_part(
+    alloc: Global,
+    list: &mut Vec<Value>,
+    part: &Altered,
+    worlds: Worlds<'_>,
+) -> Result<(), Memory>
+    ensures { OnOk result (map view list.new.items ≡ map view list.old.items ++ items_of_part worlds.entry.before.now worlds.entry.after.now part.now) }
+{
+    match *part {
+        Altered::Unit(unit) => add_unit(alloc, list, unit, worlds),
+        _ => add(list, part_item(alloc, part, worlds)?),
+    }
+}
+
+// What a part holds before and after.
+fn part_item(alloc: Global, part: &Altered, worlds: Worlds<'_>) -> Result<Value, Memory>
+    ensures { IfOk result (λ v. view v ≡ part_item worlds.entry.before.now worlds.entry.after.now part.now) }
+{
+    let before = held(alloc, worlds.before, *part)?;
+    let after = held(alloc, worlds.after, *part)?;
+    let mut item = item_of(alloc, *part)?;
+    item.text("before", before.as_str())?;
+    item.text("after", after.as_str())?;
+    Ok(item.done())
+}
+
+fn item_of(alloc: Global, part: Altered) -> Result<Fields, Memory>
+    ensures { IfOk result (λ f. members_in f ≡ item_members part) }
+{
     let mut item = Fields::new(alloc);
     item.text("part", part_name(alloc, part)?.as_str())?;
     Ok(item)
-}
-
-fn held_text(alloc: Global, world: &World, part: Altered) -> Result<String, Memory> {
-    let held = Held(world, part);
-    let text = format!(in alloc; "{held}")?;
-    Ok(text)
 }
 
 // An item for each block and each number of a unit that differs.
@@ -88,23 +115,38 @@ fn add_unit(
     list: &mut Vec<Value>,
     unit: UnitNo,
     worlds: Worlds<'_>,
-) -> Result<(), Memory> {
+) -> Result<(), Memory>
+    ensures { OnOk result (map view list.new.items ≡ map view list.old.items ++ map (unit_item unit) (unit_differences (unit_at worlds.entry.before.now unit) (unit_at worlds.entry.after.now unit))) }
+{
     let (before, after) = (worlds.before.unit(unit), worlds.after.unit(unit));
-    for difference in unit_differences(alloc, before, after)?.iter() {
-        list.push(unit_item(alloc, unit, *difference)?)?;
+    let differences = unit_differences(alloc, before, after)?;
+    for difference in differences.iter() {
+        add(list, unit_item(alloc, unit, *difference)?)?;
     }
     Ok(())
 }
 
-fn unit_item(alloc: Global, unit: UnitNo, difference: UnitDifference) -> Result<Value, Memory> {
+fn unit_item(alloc: Global, unit: UnitNo, difference: UnitDifference) -> Result<Value, Memory>
+    ensures { IfOk result (λ v. view v ≡ unit_item unit difference) }
+{
     let mut item = item_of(alloc, Altered::Unit(unit))?;
+    put_difference(alloc, &mut item, difference)?;
+    Ok(item.done())
+}
+
+fn put_difference(
+    alloc: Global,
+    item: &mut Fields,
+    difference: UnitDifference,
+) -> Result<(), Memory>
+    ensures { OnOk result (members_in item.new ≡ put_difference difference (members_in item.old)) }
+{
     match difference {
-        UnitDifference::Block(block) => item.number("block", u64::from(block))?,
+        UnitDifference::Block(block) => item.number("block", u64::from(block)),
         UnitDifference::Number(number, before, after) => {
             item.text("what", number.name())?;
-            put_digits(alloc, &mut item, "before", u128::from(before))?;
-            put_digits(alloc, &mut item, "after", u128::from(after))?;
+            put_digits(alloc, item, "before", u128::from(before))?;
+            put_digits(alloc, item, "after", u128::from(after))
         }
     }
-    Ok(item.done())
 }

@@ -1,14 +1,13 @@
 //! `mix/check`: what there is to say of a text.
 
-ghost use Rattle.std.specs.Prelude.{◌≡◌, Err, IfOk, OnOk, map};
+ghost use Rattle.std.specs.Prelude.{◌≡◌, IfOk, OnOk, map};
 ghost use Rattle.serde_json.specs.View.{view};
 ghost use Rattle.dap_message.specs.Fields.{members_in};
-ghost use Rattle.dap_message.specs.Message.{waits, Adds};
+ghost use Rattle.dap_message.specs.Message.{waits};
 ghost use Rattle.dap_message.specs.Told.{response_to, done, Answers};
-ghost use Rattle.mix_refused.specs.Refused.{IfFault};
 ghost use Rattle.mix_dap.specs.Check.{check_of, checked, diagnostic_shown, put_columns, put_meaning};
 ghost use Rattle.mix_dap.specs.List.{Shows};
-ghost use Rattle.mix_dap.specs.Told.{answer_message};
+ghost use Rattle.mix_dap.specs.Replies.{Tells};
 
 use crate::fault::Fault;
 use crate::list::{add, list_alone};
@@ -20,14 +19,14 @@ use serde_json::Value;
 use std::alloc::Global;
 
 /// Answers a request by the faults and the warnings of its text, as `mixrev check --json` gives them.
+#[tactic(auto, using(crate::proofs::RepliesLemmas::replying))]
 pub(crate) fn tell_check(
     alloc: Global,
     request: &Request,
     out: &mut Outbox,
 ) -> Result<(), Refused<Fault>>
-    ensures told { OnOk result (Adds out.old out.new (answer_message request.now (checked request.now))) }
+    ensures shows { Tells (checked request.now) request.now out.old out.new result }
     ensures answers { OnOk result (Answers (response_to request.now done) (waits out.old) (waits out.new)) }
-    ensures refused { IfFault result (λ why. (checked request.now ≡ Err why) × (out.new ≡ out.old)) }
 {
     let body = check_view(alloc, request)?;
     Ok(out.reply(request, body)?)

@@ -11,13 +11,14 @@ ghost use Rattle.mix_session.specs.Timeline.{world_of};
 ghost use Rattle.mix_session.specs.Client.{change_numbered};
 ghost use Rattle.mix_session.specs.Counts.{is_step};
 ghost use Rattle.dap_message.specs.Fields.{members_in};
-ghost use Rattle.mix_dap.specs.State.{put_flags, letters_of, register_shown, names_of, put_altered, put_last, put_counts, machine_members, state_of};
+ghost use Rattle.mix_dap.specs.List.{Shows};
+ghost use Rattle.mix_dap.specs.State.{put_flags, letters_of, register_shown, names_of, put_altered, put_last, put_counts, machine_members, state_of, state_asked};
 ghost use Rattle.mix_dap.specs.View.{part_name};
 
 use crate::fault::Fault;
 use crate::list::{add, list_of};
 use crate::value::held;
-use crate::view::asked::{AskedCells, cells_asked};
+use crate::view::asked::{AskedCells, ranges_asked};
 use crate::view::{part_name, put_digits, put_number};
 use dap_message::{Fields, Request};
 use mix_machine::{Change, Reg, World};
@@ -31,28 +32,46 @@ pub(crate) fn state_view(
     alloc: Global,
     session: &Session,
     request: &Request,
-) -> Result<Value, Refused<Fault>> {
-    let asked = cells_asked(alloc, session.world(), request)?;
-    Ok(state(alloc, session, asked.as_slice())?)
+) -> Result<Value, Refused<Fault>>
+    ensures { Shows (state_asked session.now request.now) result }
+{
+    let ranges = ranges_asked(alloc, request)?;
+    let nonzero = request.flag("nonzero");
+    Ok(state(alloc, session, nonzero, ranges.as_slice())?)
 }
 
-fn state(alloc: Global, session: &Session, asked: &[bool]) -> Result<Value, Memory>
-    ensures { IfOk result (λ v. view v ≡ state_of session.now.timeline asked.now) }
+fn state(
+    alloc: Global,
+    session: &Session,
+    nonzero: bool,
+    ranges: &[(u16, u16)],
+) -> Result<Value, Memory>
+    ensures { IfOk result (λ v. view v ≡ state_of session.now.timeline nonzero ranges.now) }
 {
-    let mut body = machine(alloc, session, asked)?;
+    let mut body = machine(alloc, session, nonzero, ranges)?;
     put_last(alloc, &mut body, session)?;
     Ok(body.done())
 }
 
-fn machine(alloc: Global, session: &Session, asked: &[bool]) -> Result<Fields, Memory>
-    ensures { IfOk result (λ f. members_in f ≡ machine_members session.now.timeline asked.now) }
+fn machine(
+    alloc: Global,
+    session: &Session,
+    nonzero: bool,
+    ranges: &[(u16, u16)],
+) -> Result<Fields, Memory>
+    ensures { IfOk result (λ f. members_in f ≡ machine_members session.now.timeline nonzero ranges.now) }
 {
     let world = session.world();
     let mut body = Fields::new(alloc);
     put_counts(&mut body, session)?;
     put_flags(alloc, &mut body, world)?;
     body.list("registers", registers(alloc, world)?)?;
-    body.list("cells", list_of(alloc, &AskedCells { world, asked })?)?;
+    let cells = AskedCells {
+        world,
+        nonzero,
+        ranges,
+    };
+    body.list("cells", list_of(alloc, &cells)?)?;
     Ok(body)
 }
 

@@ -1,10 +1,15 @@
 -- The cell is set, or, for want of memory, it may not be.
-use Rattle.mix_dap.proofs.WrittenLemmas.{sets-done, sets-begun}
+use Rattle.std.proofs.Common.{[], ◌∷◌}
+use Rattle.mix_dap.proofs.WrittenLemmas.{sets-all, sets-done, sets-begun}
 use Rattle.mix_dap.proofs.set.set_cell.Goals as goal
 
-pub returns-in-Err-clause-sets : goal.returns-in-Err-clause-sets
-returns-in-Err-clause-sets c =
-    sets-begun c.args.session.now.timeline c.execute.new.self.timeline c.args.place c.args.word c.in-Err.ensures.effect.1
+pub returns-in-Err-clause-some : goal.returns-in-Err-clause-some
+returns-in-Err-clause-some c = sets-begun c.args.session.now.timeline c.execute.new.self.timeline c.args.cell c.in-Err.ensures.effect.1
 
-pub returns-in-Ok-clause-sets : goal.returns-in-Ok-clause-sets
-returns-in-Ok-clause-sets c = sets-done c.args.session.now.timeline c.execute.new.self.timeline c.args.place c.args.word c.in-Ok.ensures.effect.1
+pub returns-in-Ok-clause-all : goal.returns-in-Ok-clause-all
+returns-in-Ok-clause-all c = sets-done c.args.session.now.timeline c.execute.new.self.timeline c.args.cell c.in-Ok.ensures.effect.1
+
+pub returns-in-Ok-clause-some : goal.returns-in-Ok-clause-some
+returns-in-Ok-clause-some c =
+    sets-all c.args.session.now.timeline c.execute.new.self.timeline (c.args.cell ∷ [])
+    (sets-done c.args.session.now.timeline c.execute.new.self.timeline c.args.cell c.in-Ok.ensures.effect.1)

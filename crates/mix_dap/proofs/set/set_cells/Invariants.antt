@@ -1,10 +1,10 @@
-use Rattle.std.proofs.Common.{◌≡◌}
-use Rattle.mix_dap.specs.Written.{SetsCells}
+use Rattle.std.proofs.Common.{◌≡◌, take}
+use Rattle.mix_dap.specs.Written.{with_cells}
 use Rattle.mix_dap.proofs.set.set_cells.Given as goal
 
 abbrev pub invariant-loop-cell : goal.invariant-loop-cell
 invariant-loop-cell l = record {
   program : l.session.program ≡ l.initial.session.program;
   first : l.session.timeline.first ≡ l.initial.session.timeline.first;
-  sets : SetsCells l.initial.session.timeline l.session.timeline;
+  sets : l.session.timeline ≡ with_cells l.initial.session.timeline (take l.cell-index l.cells);
 }

@@ -1,4 +1,4 @@
--- The run of a program is that of the texts of the plan.
+-- The run of a program is that of the texts of the plan; a client is served.
 use Rattle.mix_tool.proofs.CheckLemmas.{asks-nothing}
 use Rattle.mix_tool.proofs.plan.run_on.Goals as goal
 
@@ -11,3 +11,9 @@ returns-in-Run-clause-done g c all given e holds =
     let prints = c.run_printed-outcome.ensures.output given.source given.deck given.cards
     (rw texts holds.source) (rw texts holds.deck) (rw texts holds.cards) in
     rw c.in-Run.is (c.run_printed-outcome.result, rw c.options_of-options.ensures at prints, c.print_status.ensures)
+
+pub returns-in-Dap-clause-served : goal.returns-in-Dap-clause-served
+returns-in-Dap-clause-served g c hears = c.serve_from.ensures.done
+
+pub returns-in-Dap-clause-broken : goal.returns-in-Dap-clause-broken
+returns-in-Dap-clause-broken g c hears = c.serve_from.ensures.broken

@@ -2,7 +2,7 @@
 use Rattle.std.proofs.Common.{◌∙◌, Some, ap, refl, subst}
 use Rattle.mix_tool.specs.Opening.{Missing, missing_of}
 use Rattle.mix_tool.specs.Plan.{FileNames, HoldTexts, RunsOn, files_of, given_of, in_order, names_in, names_of, seen, sources_of}
-use Rattle.mix_tool.proofs.CheckLemmas.{done-as, plan-missing, plan-opened}
+use Rattle.mix_tool.proofs.CheckLemmas.{client-unnamed, done-as, plan-missing, plan-opened}
 use Rattle.mix_tool.proofs.plan.run_plan.Goals as goal
 
 pub returns-in-Ok-clause-opened : goal.returns-in-Ok-clause-opened
@@ -39,3 +39,15 @@ returns-in-Err-clause-done g c all e =
     done-as (missing_of all (files_of plan)) (Some found)
     (RunsOn all plan (given_of all (names_of plan)) c.args.streams.now.talker c.tell_not_opened.result before after) c.tell_not_opened.result before after missing.1
     (c.tell_not_opened.ensures.status, refl, refl, c.tell_not_opened.ensures.told)
+
+pub returns-in-Ok-clause-served : goal.returns-in-Ok-clause-served
+returns-in-Ok-clause-served g c = c.run_on.ensures.served
+
+pub returns-in-Err-clause-served : goal.returns-in-Err-clause-served
+returns-in-Err-clause-served g c hears = absurd (c.in-Err.ensures.named (ap in_order c.names_in.ensures ∙ client-unnamed c.args.plan.now hears))
+
+pub returns-in-Ok-clause-broken : goal.returns-in-Ok-clause-broken
+returns-in-Ok-clause-broken g c = c.run_on.ensures.broken
+
+pub returns-in-Err-clause-broken : goal.returns-in-Err-clause-broken
+returns-in-Err-clause-broken g c hears = absurd (c.in-Err.ensures.named (ap in_order c.names_in.ensures ∙ client-unnamed c.args.plan.now hears))

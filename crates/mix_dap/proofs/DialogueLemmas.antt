@@ -1,0 +1,193 @@
+-- The talks of a dialogue, one after the other, are one dialogue.
+use Rattle.std.proofs.Common.{◌≡◌, inl, inr, ℕ, ◌+◌, ◌-◌, ◌≤◌, ◌^◌, Bool, true, false, Option, None, Some, Result, Ok, Err, List, [], refl, sym, ap, subst, arith}
+use Rattle.std.specs.Io.KnownBytes.{prepend_known}
+use Rattle.std.specs.Prelude.{IfNone, IfSome, IsErr, is_some}
+use Rattle.serde_json.specs.Data.{Data}
+use Rattle.dap_message.specs.Told.{Answers, response_to}
+use Rattle.dap_message.specs.declared.request.Request.{Request}
+use Rattle.dap_stream.specs.Broken.{IsMemoryOrWrite}
+use Rattle.dap_stream.specs.Sent.{SendsAll}
+use Rattle.dap_stream.specs.Serving.{Phase, going, over, Steps}
+use Rattle.dap_stream.specs.Talk.{Talks}
+use Rattle.dap_stream.specs.Talked.{IsEnd, TalkedAs}
+use Rattle.dap_stream.specs.declared.broken.Broken.{Broken}
+use Rattle.dap_stream.specs.declared.broken.Broken.TheVariants as broken
+use Rattle.dap_stream.specs.declared.serves.Turn.TheVariants as turn
+use Rattle.dap_stream.specs.declared.talk.Talked.{Talked}
+use Rattle.dap_stream.specs.declared.talk.Talked.TheVariants as talked
+use Rattle.dap_stream.proofs.Talking.{talks-none, talks-then}
+use Rattle.mix_dap.specs.Dialogue.{DialogueAs, EndsAs, GoesAs, PartAs, Stage, StageSteps, debugs, done, waiting}
+use Rattle.mix_dap.specs.Launched.{launched_of}
+use Rattle.mix_dap.specs.Served.{AdapterServes, AdapterWorks, AdapterRests, turn_of}
+use Rattle.mix_dap.specs.Told.{outcome_of_launch}
+use Rattle.mix_dap.specs.declared.adapter.Adapter.{Adapter}
+use Rattle.mix_dap.specs.declared.adapter.Flow.{Flow}
+use Rattle.mix_dap.specs.declared.adapter.Flow.TheVariants as flow
+use Rattle.mix_dap.specs.declared.launch.Texts.{Texts}
+use Rattle.mix_stream.specs.Stream.{CountsFailure}
+use Rattle.mix_dap.proofs.TalkLemmas.{talks-as}
+use Rattle.mix_dap.proofs.BeforeLemmas.{had, launched-then}
+
+-- ---- the steps of a launched program
+
+abbrev debug_step : Phase Adapter → Option Data → List Data → Phase Adapter → Type 0
+debug_step = Steps AdapterServes (λ a. is_some a.way) AdapterWorks AdapterRests
+
+abbrev stage_in : Phase Adapter → Stage
+stage_in (going a) = debugs a
+stage_in (over a) = done
+
+debug-step : (s : Phase Adapter) (frame : Option Data) (told : List Data) (t : Phase Adapter) → debug_step s frame told t
+    → StageSteps (stage_in s) frame told (stage_in t)
+debug-step (going a) frame told (going b) is = is
+debug-step (going a) frame told (over b) is = (b, is)
+debug-step (over a) frame told t is = absurd is
+
+debug-talks : (s t : Phase Adapter) (count : ℕ) (old new told now : Option (List ℕ)) → Talks debug_step s t count old new told now
+    → Talks StageSteps (stage_in s) (stage_in t) count old new told now
+debug-talks s t count old new told now is = talks-as debug_step StageSteps stage_in debug-step s t count old new told now is
+
+debug-end : (phase : Phase Adapter) (count : ℕ) (left new : Option (List ℕ)) → IsEnd phase count left new → EndsAs (stage_in phase) count left new
+debug-end (going a) count left new is = is
+debug-end (over a) count left new is = is
+
+-- a launched program leaves no request to another
+pub never-left : (flow : Flow) → turn_of flow ≡ turn.Left → ⊥
+never-left flow.On is = cc
+never-left (flow.Refused why) is = cc
+never-left flow.Over is = cc
+
+pub debug-done : (end : Talked) (s t : Adapter) (old new told now : Option (List ℕ)) (waits : List Data)
+    → TalkedAs AdapterServes (λ a. is_some a.way) AdapterWorks AdapterRests (Ok end) s t old new told now waits
+    → GoesAs (debugs s) (Ok tt) old new told now
+debug-done talked.Done s t old new told now waits is = (
+  stage_in is.phase,
+  is.count,
+  is.rest,
+  debug-talks (going s) is.phase is.count old is.rest told now is.talks,
+  debug-end is.phase is.count is.rest new is.end,
+)
+debug-done (talked.Left request) s t old new told now waits is = absurd (never-left is.left.flow (sym is.left.next_is))
+
+pub debug-broken : (why : Broken) (s t : Adapter) (old new told now : Option (List ℕ)) (waits : List Data)
+    → TalkedAs AdapterServes (λ a. is_some a.way) AdapterWorks AdapterRests (Err why) s t old new told now waits
+    → GoesAs (debugs s) (Err why) old new told now
+debug-broken broken.Cut s t old new told now waits is =
+    (debugs is.state, is.count, is.rest, debug-talks (going s) (going is.state) is.count old is.rest told now is.talks, is.breaks)
+debug-broken broken.TooLong s t old new told now waits is =
+    (debugs is.state, is.count, is.rest, debug-talks (going s) (going is.state) is.count old is.rest told now is.talks, is.breaks)
+debug-broken broken.Read s t old new told now waits is = tt
+debug-broken broken.Write s t old new told now waits is = tt
+debug-broken broken.Memory s t old new told now waits is = tt
+
+-- ---- after a part of a dialogue
+
+end-then : (stage : Stage) (count more : ℕ) (left new : Option (List ℕ)) → EndsAs stage more left new → EndsAs stage (count + more) left new
+end-then waiting count more left new (inl is) = inl is
+end-then waiting count more left new (inr is) = inr (omega (arith, is.0), is.1)
+end-then (debugs a) count more left new (inl is) = inl is
+end-then (debugs a) count more left new (inr is) = inr (omega (arith, is.0), is.1)
+end-then done count more left new is = is
+
+pub goes-then : (result : Result Unit Broken) (s m : Stage) (count : ℕ) (a b c told mid now : Option (List ℕ)) → Talks StageSteps s m count a b told mid
+    → GoesAs m result b c mid now → GoesAs s result a c told now
+goes-then (Ok ended) s m count a b c told mid now part is =
+    (is.0, count + is.1, is.2, talks-then StageSteps s m is.0 count is.1 a b is.2 told mid now part is.3, end-then is.0 count is.1 is.2 c is.4)
+goes-then (Err broken.Cut) s m count a b c told mid now part is =
+    (is.0, count + is.1, is.2, talks-then StageSteps s m is.0 count is.1 a b is.2 told mid now part is.3, is.4)
+goes-then (Err broken.TooLong) s m count a b c told mid now part is =
+    (is.0, count + is.1, is.2, talks-then StageSteps s m is.0 count is.1 a b is.2 told mid now part is.3, is.4)
+goes-then (Err broken.Read) s m count a b c told mid now part is = tt
+goes-then (Err broken.Write) s m count a b c told mid now part is = tt
+goes-then (Err broken.Memory) s m count a b c told mid now part is = tt
+
+-- ---- parts, one after the other
+
+-- what was read and not heard stands before what is left of the input
+pub dialogue-then : (result : Result Unit Broken) (launches : ℕ) (bytes : List ℕ) (a b left told mid now : Option (List ℕ))
+    → (count : ℕ) × (launches ≤ count) × Talks StageSteps waiting waiting count a b told mid
+    → GoesAs waiting result b (prepend_known bytes left) mid now → DialogueAs result a left told now
+dialogue-then result launches bytes a b left told mid now talks is =
+    (bytes, goes-then result waiting waiting talks.0 a b (prepend_known bytes left) told mid now talks.2 is)
+
+-- the same where it was broken off
+pub dialogue-broken : (why : Broken) (launches : ℕ) (bytes : List ℕ) (a b left told mid now : Option (List ℕ))
+    → (count : ℕ) × (launches ≤ count) × Talks StageSteps waiting waiting count a b told mid
+    → PartAs (Err why) b (prepend_known bytes left) mid now → DialogueAs (Err why) a left told now
+dialogue-broken why launches bytes a b left told mid now talks is = dialogue-then (Err why) launches bytes a b left told mid now talks is
+
+heard-none : (left : Option (List ℕ)) → prepend_known [] left ≡ left
+heard-none None = refl
+heard-none (Some text) = refl
+
+-- nothing was heard yet
+pub talks-begin : (bytes : List ℕ) (left told : Option (List ℕ)) → bytes ≡ []
+    → (count : ℕ) × (0 ≤ count) × Talks StageSteps waiting waiting count left (prepend_known bytes left) told told
+talks-begin bytes left told none = (
+  0,
+  omega arith,
+  subst (λ b. Talks StageSteps waiting waiting 0 left (prepend_known b left) told told) (sym none)
+      (subst (λ m. Talks StageSteps waiting waiting 0 left m told told) (sym (heard-none left)) (talks-none StageSteps waiting left told)),
+)
+
+-- a launch more that was refused
+pub refused-more : (launches : ℕ) (a b c told mid now : Option (List ℕ))
+    → (count : ℕ) × (launches ≤ count) × Talks StageSteps waiting waiting count a b told mid
+    → PartAs (Ok false) b c mid now → (count : ℕ) × (launches + 1 ≤ count) × Talks StageSteps waiting waiting count a c told now
+refused-more launches a b c told mid now talks more = (
+  talks.0 + more.0,
+  omega (arith, talks.1, more.1),
+  talks-then StageSteps waiting waiting waiting talks.0 more.0 a b c told mid now talks.2 more.2,
+)
+
+-- as many as are counted
+pub counted : (launches : ℕ) (bytes : List ℕ) (old left told now : Option (List ℕ))
+    → (count : ℕ) × (launches ≤ count) × Talks StageSteps waiting waiting count old (prepend_known bytes left) told now → 2 ^ 64 - 1 ≤ launches
+    → DialogueAs (Ok tt) old left told now
+counted launches bytes old left told now talks all =
+    (bytes, (waiting, talks.0, prepend_known bytes left, talks.2, inr (omega (arith, talks.1, all), refl)))
+
+-- ---- what answers a launch
+
+-- a launch that is refused
+pub launch-refused : {B : Type 0} (busy : B → Bool) (texts : B → Option Texts) (end : Talked) (request : Request) (s t : B) (launched : Texts) (opened : Option Adapter)
+    (old new told mid now : Option (List ℕ)) (waits answer : List Data) → end ≡ talked.Left request → had busy texts end s t old new told mid waits
+    → texts t ≡ Some launched → opened ≡ None → IfNone opened (IsErr (launched_of launched))
+    → Answers (response_to request (outcome_of_launch (launched_of launched))) waits answer → SendsAll answer mid now
+    → PartAs (Ok false) old new told now
+launch-refused busy texts end request s t launched opened old new told mid now waits answer left is kept none refused answers sends =
+    let why = subst (λ o. IfNone o (IsErr (launched_of launched))) none refused in
+    launched-then busy texts end request s t launched waiting old new told mid now waits answer left is kept answers (λ opens. inr (launched, why, opens)) sends
+
+-- a launch that is done, and what comes after it
+pub launch-done : {B : Type 0} (busy : B → Bool) (texts : B → Option Texts) (end : Talked) (request : Request) (s t : B) (launched : Texts) (opened : Option Adapter) (a : Adapter)
+    (result : Result Unit Broken) (old new rest told mid now last : Option (List ℕ)) (waits answer : List Data) → end ≡ talked.Left request
+    → had busy texts end s t old new told mid waits → texts t ≡ Some launched → opened ≡ Some a → IfSome opened (λ b. launched_of launched ≡ Ok b.session)
+    → IfSome opened (λ b. is_some b.way ≡ false) → Answers (response_to request (outcome_of_launch (launched_of launched))) waits answer
+    → SendsAll answer mid now → GoesAs (debugs a) result new rest now last → GoesAs waiting result old rest told last
+launch-done busy texts end request s t launched opened a result old new rest told mid now last waits answer left is kept some session rests answers sends goes =
+    let loads = subst (λ o. IfSome o (λ b. launched_of launched ≡ Ok b.session)) some session in
+    let idle = subst (λ o. IfSome o (λ b. is_some b.way ≡ false)) some rests in
+    let talks = launched-then busy texts end request s t launched (debugs a) old new told mid now waits answer left is kept answers
+    (λ opens. (launched, loads, idle, opens)) sends in
+    goes-then result waiting (debugs a) talks.0 old new rest told now last talks.2 goes
+
+-- what breaks off the answer to a launch
+pub answer-broken : (why : Broken) (old new told now : Option (List ℕ)) → IsMemoryOrWrite why → GoesAs waiting (Err why) old new told now
+answer-broken broken.Memory old new told now is = tt
+answer-broken broken.Read old new told now is = tt
+answer-broken broken.Write old new told now is = tt
+answer-broken broken.TooLong old new told now is = absurd is
+answer-broken broken.Cut old new told now is = absurd is
+
+-- ---- how a part ended
+
+pub part-over : (b : Bool) (old new told now : Option (List ℕ)) → b ≡ true → PartAs (Ok b) old new told now → GoesAs waiting (Ok tt) old new told now
+part-over b old new told now is part = subst (λ o. PartAs (Ok o) old new told now) is part
+
+pub part-refused : (b : Bool) (old new told now : Option (List ℕ)) → b ≡ false → PartAs (Ok b) old new told now → PartAs (Ok false) old new told now
+part-refused b old new told now is part = subst (λ o. PartAs (Ok o) old new told now) is part
+
+pub counts-why : (why which : Broken) (old new : ℕ) → CountsFailure (◌≡◌ {A = Result Unit Broken} (Err why) (Err which)) old new → CountsFailure (why ≡ which) old new
+counts-why why which old new is =
+    ((λ same. is.0.0 (ap Err same), λ more. (let e = is.0.1 more in cc)), λ other. is.1 (λ e. other cc))

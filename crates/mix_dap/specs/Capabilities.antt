@@ -1,0 +1,39 @@
+-- What the adapter can do, and what the client says of itself.
+use Rattle.std.specs.Prelude.{ℕ, Bool, true, false, List, [], ◌∷◌, codes, Option, None, Some, option_and_then}
+use Rattle.serde_json.specs.Data.{Data, Members, boolean, object, no_members, put}
+use Rattle.serde_json.specs.Find.{as_bool}
+use Rattle.dap_message.specs.Request.{argument_of, flag_of}
+use Rattle.dap_message.specs.declared.request.Request.{Request}
+use Rattle.mix_dap.specs.declared.capabilities.Client.{Client}
+
+-- what it supports, by the names of the protocol
+abbrev pub abilities : List (List ℕ)
+abilities =
+    codes "supportsConfigurationDoneRequest" ∷ codes "supportsStepBack" ∷ codes "supportsSetVariable" ∷ codes "supportsSetExpression"
+    ∷ codes "supportsGotoTargetsRequest" ∷ codes "supportsEvaluateForHovers" ∷ codes "supportsRestartRequest" ∷ codes "supportsExceptionInfoRequest"
+    ∷ codes "supportsTerminateRequest" ∷ codes "supportsDataBreakpoints" ∷ codes "supportsReadMemoryRequest" ∷ codes "supportsWriteMemoryRequest" ∷ codes "supportsDisassembleRequest"
+    ∷ codes "supportsInstructionBreakpoints" ∷ codes "supportsSteppingGranularity" ∷ []
+
+-- each of them is true
+abbrev pub put_abilities : List (List ℕ) → Members → Members
+put_abilities [] members = members
+put_abilities (name ∷ names) members = put_abilities names (put name (boolean true) members)
+
+abbrev pub capabilities : Data
+capabilities = object (put_abilities abilities no_members)
+
+-- the number of the client's first line and column: 1, unless it says that its lines do not start at 1
+abbrev pub first_by : Option Bool → ℕ
+first_by None = 1
+first_by (Some true) = 1
+first_by (Some false) = 0
+
+abbrev pub client_of : Request → Client
+client_of r = record {
+  first = first_by (option_and_then as_bool (argument_of r (codes "linesStartAt1")));
+  hears_invalidated = flag_of r (codes "supportsInvalidatedEvent");
+}
+
+-- a client that has said nothing
+abbrev pub unknown_client : Client
+unknown_client = record { first = 1; hears_invalidated = false }

@@ -1,0 +1,64 @@
+-- `mix/change`: a change by its number, where it was done, what it did, how long it took, and what it altered.
+use Rattle.std.specs.Prelude.{ℕ, ◌-◌, List, [], ◌∷◌, codes, flat_map, map, Result, Ok, ok_or}
+use Rattle.serde_json.specs.Data.{Data, Members, array, string, number, unsigned, object, no_members, put}
+use Rattle.serde_json.specs.View.{items_of}
+use Rattle.mixal_text.specs.Steps.{◌>>=◌}
+use Rattle.mix_machine.specs.World.{WorldState, unit_at}
+use Rattle.mix_machine.specs.declared.old.Change.{Change}
+use Rattle.mix_session.specs.Altered.{altered_by, unit_differences}
+use Rattle.mix_session.specs.Change.{change_text, world_at}
+use Rattle.mix_session.specs.Client.{change_numbered}
+use Rattle.mix_session.specs.Differences.{held_text, number_name}
+use Rattle.mix_session.specs.Session.{SessionState}
+use Rattle.mix_session.specs.Timeline.{Timeline}
+use Rattle.mix_session.specs.declared.altered.Altered.{Altered}
+use Rattle.mix_session.specs.declared.altered.Altered.TheVariants as part
+use Rattle.mix_session.specs.declared.altered.unit.UnitDifference.{UnitDifference}
+use Rattle.mix_session.specs.declared.altered.unit.UnitDifference.TheVariants.{Block, Number}
+use Rattle.dap_message.specs.Request.{number_of}
+use Rattle.dap_message.specs.declared.request.Request.{Request}
+use Rattle.mix_dap.specs.View.{put_digits, part_name}
+use Rattle.mix_dap.specs.declared.fault.Fault.{Fault}
+use Rattle.mix_dap.specs.declared.fault.Fault.TheVariants as fault
+
+-- an item names the part that was altered
+abbrev pub item_members : Altered → Members
+item_members p = put (codes "part") (string (part_name p)) no_members
+
+-- what the part holds before and after
+abbrev pub part_item : WorldState → WorldState → Altered → Data
+part_item v w p = object (put (codes "after") (string (held_text w p)) (put (codes "before") (string (held_text v p)) (item_members p)))
+
+-- of a unit: a block with other words, or a number before and after
+abbrev pub put_difference : UnitDifference → Members → Members
+put_difference (Block i) members = put (codes "block") (number (unsigned i)) members
+put_difference (Number which before after) members =
+    put_digits (codes "after") after (put_digits (codes "before") before (put (codes "what") (string (number_name which)) members))
+
+abbrev pub unit_item : ℕ → UnitDifference → Data
+unit_item n difference = object (put_difference difference (item_members (part.Unit n)))
+
+-- the items of a part: one, and of a unit one for each thing that differs
+abbrev pub items_of_part : WorldState → WorldState → Altered → List Data
+items_of_part v w (part.Unit n) = map (unit_item n) (unit_differences (unit_at v n) (unit_at w n))
+items_of_part v w other = part_item v w other ∷ []
+
+abbrev pub items_of_change : Change → WorldState → WorldState → List Data
+items_of_change change v w = flat_map (items_of_part v w) (altered_by change v w)
+
+-- a change of a number, from one state to another
+abbrev pub change_between : ℕ → Change → WorldState → WorldState → Data
+change_between n change v w =
+    object (put (codes "items") (array (items_of (items_of_change change v w))) (put_digits (codes "time") (w.clock - v.clock)
+    (put (codes "text") (string (change_text v change)) (put (codes "location") (number (unsigned v.loc)) (put (codes "number") (number (unsigned n)) no_members)))))
+
+-- from the state before it to the one after it
+abbrev pub change_shown : Timeline → ℕ → Change → Data
+change_shown t n change = change_between n change (world_at t (n - 1)) (world_at t n)
+
+-- the answer to `mix/change`
+abbrev pub change_asked : SessionState → Request → Result Data Fault
+change_asked s r = do
+  n ← ok_or (number_of r (codes "number")) fault.BadArgument
+  change ← ok_or (change_numbered s.timeline n) fault.NoSuchThing
+  Ok (change_shown s.timeline n change)

@@ -1,0 +1,86 @@
+-- A dialogue of the adapter with its client.
+use Rattle.std.specs.Prelude.{◌≡◌, ◌⊎◌, ◌≤◌, ◌-◌, ◌^◌, ◌++◌, ℕ, List, [], codes, Bool, true, false, Option, None, Some, Result, Ok, Err, IsErr, is_some}
+use Rattle.std.specs.Io.KnownBytes.{Appends, prepend_known}
+use Rattle.serde_json.specs.Data.{Data}
+use Rattle.dap_message.specs.Request.{command_of}
+use Rattle.dap_message.specs.Told.{Answers, response_to}
+use Rattle.dap_message.specs.declared.request.Request.{Request}
+use Rattle.dap_stream.specs.Asked.{IsRequest}
+use Rattle.dap_stream.specs.Broken.{broken_text}
+use Rattle.dap_stream.specs.Hearing.{HearsAs}
+use Rattle.dap_stream.specs.Serving.{IsUnclear, going, over, Steps}
+use Rattle.dap_stream.specs.Talk.{Talks}
+use Rattle.dap_stream.specs.declared.broken.Broken.{Broken}
+use Rattle.dap_stream.specs.declared.broken.Broken.TheVariants as broken
+use Rattle.dap_stream.specs.declared.hear.Heard.TheVariants as heard
+use Rattle.mix_dap.specs.Before.{Asks}
+use Rattle.mix_dap.specs.Launched.{launched_of}
+use Rattle.mix_dap.specs.Served.{AdapterServes, AdapterWorks, AdapterRests}
+use Rattle.mix_dap.specs.Told.{outcome_of_launch}
+use Rattle.mix_dap.specs.declared.adapter.Adapter.{Adapter}
+use Rattle.mix_dap.specs.declared.launch.Texts.{Texts}
+use Rattle.mix_dap.specs.declared.waiting.Asked.TheVariants as asked
+
+-- the line that tells what ended a dialogue, or that memory was refused for it
+abbrev pub line_of : List ℕ → List ℕ
+line_of text = codes "mixrev: " ++ text ++ codes "\n"
+
+abbrev pub TellsBroken : Broken → Option (List ℕ) → Option (List ℕ) → Type 0
+TellsBroken why old new = Appends old new (line_of (broken_text why)) ⊎ Appends old new (line_of (broken_text broken.Memory))
+
+-- where a dialogue is: a launch is waited for, a program is debugged, or the client is done
+pub data Stage : Type 0 where
+  waiting : Stage
+  debugs : Adapter → Stage
+  done : Stage
+
+-- a launch that was asked for, with these texts, is answered
+abbrev pub Opens : Request → Texts → List Data → Type 0
+Opens request texts told =
+    Asks (asked.Launch texts) (command_of request) request [] [] × Answers (response_to request (outcome_of_launch (launched_of texts))) [] told
+
+-- a request before a program is launched, and what is waited for after it
+abbrev pub BeforeSteps : Request → List Data → Stage → Type 0
+BeforeSteps request told waiting =
+    Asks asked.Answered (command_of request) request [] told ⊎ ((texts : Texts) × IsErr (launched_of texts) × Opens request texts told)
+BeforeSteps request told (debugs a) = (texts : Texts) × (launched_of texts ≡ Ok a.session) × (is_some a.way ≡ false) × Opens request texts told
+BeforeSteps request told done = Asks asked.Over (command_of request) request [] told
+
+-- one exchange of a dialogue
+abbrev pub StageSteps : Stage → Option Data → List Data → Stage → Type 0
+StageSteps waiting None told next = IsUnclear told × (next ≡ waiting)
+StageSteps waiting (Some message) told next = (request : Request) × IsRequest request message × BeforeSteps request told next
+StageSteps (debugs a) frame told waiting = ⊥
+StageSteps (debugs a) frame told (debugs b) = Steps AdapterServes (λ c. is_some c.way) AdapterWorks AdapterRests (going a) frame told (going b)
+StageSteps (debugs a) frame told done =
+    (b : Adapter) × Steps AdapterServes (λ c. is_some c.way) AdapterWorks AdapterRests (going a) frame told (over b)
+StageSteps done frame told next = ⊥
+
+-- the client is done, or its input is at its end, or it had as many exchanges as are counted
+abbrev pub EndsAs : Stage → ℕ → Option (List ℕ) → Option (List ℕ) → Type 0
+EndsAs waiting count left new = HearsAs (Ok heard.End) left new ⊎ ((2 ^ 64 - 1 ≤ count) × (new ≡ left))
+EndsAs (debugs a) count left new = HearsAs (Ok heard.End) left new ⊎ ((2 ^ 64 - 1 ≤ count) × (new ≡ left))
+EndsAs done count left new = new ≡ left
+
+-- How a dialogue came to this result from a stage of it. Frames that end it are told of; memory may be refused at any place, and a read or a write fail.
+abbrev pub GoesAs : Stage → Result Unit Broken → Option (List ℕ) → Option (List ℕ) → Option (List ℕ) → Option (List ℕ) → Type 0
+GoesAs from (Ok ended) old new told now =
+    (stage : Stage) × (count : ℕ) × (left : Option (List ℕ)) × Talks StageSteps from stage count old left told now × EndsAs stage count left new
+GoesAs from (Err broken.Cut) old new told now =
+    (stage : Stage) × (count : ℕ) × (left : Option (List ℕ)) × Talks StageSteps from stage count old left told now × HearsAs (Err broken.Cut) left new
+GoesAs from (Err broken.TooLong) old new told now =
+    (stage : Stage) × (count : ℕ) × (left : Option (List ℕ)) × Talks StageSteps from stage count old left told now × HearsAs (Err broken.TooLong) left new
+GoesAs from (Err broken.Read) old new told now = Unit {0}
+GoesAs from (Err broken.Write) old new told now = Unit {0}
+GoesAs from (Err broken.Memory) old new told now = Unit {0}
+
+-- A part of it, from where a launch is waited for, came to this result: the dialogue is over, or a launch was refused and another is waited for.
+abbrev pub PartAs : Result Bool Broken → Option (List ℕ) → Option (List ℕ) → Option (List ℕ) → Option (List ℕ) → Type 0
+PartAs (Ok true) old new told now = GoesAs waiting (Ok tt) old new told now
+PartAs (Ok false) old new told now = (count : ℕ) × (1 ≤ count) × Talks StageSteps waiting waiting count old new told now
+PartAs (Err why) old new told now = GoesAs waiting (Err why) old new told now
+
+-- A whole dialogue: it begins where a launch is waited for, with the input as it is, and of the input what is left at its end was not read, or read and
+-- not heard.
+abbrev pub DialogueAs : Result Unit Broken → Option (List ℕ) → Option (List ℕ) → Option (List ℕ) → Option (List ℕ) → Type 0
+DialogueAs result old new told now = (kept : List ℕ) × GoesAs waiting result old (prepend_known kept new) told now

@@ -1,0 +1,66 @@
+-- How a client is answered, before a program is launched and after that, and what runs tell it.
+use Rattle.std.specs.Prelude.{◌≡◌, List, [], false, Option, Some, is_some}
+use Rattle.serde_json.specs.Data.{Data}
+use Rattle.dap_message.specs.Request.{command_of}
+use Rattle.dap_message.specs.Told.{Answers, Events, response_to}
+use Rattle.dap_message.specs.declared.request.Request.{Request}
+use Rattle.dap_stream.specs.declared.serves.Turn.{Turn}
+use Rattle.dap_stream.specs.declared.serves.Turn.TheVariants as turn
+use Rattle.mix_dap.specs.Answer.{answer_to}
+use Rattle.mix_dap.specs.Before.{Asks}
+use Rattle.mix_dap.specs.Leaves.{FlowLeaves}
+use Rattle.mix_dap.specs.Replies.{BeginsWith, answer_message}
+use Rattle.mix_dap.specs.Runs.{Advances}
+use Rattle.mix_dap.specs.Stays.{AdvanceTells, GoesOn, Keeps, RestTells}
+use Rattle.mix_dap.specs.Told.{outcome_of}
+use Rattle.mix_dap.specs.declared.adapter.Adapter.{Adapter}
+use Rattle.mix_dap.specs.declared.adapter.Flow.{Flow}
+use Rattle.mix_dap.specs.declared.adapter.Flow.TheVariants as flow
+use Rattle.mix_dap.specs.declared.launch.Texts.{Texts}
+use Rattle.mix_dap.specs.declared.waiting.Asked.{Asked}
+use Rattle.mix_dap.specs.declared.waiting.Asked.TheVariants as asked
+
+-- whether the talk goes on; the texts of a launch are kept, and it waits for its answer
+abbrev pub Becomes : Asked → Turn → Option Texts → Type 0
+Becomes asked.Answered next texts = next ≡ turn.On
+Becomes asked.Over next texts = next ≡ turn.Over
+Becomes (asked.Launch launched) next texts = (next ≡ turn.Left) × (texts ≡ Some launched)
+
+-- a request before a program is launched
+pub record WaitingServes (request : Request) (told : List Data) (next : Turn) (texts : Option Texts) : Type 0 where
+  pub asked : Asked
+  pub asks : Asks asked (command_of request) request [] told
+  pub becomes : Becomes asked next texts
+
+abbrev pub turn_of : Flow → Turn
+turn_of flow.On = turn.On
+turn_of (flow.Refused why) = turn.On
+turn_of flow.Over = turn.Over
+
+-- a request of a launched program
+pub record AdapterServes (a : Adapter) (request : Request) (told : List Data) (next : Turn) (b : Adapter) : Type 0 where
+  pub flow : Flow
+  pub next_is : next ≡ turn_of flow
+  pub program : b.session.program ≡ a.session.program
+  pub first : b.session.timeline.first ≡ a.session.timeline.first
+  pub leaves : FlowLeaves flow (is_some a.way) (command_of request) request a.session b.session.timeline
+  pub answers : Answers (response_to request (outcome_of flow)) [] told
+  pub shows : BeginsWith (answer_message request (answer_to (command_of request) request a)) told
+  pub goes : GoesOn flow (command_of request) request a b told
+
+-- a piece of its run
+pub record AdapterWorks (a : Adapter) (told : List Data) (b : Adapter) : Type 0 where
+  pub program : b.session.program ≡ a.session.program
+  pub first : b.session.timeline.first ≡ a.session.timeline.first
+  pub advances : Advances a.way a.points a.session.timeline b.session.timeline (is_some b.way)
+  pub tells : AdvanceTells a.way a.points a.session.timeline b.session.timeline [] told
+  pub keeps : Keeps a b
+  pub events : Events [] told
+
+-- it pauses
+pub record AdapterRests (a : Adapter) (told : List Data) (b : Adapter) : Type 0 where
+  pub session : b.session ≡ a.session
+  pub pauses : is_some b.way ≡ false
+  pub tells : RestTells a.way [] told
+  pub keeps : Keeps a b
+  pub events : Events [] told

@@ -1,0 +1,69 @@
+-- The texts of a launch: those that its request gives, or else those of the files that it names.
+use Rattle.std.specs.Prelude.{◌≡◌, ◌⊎◌, ◌||◌, ◌+◌, ℕ, List, [], codes, Bool, true, false, Option, None, Some, Result, Ok, Err, is_some, unwrap_or, take, string_bytes}
+use Rattle.std.specs.Option.{option_map}
+use Rattle.std.specs.Global.{Vec}
+use Rattle.mix_refused.specs.declared.refused.Refused.{Refused}
+use Rattle.mix_refused.specs.declared.refused.Refused.TheVariants as refused
+use Rattle.mix_machine.specs.units.deck.Deck.{max_deck_bytes}
+use Rattle.mixal_asm.specs.Assembly.{max_source_bytes}
+use Rattle.dap_message.specs.Request.{text_of, flag_of}
+use Rattle.dap_message.specs.declared.request.Request.{Request}
+use Rattle.mix_dap.specs.declared.fault.Fault.{Fault}
+use Rattle.mix_dap.specs.declared.fault.Fault.TheVariants as fault
+use Rattle.mix_dap.specs.declared.launch.Texts.{Texts}
+
+-- what is known of the text of a name: the text, or why it can't be had, or nothing
+abbrev pub Known : Type 0
+Known = Option (Result (List ℕ) Fault)
+
+-- so many bytes of it at most
+abbrev pub IsKnown : Known → ℕ → List ℕ → Type 0
+IsKnown None most text = Unit {0}
+IsKnown (Some (Ok known)) most text = text ≡ take most known
+IsKnown (Some (Err why)) most text = ⊥
+
+-- a file is not opened, or a read of it fails
+abbrev pub IsFileFault : Fault → Type 0
+IsFileFault why = (why ≡ fault.NotOpened) ⊎ (why ≡ fault.Unread)
+
+abbrev pub IsKnownFault : Known → Fault → Type 0
+IsKnownFault None why = IsFileFault why
+IsKnownFault (Some (Ok known)) why = ⊥
+IsKnownFault (Some (Err wrong)) why = (why ≡ wrong) × IsFileFault why
+
+-- what a library gives for a name
+abbrev pub Gives : Known → ℕ → Result (Vec ℕ) (Refused Fault) → Type 0
+Gives known most (Ok bytes) = IsKnown known most bytes.items
+Gives known most (Err (refused.Fault why)) = IsKnownFault known why
+Gives known most (Err refused.Memory) = Unit {0}
+
+-- a text that is given, or else that of a name, or else the empty one
+abbrev pub IsText : (List ℕ → Known) → ℕ → Option (List ℕ) → Option (List ℕ) → List ℕ → Type 0
+IsText knows most (Some given) named text = text ≡ given
+IsText knows most None (Some name) text = IsKnown (knows name) most text
+IsText knows most None None text = text ≡ []
+
+-- the cards, which stand in place of those of the deck where they are given or named
+abbrev pub AreCards : (List ℕ → Known) → Option (List ℕ) → Option (List ℕ) → Option (List ℕ) → Type 0
+AreCards knows None None cards = cards ≡ None
+AreCards knows (Some given) named None = ⊥
+AreCards knows None (Some name) None = ⊥
+AreCards knows (Some given) named (Some cards) = IsText knows (max_deck_bytes + 1) (Some given) named cards
+AreCards knows None (Some name) (Some cards) = IsText knows (max_deck_bytes + 1) None (Some name) cards
+
+-- whether a launch says which source
+abbrev pub has_source : Request → Bool
+has_source r = is_some (text_of r (codes "program")) || is_some (text_of r (codes "sourceText"))
+
+-- the texts of a request, of which a longer one than may be has one byte more than it may have
+pub record AreTexts (knows : List ℕ → Known) (r : Request) (texts : Texts) : Type 0 where
+  pub asked : has_source r ≡ true
+  pub source : IsText knows (max_source_bytes + 1) (text_of r (codes "sourceText")) (text_of r (codes "program")) texts.source.items
+  pub deck : IsText knows (max_deck_bytes + 1) (text_of r (codes "devicesText")) (text_of r (codes "devices")) texts.deck.items
+  pub cards : AreCards knows (text_of r (codes "cardsText")) (text_of r (codes "cards")) (option_map (λ cards. cards.items) texts.cards)
+  pub name : string_bytes texts.name ≡ unwrap_or (text_of r (codes "program")) (codes "program.mixal")
+  pub stops : texts.stops ≡ flag_of r (codes "stopOnEntry")
+
+-- why they can't be had: no source is asked for, or a file that is named can't be read
+abbrev pub RefusesTexts : Request → Fault → Type 0
+RefusesTexts r why = ((has_source r ≡ false) × (why ≡ fault.BadArgument)) ⊎ ((has_source r ≡ true) × IsFileFault why)

@@ -1,0 +1,196 @@
+//! Breakpoints by their kinds: where each that is asked for stands, and how it is told.
+
+ghost use Rattle.std.specs.Prelude.{◌≡◌, ◌++◌, IfOk, OnOk, Option, None};
+ghost use Rattle.std.specs.Option.{option_to_list};
+ghost use Rattle.std.specs.List.{filter_map};
+ghost use Rattle.serde_json.specs.Data.{Data};
+ghost use Rattle.serde_json.specs.View.{view};
+ghost use Rattle.dap_message.specs.Fields.{members_in};
+ghost use Rattle.mix_dap.specs.Points.{asked_in, answer_by, verified, verified_at, unverified, line_asked, line_point, line_told, instruction_point, instruction_told, data_point, data_told, elsewhere};
+
+use crate::layout::{cell_of_reference, reference_of};
+use crate::list::{add, list_alone};
+use crate::look::{line_for, source_line};
+use crate::points::entry::{entries_of, integer_in, number_in, text_in};
+use crate::points::line::cell_of_line;
+use crate::watch::part_named;
+use dap_message::{Fields, Request};
+use mix_machine::Place;
+use mix_refused::Memory;
+use mix_session::{Condition, Session};
+use mixal_asm::Program;
+use serde_json::Value;
+use std::alloc::Global;
+
+/// Breakpoints of one kind.
+pub(crate) trait PointKind {
+    /// What stands of one.
+    type Point: Drop;
+
+    // What stands of the one that an entry asks for, if it can stand.
+    ghost point: { Self → Data → Option Self.Point };
+
+    // How it is told.
+    ghost told: { Self → Data → Data };
+
+    /// Adds what stands of the one that an entry asks for, and gives how it is told.
+    fn add(
+        &self,
+        alloc: Global,
+        entry: &Value,
+        points: &mut Vec<Self::Point>,
+    ) -> Result<Value, Memory>
+        ensures stands { OnOk result (points.new.items ≡ points.old.items ++ option_to_list (point self.now (view entry.now))) }
+        ensures told { IfOk result (λ v. view v ≡ told self.now (view entry.now)) };
+}
+
+/// What stands of all that a request asks for, and its answer.
+pub(crate) fn set_all<K: PointKind>(
+    alloc: Global,
+    kind: &K,
+    request: &Request,
+) -> Result<(Vec<K::Point>, Value), Memory>
+    ensures stand { IfOk result (λ set. set.0.items ≡ filter_map (K.point kind.now) (asked_in request.now)) }
+    ensures told { IfOk result (λ set. view set.1 ≡ answer_by (K.told kind.now) request.now) }
+{
+    let mut points = Vec::new(alloc);
+    let mut told = Vec::new(alloc);
+    let entries = entries_of(request, "breakpoints");
+    for entry in entries {
+        add(&mut told, kind.add(alloc, entry, &mut points)?)?;
+    }
+    Ok((points, list_alone(alloc, "breakpoints", told)?))
+}
+
+/// Those of lines of the program, which the client counts from this first one on.
+#[derive(Clone, Copy)]
+pub(crate) struct Lines<'a, 's> {
+    pub program: &'a Program<'s>,
+    pub first: u64,
+}
+
+impl PointKind for Lines<'_, '_> {
+    type Point = Place;
+
+    ghost point = { λ kind. line_point kind.program.now kind.first };
+
+    ghost told = { λ kind entry. line_told kind.first (line_asked kind.program.now kind.first entry) };
+
+    fn add(&self, alloc: Global, entry: &Value, points: &mut Vec<Place>) -> Result<Value, Memory> {
+        let number = source_line(self.first, number_in("line", entry).unwrap_or(0));
+        match cell_of_line(self.program, number) {
+            Some((place, line)) => {
+                points.push(place)?;
+                let mut fields = verified_at(alloc, place)?;
+                fields.number("line", line_for(self.first, line))?;
+                Ok(fields.done())
+            }
+            None => unverified(alloc, "no word from this line on"),
+        }
+    }
+}
+
+/// Those of instructions.
+#[derive(Clone, Copy)]
+pub(crate) struct Instructions;
+
+impl PointKind for Instructions {
+    type Point = Place;
+
+    ghost point = { λ _. instruction_point };
+
+    ghost told = { λ _ entry. instruction_told (instruction_point entry) };
+
+    fn add(&self, alloc: Global, entry: &Value, points: &mut Vec<Place>) -> Result<Value, Memory> {
+        match instruction_point(entry) {
+            Some(place) => {
+                points.push(place)?;
+                Ok(verified_at(alloc, place)?.done())
+            }
+            None => unverified(alloc, "no such cell"),
+        }
+    }
+}
+
+fn instruction_point(entry: &Value) -> Option<Place>
+    ensures { result ≡ instruction_point (view entry.now) }
+{
+    let reference = text_in("instructionReference", entry)?;
+    cell_of_reference(reference, integer_in("offset", entry).unwrap_or(0))
+}
+
+/// Data breakpoints.
+#[derive(Clone, Copy)]
+pub(crate) struct Parts<'a, 's> {
+    pub session: &'a Session<'s>,
+}
+
+impl PointKind for Parts<'_, '_> {
+    type Point = Condition;
+
+    ghost point = { λ kind. data_point kind.session.now };
+
+    ghost told = { λ kind entry. data_told (data_point kind.session.now entry) };
+
+    fn add(
+        &self,
+        alloc: Global,
+        entry: &Value,
+        points: &mut Vec<Condition>,
+    ) -> Result<Value, Memory> {
+        match part_named(self.session, text_in("dataId", entry).unwrap_or("")) {
+            Some(part) => {
+                points.push(Condition::Alters(part))?;
+                Ok(verified(alloc)?.done())
+            }
+            None => unverified(alloc, "no such part of the machine"),
+        }
+    }
+}
+
+/// Those of another source, of which none stands.
+#[derive(Clone, Copy)]
+pub(crate) struct Other;
+
+impl PointKind for Other {
+    type Point = Place;
+
+    ghost point = { λ _ _. None };
+
+    ghost told = { λ _. elsewhere };
+
+    fn add(
+        &self,
+        alloc: Global,
+        _entry: &Value,
+        _points: &mut Vec<Place>,
+    ) -> Result<Value, Memory> {
+        unverified(alloc, "another source")
+    }
+}
+
+fn verified(alloc: Global) -> Result<Fields, Memory>
+    ensures { IfOk result (λ f. members_in f ≡ verified) }
+{
+    let mut fields = Fields::new(alloc);
+    fields.flag("verified", true)?;
+    Ok(fields)
+}
+
+fn verified_at(alloc: Global, place: Place) -> Result<Fields, Memory>
+    ensures { IfOk result (λ f. members_in f ≡ verified_at place) }
+{
+    let mut fields = verified(alloc)?;
+    let reference = reference_of(alloc, place.number())?;
+    fields.text("instructionReference", reference.as_str())?;
+    Ok(fields)
+}
+
+fn unverified(alloc: Global, why: &str) -> Result<Value, Memory>
+    ensures { IfOk result (λ v. view v ≡ unverified why.now) }
+{
+    let mut fields = Fields::new(alloc);
+    fields.flag("verified", false)?;
+    fields.text("message", why)?;
+    Ok(fields.done())
+}
