@@ -97,7 +97,7 @@ VIEWS = [
     ("setExpression", {"expression": "cell A+1", "value": "7"}, '"body":{"value":"+ 00 00 00 00 07 = 7"}'), ("evaluate", {"expression": "cell 101"}, '"result":"+ 00 00 00 00 07 = 7"'),
     ("setExpression", {"expression": "rI2", "value": "-3"}, '"body":{"value":"- 00 03 = -3"}'), ("setExpression", {"expression": "over", "value": "on"}, '"body":{"value":"on"}'),
     ("setExpression", {"expression": "loc", "value": "1"}, '"body":{"value":"0001"}'), ("setExpression", {"expression": "A+1", "value": "7"}, '"id":306'),
-    ("setExpression", {"expression": "A", "value": "7"}, '"id":306'), ("setExpression", {"expression": "a", "value": "7"}, '"body":{"value":"+ 00 00 00 00 07 = 7"}'),
+    ("setExpression", {"expression": "A", "value": "7"}, '"id":306'), ("setExpression", {"expression": "a", "value": "7"}, '"id":306'),
     ("setExpression", {"expression": "unit 16", "value": "7"}, '"id":306'), ("setExpression", {"expression": "clock", "value": "7"}, '"id":202'),
     ("setExpression", {"expression": "rA"}, '"id":302'), ("setExpression", {"value": "7"}, '"id":302'), ("setExpression", {"expression": "I1", "value": "4096"}, '"id":205'),
     # what would be watched: a part by its scope, or by what it is after `until`; no cell of another page, no location, no text without a name; no fault
