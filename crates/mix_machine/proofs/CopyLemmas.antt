@@ -1,6 +1,8 @@
 -- The words of MOVE copied, and those that they replace kept.
-use Rattle.std.proofs.Common.{ℕ, zero, suc, ◌+◌, ◌-◌, ◌≤◌, ◌≡◌, ◌++◌, ◌∙◌, List, [], ◌∷◌, length, take, drop, slice_set, slice_index_or, ap, sym, refl, arith}
-use Rattle.std.proofs.lemmas.List.{length-set, length-take-le, length-drop, drop-set-lt, drop_more}
+use Rattle.std.proofs.Common.{ℕ, zero, suc, ◌+◌, ◌-◌, ◌≤◌, ◌<◌, ◌≡◌, ◌++◌, ◌∙◌, List, [], ◌∷◌, length, take, drop, get_or, slice_set, slice_index_or, ap, sym, refl, arith}
+use Rattle.std.specs.List.{copy_within}
+use Rattle.std.proofs.Math.Seq.{paste, paste-zero, paste-suc, drop-paste, length_paste_head}
+use Rattle.std.proofs.lemmas.List.{length-set, length-take-le, length-drop, drop-set-lt, drop_more, get_or_append_left, get_or-take, get_or-drop}
 use Rattle.undo_core.specs.Pack.{KeptList}
 use Rattle.mix_word.specs.Word.{WordValue, zero_word}
 use Rattle.mix_machine.specs.World.{WorldState, IsWorld, cell_of}
@@ -22,6 +24,55 @@ copied-last zero from to cells m p q e ep eq =
 copied-last (suc n) from to cells m p q e ep eq =
     let more : m ≡ suc (suc n) = omega arith in
     rw more (copied-last n (from + 1) (to + 1) (slice_set cells to (slice_index_or cells from zero_word)) (suc n) p q (omega arith) (omega arith) (omega arith))
+
+-- words copied at once: what is read for each of them is what stood there before
+copied-once : (n from to : ℕ) (cells : List WordValue) → from + n ≤ length cells → to + n ≤ length cells →
+    ((j : ℕ) → j < n → get_or (paste cells to (drop from cells) j) (from + j) zero_word ≡ get_or cells (from + j) zero_word) →
+    with_copies n from to cells ≡ paste cells to (drop from cells) n
+copied-once zero from to cells there into read = paste-zero cells to (drop from cells)
+copied-once (suc n) from to cells there into read =
+    let words = drop from cells in
+    let left : length words ≡ length cells - from = length-drop from cells in
+    let before = copied-once n from to cells (omega (arith, there)) (omega (arith, into)) (λ j below. read j (omega (arith, below))) in
+    let word : get_or (with_copies n from to cells) (from + n) zero_word ≡ get_or words n zero_word =
+    ap (λ (cs : List WordValue). get_or cs (from + n) zero_word) before ∙ read n (omega arith) ∙ sym (get_or-drop from cells n zero_word) in
+    copied-last n from to cells (suc n) (to + n) (from + n) (omega arith) refl refl
+    ∙ ap (slice_set (with_copies n from to cells) (to + n)) word
+    ∙ ap (λ (cs : List WordValue). slice_set cs (to + n) (get_or words n zero_word)) before
+    ∙ paste-suc cells to words n zero_word (omega (arith, into)) (omega (arith, left, there))
+
+as-within : (n from to : ℕ) (cells : List WordValue) → with_copies n from to cells ≡ paste cells to (drop from cells) n →
+    with_copies n from to cells ≡ copy_within cells from (from + n) to
+as-within n from to cells is =
+    let count : n ≡ from + n - from = omega arith in
+    is ∙ ap (paste cells to (drop from cells)) count
+
+-- words copied to where they are or before it
+pub copied-down : (n from to : ℕ) (cells : List WordValue) → from + n ≤ length cells → to ≤ from →
+    with_copies n from to cells ≡ copy_within cells from (from + n) to
+copied-down n from to cells there down =
+    as-within n from to cells (copied-once n from to cells there (omega (arith, there, down)) (λ j below.
+    let words = drop from cells in
+    let left : length words ≡ length cells - from = length-drop from cells in
+    let at : from + j ≡ to + j + (from - to) = omega (arith, down) in
+    ap (λ k. get_or (paste cells to words j) k zero_word) at
+    ∙ sym (get_or-drop (to + j) (paste cells to words j) (from - to) zero_word)
+    ∙ ap (λ (cs : List WordValue). get_or cs (from - to) zero_word) (drop-paste cells to words j (omega (arith, there, down)) (omega (arith, left, there, below)))
+    ∙ get_or-drop (to + j) cells (from - to) zero_word
+    ∙ ap (λ k. get_or cells k zero_word) (sym at)))
+
+-- words copied past the last of them
+pub copied-past : (n from to : ℕ) (cells : List WordValue) → to + n ≤ length cells → from + n ≤ to →
+    with_copies n from to cells ≡ copy_within cells from (from + n) to
+copied-past n from to cells into past =
+    as-within n from to cells (copied-once n from to cells (omega (arith, into, past)) into (λ j below.
+    let words = drop from cells in
+    let left : length words ≡ length cells - from = length-drop from cells in
+    let few : length (take to cells) ≡ to = length-take-le to cells (omega (arith, into)) in
+    let all : length (take to cells ++ take j words) ≡ to + j = length_paste_head cells to words j (omega (arith, into)) (omega (arith, left, into, past, below)) in
+    get_or_append_left (take to cells ++ take j words) (drop (to + j) cells) zero_word (from + j) (omega (arith, all, past, below))
+    ∙ get_or_append_left (take to cells) (take j words) zero_word (from + j) (omega (arith, few, past, below))
+    ∙ get_or-take to cells (from + j) zero_word (omega (arith, past, below))))
 
 -- the state after them is that of the writes
 copied-state : (n from to : ℕ) (w : WorldState) → write_all w (copies n from to w) ≡ record w { cells = with_copies n from to w.cells }

@@ -52,8 +52,23 @@ impl<'a> PackAll<Old> for Cells<'a> {
     }
 }
 
-/// Copies so many words from one place on to another on, one at a time, the first one first.
+/// Copies so many words from one place on to another on, one at a time, the first one first. Where no word is copied over before it is
+/// copied itself, all are copied at once.
 pub(crate) fn copy_words(cells: &mut [Word], count: usize, from: usize, to: usize)
+    requires there { from + count ≤ length cells.old }
+    requires into { to + count ≤ length cells.old }
+    ensures is { cells.new ≡ with_copies count from to cells.old }
+    ensures len { length cells.new ≡ length cells.old }
+{
+    if to <= from || from + count <= to {
+        cells.copy_within(from..from + count, to);
+    } else {
+        copy_each(cells, count, from, to);
+    }
+}
+
+// Copies one word at a time, the first one first.
+fn copy_each(cells: &mut [Word], count: usize, from: usize, to: usize)
     requires there { from + count ≤ length cells.old }
     requires into { to + count ≤ length cells.old }
     ensures is { cells.new ≡ with_copies count from to cells.old }

@@ -1,6 +1,6 @@
 use Rattle.std.proofs.Common.{◌≡◌, length}
 use Rattle.mix_machine.specs.Cells.{with_copies}
-use Rattle.mix_machine.proofs.cells.copy_words.Given as goal
+use Rattle.mix_machine.proofs.cells.copy_each.Given as goal
 
 abbrev pub invariant-loop-i : goal.invariant-loop-i
 invariant-loop-i l = record {
