@@ -31,6 +31,7 @@ impl Model for Address {
 
 impl Address {
     /// An address by itself, as the sum of it and no index register.
+    #[inline(always)]
     pub(crate) fn of(sign: Sign, address: u16) -> Address
         requires { address < 4096 }
         ensures is { result ≡ (sum_of (word sign address) zero_word).0 }
@@ -43,6 +44,7 @@ impl Address {
     }
 
     /// The sum of an address and an index register; a zero sum has the sign of the address.
+    #[inline(always)]
     pub(crate) fn add(sign: Sign, address: u16, index: Word) -> Address
         requires address { address < 4096 }
         requires index { index.magnitude < 4096 }
@@ -68,6 +70,7 @@ impl Address {
     }
 
     /// The sign.
+    #[inline(always)]
     pub(crate) fn sign(self) -> Sign
         ensures { result ≡ self.sign }
     {
@@ -75,6 +78,7 @@ impl Address {
     }
 
     /// The magnitude, below 8192.
+    #[inline(always)]
     pub(crate) fn magnitude(self) -> u16
         ensures is { result ≡ self.magnitude }
         ensures bound { result < 8192 }
@@ -83,6 +87,7 @@ impl Address {
     }
 
     /// The word of this sign and magnitude.
+    #[inline(always)]
     pub(crate) fn word(self) -> Word
         ensures { result ≡ self }
     {
@@ -90,6 +95,7 @@ impl Address {
     }
 
     /// The cell of this number, if there is one.
+    #[inline(always)]
     pub(crate) fn place(self) -> Option<Place>
         ensures valid { IsSome result ↔ IsTrue (is_cell self) }
         ensures value { IfSome result (λ p. p ≡ self.magnitude) }

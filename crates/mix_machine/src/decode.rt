@@ -17,6 +17,7 @@ pub(crate) struct Arguments {
 
 impl World {
     /// I, M and F of an instruction.
+    #[inline(always)]
     pub(crate) fn arguments(&self, parts: Parts) -> Arguments
         requires { parts.address < 4096 }
         ensures is { result ≡ arguments_of self.now parts }
@@ -30,6 +31,7 @@ impl World {
     }
 
     // M: where I is 0, the address by itself, which takes less time.
+    #[inline(always)]
     fn address(&self, parts: Parts) -> Address
         requires { parts.address < 4096 }
         ensures is { result ≡ address_of self.now parts }
@@ -44,6 +46,7 @@ impl World {
 
     // The index register of this number, and +0 where it has none.
     #[tactic(auto, using(crate::proofs::RegisterLemmas::index_bound))]
+    #[inline(always)]
     fn index(&self, i: u8) -> Word
         ensures is { result ≡ index_of self.now i }
         ensures bound { result.magnitude < 4096 }

@@ -26,7 +26,9 @@ use undo_core::{Kept, Refused};
 
 impl World {
     /// Does a step, or reports its first fault; out of memory is the answer to none that has a fault.
+    // (inlined wherever a step is done, with the operations that programs do most: a call has a frame, and its result passes through memory)
     #[tactic(auto, unfolding(crate::specs::Do::plan_of))]
+    #[inline(always)]
     pub(crate) fn step(&mut self, kept: &mut Kept<Old>) -> Result<(), Refused<MixFault>>
         ensures { Carried (plan_of self.old Change.Step) self.old self.new kept.old.items kept.new.items result }
     {
@@ -40,6 +42,7 @@ impl World {
     }
 
     // A step of the instruction in a word, at a cell.
+    #[inline(always)]
     fn step_of_word(&mut self, word: Word, kept: &mut Kept<Old>) -> Result<(), Refused<MixFault>>
         requires cell { self.old.loc < 4000 }
         ensures { Carried (step_or_fault (decode_of (parts_of word).code (parts_of word).f) self.old (arguments_of self.old (parts_of word))) self.old self.new kept.old.items kept.new.items result }

@@ -14,6 +14,7 @@ use mix_word::{
 
 impl World {
     /// ADD.
+    #[inline(always)]
     pub(crate) fn add_operand(&self, a: Arguments) -> Outcome
         ensures { result ≡ outcome_of Operation.Add self.now a }
     {
@@ -22,6 +23,7 @@ impl World {
     }
 
     /// SUB.
+    #[inline(always)]
     pub(crate) fn subtract(&self, a: Arguments) -> Outcome
         ensures { result ≡ outcome_of Operation.Sub self.now a }
     {

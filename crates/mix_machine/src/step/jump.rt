@@ -12,6 +12,7 @@ use mix_word::{Cmp, Condition, DataReg, JumpKind, Operation, Reg, Sign, Word};
 
 impl World {
     /// A jump that looks at no register.
+    #[inline(always)]
     pub(crate) fn jump(&self, kind: JumpKind, a: Arguments) -> Outcome
         ensures { result ≡ outcome_of (Operation.Jump kind) self.now a }
     {
@@ -26,6 +27,7 @@ impl World {
     }
 
     /// A jump by the number in a register.
+    #[inline(always)]
     pub(crate) fn register_jump(&self, r: DataReg, condition: Condition, a: Arguments) -> Outcome
         ensures { result ≡ outcome_of (Operation.RegisterJump r condition) self.now a }
     {
@@ -39,6 +41,7 @@ impl World {
         })
     }
 
+    #[inline(always)]
     fn is_taken(&self, kind: JumpKind) -> bool
         ensures { result ≡ is_taken kind self.now }
     {
@@ -56,6 +59,7 @@ impl World {
     }
 
     /// rJ after a jump: the location after it where it is taken, and else what it was.
+    #[inline(always)]
     pub(crate) fn return_address(&self, taken: bool) -> Word
         ensures is { result ≡ return_address self.now taken }
         ensures fits { fits_register Reg.J result ≡ true }
@@ -69,6 +73,7 @@ impl World {
 }
 
 // What a jump writes, by the rJ after it: JSJ leaves it, and JOV and JNOV leave the toggle off.
+#[inline(always)]
 fn jump_writes(kind: JumpKind, j: Word) -> Writes
     ensures { result ≡ jump_writes kind j }
 {
@@ -85,6 +90,7 @@ fn jump_writes(kind: JumpKind, j: Word) -> Writes
 }
 
 // Whether a register meets what a jump asks of it; -0 is neither negative nor positive.
+#[inline(always)]
 fn is_met(condition: Condition, word: Word) -> bool
     ensures { result ≡ is_met condition word }
 {

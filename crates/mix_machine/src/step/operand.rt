@@ -20,6 +20,7 @@ pub(crate) struct Operand {
 
 impl World {
     /// The operand of an instruction, or its fault: F is no field, or M is no cell.
+    #[inline(always)]
     pub(crate) fn operand(&self, a: Arguments) -> Result<Operand, MixFault>
         ensures { result ≡ operand_or_fault self.now a }
     {
@@ -37,6 +38,7 @@ impl World {
 
 impl Operand {
     /// V: the field of the word.
+    #[inline(always)]
     pub(crate) fn value(self) -> Word
         ensures { result ≡ field_value_of self.word self.field }
     {
@@ -44,6 +46,7 @@ impl Operand {
     }
 
     /// V with the other sign.
+    #[inline(always)]
     pub(crate) fn negated_value(self) -> Word
         ensures { result ≡ negation_of (field_value_of self.word self.field) }
     {
@@ -51,6 +54,7 @@ impl Operand {
     }
 
     /// A word put into the field of the cell.
+    #[inline(always)]
     pub(crate) fn put(self, v: Word) -> Writes
         ensures { result ≡ Writes.Cell self.place (put_field_of self.word self.field v) }
     {

@@ -12,6 +12,7 @@ use crate::world::World;
 use mix_word::{DataReg, Operation, Reg, Sign, Word, add, compare, sub};
 
 /// These writes, and on to the next location.
+#[inline(always)]
 pub(crate) fn goes_on(writes: Writes) -> Effects
     ensures { result ≡ goes_on writes }
 {
@@ -22,6 +23,7 @@ pub(crate) fn goes_on(writes: Writes) -> Effects
 }
 
 /// A word into a register, which has to hold it.
+#[inline(always)]
 pub(crate) fn word_into(r: Reg, word: Word) -> Outcome
     ensures { result ≡ fitting_or_fault (Writes.Register r word) }
 {
@@ -33,6 +35,7 @@ pub(crate) fn word_into(r: Reg, word: Word) -> Outcome
 }
 
 // A word into an index register, which holds two bytes.
+#[inline(always)]
 fn two_bytes_into(r: Reg, word: Word) -> Outcome
     requires index { fits_register r word ≡ nat_lt word.magnitude 4096 }
     ensures { result ≡ fitting_or_fault (Writes.Register r word) }
@@ -46,6 +49,7 @@ fn two_bytes_into(r: Reg, word: Word) -> Outcome
 
 impl World {
     /// A sum into a register, whose overflow turns the toggle on where the register has five bytes.
+    #[inline(always)]
     pub(crate) fn sum_into(&self, r: DataReg, sum: (Word, bool)) -> Outcome
         ensures { result ≡ fitting_or_fault (sum_into r self.now sum) }
     {
@@ -62,6 +66,7 @@ impl World {
     }
 
     /// LDA, LD1 to LD6, LDX.
+    #[inline(always)]
     pub(crate) fn load_register(&self, r: DataReg, a: Arguments) -> Outcome
         ensures { result ≡ outcome_of (Operation.Load r) self.now a }
     {
@@ -70,6 +75,7 @@ impl World {
     }
 
     /// LDAN, LD1N to LD6N, LDXN.
+    #[inline(always)]
     pub(crate) fn load_negated(&self, r: DataReg, a: Arguments) -> Outcome
         ensures { result ≡ outcome_of (Operation.LoadNegated r) self.now a }
     {
@@ -78,6 +84,7 @@ impl World {
     }
 
     /// STA, ST1 to ST6, STX.
+    #[inline(always)]
     pub(crate) fn store_register(&self, r: DataReg, a: Arguments) -> Outcome
         ensures { result ≡ outcome_of (Operation.Store r) self.now a }
     {
@@ -86,6 +93,7 @@ impl World {
     }
 
     /// STJ.
+    #[inline(always)]
     pub(crate) fn store_j(&self, a: Arguments) -> Outcome
         ensures { result ≡ outcome_of Operation.StoreJ self.now a }
     {
@@ -94,6 +102,7 @@ impl World {
     }
 
     /// STZ.
+    #[inline(always)]
     pub(crate) fn store_zero(&self, a: Arguments) -> Outcome
         ensures { result ≡ outcome_of Operation.StoreZero self.now a }
     {
@@ -102,6 +111,7 @@ impl World {
     }
 
     /// INCA, INC1 to INC6, INCX.
+    #[inline(always)]
     pub(crate) fn increase(&self, r: DataReg, a: Arguments) -> Outcome
         ensures { result ≡ outcome_of (Operation.Increase r) self.now a }
     {
@@ -109,6 +119,7 @@ impl World {
     }
 
     /// DECA, DEC1 to DEC6, DECX.
+    #[inline(always)]
     pub(crate) fn decrease(&self, r: DataReg, a: Arguments) -> Outcome
         ensures { result ≡ outcome_of (Operation.Decrease r) self.now a }
     {
@@ -116,6 +127,7 @@ impl World {
     }
 
     /// CMPA, CMP1 to CMP6, CMPX.
+    #[inline(always)]
     pub(crate) fn compare_register(&self, r: DataReg, a: Arguments) -> Outcome
         ensures { result ≡ outcome_of (Operation.Compare r) self.now a }
     {
@@ -125,6 +137,7 @@ impl World {
     }
 
     /// ENTA, ENT1 to ENT6, ENTX.
+    #[inline(always)]
     pub(crate) fn enter(&self, r: DataReg, a: Arguments) -> Outcome
         ensures { result ≡ outcome_of (Operation.Enter r) self.now a }
     {
@@ -132,6 +145,7 @@ impl World {
     }
 
     /// ENNA, ENN1 to ENN6, ENNX.
+    #[inline(always)]
     pub(crate) fn enter_negated(&self, r: DataReg, a: Arguments) -> Outcome
         ensures { result ≡ outcome_of (Operation.EnterNegated r) self.now a }
     {
