@@ -13,7 +13,7 @@ mod steps;
 mod texts;
 
 use self::alike::is_alike;
-use self::decks::{has_fault, is_dealt, is_filled, is_refused};
+use self::decks::{has_fault, is_dealt, is_filled, is_refused, is_typed};
 use self::packed::{are_cells_packed, are_mixed_packed, is_no_value, is_packed};
 use self::steps::{is_right, is_right_change};
 use std::test::Fail;
@@ -76,8 +76,15 @@ fn decks_fill_units(rt: HostRuntime) {
 
 #[test]
 fn cards_stand_in_place_of_others(rt: HostRuntime) {
-    for row in rows::cards::ROWS.lines() {
+    for row in rows::cards::CARDS.lines() {
         assert_eq!(rt; is_dealt(rt.alloc(), row), Some(true), "{row}");
+    }
+}
+
+#[test]
+fn lines_are_given_to_the_typewriter(rt: HostRuntime) {
+    for row in rows::cards::TYPEWRITER.lines() {
+        assert_eq!(rt; is_typed(rt.alloc(), row), Some(true), "{row}");
     }
 }
 

@@ -1,7 +1,7 @@
 //! The deck: what the units hold before the first step.
 ghost use Rattle.std.specs.Prelude.{◌≡◌, ◌≤◌, length};
 ghost use Rattle.mix_lines.specs.Lines.{lines};
-ghost use Rattle.mix_machine.specs.units.deck.Deck.{deck_of, cards_of, lines_from, max_deck_bytes, Reads};
+ghost use Rattle.mix_machine.specs.units.deck.Deck.{deck_of, cards_of, typewriter_of, text_of_unit, lines_from, max_deck_bytes, Reads};
 
 pub(crate) mod block;
 pub(crate) mod header;
@@ -10,6 +10,7 @@ pub(crate) mod reader;
 use crate::units::Units;
 use crate::units::deck::reader::Reader;
 use crate::units::deck_fault::{DeckFault, DeckKind};
+use crate::units::number::UnitNo;
 use mix_lines::split_line;
 use std::alloc::Global;
 use undo_core::{Memory, Refused};
@@ -38,14 +39,34 @@ impl Units {
     /// `%`. They stand in place of those that unit 16 had, and the first is read next; all else stays. The first fault is reported at its
     /// line, counted from 1: K9, over 33,554,432 bytes, before all else and at line 1, then K8, K3 and K4 as of a card in a deck.
     /// `Memory` where there is no room for the cards.
-    #[tactic(auto, unfolding(crate::specs::units::deck::Deck::cards_of))]
     pub fn with_cards(self, alloc: Global, text: &[u8]) -> Result<Units, Refused<DeckFault>>
         ensures { Reads (cards_of self text.now) result }
+    {
+        self.with_text(alloc, UnitNo::CARD_READER, text)
+    }
+
+    /// These units with other lines to read from the typewriter (1.3.1): each line of a text is a block of unit 19, of at most 70 characters.
+    /// They replace the blocks that unit 19 had. Everything else, and the faults, are as for cards.
+    pub fn with_typewriter(self, alloc: Global, text: &[u8]) -> Result<Units, Refused<DeckFault>>
+        ensures { Reads (typewriter_of self text.now) result }
+    {
+        self.with_text(alloc, UnitNo::TYPEWRITER, text)
+    }
+
+    // These units with the lines of a text as the blocks of one of them.
+    #[tactic(auto, unfolding(crate::specs::units::deck::Deck::text_of_unit))]
+    fn with_text(
+        self,
+        alloc: Global,
+        unit: UnitNo,
+        text: &[u8],
+    ) -> Result<Units, Refused<DeckFault>>
+        ensures { Reads (text_of_unit self unit text.now) result }
     {
         if text.len() > MAX_DECK_BYTES {
             return Err(fault_at(1, DeckKind::DeckTooLong));
         }
-        read_lines(Reader::of_cards(alloc, self), text, false)
+        read_lines(Reader::of_unit(alloc, self, unit), text, false)
     }
 }
 

@@ -34,6 +34,9 @@ impl UnitNo {
     /// Unit 16, the card reader (1.3.1).
     pub(crate) const CARD_READER: UnitNo = UnitNo { number: 16 };
 
+    /// Unit 19, the typewriter (1.3.1).
+    pub(crate) const TYPEWRITER: UnitNo = UnitNo { number: 19 };
+
     /// The unit of this number (1.3.1), or none if there is no such unit.
     pub fn of(n: u8) -> Option<UnitNo>
         ensures valid { IsSome result ↔ (n < unit_count) }

@@ -1,7 +1,7 @@
 //! Whether a deck is refused, or fills the units, as its row says: the deck, where `/` ends a line and `{3 AB}` is AB three times; `|`; and the
 //! fault as it is written, or values that stand in the units.
 use super::stands::stands_in_units;
-use mix_machine::Units;
+use mix_machine::{DeckFault, Units};
 use std::alloc::Global;
 use undo_core::Refused;
 
@@ -32,11 +32,31 @@ pub fn is_filled(alloc: Global, row: &str) -> Option<bool> {
 
 /// Whether the cards of a row stand in the units that its deck fills, or have the fault that it says: the deck, the cards, and the values or the fault.
 pub fn is_dealt(alloc: Global, row: &str) -> Option<bool> {
+    let (units, text, expected) = parts_of(alloc, row)?;
+    is_given(alloc, units.with_cards(alloc, &text), expected)
+}
+
+/// The same of lines for the typewriter.
+pub fn is_typed(alloc: Global, row: &str) -> Option<bool> {
+    let (units, text, expected) = parts_of(alloc, row)?;
+    is_given(alloc, units.with_typewriter(alloc, &text), expected)
+}
+
+// The units of the deck of a row, its text, and what is expected.
+fn parts_of(alloc: Global, row: &str) -> Option<(Units, Vec<u8>, &str)> {
     let (deck, rest) = row.split_once('|')?;
-    let (cards, expected) = rest.split_once('|')?;
-    let cards = bytes_of(alloc, cards)?;
+    let (text, expected) = rest.split_once('|')?;
     let units = Units::read(alloc, &bytes_of(alloc, deck)?).ok()?;
-    match units.with_cards(alloc, &cards) {
+    Some((units, bytes_of(alloc, text)?, expected))
+}
+
+// Whether the units have all values, or whether their fault is the one that is expected.
+fn is_given(
+    alloc: Global,
+    given: Result<Units, Refused<DeckFault>>,
+    expected: &str,
+) -> Option<bool> {
+    match given {
         Ok(units) => stand_all(&units, expected),
         Err(Refused::Fault(fault)) => {
             let text = format!(in alloc; "{fault}").ok()?;

@@ -143,15 +143,23 @@ unfoldable pub deck_of : List ℕ → Result UnitsState DeckFault
 deck_of bytes =
     if nat_lt max_deck_bytes (length bytes) then refused_at 1 DeckTooLong else lines_from true 1 nothing_read (lines bytes)
 
--- no card read, of units that stand
-abbrev pub no_card_read : UnitsState → Reading
-no_card_read us = record { units = us; unit = Some 16; words = []; given = replicate unit_count false }
+-- no line read for a unit, of units that are there
+abbrev pub no_line_read : UnitsState → ℕ → Reading
+no_line_read us n = record { units = us; unit = Some n; words = []; given = replicate unit_count false }
 
--- The units with other cards: each line of a text is a card, also one that begins with %. They stand in place of those that
--- unit 16 had, of which the first is read next; all else of the units stays.
-unfoldable pub cards_of : UnitsState → List ℕ → Result UnitsState DeckFault
-cards_of us text =
-    if nat_lt max_deck_bytes (length text) then refused_at 1 DeckTooLong else lines_from false 1 (no_card_read us) (lines text)
+-- The units with the lines of a text in place of the blocks that one of them had, of which the first is read next: each line
+-- is a block, also one that begins with %. Everything else of the units stays.
+unfoldable pub text_of_unit : UnitsState → ℕ → List ℕ → Result UnitsState DeckFault
+text_of_unit us n text =
+    if nat_lt max_deck_bytes (length text) then refused_at 1 DeckTooLong else lines_from false 1 (no_line_read us n) (lines text)
+
+-- the units with other cards: those of the card reader
+abbrev pub cards_of : UnitsState → List ℕ → Result UnitsState DeckFault
+cards_of us text = text_of_unit us 16 text
+
+-- the units with other lines to read from the typewriter
+abbrev pub typewriter_of : UnitsState → List ℕ → Result UnitsState DeckFault
+typewriter_of us text = text_of_unit us 19 text
 
 -- what was read keeps to the room of its unit
 abbrev pub room_of : UnitsState → Option ℕ → ℕ

@@ -1,7 +1,7 @@
 //! The lines of a deck, read one after the other into the units.
 ghost use Rattle.std.specs.Prelude.{◌≡◌, ◌<◌, ◌^◌, IfOk, IfSome, MatchResult, Ok, Err};
 ghost use Rattle.mix_lines.specs.Lines.{words};
-ghost use Rattle.mix_machine.specs.units.deck.Deck.{Gives, nothing_read, no_card_read, reads_nothing, end_unit, begin_unit, header_line, blank_or, line_below, line_read, kind_at};
+ghost use Rattle.mix_machine.specs.units.deck.Deck.{Gives, nothing_read, no_line_read, reads_nothing, end_unit, begin_unit, header_line, blank_or, line_below, line_read, kind_at};
 
 mod unit_line;
 
@@ -55,14 +55,14 @@ impl Reader {
         })
     }
 
-    /// No card read, of units that stand.
-    pub(crate) fn of_cards(alloc: Global, units: Units) -> Reader
-        ensures { result ≡ no_card_read units }
+    /// No line read for a unit, of units that are there.
+    pub(crate) fn of_unit(alloc: Global, units: Units, unit: UnitNo) -> Reader
+        ensures { result ≡ no_line_read units unit }
     {
         Reader {
             alloc,
             units,
-            unit: Some(UnitNo::CARD_READER),
+            unit: Some(unit),
             words: Vec::new(alloc),
             given: [false; UnitNo::COUNT],
         }
