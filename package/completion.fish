@@ -7,9 +7,11 @@ complete -c mixrev -n __fish_use_subcommand -f -a list -d 'Writes the listing of
 complete -c mixrev -n __fish_use_subcommand -f -a check -d 'Reports all faults of sources'
 complete -c mixrev -n __fish_use_subcommand -f -a dap -d 'Is the debug adapter of an editor'
 complete -c mixrev -n '__fish_seen_subcommand_from run' -l cards -r -F -d 'The cards of the reader, one a line'
+complete -c mixrev -n '__fish_seen_subcommand_from run' -l typewriter -r -F -d 'The lines that the typewriter gives, one a line'
 complete -c mixrev -n '__fish_seen_subcommand_from run debug' -l devices -r -F -d 'The deck: what tapes, disks and cards hold'
 complete -c mixrev -n '__fish_seen_subcommand_from run' -l steps -x -d 'The most steps that are done'
 complete -c mixrev -n '__fish_seen_subcommand_from run' -l unit -x -a '17 18 19 20' -d 'Writes only the rows of this unit'
+complete -c mixrev -n '__fish_seen_subcommand_from run' -l trace -d 'Writes each step too, before what it prints'
 complete -c mixrev -n '__fish_seen_subcommand_from debug' -l echo -d 'Writes each command of SCRIPT before its reply'
 complete -c mixrev -n '__fish_seen_subcommand_from check' -l json -d 'Writes each fault as one JSON object a line'
 complete -c mixrev -n '__fish_seen_subcommand_from dap' -f

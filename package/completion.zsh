@@ -10,8 +10,9 @@ shift words
 ((CURRENT -= 1))
 case $words[1] in
   run)
-    _arguments '(- *)'{-h,--help}'[writes help]' '--cards=[the cards of the reader]:cards:_files' $devices '--steps=[the most steps]:number:' \
-      '*--unit=[writes only the rows of this unit]:unit:(17 18 19 20)' $source
+    _arguments '(- *)'{-h,--help}'[writes help]' '--cards=[the cards of the reader]:cards:_files' \
+      '--typewriter=[the lines that the typewriter gives]:lines:_files' $devices '--steps=[the most steps]:number:' \
+      '*--unit=[writes only the rows of this unit]:unit:(17 18 19 20)' '--trace[writes each step too, before what it prints]' $source
     ;;
   debug) _arguments '(- *)'{-h,--help}'[writes help]' $devices '--echo[writes each command before its reply]' $source '2:script:_files' ;;
   list) _arguments '(- *)'{-h,--help}'[writes help]' $source ;;

@@ -75,6 +75,16 @@ VIEWS = [
     ("mix/state", {"cells": [[0, 4000]]}, '"id":306'), ("mix/units", {"unit": 21}, '"id":306'),
     ("mix/check", {"source": " JUMP 0\n"}, '"body":{"diagnostics":[{"code":"A2","column":2,"endColumn":6,"line":1,"severity":"error","text":"'),
     ("mix/check", {}, '"id":302'), ("mix/check", {"source": 5}, '"id":302'),
+    # the lines that give words: neither that of EQU nor that of END; of one line, of none, of a range that ends before it begins, and of the longest
+    ("breakpointLocations", {"line": 1, "endLine": 9}, '"body":{"breakpoints":[{"line":2},{"line":3},{"line":4},{"line":5}]}'),
+    ("breakpointLocations", {"line": 3}, '"body":{"breakpoints":[{"line":3}]}'), ("breakpointLocations", {"line": 1}, '"body":{"breakpoints":[]}'),
+    ("breakpointLocations", {"line": 5, "endLine": 2}, '"body":{"breakpoints":[]}'), ("breakpointLocations", {"line": 5, "endLine": 5}, '"body":{"breakpoints":[{"line":5}]}'),
+    ("breakpointLocations", {"line": 0, "endLine": 18446744073709551615}, '"body":{"breakpoints":[{"line":2},{"line":3},{"line":4},{"line":5}]}'),
+    ("breakpointLocations", {"line": 18446744073709551615, "endLine": 18446744073709551615}, '"body":{"breakpoints":[]}'),
+    # of the program by its path, and of another source; no line, and one that is no number
+    ("breakpointLocations", {"line": 4, "endLine": 4000000000, "source": {"path": "/a/program.mixal"}}, '"body":{"breakpoints":[{"line":4},{"line":5}]}'),
+    ("breakpointLocations", {"line": 2, "source": {"path": "another.program.mixal"}}, '"body":{"breakpoints":[]}'),
+    ("breakpointLocations", {"endLine": 2}, '"id":302'), ("breakpointLocations", {"line": "2"}, '"id":302'),
     # how breakpoints are told: of lines, of another source, of instructions, of data, and those of which there are none
     ("setBreakpoints", {"breakpoints": [{"line": 1}, {"line": 6}, {}]}, '"body":{"breakpoints":[{"instructionReference":"0x0000","line":2,"verified":true},'
      '{"message":"no word from this line on","verified":false},{"instructionReference":"0x0000","line":2,"verified":true}]}'),
@@ -105,9 +115,15 @@ VIEWS = [
     ("dataBreakpointInfo", {"name": "cell A"}, '"dataId":"cell A"'), ("dataBreakpointInfo", {"variablesReference": 1000, "name": "0100"}, '"dataId":null'),
     ("dataBreakpointInfo", {"variablesReference": 2, "name": "loc"}, '"dataId":null'), ("dataBreakpointInfo", {"variablesReference": 1}, '"id":302'),
     ("exceptionInfo", {}, '"id":306'),
+    # how a line of the console may go on: by the only symbol of the program
+    ("completions", {"text": "set A a", "column": 8}, '"body":{"targets":[{"label":"A","length":1,"start":7}]}'),
     # a text where a number is due, a number where a text is, and each as it is to be
     ("setVariable", {"variablesReference": "1", "name": "A", "value": "1"}, '"id":302'), ("setVariable", {"variablesReference": 1, "name": 1, "value": "1"}, '"id":302'),
     ("setVariable", {"variablesReference": 1, "name": "A", "value": "1"}, '"success":true')]
+
+# Of two lines that give a word for the same cell a breakpoint stays on the second alone, since its word is there.
+TWICE = " NOP\n NOP\n ORIG 0\n NOP\n END 0\n"
+STAYS = '"body":{"breakpoints":[{"line":2},{"line":4}]}'
 
 # Texts to be checked: none, one with faults and a warning and a tab, labels, letters that are no characters of MIX, and one with nothing to say of.
 CHECKED = ["", " JUMP 0\n\tLDA\tX\n LDA Y\n END 0\n", "X EQU 1\nX EQU 2\nENTA 5\n ALF  TOO LONG\n", "* \u00c4\n \u00c4\tNOP \u00d6\n END 5000\n", SOURCE]
@@ -221,6 +237,13 @@ def views(command, count):
         count.row(f"{name} {given}", any(part in message for message in answers.get(seq, [])), answers.get(seq))
 
 
+def locations(command, count):
+    asked = ("breakpointLocations", {"line": 1, "endLine": 5})
+    found, _ = texts(command, told(asked, launch(TWICE), asked))
+    count.row("no line before a launch", '"id":303' in found[0], found)
+    count.row(STAYS, any(STAYS in message for message in found), found)
+
+
 def checks(command, count):
     """What there is to say of a text is what `mixrev check --json` says of it, whether a program is launched or not."""
     for source in CHECKED:
@@ -235,7 +258,7 @@ def checks(command, count):
 def main():
     command = [os.path.abspath(sys.argv[1]), *sys.argv[2:]]
     count = Count()
-    for part in (ends, frames, messages, leads, steps, ahead, views, checks):
+    for part in (ends, frames, messages, leads, steps, ahead, views, locations, checks):
         part(command, count)
     print(f"{count.passed} passed, {count.failed} failed")
     return 1 if count.failed else 0

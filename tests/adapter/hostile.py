@@ -33,7 +33,8 @@ TALK = [("initialize", {"adapterID": "mixrev", "linesStartAt1": True}), ("launch
         ("setVariable", {"variablesReference": 1000, "name": "0099", "value": "5,1(4:4)"}), ("reverseContinue", {"threadId": 1}), ("next", {"threadId": 1}),
         ("restart", {}), ("next", {"threadId": 1}), ("next", {"threadId": 1}), ("setVariable", {"variablesReference": 1, "name": "I1", "value": "4096"}),
         ("readMemory", {"memoryReference": "0x48", "count": 12}), ("disassemble", {"memoryReference": "0x48", "instructionCount": 2}),
-        ("dataBreakpointInfo", {"variablesReference": 1, "name": "A"}), ("next", {"threadId": 1}), ("exceptionInfo", {"threadId": 1})]
+        ("dataBreakpointInfo", {"variablesReference": 1, "name": "A"}), ("completions", {"text": "break lo", "column": 9}), ("next", {"threadId": 1}),
+        ("exceptionInfo", {"threadId": 1})]
 PROBE = [("evaluate", {"expression": "show changes", "context": "repl"}), ("evaluate", {"expression": "show all", "context": "repl"}), ("disconnect", {})]
 BODIES = [request(seq, command, **arguments) for seq, (command, arguments) in enumerate(TALK, 1)]
 ENDING = [request(seq, command, **arguments) for seq, (command, arguments) in enumerate(PROBE, 9001)]

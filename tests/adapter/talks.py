@@ -36,8 +36,9 @@ CALLS = os.path.join(PROGRAMS, "calls.mixal")
 # the state after n steps: line, location, clock
 AFTER = {0: (3, 10, 0), 1: (4, 11, 1), 2: (6, 12, 2), 3: (7, 13, 4), 4: (8, 14, 5), 5: (6, 12, 6), 6: (7, 13, 8), 7: (8, 14, 9), 8: (6, 12, 10),
          9: (7, 13, 12), 10: (8, 14, 13), 11: (9, 15, 14), 12: (11, 17, 15), 13: (12, 18, 17), 14: (13, 19, 18), 15: (10, 16, 19), 16: (11, 17, 29)}
-ABLE = ["ConfigurationDoneRequest", "StepBack", "SetVariable", "SetExpression", "EvaluateForHovers", "RestartRequest", "ExceptionInfoRequest", "DataBreakpoints",
-        "ReadMemoryRequest", "WriteMemoryRequest", "DisassembleRequest", "InstructionBreakpoints", "GotoTargetsRequest"]
+ABLE = ["ConfigurationDoneRequest", "ConditionalBreakpoints", "HitConditionalBreakpoints", "StepBack", "SetVariable", "SetExpression", "EvaluateForHovers",
+        "RestartRequest", "ExceptionInfoRequest", "DataBreakpoints", "ReadMemoryRequest", "WriteMemoryRequest", "DisassembleRequest", "InstructionBreakpoints",
+        "GotoTargetsRequest", "BreakpointLocationsRequest", "CompletionsRequest"]
 
 
 def program(name):
@@ -55,6 +56,8 @@ def steps(talk, count):
     told = talk.lines(CALLS, 5, 14)
     count.same("a breakpoint on a blank line is told at the line after", [told[0]["verified"], told[0].get("line")], [True, 6])
     count.same("a breakpoint that no word follows", told[1]["verified"], False)
+    lines = talk.body("breakpointLocations", source={"path": CALLS}, line=4, endLine=7)["breakpoints"]
+    count.same("the lines on which breakpoints stay", lines, [{"line": 4}, {"line": 6}, {"line": 7}])
     for n in (2, 5):
         count.same(f"continue to {n}", (talk.move("continue"), talk.state()), ("breakpoint", AFTER[n]))
     count.same("stepBack", (talk.move("stepBack"), talk.state()), ("step", AFTER[4]))
@@ -206,6 +209,8 @@ def evaluates(talk, count):
         count.same(f"watch of {expression}", talk.body("evaluate", expression=expression, context="watch")["result"], wanted)
     for context, expression in (("hover", "unit 16"), ("watch", "cell 4000"), ("watch", "cell"), ("watch", "rB"), ("watch", "r"), ("hover", "NOWHERE"), ("watch", "1+"), ("repl", "jump"), ("repl", "back 0"), ("repl", "set I1 4096"), ("watch", "\u00e9\u4e16")):
         count.row(f"{context} of {expression} is refused", talk.refused("evaluate", expression=expression, context=context), "it is not")
+    found = talk.body("completions", text="break lo", column=9, line=1, frameId=1)["targets"]
+    count.same("a line may go on", found, [{"label": "LOOP", "start": 7, "length": 2}])
     count.same("a command", talk.repl("step 2"), "ran 2 to 0013 clock 4: limit")
     count.same("it moved", talk.state(), AFTER[3])
     count.same("a reply of many lines", talk.repl("show cells 12 13"), "0012 + 01 36 01 05 24\n0013 + 00 01 00 01 49")
@@ -324,6 +329,7 @@ def from_zero(talk, count):
     count.same("the line", talk.frame()["line"], 2)
     told = talk.lines(CALLS, 4)
     count.same("a breakpoint", (told[0]["verified"], told[0].get("line")), (True, 5))
+    count.same("the line on which it stays", talk.body("breakpointLocations", source={"path": CALLS}, line=4, endLine=5)["breakpoints"], [{"line": 5}])
     count.same("to it", (talk.move("continue"), talk.frame()["line"]), ("breakpoint", 5))
     talk.close()
 

@@ -47,13 +47,14 @@ def endless(program, count):
 
 
 def endless_files(program, count):
-    """Files that never end, of blank lines: a source, a script, cards."""
+    """Files that never end, of blank lines: a source, a script, cards, lines for the typewriter."""
     with folder() as place:
         source = os.path.join(place, "source")
         with open(source, "wb") as file:
             file.write(b" END 0")
         for words, wanted in [(["list", "/dev/stdin"], (b"line 1: A16 source too long\n", b"", 1)), (["debug", source, "/dev/stdin"], T6),
-                              (["run", source, "--cards", "/dev/stdin"], refused_deck(1, b"K9 deck too long"))]:
+                              (["run", source, "--cards", "/dev/stdin"], refused_deck(1, b"K9 deck too long")),
+                              (["run", source, "--typewriter", "/dev/stdin"], refused_deck(1, b"K9 deck too long"))]:
             feeder = subprocess.Popen(["yes", ""], stdout=subprocess.PIPE, stderr=subprocess.DEVNULL)
             answer = subprocess.run([program, *words], stdin=feeder.stdout, capture_output=True, timeout=SECONDS)
             feeder.stdout.close()

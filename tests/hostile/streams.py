@@ -100,13 +100,18 @@ def by_files(program, place, count):
     gone = os.path.join(place, "gone")
     not_opened = (b"", b"mixrev: T4 not opened: %s%s\n" % (gone.encode(), NO_FILE), 2)
     is_folder, input_is_folder = ((b"", b"mixrev: T4 not opened: %s%s\n" % (file, FOLDER), 2) for file in (b"/", b"-"))
+    # a file that is opened, and gives an error at its first read
+    memory = "/proc/self/mem"
+    unread = (b"", b"mixrev: T2 read failed: %s\n" % memory.encode(), 2)
     for command, wanted in [
             ("list /", is_folder), ("debug / $2", is_folder), ("debug $1 /", is_folder), ("debug $1 $2 --devices /", is_folder),
             ("list $3", not_opened), ("debug $3 $2", not_opened), ("debug $1 $3", not_opened), ("debug $1 $2 --devices $3", not_opened),
             ("debug / $3", is_folder), ("list $1/a", (b"", b"mixrev: T4 not opened: %s/a: Not a directory\n" % source.encode(), 2)),
             ("list - </", input_is_folder), ("list - <&-", (b"", b"mixrev: T4 not opened: -%s\n" % NO_FILE, 2)), ("list $1 >/dev/full", (b"", T3, 2)), ("debug $1 $2 >/dev/full", (b"", T3, 2)), ("list $1 >&-", (b"", T3, 2)),
+            ("list $4", unread), ("debug $4 $2", unread), ("debug $1 $4", unread), ("debug $1 $2 --devices $4", unread), ("debug $4", unread),
+            ("run $4", unread), ("run $1 --devices $4", unread), ("run $1 --cards $4", unread), ("check $1 $4 $4 $1", unread),
             ("check $1 $3", not_opened), ("check $1 /", is_folder), ("check - </dev/null >/dev/full", (b"", T3, 2)), ("check - </dev/null >&-", (b"", T3, 2))]:
-        count.same(command, shell('"$0" ' + command, program, source, [script, gone]), wanted)
+        count.same(command, shell('"$0" ' + command, program, source, [script, gone, memory]), wanted)
 
 
 READS = b" IN 100(16)\n END 0\n"
@@ -188,7 +193,7 @@ def rows(program, workers, quick=False):
         if shutil.which("cc"):
             calls(program, place, count)
         for text in (b" END 0\n", TEXT) if os.path.exists("/dev/ptmx") else ():
-            count.same("a terminal that goes away", vanishing_terminal(program, text), (b"", T2, 2))
+            count.same("a terminal that goes away", vanishing_terminal(program, text), (b"", T2.replace(b"\n", b": -\n"), 2))
         for at, answer in [(0, (b"line 1: A13 no END\n", b"", 1)), (len(HELLO) - 6, (b"line 9: A13 no END\n", b"", 1))]:
             got = vanishing_writer(program, TEXT, at)
             count.row("a writer that ends after %d bytes" % at, got[2] in (0, 1) and got[1] == b"" and (at or got == answer), repr(got))

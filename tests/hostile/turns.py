@@ -55,10 +55,18 @@ class Turns:
         with open(self.told) as file:
             return answer, file.read().split("\n")[:-1]
 
-    def read_fails(self, name, text, words, call):
-        """This read fails: nothing is written, and nothing is called after it."""
+    def read_fails(self, name, text, words, call, file=None):
+        """This read fails, of the input or of a file, which is told: nothing is written, and nothing is called after it."""
         answer, calls = self.run(text, words, read_most=1, read_fails=call)
-        self.count.same("%s: read %d fails" % (name, call), (answer, len(calls), calls[-1:]), ((b"", T2, 2), call, ["read -1"]))
+        told = T2.replace(b"\n", b": %s\n" % file.encode()) if file else T2
+        self.count.same("%s: read %d fails" % (name, call), (answer, len(calls), calls[-1:]), ((b"", told, 2), call, ["read -1"]))
+
+    def each_read_fails(self, name, words, parts):
+        """Each read of some files fails in its turn; they are read one after the other."""
+        files = [file for file, part in parts for _ in range(len(part) + 1)]
+        for k, file in enumerate(files):
+            self.read_fails(name, b"", words, k + 1, file)
+        return len(files)
 
     def write_fails(self, name, text, words, wanted, size, call):
         """This write fails, if there are so many; whether it does."""
@@ -94,9 +102,7 @@ def sessions(turns):
     """The parts of a session, read one after the other, and none after a part that is refused."""
     source, deck, script = (turns.file(name, part) for name, part in zip(("source", "deck", "script"), PARTS))
     words = ["debug", source, script, "--devices", deck]
-    reads = sum(len(part) + 1 for part in PARTS)
-    for call in range(1, reads + 1):
-        turns.read_fails("a session", b"", words, call)
+    reads = turns.each_read_fails("a session", words, zip((source, deck, script), PARTS))
     answer, calls = turns.run(b"", words, read_most=1)
     turns.count.same("a session that is read byte by byte", (answer, len(calls)), ((HALTED, b"", 0), reads + 1))
     for name, refused, units, wanted in [("source", b" JMP 0", b"", (b"line 2: A13 no END\n", b"", 1)),
@@ -117,7 +123,8 @@ def listings(turns):
         turns.count.same("write %d of a listing fails, %d bytes a call" % (call, size), (answer, calls.count("write -1"), calls[-1]),
                          ((whole[:written], T3, 2), 1, "write -1"))
     for call in FAILED_READS:
-        turns.read_fails("a listing", b"", ["list", turns.file("listed", INSERTED)], call)
+        listed = turns.file("listed", INSERTED)
+        turns.read_fails("a listing", b"", ["list", listed], call, listed)
 
 
 def printed(turns):
@@ -136,9 +143,8 @@ def printed(turns):
     for k, (*row, told, status) in enumerate(REFUSED):
         turns.count.same("refused run %d" % k, turns.run(b"", words(row))[0], (b"", told.replace(b"a.mixal", name.encode()), status))
     copied = (COPY, b"%UNIT 16\nONE\n", b"TWO\n", ["--steps", "100"])
-    reads = sum(len(part) + 1 for part in copied[:3])
-    for call in range(1, reads + 1):
-        turns.read_fails("a run", b"", words(copied), call)
+    files = [os.path.join(turns.place, file) for file in ("a.mixal", "deck", "cards")]
+    turns.each_read_fails("a run", words(copied), zip(files, copied[:3]))
     turns.count.same("a run that is read byte by byte", turns.run(b"", words(copied), read_most=1)[0],
                      (b"TWO\n", name.encode() + b":1: M11 no block at 0000 clock 3\n", 3))
     for row in (PRINTED[0], COPIED):

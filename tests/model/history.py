@@ -132,8 +132,25 @@ def moves(world, changes):
 # Watches: what a command stops at
 
 
+MOST = 8  # conditions of one command
+OPERANDS = (b"CELL", b"LOC", b"UNIT")  # are followed by a word, whichever it is
+
+
 def condition(session, words):
-    """The words behind `until`, all read before one is tested for its range."""
+    """The words behind `until`, conditions with OR between them: all read before one is tested for its range."""
+    conditions = []
+    while True:
+        count = 2 if words[:1] and words[0] in OPERANDS else 1
+        conditions.append(one_condition(session, words[:count]))
+        words = words[count:]
+        if not words:
+            return conditions
+        if words[0] != b"OR" or len(conditions) == MOST:
+            raise Fault("C2")
+        words = words[1:]
+
+
+def one_condition(session, words):
     if len(words) == 1 and words[0].decode("latin-1") in REGISTERS + ["J"]:
         return ("register", words[0].decode())
     if words in ([b"OVER"], [b"CMP"]):
@@ -148,7 +165,7 @@ def condition(session, words):
 
 
 def in_range(cond):
-    return (cond[0], cond[1]()) if callable(cond[1]) else cond
+    return [(kind, which() if callable(which) else which) for kind, which in cond]
 
 
 def unit_in_range(n):
@@ -158,8 +175,11 @@ def unit_in_range(n):
 
 
 def reached(cond, v, w):
-    """Of a move from one world to another, either way."""
-    kind, which = cond
+    """Of a move from one world to another, either way: whether one of the conditions is."""
+    return any(reaches(kind, which, v, w) for kind, which in cond)
+
+
+def reaches(kind, which, v, w):
     if kind == "loc":
         return w.loc == which
     if kind == "register":
@@ -286,6 +306,8 @@ def show_past(session, words):
         return counts(session)
     if len(words) == 2 and words[0] == b"LAST":
         return last(session, digits_of(words[1]))
+    if words[:1] == [b"WRITES"]:
+        return writes(session, in_range([one_condition(session, words[1:])]))
     if len(words) == 2 and words[0] == b"DIFF":
         return diff(session, digits_of(words[1]))
     raise Fault("C2")
@@ -296,6 +318,10 @@ def last(session, number):
         raise Fault("C3")
     first = len(session.changes) - number
     return "".join(told(*move) for move in moves(session.loaded, session.changes) if move[0] > first)
+
+
+def writes(session, cond):
+    return "".join(told(*move) for move in moves(session.loaded, session.changes) if reached(cond, move[2], move[3]))
 
 
 def diff(session, n):

@@ -116,6 +116,14 @@ ok
 $ show last 2
       4  0002  set A                0u  A - 00 00 00 00 00 -> - 00 00 00 00 01
       5  0002  set cell 0003        0u  0003 + 01 36 00 05 24 -> - 00 00 00 00 00
+$ show writes A
+      3  0001  ENNA 0               1u  A + 00 00 00 00 00 -> - 00 00 00 00 00
+      4  0002  set A                0u  A - 00 00 00 00 00 -> - 00 00 00 00 01
+$ show writes cell 100
+$ show writes A or X
+? C2 bad argument
+$ show writes loc 1
+      2  0000  ENTA 0               1u
 $ show diff 0
 diff 0 to 5
 A + 00 00 00 00 00 -> - 00 00 00 00 01
@@ -310,6 +318,30 @@ $ show counts
          1           1  0001
          1           1  0002
          3          12  total
+== several conditions
+ ENTA 1
+ ENTX 2
+OR HLT
+ END 0
+$ run 9 until X or A
+      1  0000  ENTA 1               1u  A + 00 00 00 00 00 -> + 00 00 00 00 01
+ran 1 to 0001 clock 1: until
+$ back until loc OR or loc 0
+      1  0000  ENTA 1               1u  A + 00 00 00 00 00 -> + 00 00 00 00 01
+back 1 to 0000 clock 0
+$ forth until X or over
+? C6 no such change
+$ run 9 until loc OR or over
+      2  0001  ENTX 2               1u  X + 00 00 00 00 00 -> + 00 00 00 00 02
+ran 2 to 0002 clock 2: until
+$ run 9 until A or
+? C2 bad argument
+$ run 9 until cell 4000 or FOO
+? C2 bad argument
+$ run 9 until cell 4000 or A
+? C3 number out of range
+$ run 9 until A or A or A or A or A or A or A or A or A
+? C2 bad argument
 == refusals
  ENTA 5
  HLT
@@ -453,7 +485,7 @@ for index in (0, 6, 7):
     source = "".join(" " + text_of(one) + "\n" for one in pairs) + " END 0\n"
     is_so("texts assemble to their words", [one for _, one in assemble(source.encode()).words], pairs)
 for missing, refused in [("history", [("run 1 until A", "C2 bad argument"), ("back until A", "C2 bad argument"), ("trace", "C1 no such command"),
-                                      ("show counts", "C2 bad argument"), ("show last 1", "C2 bad argument")]),
+                                      ("show counts", "C2 bad argument"), ("show last 1", "C2 bad argument"), ("show writes A", "C2 bad argument")]),
                          ("sources", [("forth all", "C2 bad argument"), ("goto 0", "C1 no such command"), ("break line 1", "C2 bad argument"),
                                       ("show code", "C2 bad argument")])]:
     with_parts(*(part for part in WHOLE if part != missing))

@@ -11,6 +11,29 @@ Files of the command line: the name - is standard input, and of one that cannot 
   $ printf 'A CARD\n' | mixrev run a.mixal --cards -
   A CARD
 
+Lines for the typewriter are blocks that it reads, in place of those of a deck; a refused one has its line, and is no card.
+
+  $ printf ' IN 9(19)\n OUT 9(18)\n JMP 0\n END 0\n' >t.mixal
+  $ printf 'hello\n world\n' | mixrev run t.mixal --typewriter -
+  HELLO
+   WORLD
+  stderr: t.mixal:1: M11 no block at 0000 clock 6
+  [3]
+
+  $ printf '%%UNIT 19\nOF A DECK\n' >lines
+  $ printf 'TYPED\n' | mixrev run t.mixal --devices lines --typewriter - --steps 2
+  TYPED
+  stderr: t.mixal:3: steps used up at 0002 clock 2
+  [3]
+
+  $ printf 'A\n%%UNIT 19\n' | mixrev run t.mixal --typewriter=-
+  stderr: mixrev: T5 deck refused at line 2: K4 no MIX character
+  [2]
+
+  $ printf '?\n' | mixrev run t.mixal --typewriter none --cards -
+  stderr: mixrev: T4 not opened: none: No such file or directory
+  [2]
+
 A bundle is run with its deck; a deck or cards of a file are in place of that, and of its script nothing is done.
 
   $ printf ' IN 9(16)\n OUT 9(19)\n HLT\n END 0\n%%DEVICES\n%%UNIT 16\nOF THE BUNDLE\n%%SCRIPT\nno command\n' >b.mixal

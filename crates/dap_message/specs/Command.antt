@@ -14,6 +14,7 @@ command_name command.SetInstructionBreakpoints = codes "setInstructionBreakpoint
 command_name command.SetDataBreakpoints = codes "setDataBreakpoints"
 command_name command.SetExceptionBreakpoints = codes "setExceptionBreakpoints"
 command_name command.DataBreakpointInfo = codes "dataBreakpointInfo"
+command_name command.BreakpointLocations = codes "breakpointLocations"
 command_name command.Threads = codes "threads"
 command_name command.StackTrace = codes "stackTrace"
 command_name command.Scopes = codes "scopes"
@@ -21,6 +22,7 @@ command_name command.Variables = codes "variables"
 command_name command.SetVariable = codes "setVariable"
 command_name command.SetExpression = codes "setExpression"
 command_name command.Evaluate = codes "evaluate"
+command_name command.Completions = codes "completions"
 command_name command.ExceptionInfo = codes "exceptionInfo"
 command_name command.Continue = codes "continue"
 command_name command.Next = codes "next"
@@ -48,8 +50,8 @@ command_name command.ViewCheck = codes "mix/check"
 abbrev pub all_commands : List Command
 all_commands =
     command.Initialize ∷ command.Launch ∷ command.ConfigurationDone ∷ command.SetBreakpoints ∷ command.SetFunctionBreakpoints ∷
-    command.SetInstructionBreakpoints ∷ command.SetDataBreakpoints ∷ command.SetExceptionBreakpoints ∷ command.DataBreakpointInfo ∷ command.Threads ∷
-    command.StackTrace ∷ command.Scopes ∷ command.Variables ∷ command.SetVariable ∷ command.SetExpression ∷ command.Evaluate ∷
+    command.SetInstructionBreakpoints ∷ command.SetDataBreakpoints ∷ command.SetExceptionBreakpoints ∷ command.DataBreakpointInfo ∷ command.BreakpointLocations ∷
+    command.Threads ∷ command.StackTrace ∷ command.Scopes ∷ command.Variables ∷ command.SetVariable ∷ command.SetExpression ∷ command.Evaluate ∷ command.Completions ∷
     command.ExceptionInfo ∷ command.Continue ∷ command.Next ∷ command.StepIn ∷ command.StepOut ∷
     command.StepBack ∷ command.ReverseContinue ∷ command.Pause ∷ command.Goto ∷ command.GotoTargets ∷
     command.ReadMemory ∷ command.WriteMemory ∷ command.Disassemble ∷ command.Restart ∷ command.Disconnect ∷

@@ -117,8 +117,8 @@ heard-kept (Ok (heard.Unclear fault)) a b c same is = hears-kept a b c _ same is
 heard-kept (Ok heard.End) a b c same is = (over-kept a b same is.0, hears-kept a b c _ same is.1)
 heard-kept (Err broken.Cut) a b c same is = (only-kept partial a b same is.0, not_over-kept a b same is.1)
 heard-kept (Err broken.TooLong) a b c same is = only-kept too_long a b same is
-heard-kept (Err broken.Read) a b c same is = tt
-heard-kept (Err broken.Memory) a b c same is = tt
+heard-kept (Err broken.Read) a b c same is = Keeps-trans a b c same is
+heard-kept (Err broken.Memory) a b c same is = Keeps-trans a b c same is
 heard-kept (Err broken.Write) a b c same is = is
 
 -- ---- the end

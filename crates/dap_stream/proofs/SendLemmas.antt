@@ -11,13 +11,13 @@ use Rattle.dap_stream.specs.Sent.{AreTextsOf, Sends, SendsAll, frames_of}
 pub sends-none : (told : Option (List ℕ)) → SendsAll [] told told
 sends-none told = ([], tt, Appends-nil told)
 
-texts-append : (xs ys : List (List ℕ)) (ms ns : List Data) → AreTextsOf xs ms → AreTextsOf ys ns → AreTextsOf (xs ++ ys) (ms ++ ns)
+pub texts-append : (xs ys : List (List ℕ)) (ms ns : List Data) → AreTextsOf xs ms → AreTextsOf ys ns → AreTextsOf (xs ++ ys) (ms ++ ns)
 texts-append [] ys [] ns p q = q
 texts-append [] ys (m ∷ ms) ns p q = absurd p
 texts-append (x ∷ xs) ys [] ns p q = absurd p
 texts-append (x ∷ xs) ys (m ∷ ms) ns p q = (p.0, texts-append xs ys ms ns p.1 q)
 
-frames-append : (xs ys : List (List ℕ)) → frames_of (xs ++ ys) ≡ frames_of xs ++ frames_of ys
+pub frames-append : (xs ys : List (List ℕ)) → frames_of (xs ++ ys) ≡ frames_of xs ++ frames_of ys
 frames-append [] ys = refl
 frames-append (x ∷ xs) ys = rw (frames-append xs ys) (sym (append_assoc (frame_of x) (frames_of xs) (frames_of ys)))
 

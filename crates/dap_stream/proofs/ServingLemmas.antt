@@ -7,6 +7,7 @@ use Rattle.dap_message.specs.declared.outbox.Outbox.{Outbox}
 use Rattle.dap_message.specs.declared.request.Request.{Request}
 use Rattle.dap_stream.specs.Asked.{IsRequest}
 use Rattle.dap_stream.specs.Broken.{IsMemoryOrWrite}
+use Rattle.dap_stream.specs.BrokenOff.{BrokenOff}
 use Rattle.dap_stream.specs.Heard.{Hears}
 use Rattle.dap_stream.specs.Hearing.{HearsAs}
 use Rattle.dap_stream.specs.Sent.{SendsAll}
@@ -20,6 +21,7 @@ use Rattle.dap_stream.specs.declared.serves.Turn.{Turn}
 use Rattle.dap_stream.specs.declared.serves.Turn.TheVariants as turn
 use Rattle.dap_stream.specs.declared.talk.Talked.{Talked}
 use Rattle.dap_stream.specs.declared.talk.Talked.TheVariants as talked
+use Rattle.dap_stream.proofs.BrokenLemmas.{broken-after}
 use Rattle.dap_stream.proofs.SendLemmas.{sends-none, sends-then}
 use Rattle.dap_stream.proofs.Talking.{talks-none, talks-one, talks-then}
 
@@ -162,18 +164,18 @@ module _ {S : Type 0} (serves : S → Request → List Data → Turn → S → T
       → TurnAs serves busy works rests (Err why) s t old new told told waiting
   broken-first broken.Cut s t old new told waiting is = stuck broken.Cut s old new told is
   broken-first broken.TooLong s t old new told waiting is = stuck broken.TooLong s old new told is
-  broken-first broken.Read s t old new told waiting is = tt
-  broken-first broken.Write s t old new told waiting is = tt
-  broken-first broken.Memory s t old new told waiting is = tt
+  broken-first broken.Read s t old new told waiting is = stuck broken.Read s old new told is
+  broken-first broken.Write s t old new told waiting is = absurd is
+  broken-first broken.Memory s t old new told waiting is = inl (stuck broken.Memory s old new told is)
 
   -- and after that
   pub broken-later : (why : Broken) (s t : S) (old new told now : Option (List ℕ)) (waiting : List Data) → IsMemoryOrWrite why
-      → TurnAs serves busy works rests (Err why) s t old new told now waiting
-  broken-later broken.Cut s t old new told now waiting is = absurd is
-  broken-later broken.TooLong s t old new told now waiting is = absurd is
-  broken-later broken.Read s t old new told now waiting is = absurd is
-  broken-later broken.Write s t old new told now waiting is = tt
-  broken-later broken.Memory s t old new told now waiting is = tt
+      → BrokenOff serves busy works rests s old new told now → TurnAs serves busy works rests (Err why) s t old new told now waiting
+  broken-later broken.Cut s t old new told now waiting is off = absurd is
+  broken-later broken.TooLong s t old new told now waiting is off = absurd is
+  broken-later broken.Read s t old new told now waiting is off = absurd is
+  broken-later broken.Write s t old new told now waiting is off = off
+  broken-later broken.Memory s t old new told now waiting is off = inr off
 
   -- ---- after a part of a talk
 
@@ -227,9 +229,11 @@ module _ {S : Type 0} (serves : S → Request → List Data → Turn → S → T
       → TalkedAs serves busy works rests (Err why) s t a c told now waiting
   broken-then broken.Cut s m t count a b c told mid now waiting part end = stuck-then broken.Cut s m count a b c told mid now part end
   broken-then broken.TooLong s m t count a b c told mid now waiting part end = stuck-then broken.TooLong s m count a b c told mid now part end
-  broken-then broken.Read s m t count a b c told mid now waiting part end = tt
-  broken-then broken.Write s m t count a b c told mid now waiting part end = tt
-  broken-then broken.Memory s m t count a b c told mid now waiting part end = tt
+  broken-then broken.Read s m t count a b c told mid now waiting part end = stuck-then broken.Read s m count a b c told mid now part end
+  broken-then broken.Write s m t count a b c told mid now waiting part end = broken-after serves busy works rests s m count a b c told mid now part end
+  broken-then broken.Memory s m t count a b c told mid now waiting part (inl end) = inl (stuck-then broken.Memory s m count a b c told mid now part end)
+  broken-then broken.Memory s m t count a b c told mid now waiting part (inr end) =
+      inr (broken-after serves busy works rests s m count a b c told mid now part end)
 
   pub talk-next : (s m t : S) (count : ℕ) (a b c told mid now : Option (List ℕ)) → Talks step (going s) (going m) count a b told mid
       → Talks step (going m) (going t) 1 b c mid now → Talks step (going s) (going t) (count + 1) a c told now

@@ -1,6 +1,6 @@
 -- What is heard of bytes that are still to be heard.
 use Rattle.std.specs.Prelude.{◌≡◌, ◌≢◌, ℕ, List, [], ◌∷◌, Option, None, Some, Result, Ok, Err}
-use Rattle.std.specs.Io.KnownBytes.{prepend_known}
+use Rattle.std.specs.Io.KnownBytes.{Keeps, prepend_known}
 use Rattle.serde_json.specs.Data.{Data}
 use Rattle.dap_frame.specs.Frame.{First, partial, too_long, first_frame}
 use Rattle.dap_stream.specs.Asked.{IsRequest, request_in}
@@ -34,15 +34,15 @@ IsNotOver None = Unit {0}
 IsNotOver (Some text) = text ≢ []
 
 -- A frame is taken off the bytes, a request or none; or it is the end of them. What breaks it off is a frame that the end cuts, one that is too long, a
--- read that fails, or memory.
+-- read that fails, or memory; after these two all bytes are still to be heard.
 abbrev pub HearsAs : Result Heard Broken → Option (List ℕ) → Option (List ℕ) → Type 0
 HearsAs (Ok (heard.Request request)) old new = (message : Data) × IsRequest request message × Hears old (Some message ∷ []) new
 HearsAs (Ok (heard.Unclear fault)) old new = Hears old (None ∷ []) new
 HearsAs (Ok heard.End) old new = IsOver old × Hears old [] new
 HearsAs (Err broken.Cut) old new = OnlyBegins partial old × IsNotOver old
 HearsAs (Err broken.TooLong) old new = OnlyBegins too_long old
-HearsAs (Err broken.Read) old new = Unit {0}
-HearsAs (Err broken.Memory) old new = Unit {0}
+HearsAs (Err broken.Read) old new = Keeps old new
+HearsAs (Err broken.Memory) old new = Keeps old new
 HearsAs (Err broken.Write) old new = ⊥
 
 -- what is heard of a body

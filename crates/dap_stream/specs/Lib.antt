@@ -1,5 +1,6 @@
 pub mod Asked
 pub mod Broken
+pub mod BrokenOff
 pub mod Heard
 pub mod Hearing
 pub mod Sent

@@ -3,6 +3,7 @@ use Rattle.std.specs.Prelude.{◌≡◌, ◌⊎◌, ◌≤◌, ◌-◌, ◌^◌,
 use Rattle.serde_json.specs.Data.{Data}
 use Rattle.dap_message.specs.declared.request.Request.{Request}
 use Rattle.dap_stream.specs.Asked.{IsRequest}
+use Rattle.dap_stream.specs.BrokenOff.{BrokenOff}
 use Rattle.dap_stream.specs.Heard.{Hears}
 use Rattle.dap_stream.specs.Hearing.{HearsAs}
 use Rattle.dap_stream.specs.Serving.{Phase, going, over, Steps}
@@ -46,7 +47,7 @@ pub record LeftTo {S : Type 0} (serves : S → Request → List Data → Turn �
   pub hears : Hears rest (Some message ∷ []) new
   pub left : serves state request waiting turn.Left t
 
--- A talk was had up to where the bytes that are still to be heard break it off.
+-- A talk was had up to where the bytes that are still to be heard break it off, or reading them does: all frames that were heard are answered.
 pub record Stuck {S : Type 0} (step : Phase S → Option Data → List Data → Phase S → Type 0) (why : Broken) (s : S) (old new told now : Option (List ℕ)) : Type 0 where
   pub state : S
   pub count : ℕ
@@ -54,7 +55,8 @@ pub record Stuck {S : Type 0} (step : Phase S → Option Data → List Data → 
   pub talks : Talks step (going s) (going state) count old rest told now
   pub breaks : HearsAs (Err why) rest new
 
--- how it came to this result; memory may be refused at any place, and a read or a write fail
+-- How it came to this result. Where a read fails, all frames that were heard are answered; where a write fails, all but the last one, and of what is told
+-- for that one a beginning is sent; where memory is refused, it is the one or the other.
 abbrev pub TalkedAs : {S : Type 0} → (S → Request → List Data → Turn → S → Type 0) → (S → Bool) → (S → List Data → S → Type 0) → (S → List Data → S → Type 0)
     → Result Talked Broken → S → S → Option (List ℕ) → Option (List ℕ) → Option (List ℕ) → Option (List ℕ) → List Data → Type 0
 TalkedAs serves busy works rests (Ok talked.Done) s t old new told now waiting = Ended (Steps serves busy works rests) s t old new told now
@@ -62,9 +64,10 @@ TalkedAs serves busy works rests (Ok (talked.Left request)) s t old new told now
     LeftTo serves (Steps serves busy works rests) request s t old new told now waiting
 TalkedAs serves busy works rests (Err broken.Cut) s t old new told now waiting = Stuck (Steps serves busy works rests) broken.Cut s old new told now
 TalkedAs serves busy works rests (Err broken.TooLong) s t old new told now waiting = Stuck (Steps serves busy works rests) broken.TooLong s old new told now
-TalkedAs serves busy works rests (Err broken.Read) s t old new told now waiting = Unit {0}
-TalkedAs serves busy works rests (Err broken.Write) s t old new told now waiting = Unit {0}
-TalkedAs serves busy works rests (Err broken.Memory) s t old new told now waiting = Unit {0}
+TalkedAs serves busy works rests (Err broken.Read) s t old new told now waiting = Stuck (Steps serves busy works rests) broken.Read s old new told now
+TalkedAs serves busy works rests (Err broken.Write) s t old new told now waiting = BrokenOff serves busy works rests s old new told now
+TalkedAs serves busy works rests (Err broken.Memory) s t old new told now waiting =
+    Stuck (Steps serves busy works rests) broken.Memory s old new told now ⊎ BrokenOff serves busy works rests s old new told now
 
 -- the same of one frame: it is one exchange, after which the talk goes on, or the end
 abbrev pub TurnAs : {S : Type 0} → (S → Request → List Data → Turn → S → Type 0) → (S → Bool) → (S → List Data → S → Type 0) → (S → List Data → S → Type 0)

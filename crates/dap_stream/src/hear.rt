@@ -43,18 +43,20 @@ impl Ear {
     }
 
     /// The next frame, which is waited for, or the end where a frame ends. `Cut` is the end within a frame, `TooLong` a frame that is longer than it may
-    /// be, `Read` a read that failed, and `Memory` no room for the frame.
+    /// be, `Read` a read that failed, and `Memory` no room for the frame; after these two no byte is lost. No read is tried where a whole frame is there.
     #[tactic(auto, using(crate::proofs::HearLemmas::hearing))]
     pub fn hear<R: In>(&mut self, input: &mut R) -> Result<Heard, Broken>
         requires { R.failed input.old < 2 ^ 64 - 1 }
         ensures heard { HearsAs result (unheard self.old (R.rest input.old)) (unheard self.new (R.rest input.new)) }
         ensures failed { CountsFailure (result ≡ Err broken.Read) (R.failed input.old) (R.failed input.new) }
+        ensures partial { result ≡ Err broken.Read → first_frame (kept self.new) ≡ partial }
     {
         let mut buffer = [0; CHUNK];
         'reads: while self.bytes.len() < MAX_HEADER + MAX_BODY {
             if let Some(heard) = self.first()? {
                 return Ok(heard);
             }
+            self.bytes.reserve(CHUNK)?;
             let Ok(count) = input.read(&mut buffer) else {
                 return Err(Broken::Read);
             };

@@ -1,10 +1,11 @@
 //! Messages that wait are sent, each in a frame.
 
-ghost use Rattle.std.specs.Prelude.{◌≡◌, ◌<◌, ◌-◌, ◌^◌, [], map, Err, IfErr, OnOk};
+ghost use Rattle.std.specs.Prelude.{◌≡◌, ◌<◌, ◌-◌, ◌^◌, [], ◌∷◌, map, Err, IfErr, OnErr, OnOk};
 ghost use Rattle.serde_json.specs.View.{view};
 ghost use Rattle.mix_stream.specs.Stream.{CountsFailure};
 ghost use Rattle.dap_message.specs.Message.{waits};
 ghost use Rattle.dap_stream.specs.Broken.{IsMemoryOrWrite};
+ghost use Rattle.dap_stream.specs.BrokenOff.{SendsFront};
 ghost use Rattle.dap_stream.specs.Sent.{Sends, SendsAll};
 ghost use Rattle.dap_stream.specs.declared.broken.Broken.TheVariants as broken;
 
@@ -20,6 +21,7 @@ pub fn send<W: Out>(alloc: Global, outbox: &mut Outbox, out: &mut W) -> Result<(
     requires { W.failed out.old < 2 ^ 64 - 1 }
     ensures sent { OnOk result (SendsAll (waits outbox.old) (W.told out.old) (W.told out.new)) }
     ensures none { OnOk result (waits outbox.new ≡ []) }
+    ensures begun { OnErr result (SendsFront (waits outbox.old) (W.told out.old) (W.told out.new)) }
     ensures failed { CountsFailure (result ≡ Err broken.Write) (W.failed out.old) (W.failed out.new) }
     ensures only { IfErr result IsMemoryOrWrite }
 {
@@ -32,6 +34,7 @@ pub fn send<W: Out>(alloc: Global, outbox: &mut Outbox, out: &mut W) -> Result<(
 fn send_all<W: Out>(alloc: Global, messages: &[Value], out: &mut W) -> Result<(), Broken>
     requires { W.failed out.old < 2 ^ 64 - 1 }
     ensures sent { OnOk result (SendsAll (map view messages.now) (W.told out.old) (W.told out.new)) }
+    ensures begun { OnErr result (SendsFront (map view messages.now) (W.told out.old) (W.told out.new)) }
     ensures failed { CountsFailure (result ≡ Err broken.Write) (W.failed out.old) (W.failed out.new) }
     ensures only { IfErr result IsMemoryOrWrite }
 {
@@ -42,9 +45,11 @@ fn send_all<W: Out>(alloc: Global, messages: &[Value], out: &mut W) -> Result<()
 }
 
 // A message is sent as its text, in a frame.
+#[tactic(auto, using(crate::proofs::BrokenLemmas::fronts))]
 fn send_one<W: Out>(alloc: Global, message: &Value, out: &mut W) -> Result<(), Broken>
     requires { W.failed out.old < 2 ^ 64 - 1 }
     ensures sent { OnOk result (Sends (view message.now) (W.told out.old) (W.told out.new)) }
+    ensures begun { OnErr result (SendsFront (view message.now ∷ []) (W.told out.old) (W.told out.new)) }
     ensures failed { CountsFailure (result ≡ Err broken.Write) (W.failed out.old) (W.failed out.new) }
     ensures only { IfErr result IsMemoryOrWrite }
 {

@@ -1,11 +1,13 @@
 //! A talk with a client: frame by frame it is heard, and what answers it is sent.
 
-ghost use Rattle.std.specs.Prelude.{◌≡◌, ◌<◌, ◌-◌, ◌^◌, [], Ok, Err, None, IfErr, OnOk};
+ghost use Rattle.std.specs.Prelude.{◌≡◌, ◌<◌, ◌-◌, ◌^◌, [], Ok, Err, None, IfErr, OnErr, OnOk};
 ghost use Rattle.mix_stream.specs.Stream.{CountsFailure};
 ghost use Rattle.dap_message.specs.Message.{waits};
+ghost use Rattle.dap_frame.specs.Frame.{first_frame, partial};
 ghost use Rattle.dap_stream.specs.Broken.{IsMemoryOrWrite};
+ghost use Rattle.dap_stream.specs.BrokenOff.{SendsFirst};
 ghost use Rattle.dap_stream.specs.Hearing.{kept, unheard};
-ghost use Rattle.dap_stream.specs.Serving.{IsUnclear, SendsMore, SendsPieces};
+ghost use Rattle.dap_stream.specs.Serving.{IsUnclear, SendsMore, SendsPieces, max_pieces};
 ghost use Rattle.dap_stream.specs.Talked.{TalkedAs, TurnAs};
 ghost use Rattle.dap_stream.specs.declared.broken.Broken.TheVariants as broken;
 
@@ -54,6 +56,7 @@ impl Talk {
     }
 
     /// A client is heard and answered until it is done, its input is at its end, or a request is left to another. After 2^64 - 1 frames it ends too.
+    /// Where a read fails, each frame that was read whole is answered; where a write fails, of the answers to the frames a beginning is written.
     pub fn with<S: Serves, R: In, W: Out>(
         &mut self,
         served: &mut S,
@@ -67,6 +70,7 @@ impl Talk {
             (unheard self.old.ear (R.rest input.old)) (unheard self.new.ear (R.rest input.new)) (W.told out.old) (W.told out.new) (waits self.new.outbox) }
         ensures read { CountsFailure (result ≡ Err broken.Read) (R.failed input.old) (R.failed input.new) }
         ensures written { CountsFailure (result ≡ Err broken.Write) (W.failed out.old) (W.failed out.new) }
+        ensures partial { result ≡ Err broken.Read → first_frame (kept self.new.ear) ≡ partial }
     {
         let mut turns = 0;
         'turns: while turns < u64::MAX {
@@ -94,6 +98,7 @@ impl Talk {
         ensures none { result ≡ Ok None → waits self.new.outbox ≡ [] }
         ensures read { CountsFailure (result ≡ Err broken.Read) (R.failed input.old) (R.failed input.new) }
         ensures written { CountsFailure (result ≡ Err broken.Write) (W.failed out.old) (W.failed out.new) }
+        ensures partial { result ≡ Err broken.Read → first_frame (kept self.new.ear) ≡ partial }
     {
         match self.ear.hear(input)? {
             Heard::End => return Ok(Some(Talked::Done)),
@@ -113,7 +118,7 @@ impl Talk {
 }
 
 // The messages that wait are sent, and then those of the work that is under way.
-#[tactic(auto, using(crate::proofs::ServingLemmas::pieces))]
+#[tactic(auto, using(crate::proofs::ServingLemmas::pieces, crate::proofs::BrokenLemmas::broken_pieces))]
 fn send_on<S: Serves, W: Out>(
     alloc: Global,
     served: &mut S,
@@ -123,6 +128,7 @@ fn send_on<S: Serves, W: Out>(
     requires { W.failed out.old < 2 ^ 64 - 1 }
     ensures sent { OnOk result (SendsMore S.busy S.works S.rests (waits outbox.old) served.old served.new (W.told out.old) (W.told out.new)) }
     ensures none { OnOk result (waits outbox.new ≡ []) }
+    ensures begun { OnErr result (SendsFirst S.busy S.works S.rests max_pieces (waits outbox.old) served.old (W.told out.old) (W.told out.new)) }
     ensures failed { CountsFailure (result ≡ Err broken.Write) (W.failed out.old) (W.failed out.new) }
     ensures only { IfErr result IsMemoryOrWrite }
 {
@@ -131,7 +137,7 @@ fn send_on<S: Serves, W: Out>(
 }
 
 // The messages of each piece are sent when it is done. After so many pieces the work is broken off.
-#[tactic(auto, using(crate::proofs::ServingLemmas::pieces))]
+#[tactic(auto, using(crate::proofs::ServingLemmas::pieces, crate::proofs::BrokenLemmas::broken_pieces))]
 fn send_pieces<S: Serves, W: Out>(
     alloc: Global,
     served: &mut S,
@@ -143,6 +149,7 @@ fn send_pieces<S: Serves, W: Out>(
     requires count { W.failed out.old < 2 ^ 64 - 1 }
     ensures sent { OnOk result (SendsPieces S.busy S.works S.rests pieces served.old served.new (W.told out.old) (W.told out.new)) }
     ensures none { OnOk result (waits outbox.new ≡ []) }
+    ensures begun { OnErr result (SendsFirst S.busy S.works S.rests pieces [] served.old (W.told out.old) (W.told out.new)) }
     ensures failed { CountsFailure (result ≡ Err broken.Write) (W.failed out.old) (W.failed out.new) }
     ensures only { IfErr result IsMemoryOrWrite }
 {

@@ -98,8 +98,25 @@ source_solid : (i : ℕ) → Solid (with_index i (filled (required_word (codes "
 source_solid i = word_solid i (codes "SOURCE")
 
 run_solid : AllSolid run_shape.rules
-run_solid =
-    (source_solid 1, (option_solid 2 (codes "cards"), (option_solid 2 (codes "devices"), (steps_solid 2, (unit_solid 2, (help_solid 2, tt))))))
+run_solid = (
+  source_solid 1,
+  (
+    option_solid 2 (codes "cards"),
+    (
+      option_solid 2 (codes "typewriter"),
+      (
+        option_solid 2 (codes "devices"),
+        (
+          steps_solid 2,
+          (
+            unit_solid 2,
+            (flag_solid 2 (codes "trace"), (help_solid 2, tt)),
+          ),
+        ),
+      ),
+    ),
+  ),
+)
 
 debug_solid : AllSolid debug_shape.rules
 debug_solid = (source_solid 1, (free_word_solid 2 (codes "SCRIPT"), (option_solid 3 (codes "devices"), (flag_solid 3 (codes "echo"), (help_solid 3, tt)))))

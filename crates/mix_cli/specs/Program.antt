@@ -28,6 +28,9 @@ devices_option = option_named (codes "devices")
 abbrev pub cards_option : Rule
 cards_option = option_named (codes "cards")
 
+abbrev pub typewriter_option : Rule
+typewriter_option = option_named (codes "typewriter")
+
 -- `--steps N`, a number from 1 on
 abbrev pub steps_option : Rule
 steps_option = record (option_named (codes "steps")) { parser = Some (Unsigned 1 max_steps) }
@@ -62,12 +65,15 @@ check_app = with_rule of_sources (flag_named (codes "json"))
 abbrev pub debug_app : App
 debug_app = with_rule (with_rule (with_rule (of_source (codes "debug")) (new_rule (codes "SCRIPT"))) devices_option) (flag_named (codes "echo"))
 
--- what goes in, and what is asked of the run
+-- what goes in, what is asked of the run, and what it gives beside the rows of its units
 abbrev pub run_inputs : App
-run_inputs = with_rule (with_rule (of_source (codes "run")) cards_option) devices_option
+run_inputs = with_rule (with_rule (with_rule (of_source (codes "run")) cards_option) typewriter_option) devices_option
+
+abbrev pub limited_run : App
+limited_run = with_rule (with_rule run_inputs steps_option) unit_option
 
 abbrev pub run_app : App
-run_app = with_rule (with_rule run_inputs steps_option) unit_option
+run_app = with_rule limited_run (flag_named (codes "trace"))
 
 abbrev pub dap_app : App
 dap_app = new_app (codes "dap")

@@ -4,6 +4,7 @@
 mod fault;
 mod found;
 mod help;
+mod options;
 mod program;
 mod words;
 

@@ -1,19 +1,18 @@
 //! The words that the program takes.
 
-ghost use Rattle.std.specs.Prelude.{◌≡◌, IfOk, codes, false, true};
-ghost use Rattle.clap.specs.Words.{app_of, new_app, new_rule, rule_of, with_rule, with_subcommand};
-ghost use Rattle.mix_cli.specs.Program.{bare_app, cards_option, check_app, dap_app, debug_app, devices_option, flag_named, list_app, mixrev, of_source, of_sources, option_named, required_word, required_words, run_app, run_inputs, steps_option, unit_option, with_sources};
+ghost use Rattle.std.specs.Prelude.{◌≡◌, IfOk, codes, true};
+ghost use Rattle.clap.specs.Words.{app_of, new_app, new_rule, with_rule, with_subcommand};
+ghost use Rattle.mix_cli.specs.Program.{bare_app, check_app, dap_app, debug_app, devices_option, limited_run, list_app, mixrev, of_source, of_sources, required_word, required_words, run_app, run_inputs, with_sources};
 
 use crate::help::{
     ABOUT, LONG_VERSION, MORE, MORE_ON_CHECK, MORE_ON_DAP, MORE_ON_DEBUG, MORE_ON_LIST,
     MORE_ON_RUN, SOURCE, VERSION,
 };
-use clap::builder::ValueParser;
+use crate::options::{
+    cards_option, devices_option, flag_named, steps_option, typewriter_option, unit_option,
+};
 use clap::{Arg, ArgAction, Command};
 use std::alloc::{AllocError, Global};
-
-/// How many steps a run may be allowed.
-const MAX_STEPS: u64 = 1_000_000_000_000_000_000;
 
 // A subcommand with its first word, the source. Without any word it shows its help.
 fn of_source<'a>(alloc: Global, name: &'a str) -> Result<Command<'a>, AllocError>
@@ -23,79 +22,6 @@ fn of_source<'a>(alloc: Global, name: &'a str) -> Result<Command<'a>, AllocError
     Command::new(alloc, name)
         .arg_required_else_help(true)
         .arg(source)
-}
-
-// An option with one value.
-fn option_named<'a>(alloc: Global, name: &'a str, value: &'a str, help: &'a str) -> Arg<'a>
-    ensures rule { rule_of result ≡ option_named name.entry.now }
-    ensures local { result.global ≡ false }
-{
-    Arg::new(alloc, name)
-        .long(name)
-        .value_name(value)
-        .help(help)
-}
-
-// An option without a value.
-fn flag_named<'a>(alloc: Global, name: &'a str, help: &'a str) -> Arg<'a>
-    ensures rule { rule_of result ≡ flag_named name.entry.now }
-    ensures local { result.global ≡ false }
-{
-    Arg::new(alloc, name)
-        .long(name)
-        .action(ArgAction::SetTrue)
-        .help(help)
-}
-
-fn devices_option<'a>(alloc: Global) -> Arg<'a>
-    ensures rule { rule_of result ≡ devices_option }
-    ensures local { result.global ≡ false }
-{
-    option_named(
-        alloc,
-        "devices",
-        "FILE",
-        "The deck: what tapes, disks and cards hold; without one all are empty",
-    )
-}
-
-fn cards_option<'a>(alloc: Global) -> Arg<'a>
-    ensures rule { rule_of result ≡ cards_option }
-    ensures local { result.global ≡ false }
-{
-    option_named(
-        alloc,
-        "cards",
-        "FILE",
-        "The cards of the reader, one a line, instead of those of the deck",
-    )
-}
-
-fn steps_option<'a>(alloc: Global) -> Arg<'a>
-    ensures rule { rule_of result ≡ steps_option }
-    ensures local { result.global ≡ false }
-{
-    option_named(
-        alloc,
-        "steps",
-        "N",
-        "The most steps that are done, 1000000000 if it is left out",
-    )
-    .value_parser(ValueParser::Unsigned(1, MAX_STEPS))
-}
-
-fn unit_option<'a>(alloc: Global) -> Arg<'a>
-    ensures rule { rule_of result ≡ unit_option }
-    ensures local { result.global ≡ false }
-{
-    option_named(
-        alloc,
-        "unit",
-        "N",
-        "Writes only the rows of this unit, 17 to 20; may be given several times",
-    )
-    .action(ArgAction::Append)
-    .value_parser(ValueParser::Unsigned(17, 20))
 }
 
 fn list_command<'a>(alloc: Global) -> Result<Command<'a>, AllocError>
@@ -154,23 +80,36 @@ fn debug_command<'a>(alloc: Global) -> Result<Command<'a>, AllocError>
         ))
 }
 
-// The subcommand `run` with what goes into the run: the source, the cards and the deck.
+// The subcommand `run` with what goes into the run: the source, the cards, the lines of the typewriter and the deck.
 fn of_inputs<'a>(alloc: Global) -> Result<Command<'a>, AllocError>
     ensures app { IfOk result (λ c. app_of c ≡ run_inputs) }
 {
     of_source(alloc, "run")?
         .arg(cards_option(alloc))?
+        .arg(typewriter_option(alloc))?
         .arg(devices_option(alloc))
+}
+
+// And with what is asked of the run: the steps and the units.
+fn limited_run<'a>(alloc: Global) -> Result<Command<'a>, AllocError>
+    ensures app { IfOk result (λ c. app_of c ≡ limited_run) }
+{
+    of_inputs(alloc)?
+        .arg(steps_option(alloc))?
+        .arg(unit_option(alloc))
 }
 
 fn run_command<'a>(alloc: Global) -> Result<Command<'a>, AllocError>
     ensures app { IfOk result (λ c. app_of c ≡ run_app) }
 {
-    of_inputs(alloc)?
+    limited_run(alloc)?
         .about("Runs a program to its halt and writes what it prints")
         .after_help(MORE_ON_RUN)
-        .arg(steps_option(alloc))?
-        .arg(unit_option(alloc))
+        .arg(flag_named(
+            alloc,
+            "trace",
+            "Writes each step too, as the command trace does, before what it prints",
+        ))
 }
 
 fn dap_command<'a>(alloc: Global) -> Command<'a>

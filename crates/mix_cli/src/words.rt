@@ -15,8 +15,8 @@ use clap::{ArgMatches, Error};
 use std::alloc::{AllocError, Global};
 
 /// What the program is to do: a bundle from standard input; the listing of a source; a check of sources, in JSON or not; a session of a source, with a deck where one is named, by a
-/// script, whose commands are echoed or not, or, where none is named, a talk; a run of a source, with cards and a deck where they are named, of so many steps at most, 1 to 10^18;
-/// or to be a debug adapter. The texts are names of files.
+/// script, whose commands are echoed or not, or, where none is named, a talk; a run of a source, with cards, lines of the typewriter and a deck where they are named, of so many steps at
+/// most, 1 to 10^18, traced or not; or to be a debug adapter. The texts are names of files.
 #[derive(Drop)]
 pub enum Plan {
     Bundle,
@@ -34,9 +34,11 @@ pub enum Plan {
     Run {
         source: String,
         cards: Option<String>,
+        typewriter: Option<String>,
         devices: Option<String>,
         steps: u64,
         printing: Printing,
+        trace: bool,
     },
     Dap,
 }
@@ -86,9 +88,11 @@ fn run_plan(alloc: Global, words: &ArgMatches<'_>) -> Result<Plan, AllocError>
     Ok(Plan::Run {
         source: required(alloc, words, "SOURCE")?,
         cards: optional(alloc, words, "cards")?,
+        typewriter: optional(alloc, words, "typewriter")?,
         devices: optional(alloc, words, "devices")?,
         steps: steps(words),
         printing: what_is_printed(words),
+        trace: is_set(words, "trace"),
     })
 }
 

@@ -1,14 +1,15 @@
 -- The talk before a launch is part of a dialogue, and the launch is one exchange more.
-use Rattle.std.proofs.Common.{◌≡◌, inl, ℕ, zero, suc, ◌+◌, ◌≤◌, Bool, true, false, Option, None, Some, Ok, Err, List, [], ◌++◌, refl, sym, ap, subst, ◌∙◌, append-nil, arith}
+use Rattle.std.proofs.Common.{◌≡◌, inl, inr, ℕ, zero, suc, ◌+◌, ◌≤◌, Bool, true, false, Option, None, Some, Ok, Err, List, [], ◌++◌, refl, sym, ap, subst, ◌∙◌, append-nil, arith}
 use Rattle.serde_json.specs.Data.{Data}
 use Rattle.dap_message.specs.Request.{command_of}
 use Rattle.dap_message.specs.Told.{Answers, response_to}
 use Rattle.dap_message.specs.declared.command.Command.{Command}
 use Rattle.dap_message.specs.declared.request.Request.{Request}
+use Rattle.dap_stream.specs.BrokenOff.{Begins, BrokenOff, FirstPieces}
 use Rattle.dap_stream.specs.Sent.{SendsAll}
-use Rattle.dap_stream.specs.Serving.{IsUnclear, Phase, going, over, Pieces, Steps, WhileBusy}
+use Rattle.dap_stream.specs.Serving.{IsUnclear, Phase, going, over, Pieces, Steps, Takes, WhileBusy}
 use Rattle.dap_stream.specs.Talk.{Talks}
-use Rattle.dap_stream.specs.Talked.{IsEnd, LeftTo, TalkedAs}
+use Rattle.dap_stream.specs.Talked.{IsEnd, LeftTo, Stuck, TalkedAs}
 use Rattle.dap_stream.specs.declared.broken.Broken.{Broken}
 use Rattle.dap_stream.specs.declared.broken.Broken.TheVariants as broken
 use Rattle.dap_stream.specs.declared.serves.Turn.{Turn}
@@ -17,7 +18,7 @@ use Rattle.dap_stream.specs.declared.talk.Talked.{Talked}
 use Rattle.dap_stream.specs.declared.talk.Talked.TheVariants as talked
 use Rattle.dap_stream.proofs.Talking.{talks-one, talks-then}
 use Rattle.mix_dap.specs.Before.{Asks, KindAsks}
-use Rattle.mix_dap.specs.Dialogue.{BeforeSteps, EndsAs, GoesAs, Opens, Stage, StageSteps, done, waiting}
+use Rattle.mix_dap.specs.Dialogue.{BeforeSteps, BreaksOff, EndsAs, GoesAs, Halts, Opens, Stage, StageBegins, StageSteps, done, waiting}
 use Rattle.mix_dap.specs.Kind.{kind_of}
 use Rattle.mix_dap.specs.Launched.{launched_of}
 use Rattle.mix_dap.specs.Served.{Becomes, WaitingServes}
@@ -103,7 +104,7 @@ module _ {B : Type 0} (busy : B → Bool) (texts : B → Option Texts) where
   before-step (going b) (Some message) told (over c) is = (is.0, is.1, ends is.2.asked is.0 told (texts c) is.2.asks is.2.becomes)
   before-step (over b) frame told t is = absurd is
 
-  before-talks : (s t : Phase B) (count : ℕ) (old new told now : Option (List ℕ)) → Talks step s t count old new told now
+  pub before-talks : (s t : Phase B) (count : ℕ) (old new told now : Option (List ℕ)) → Talks step s t count old new told now
       → Talks StageSteps (stage_of s) (stage_of t) count old new told now
   before-talks s t count old new told now is = talks-as step StageSteps stage_of before-step s t count old new told now is
 
@@ -126,15 +127,56 @@ module _ {B : Type 0} (busy : B → Bool) (texts : B → Option Texts) where
         before-end ended.phase ended.count ended.rest new ended.end,
       )
 
+  before-halts : (why : Broken) (s : B) (old new told now : Option (List ℕ)) → Stuck step why s old new told now → Halts why waiting old new told now
+  before-halts why s old new told now is = record {
+    stage = waiting;
+    count = is.count;
+    left = is.rest;
+    talks = before-talks (going s) (going is.state) is.count old is.rest told now is.talks;
+    breaks = is.breaks;
+  }
+
+  first-idle : (count : ℕ) (s : B) (told : List Data) → FirstPieces busy nothing nothing count s told → told ≡ []
+  first-idle zero s told (inl none) = none
+  first-idle zero s told (inr is) = is.1.1
+  first-idle (suc count) s told (inl none) = none
+  first-idle (suc count) s told (inr is) = is.6 ∙ ap (λ l. l ++ is.2) is.4.1 ∙ first-idle count is.0 is.2 is.5
+
+  before-takes : (s c : B) (frame : Option Data) (told : List Data) → Takes serves s frame told turn.On c → StageSteps waiting frame told waiting
+  before-takes s c None told is = (is.0, refl)
+  before-takes s c (Some message) told is = (is.0, is.1, goes-on is.2.asked is.0 told (texts c) is.2.asks is.2.becomes)
+
+  before-begins : (s : B) (frame : Option Data) (told : List Data) → Begins serves busy nothing nothing s frame told → StageBegins waiting frame told
+  before-begins s frame told (inl none) = inl none
+  before-begins s frame told (inr (inl is)) =
+      let same : told ≡ is.1 = is.5 ∙ ap (λ l. is.1 ++ l) (first-idle 10 is.0 is.2 is.4) ∙ append-nil is.1 in
+      inr (waiting, subst (λ l. StageSteps waiting frame l waiting) (sym same) (before-takes s is.0 frame is.1 is.3))
+  before-begins s frame told (inr (inr is)) = inr (done, before-step (going s) frame told (over is.0) is.1)
+
+  before-off : (s : B) (old new told now : Option (List ℕ)) → BrokenOff serves busy nothing nothing s old new told now → BreaksOff waiting old new told now
+  before-off s old new told now is = record {
+    stage = waiting;
+    count = is.count;
+    left = is.rest;
+    before = is.before;
+    talks = before-talks (going s) (going is.state) is.count old is.rest told is.before is.talks;
+    frame = is.frame;
+    hears = is.hears;
+    messages = is.messages;
+    begins = before-begins is.state is.frame is.messages is.begins;
+    sends = is.sends;
+  }
+
   pub before-broken : (why : Broken) (s t : B) (old new told now : Option (List ℕ)) (waits : List Data)
       → TalkedAs serves busy nothing nothing (Err why) s t old new told now waits → GoesAs waiting (Err why) old new told now
   before-broken broken.Cut s t old new told now waits is =
       (waiting, is.count, is.rest, before-talks (going s) (going is.state) is.count old is.rest told now is.talks, is.breaks)
   before-broken broken.TooLong s t old new told now waits is =
       (waiting, is.count, is.rest, before-talks (going s) (going is.state) is.count old is.rest told now is.talks, is.breaks)
-  before-broken broken.Read s t old new told now waits is = tt
-  before-broken broken.Write s t old new told now waits is = tt
-  before-broken broken.Memory s t old new told now waits is = tt
+  before-broken broken.Read s t old new told now waits is = before-halts broken.Read s old new told now is
+  before-broken broken.Write s t old new told now waits is = before-off s old new told now is
+  before-broken broken.Memory s t old new told now waits (inl is) = inl (before-halts broken.Memory s old new told now is)
+  before-broken broken.Memory s t old new told now waits (inr is) = inr (before-off s old new told now is)
 
   -- what was left is a launch, whose texts are kept
   launch-left : (how : Asked) (request : Request) (told : List Data) (left : Option Texts) → Asks how (command_of request) request [] told
@@ -145,7 +187,7 @@ module _ {B : Type 0} (busy : B → Bool) (texts : B → Option Texts) where
       let none = asks-waits (command_of request) launched request [] told asks in
       (launched, becomes.1, none, subst (λ l. Asks (asked.Launch launched) (command_of request) request [] l) none asks)
 
-  left-is : (request : Request) (s t : B) (old new told now : Option (List ℕ)) (waits : List Data)
+  pub left-is : (request : Request) (s t : B) (old new told now : Option (List ℕ)) (waits : List Data)
       → LeftTo serves step request s t old new told now waits
       → (launched : Texts) × (texts t ≡ Some launched) × (waits ≡ []) × Asks (asked.Launch launched) (command_of request) request [] []
   left-is request s t old new told now waits is = launch-left is.left.asked request waits (texts t) is.left.asks is.left.becomes

@@ -5,18 +5,19 @@ use Rattle.std.specs.Prelude.{IfNone, IfSome, IsErr, is_some}
 use Rattle.serde_json.specs.Data.{Data}
 use Rattle.dap_message.specs.Told.{Answers, response_to}
 use Rattle.dap_message.specs.declared.request.Request.{Request}
-use Rattle.dap_stream.specs.Broken.{IsMemoryOrWrite}
+use Rattle.dap_frame.specs.Frame.{first_frame, partial}
+use Rattle.dap_stream.specs.BrokenOff.{BrokenOff}
 use Rattle.dap_stream.specs.Sent.{SendsAll}
 use Rattle.dap_stream.specs.Serving.{Phase, going, over, Steps}
 use Rattle.dap_stream.specs.Talk.{Talks}
-use Rattle.dap_stream.specs.Talked.{IsEnd, TalkedAs}
+use Rattle.dap_stream.specs.Talked.{IsEnd, Stuck, TalkedAs}
 use Rattle.dap_stream.specs.declared.broken.Broken.{Broken}
 use Rattle.dap_stream.specs.declared.broken.Broken.TheVariants as broken
 use Rattle.dap_stream.specs.declared.serves.Turn.TheVariants as turn
 use Rattle.dap_stream.specs.declared.talk.Talked.{Talked}
 use Rattle.dap_stream.specs.declared.talk.Talked.TheVariants as talked
 use Rattle.dap_stream.proofs.Talking.{talks-none, talks-then}
-use Rattle.mix_dap.specs.Dialogue.{DialogueAs, EndsAs, GoesAs, PartAs, Stage, StageSteps, debugs, done, waiting}
+use Rattle.mix_dap.specs.Dialogue.{BreaksOff, DialogueAs, EndsAs, GoesAs, Halts, HeardAll, PartAs, Stage, StageSteps, debugs, done, waiting}
 use Rattle.mix_dap.specs.Launched.{launched_of}
 use Rattle.mix_dap.specs.Served.{AdapterServes, AdapterWorks, AdapterRests, turn_of}
 use Rattle.mix_dap.specs.Told.{outcome_of_launch}
@@ -69,6 +70,31 @@ debug-done talked.Done s t old new told now waits is = (
 )
 debug-done (talked.Left request) s t old new told now waits is = absurd (never-left is.left.flow (sym is.left.next_is))
 
+debug-halts : (why : Broken) (s : Adapter) (old new told now : Option (List ℕ)) → Stuck debug_step why s old new told now
+    → Halts why (debugs s) old new told now
+debug-halts why s old new told now is = record {
+  stage = debugs is.state;
+  count = is.count;
+  left = is.rest;
+  talks = debug-talks (going s) (going is.state) is.count old is.rest told now is.talks;
+  breaks = is.breaks;
+}
+
+debug-off : (s : Adapter) (old new told now : Option (List ℕ)) → BrokenOff AdapterServes (λ a. is_some a.way) AdapterWorks AdapterRests s old new told now
+    → BreaksOff (debugs s) old new told now
+debug-off s old new told now is = record {
+  stage = debugs is.state;
+  count = is.count;
+  left = is.rest;
+  before = is.before;
+  talks = debug-talks (going s) (going is.state) is.count old is.rest told is.before is.talks;
+  frame = is.frame;
+  hears = is.hears;
+  messages = is.messages;
+  begins = is.begins;
+  sends = is.sends;
+}
+
 pub debug-broken : (why : Broken) (s t : Adapter) (old new told now : Option (List ℕ)) (waits : List Data)
     → TalkedAs AdapterServes (λ a. is_some a.way) AdapterWorks AdapterRests (Err why) s t old new told now waits
     → GoesAs (debugs s) (Err why) old new told now
@@ -76,9 +102,10 @@ debug-broken broken.Cut s t old new told now waits is =
     (debugs is.state, is.count, is.rest, debug-talks (going s) (going is.state) is.count old is.rest told now is.talks, is.breaks)
 debug-broken broken.TooLong s t old new told now waits is =
     (debugs is.state, is.count, is.rest, debug-talks (going s) (going is.state) is.count old is.rest told now is.talks, is.breaks)
-debug-broken broken.Read s t old new told now waits is = tt
-debug-broken broken.Write s t old new told now waits is = tt
-debug-broken broken.Memory s t old new told now waits is = tt
+debug-broken broken.Read s t old new told now waits is = debug-halts broken.Read s old new told now is
+debug-broken broken.Write s t old new told now waits is = debug-off s old new told now is
+debug-broken broken.Memory s t old new told now waits (inl is) = inl (debug-halts broken.Memory s old new told now is)
+debug-broken broken.Memory s t old new told now waits (inr is) = inr (debug-off s old new told now is)
 
 -- ---- after a part of a dialogue
 
@@ -89,6 +116,31 @@ end-then (debugs a) count more left new (inl is) = inl is
 end-then (debugs a) count more left new (inr is) = inr (omega (arith, is.0), is.1)
 end-then done count more left new is = is
 
+halts-then : (why : Broken) (s m : Stage) (count : ℕ) (a b c told mid now : Option (List ℕ)) → Talks StageSteps s m count a b told mid
+    → Halts why m b c mid now → Halts why s a c told now
+halts-then why s m count a b c told mid now part is = record {
+  stage = is.stage;
+  count = count + is.count;
+  left = is.left;
+  talks = talks-then StageSteps s m is.stage count is.count a b is.left told mid now part is.talks;
+  breaks = is.breaks;
+}
+
+off-then : (s m : Stage) (count : ℕ) (a b c told mid now : Option (List ℕ)) → Talks StageSteps s m count a b told mid
+    → BreaksOff m b c mid now → BreaksOff s a c told now
+off-then s m count a b c told mid now part is = record {
+  stage = is.stage;
+  count = count + is.count;
+  left = is.left;
+  before = is.before;
+  talks = talks-then StageSteps s m is.stage count is.count a b is.left told mid is.before part is.talks;
+  frame = is.frame;
+  hears = is.hears;
+  messages = is.messages;
+  begins = is.begins;
+  sends = is.sends;
+}
+
 pub goes-then : (result : Result Unit Broken) (s m : Stage) (count : ℕ) (a b c told mid now : Option (List ℕ)) → Talks StageSteps s m count a b told mid
     → GoesAs m result b c mid now → GoesAs s result a c told now
 goes-then (Ok ended) s m count a b c told mid now part is =
@@ -97,24 +149,33 @@ goes-then (Err broken.Cut) s m count a b c told mid now part is =
     (is.0, count + is.1, is.2, talks-then StageSteps s m is.0 count is.1 a b is.2 told mid now part is.3, is.4)
 goes-then (Err broken.TooLong) s m count a b c told mid now part is =
     (is.0, count + is.1, is.2, talks-then StageSteps s m is.0 count is.1 a b is.2 told mid now part is.3, is.4)
-goes-then (Err broken.Read) s m count a b c told mid now part is = tt
-goes-then (Err broken.Write) s m count a b c told mid now part is = tt
-goes-then (Err broken.Memory) s m count a b c told mid now part is = tt
+goes-then (Err broken.Read) s m count a b c told mid now part is = halts-then broken.Read s m count a b c told mid now part is
+goes-then (Err broken.Write) s m count a b c told mid now part is = off-then s m count a b c told mid now part is
+goes-then (Err broken.Memory) s m count a b c told mid now part (inl is) = inl (halts-then broken.Memory s m count a b c told mid now part is)
+goes-then (Err broken.Memory) s m count a b c told mid now part (inr is) = inr (off-then s m count a b c told mid now part is)
 
 -- ---- parts, one after the other
 
 -- what was read and not heard stands before what is left of the input
 pub dialogue-then : (result : Result Unit Broken) (launches : ℕ) (bytes : List ℕ) (a b left told mid now : Option (List ℕ))
     → (count : ℕ) × (launches ≤ count) × Talks StageSteps waiting waiting count a b told mid
-    → GoesAs waiting result b (prepend_known bytes left) mid now → DialogueAs result a left told now
-dialogue-then result launches bytes a b left told mid now talks is =
-    (bytes, goes-then result waiting waiting talks.0 a b (prepend_known bytes left) told mid now talks.2 is)
+    → HeardAll result bytes → GoesAs waiting result b (prepend_known bytes left) mid now → DialogueAs result a left told now
+dialogue-then result launches bytes a b left told mid now talks all is =
+    (bytes, all, goes-then result waiting waiting talks.0 a b (prepend_known bytes left) told mid now talks.2 is)
 
 -- the same where it was broken off
 pub dialogue-broken : (why : Broken) (launches : ℕ) (bytes : List ℕ) (a b left told mid now : Option (List ℕ))
     → (count : ℕ) × (launches ≤ count) × Talks StageSteps waiting waiting count a b told mid
-    → PartAs (Err why) b (prepend_known bytes left) mid now → DialogueAs (Err why) a left told now
-dialogue-broken why launches bytes a b left told mid now talks is = dialogue-then (Err why) launches bytes a b left told mid now talks is
+    → HeardAll (Err why) bytes → PartAs (Err why) b (prepend_known bytes left) mid now → DialogueAs (Err why) a left told now
+dialogue-broken why launches bytes a b left told mid now talks all is = dialogue-then (Err why) launches bytes a b left told mid now talks all is
+
+-- what is whole of the bytes that are kept
+pub heard-all : (why : Broken) (bytes : List ℕ) → ((why ≡ broken.Read) → first_frame bytes ≡ partial) → HeardAll (Err why) bytes
+heard-all broken.Read bytes is = is refl
+heard-all broken.Write bytes is = tt
+heard-all broken.Memory bytes is = tt
+heard-all broken.Cut bytes is = tt
+heard-all broken.TooLong bytes is = tt
 
 heard-none : (left : Option (List ℕ)) → prepend_known [] left ≡ left
 heard-none None = refl
@@ -145,7 +206,7 @@ pub counted : (launches : ℕ) (bytes : List ℕ) (old left told now : Option (L
     → (count : ℕ) × (launches ≤ count) × Talks StageSteps waiting waiting count old (prepend_known bytes left) told now → 2 ^ 64 - 1 ≤ launches
     → DialogueAs (Ok tt) old left told now
 counted launches bytes old left told now talks all =
-    (bytes, (waiting, talks.0, prepend_known bytes left, talks.2, inr (omega (arith, talks.1, all), refl)))
+    (bytes, tt, (waiting, talks.0, prepend_known bytes left, talks.2, inr (omega (arith, talks.1, all), refl)))
 
 -- ---- what answers a launch
 
@@ -171,14 +232,6 @@ launch-done busy texts end request s t launched opened a result old new rest tol
     let talks = launched-then busy texts end request s t launched (debugs a) old new told mid now waits answer left is kept answers
     (λ opens. (launched, loads, idle, opens)) sends in
     goes-then result waiting (debugs a) talks.0 old new rest told now last talks.2 goes
-
--- what breaks off the answer to a launch
-pub answer-broken : (why : Broken) (old new told now : Option (List ℕ)) → IsMemoryOrWrite why → GoesAs waiting (Err why) old new told now
-answer-broken broken.Memory old new told now is = tt
-answer-broken broken.Read old new told now is = tt
-answer-broken broken.Write old new told now is = tt
-answer-broken broken.TooLong old new told now is = absurd is
-answer-broken broken.Cut old new told now is = absurd is
 
 -- ---- how a part ended
 

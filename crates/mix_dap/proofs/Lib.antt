@@ -1,17 +1,21 @@
 mod BeforeLemmas
 mod DialogueLemmas
+mod LaunchLemmas
 mod TalkLemmas
 pub mod AskedLemmas
 pub mod CellsLemmas
 pub mod CountsLemmas
 pub mod EntryLemmas
+pub mod EventLemmas
 pub mod LayoutLemmas
+pub mod LegLemmas
 pub mod ListLemmas
+pub mod LocationLemmas
 pub mod MemoryLemmas
 pub mod PointLemmas
+pub mod PrintLemmas
 pub mod ReferenceLemmas
 pub mod RepliesLemmas
 pub mod RunLemmas
-pub mod SymbolLemmas
 pub mod WholeLemmas
 pub mod WrittenLemmas

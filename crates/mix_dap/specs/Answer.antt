@@ -1,24 +1,24 @@
 -- How a request of a launched program is answered: with what it asks for, or with why it is refused.
 use Rattle.std.specs.Prelude.{◌≡◌, ℕ, List, codes, string_bytes, Bool, true, false, Option, None, Some, Result, Ok, Err, is_some, if◌then◌else◌}
 use Rattle.std.specs.Str.Lossy.{utf8_lossy}
-use Rattle.serde_json.specs.Data.{Data, Members, null, boolean, string, number, unsigned, object, no_members, put}
-use Rattle.mixal_asm.specs.Program.{ProgramValue}
+use Rattle.serde_json.specs.Data.{Data, null, boolean, string, number, unsigned, object, no_members, put}
 use Rattle.mix_session.specs.Answer.{text_of}
 use Rattle.mix_session.specs.Command.{Effect, after}
 use Rattle.mix_session.specs.Session.{SessionState}
-use Rattle.mix_session.specs.Timeline.{Timeline, world_of}
+use Rattle.mix_session.specs.Timeline.{world_of}
 use Rattle.mix_session.specs.declared.answer.Answer.{Answer}
-use Rattle.dap_message.specs.Request.{command_of}
 use Rattle.dap_message.specs.declared.command.Command.{Command}
 use Rattle.dap_message.specs.declared.request.Request.{Request}
 use Rattle.mix_dap.specs.Capabilities.{capabilities}
 use Rattle.mix_dap.specs.Change.{change_asked}
 use Rattle.mix_dap.specs.Check.{checked}
+use Rattle.mix_dap.specs.Completions.{completions_asked}
 use Rattle.mix_dap.specs.Counts.{counts_shown}
 use Rattle.mix_dap.specs.Deed.{deed_of, effect_of_deed, is_console_of}
 use Rattle.mix_dap.specs.State.{state_asked}
 use Rattle.mix_dap.specs.Kind.{kind_of}
 use Rattle.mix_dap.specs.Leaves.{refusal_in}
+use Rattle.mix_dap.specs.Locations.{locations_asked}
 use Rattle.mix_dap.specs.Look.{short_name, threads, stack_trace, scopes, exception_of}
 use Rattle.mix_dap.specs.Memory.{memory_asked}
 use Rattle.mix_dap.specs.Disassembly.{disassembly_asked}
@@ -53,6 +53,8 @@ shown_of look.Memory r a = memory_asked (world_of a.session.timeline) r
 shown_of look.Instructions r a = disassembly_asked a.session a.name.short.now a.name.whole.now a.client.first r
 shown_of look.Targets r a = targets_asked a.session a.client.first r
 shown_of look.Watch r a = watch_asked a.session r
+shown_of look.Locations r a = locations_asked a.session.program a.name.whole.now a.client.first r
+shown_of look.Completions r a = completions_asked a.session a.client.first_column r
 shown_of look.Program r a = Ok (program_shown a.session.program)
 shown_of look.Counts r a = Ok (counts_shown a.session)
 shown_of look.State r a = state_asked a.session r

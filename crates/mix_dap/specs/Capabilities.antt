@@ -9,10 +9,10 @@ use Rattle.mix_dap.specs.declared.capabilities.Client.{Client}
 -- what it supports, by the names of the protocol
 abbrev pub abilities : List (List ℕ)
 abilities =
-    codes "supportsConfigurationDoneRequest" ∷ codes "supportsStepBack" ∷ codes "supportsSetVariable" ∷ codes "supportsSetExpression"
-    ∷ codes "supportsGotoTargetsRequest" ∷ codes "supportsEvaluateForHovers" ∷ codes "supportsRestartRequest" ∷ codes "supportsExceptionInfoRequest"
+    codes "supportsConfigurationDoneRequest" ∷ codes "supportsConditionalBreakpoints" ∷ codes "supportsHitConditionalBreakpoints" ∷ codes "supportsStepBack" ∷ codes "supportsSetVariable" ∷ codes "supportsSetExpression"
+    ∷ codes "supportsGotoTargetsRequest" ∷ codes "supportsEvaluateForHovers" ∷ codes "supportsCompletionsRequest" ∷ codes "supportsRestartRequest" ∷ codes "supportsExceptionInfoRequest"
     ∷ codes "supportsTerminateRequest" ∷ codes "supportsDataBreakpoints" ∷ codes "supportsReadMemoryRequest" ∷ codes "supportsWriteMemoryRequest" ∷ codes "supportsDisassembleRequest"
-    ∷ codes "supportsInstructionBreakpoints" ∷ codes "supportsSteppingGranularity" ∷ []
+    ∷ codes "supportsInstructionBreakpoints" ∷ codes "supportsBreakpointLocationsRequest" ∷ codes "supportsSteppingGranularity" ∷ []
 
 -- each of them is true
 abbrev pub put_abilities : List (List ℕ) → Members → Members
@@ -22,7 +22,11 @@ put_abilities (name ∷ names) members = put_abilities names (put name (boolean 
 abbrev pub capabilities : Data
 capabilities = object (put_abilities abilities no_members)
 
--- the number of the client's first line and column: 1, unless it says that its lines do not start at 1
+-- what an argument says, where it is true or false
+abbrev pub asked_flag : Request → List ℕ → Option Bool
+asked_flag r name = option_and_then as_bool (argument_of r name)
+
+-- the number of the client's first line: 1, unless it says that its lines do not start at 1; that of its first column likewise
 abbrev pub first_by : Option Bool → ℕ
 first_by None = 1
 first_by (Some true) = 1
@@ -30,10 +34,11 @@ first_by (Some false) = 0
 
 abbrev pub client_of : Request → Client
 client_of r = record {
-  first = first_by (option_and_then as_bool (argument_of r (codes "linesStartAt1")));
+  first = first_by (asked_flag r (codes "linesStartAt1"));
+  first_column = first_by (asked_flag r (codes "columnsStartAt1"));
   hears_invalidated = flag_of r (codes "supportsInvalidatedEvent");
 }
 
 -- a client that has said nothing
 abbrev pub unknown_client : Client
-unknown_client = record { first = 1; hears_invalidated = false }
+unknown_client = record { first = 1; first_column = 1; hears_invalidated = false }

@@ -1,12 +1,15 @@
 -- A dialogue of the adapter with its client.
-use Rattle.std.specs.Prelude.{◌≡◌, ◌⊎◌, ◌≤◌, ◌-◌, ◌^◌, ◌++◌, ℕ, List, [], codes, Bool, true, false, Option, None, Some, Result, Ok, Err, IsErr, is_some}
+use Rattle.std.specs.Prelude.{◌≡◌, ◌⊎◌, ◌≤◌, ◌-◌, ◌^◌, ◌++◌, ℕ, List, [], ◌∷◌, codes, Bool, true, false, Option, None, Some, Result, Ok, Err, IsErr, is_some}
 use Rattle.std.specs.Io.KnownBytes.{Appends, prepend_known}
 use Rattle.serde_json.specs.Data.{Data}
 use Rattle.dap_message.specs.Request.{command_of}
 use Rattle.dap_message.specs.Told.{Answers, response_to}
 use Rattle.dap_message.specs.declared.request.Request.{Request}
 use Rattle.dap_stream.specs.Asked.{IsRequest}
+use Rattle.dap_frame.specs.Frame.{first_frame, partial}
 use Rattle.dap_stream.specs.Broken.{broken_text}
+use Rattle.dap_stream.specs.BrokenOff.{Begins, SendsFront}
+use Rattle.dap_stream.specs.Heard.{Hears}
 use Rattle.dap_stream.specs.Hearing.{HearsAs}
 use Rattle.dap_stream.specs.Serving.{IsUnclear, going, over, Steps}
 use Rattle.dap_stream.specs.Talk.{Talks}
@@ -62,7 +65,37 @@ EndsAs waiting count left new = HearsAs (Ok heard.End) left new ⊎ ((2 ^ 64 - 1
 EndsAs (debugs a) count left new = HearsAs (Ok heard.End) left new ⊎ ((2 ^ 64 - 1 ≤ count) × (new ≡ left))
 EndsAs done count left new = new ≡ left
 
--- How a dialogue came to this result from a stage of it. Frames that end it are told of; memory may be refused at any place, and a read or a write fail.
+-- what is told for a frame up to where its exchange is broken off: nothing yet; its answer; or of a launched program its answer, and what the first pieces of
+-- its run tell
+abbrev pub StageBegins : Stage → Option Data → List Data → Type 0
+StageBegins waiting frame told = (told ≡ []) ⊎ ((next : Stage) × StageSteps waiting frame told next)
+StageBegins (debugs a) frame told = Begins AdapterServes (λ c. is_some c.way) AdapterWorks AdapterRests a frame told
+StageBegins done frame told = ⊥
+
+-- A dialogue was had up to where no more can be heard: all frames that were heard are answered.
+pub record Halts (why : Broken) (from : Stage) (old new told now : Option (List ℕ)) : Type 0 where
+  pub stage : Stage
+  pub count : ℕ
+  pub left : Option (List ℕ)
+  pub talks : Talks StageSteps from stage count old left told now
+  pub breaks : HearsAs (Err why) left new
+
+-- A dialogue was had up to an exchange that was broken off: all exchanges before it are whole, its frame was heard, and of what is told for it up to there a
+-- beginning was sent, and nothing else was.
+pub record BreaksOff (from : Stage) (old new told now : Option (List ℕ)) : Type 0 where
+  pub stage : Stage
+  pub count : ℕ
+  pub left : Option (List ℕ)
+  pub before : Option (List ℕ)
+  pub talks : Talks StageSteps from stage count old left told before
+  pub frame : Option Data
+  pub hears : Hears left (frame ∷ []) new
+  pub messages : List Data
+  pub begins : StageBegins stage frame messages
+  pub sends : SendsFront messages before now
+
+-- How a dialogue came to this result from a stage of it. Frames that end it are told of. Where a read fails, all frames that were heard are answered; where a
+-- write fails, all but the last one, and of what is told for that one a beginning is sent; where memory is refused, it is the one or the other.
 abbrev pub GoesAs : Stage → Result Unit Broken → Option (List ℕ) → Option (List ℕ) → Option (List ℕ) → Option (List ℕ) → Type 0
 GoesAs from (Ok ended) old new told now =
     (stage : Stage) × (count : ℕ) × (left : Option (List ℕ)) × Talks StageSteps from stage count old left told now × EndsAs stage count left new
@@ -70,9 +103,9 @@ GoesAs from (Err broken.Cut) old new told now =
     (stage : Stage) × (count : ℕ) × (left : Option (List ℕ)) × Talks StageSteps from stage count old left told now × HearsAs (Err broken.Cut) left new
 GoesAs from (Err broken.TooLong) old new told now =
     (stage : Stage) × (count : ℕ) × (left : Option (List ℕ)) × Talks StageSteps from stage count old left told now × HearsAs (Err broken.TooLong) left new
-GoesAs from (Err broken.Read) old new told now = Unit {0}
-GoesAs from (Err broken.Write) old new told now = Unit {0}
-GoesAs from (Err broken.Memory) old new told now = Unit {0}
+GoesAs from (Err broken.Read) old new told now = Halts broken.Read from old new told now
+GoesAs from (Err broken.Write) old new told now = BreaksOff from old new told now
+GoesAs from (Err broken.Memory) old new told now = Halts broken.Memory from old new told now ⊎ BreaksOff from old new told now
 
 -- A part of it, from where a launch is waited for, came to this result: the dialogue is over, or a launch was refused and another is waited for.
 abbrev pub PartAs : Result Bool Broken → Option (List ℕ) → Option (List ℕ) → Option (List ℕ) → Option (List ℕ) → Type 0
@@ -80,7 +113,16 @@ PartAs (Ok true) old new told now = GoesAs waiting (Ok tt) old new told now
 PartAs (Ok false) old new told now = (count : ℕ) × (1 ≤ count) × Talks StageSteps waiting waiting count old new told now
 PartAs (Err why) old new told now = GoesAs waiting (Err why) old new told now
 
+-- where a read failed, no frame is whole of what was read and not heard
+abbrev pub HeardAll : Result Unit Broken → List ℕ → Type 0
+HeardAll (Ok ended) kept = Unit {0}
+HeardAll (Err broken.Read) kept = first_frame kept ≡ partial
+HeardAll (Err broken.Write) kept = Unit {0}
+HeardAll (Err broken.Memory) kept = Unit {0}
+HeardAll (Err broken.Cut) kept = Unit {0}
+HeardAll (Err broken.TooLong) kept = Unit {0}
+
 -- A whole dialogue: it begins where a launch is waited for, with the input as it is, and of the input what is left at its end was not read, or read and
 -- not heard.
 abbrev pub DialogueAs : Result Unit Broken → Option (List ℕ) → Option (List ℕ) → Option (List ℕ) → Option (List ℕ) → Type 0
-DialogueAs result old new told now = (kept : List ℕ) × GoesAs waiting result old (prepend_known kept new) told now
+DialogueAs result old new told now = (kept : List ℕ) × HeardAll result kept × GoesAs waiting result old (prepend_known kept new) told now

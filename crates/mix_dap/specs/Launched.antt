@@ -1,5 +1,5 @@
 -- What the texts of a launch load.
-use Rattle.std.specs.Prelude.{◌≡◌, Result, Ok, Err}
+use Rattle.std.specs.Prelude.{Result}
 use Rattle.std.specs.Option.{option_map}
 use Rattle.mix_session.specs.Session.{SessionState}
 use Rattle.mix_dap.specs.Launch.{launched}

@@ -1,7 +1,6 @@
 -- What a request leaves of the timeline, and how it is answered.
 use Rattle.std.specs.Prelude.{◌≡◌, Bool, true, false, Option, None, Some, Result, Ok, Err}
 use Rattle.std.specs.Option.{option_map}
-use Rattle.mix_refused.specs.declared.refused.Memory.{Memory}
 use Rattle.mix_refused.specs.declared.refused.Refused.{Refused}
 use Rattle.mix_refused.specs.declared.refused.Refused.TheVariants as refused
 use Rattle.mix_session.specs.Answer.{refusal_of}

@@ -1,16 +1,20 @@
 -- Breakpoints of a client: where runs stop and what is watched, what a request for some of them leaves, and how each of these is told.
-use Rattle.std.specs.Prelude.{ℕ, pos, ◌-◌, ◌==◌, ◌&&◌, not, List, [], ◌++◌, codes, length, take, drop, slice_get, map, Bool, true, false, Option, None, Some, option_and_then, unwrap_or, if◌then◌else◌}
+use Rattle.std.specs.Prelude.{ℕ, pos, ◌-◌, ◌==◌, ◌||◌, not, List, [], ◌++◌, codes, length, take, drop, slice_get, map, Bool, true, false, Option, None, Some, option_and_then, unwrap_or, Result, Ok, Err, ok_or, if◌then◌else◌}
 use Rattle.std.specs.List.{filter_map, list_any}
 use Rattle.std.specs.Option.{option_map}
+use Rattle.std.specs.Result.{result_ok}
 use Rattle.std.specs.Str.{bytes_eq}
 use Rattle.serde_json.specs.Data.{Data, Members, boolean, string, number, unsigned, object, no_members, put}
-use Rattle.mixal_asm.specs.Program.{ProgramValue}
+use Rattle.mixal_text.specs.Steps.{◌>>=◌}
+use Rattle.mix_machine.specs.World.{WorldState}
 use Rattle.mix_session.specs.Session.{SessionState}
+use Rattle.mix_session.specs.Stops.{is_awaited}
 use Rattle.mix_session.specs.declared.condition.Condition.{Condition}
 use Rattle.mix_session.specs.declared.condition.Condition.TheVariants.{Alters}
 use Rattle.dap_message.specs.Members.{text_in, number_in}
 use Rattle.dap_message.specs.Request.{argument_of}
 use Rattle.dap_message.specs.declared.request.Request.{Request}
+use Rattle.mix_dap.specs.Breakpoint.{breakpoint_at, flaw_text, stops, with_arrival}
 use Rattle.mix_dap.specs.Entries.{entries_of, integer_in}
 use Rattle.mix_dap.specs.Layout.{reference_of, cell_of_reference}
 use Rattle.mix_dap.specs.List.{list_alone}
@@ -19,27 +23,44 @@ use Rattle.mix_dap.specs.Targets.{cell_of_line}
 use Rattle.mix_dap.specs.Watch.{part_named}
 use Rattle.mix_dap.specs.declared.kind.Target.{Target}
 use Rattle.mix_dap.specs.declared.kind.Target.TheVariants as target
+use Rattle.mix_dap.specs.declared.points.breakpoint.Breakpoint.{Breakpoint}
+use Rattle.mix_dap.specs.declared.points.breakpoint.Flaw.{Flaw}
+use Rattle.mix_dap.specs.declared.points.breakpoint.Flaw.TheVariants as flaw
 
--- the cells where breakpoints of lines stand, and those of instructions, and what is watched
+-- the breakpoints of lines, and those of instructions, and what is watched
 pub record PointsState : Type 0 where
-  pub lines : List ℕ
-  pub instructions : List ℕ
+  pub lines : List Breakpoint
+  pub instructions : List Breakpoint
   pub watched : List Condition
 
 abbrev pub no_points : PointsState
 no_points = record { lines = []; instructions = []; watched = [] }
 
--- the cells where runs stop
+-- the cells of breakpoints
+abbrev pub cells_of : List Breakpoint → List ℕ
+cells_of breakpoints = map (λ b. b.cell) breakpoints
+
 abbrev pub stop_cells : PointsState → List ℕ
-stop_cells points = points.lines ++ points.instructions
+stop_cells points = cells_of (points.lines ++ points.instructions)
 
--- why a run stops at a cell where it does: for a breakpoint of an instruction only where there is none of a line
-abbrev pub is_among : ℕ → List ℕ → Bool
-is_among loc cells = list_any (λ p. p == loc) cells
+-- ---- runs that come to their cells
 
-abbrev pub reason_at : PointsState → ℕ → List ℕ
-reason_at points loc =
-    if is_among loc points.instructions && not (is_among loc points.lines) then codes "instruction breakpoint" else codes "breakpoint"
+-- a run that comes to a cell is counted as an arrival at each of its breakpoints, where it is one
+abbrev pub with_arrivals : WorldState → PointsState → PointsState
+with_arrivals w points = record points { lines = map (with_arrival w) points.lines; instructions = map (with_arrival w) points.instructions }
+
+-- whether one of some breakpoints stops a run
+abbrev pub stop_any : WorldState → List Breakpoint → Bool
+stop_any w breakpoints = list_any (stops w) breakpoints
+
+-- whether a run goes on past a cell of breakpoints: none of them stops it, and its location is not the one that is waited for
+abbrev pub passes : PointsState → Option ℕ → WorldState → Bool
+passes points location w = not (stop_any w points.lines || stop_any w points.instructions || is_awaited location w)
+
+-- why a run stops at a cell of breakpoints: for one of an instruction only if none of a line stops it; if none does, the location was waited for
+abbrev pub reason_at : PointsState → WorldState → List ℕ
+reason_at points w =
+    if stop_any w points.lines then codes "breakpoint" else if stop_any w points.instructions then codes "instruction breakpoint" else codes "step"
 
 -- ---- the answer: whether each breakpoint that is asked for stands, and where, or why it does not
 
@@ -61,16 +82,19 @@ answer_by told r = list_alone (codes "breakpoints") (map told (asked_in r))
 
 -- ---- breakpoints of lines
 
--- where one stands, as a goto to its line leads there, with the line of the word
-abbrev pub line_asked : ProgramValue → ℕ → Data → Option (ℕ × ℕ)
-line_asked program first entry = cell_of_line program (source_line first (unwrap_or (number_in (codes "line") entry) 0))
+-- one, at the cell to which a goto to its line leads, and the line of the word there
+abbrev pub line_asked : SessionState → ℕ → Data → Result (Breakpoint × ℕ) Flaw
+line_asked s first entry = do
+  word ← ok_or (cell_of_line s.program (source_line first (unwrap_or (number_in (codes "line") entry) 0))) flaw.NoWord
+  breakpoint ← breakpoint_at s entry word.0
+  Ok (breakpoint, word.1)
 
-abbrev pub line_point : ProgramValue → ℕ → Data → Option ℕ
-line_point program first entry = option_map (λ word. word.0) (line_asked program first entry)
+abbrev pub line_point : SessionState → ℕ → Data → Option Breakpoint
+line_point s first entry = option_map (λ asked. asked.0) (result_ok (line_asked s first entry))
 
-abbrev pub line_told : ℕ → Option (ℕ × ℕ) → Data
-line_told first None = unverified (codes "no word from this line on")
-line_told first (Some word) = object (put (codes "line") (number (unsigned (line_for first word.1))) (verified_at word.0))
+abbrev pub line_told : ℕ → Result (Breakpoint × ℕ) Flaw → Data
+line_told first (Err why) = unverified (flaw_text why)
+line_told first (Ok asked) = object (put (codes "line") (number (unsigned (line_for first asked.1))) (verified_at asked.0.cell))
 
 -- ---- of which source: one path is that of the program, if it ends with its name, before which stands a folder, or nothing
 
@@ -93,32 +117,42 @@ abbrev pub is_source : List ℕ → Request → Bool
 is_source name r = unwrap_or (option_map (is_path_of name) (path_in r)) true
 
 -- breakpoints of another source are none, and those that stand stay
-abbrev pub with_lines : ProgramValue → List ℕ → ℕ → Request → PointsState → PointsState
-with_lines program name first r points =
-    if is_source name r then record points { lines = filter_map (line_point program first) (asked_in r) } else points
+abbrev pub with_lines : SessionState → List ℕ → ℕ → Request → PointsState → PointsState
+with_lines s name first r points =
+    if is_source name r then record points { lines = filter_map (line_point s first) (asked_in r) } else points
 
 abbrev pub elsewhere : Data → Data
 elsewhere entry = unverified (codes "another source")
 
-abbrev pub lines_told : ProgramValue → List ℕ → ℕ → Request → Data
-lines_told program name first r =
-    if is_source name r then answer_by (λ entry. line_told first (line_asked program first entry)) r else answer_by elsewhere r
+abbrev pub lines_told : SessionState → List ℕ → ℕ → Request → Data
+lines_told s name first r =
+    if is_source name r then answer_by (λ entry. line_told first (line_asked s first entry)) r else answer_by elsewhere r
 
 -- ---- breakpoints of instructions: at the cell of a reference, with an offset in bytes
 
-abbrev pub instruction_point : Data → Option ℕ
-instruction_point entry =
+abbrev pub instruction_cell : Data → Option ℕ
+instruction_cell entry =
     option_and_then (λ text. cell_of_reference text (unwrap_or (integer_in (codes "offset") entry) (pos 0))) (text_in (codes "instructionReference") entry)
 
-abbrev pub instruction_told : Option ℕ → Data
-instruction_told None = unverified (codes "no such cell")
-instruction_told (Some cell) = object (verified_at cell)
+-- one, and its cell
+abbrev pub instruction_asked : SessionState → Data → Result (Breakpoint × ℕ) Flaw
+instruction_asked s entry = do
+  cell ← ok_or (instruction_cell entry) flaw.NoCell
+  breakpoint ← breakpoint_at s entry cell
+  Ok (breakpoint, cell)
 
-abbrev pub with_instructions : Request → PointsState → PointsState
-with_instructions r points = record points { instructions = filter_map instruction_point (asked_in r) }
+abbrev pub instruction_point : SessionState → Data → Option Breakpoint
+instruction_point s entry = option_map (λ asked. asked.0) (result_ok (instruction_asked s entry))
 
-abbrev pub instructions_told : Request → Data
-instructions_told r = answer_by (λ entry. instruction_told (instruction_point entry)) r
+abbrev pub instruction_told : Result (Breakpoint × ℕ) Flaw → Data
+instruction_told (Err why) = unverified (flaw_text why)
+instruction_told (Ok asked) = object (verified_at asked.1)
+
+abbrev pub with_instructions : SessionState → Request → PointsState → PointsState
+with_instructions s r points = record points { instructions = filter_map (instruction_point s) (asked_in r) }
+
+abbrev pub instructions_told : SessionState → Request → Data
+instructions_told s r = answer_by (λ entry. instruction_told (instruction_asked s entry)) r
 
 -- ---- data breakpoints: on the part of the machine that is named as after `until` in a command
 
@@ -138,13 +172,13 @@ watched_told s r = answer_by (λ entry. data_told (data_point s entry)) r
 -- ---- by what they are set on: those of a kind take the place of those that stand; on functions and exceptions there are none
 
 abbrev pub points_after : Target → SessionState → List ℕ → ℕ → Request → PointsState → PointsState
-points_after target.Lines s name first r points = with_lines s.program name first r points
-points_after target.Instructions s name first r points = with_instructions r points
+points_after target.Lines s name first r points = with_lines s name first r points
+points_after target.Instructions s name first r points = with_instructions s r points
 points_after target.Data s name first r points = with_watched s r points
 points_after target.Nothing s name first r points = points
 
 abbrev pub points_told : Target → SessionState → List ℕ → ℕ → Request → Data
-points_told target.Lines s name first r = lines_told s.program name first r
-points_told target.Instructions s name first r = instructions_told r
+points_told target.Lines s name first r = lines_told s name first r
+points_told target.Instructions s name first r = instructions_told s r
 points_told target.Data s name first r = watched_told s r
 points_told target.Nothing s name first r = list_alone (codes "breakpoints") []

@@ -11,7 +11,7 @@ use Rattle.mix_dap.specs.Before.{Asks}
 use Rattle.mix_dap.specs.Leaves.{FlowLeaves}
 use Rattle.mix_dap.specs.Replies.{BeginsWith, answer_message}
 use Rattle.mix_dap.specs.Runs.{Advances}
-use Rattle.mix_dap.specs.Stays.{AdvanceTells, GoesOn, Keeps, RestTells}
+use Rattle.mix_dap.specs.Stays.{AdvanceTells, GoesOn, Keeps, KeepsSaid, RestTells}
 use Rattle.mix_dap.specs.Told.{outcome_of}
 use Rattle.mix_dap.specs.declared.adapter.Adapter.{Adapter}
 use Rattle.mix_dap.specs.declared.adapter.Flow.{Flow}
@@ -52,9 +52,9 @@ pub record AdapterServes (a : Adapter) (request : Request) (told : List Data) (n
 pub record AdapterWorks (a : Adapter) (told : List Data) (b : Adapter) : Type 0 where
   pub program : b.session.program ≡ a.session.program
   pub first : b.session.timeline.first ≡ a.session.timeline.first
-  pub advances : Advances a.way a.points a.session.timeline b.session.timeline (is_some b.way)
-  pub tells : AdvanceTells a.way a.points a.session.timeline b.session.timeline [] told
-  pub keeps : Keeps a b
+  pub advances : Advances a.way a.points a.session.timeline b.points b.session.timeline b.way
+  pub tells : AdvanceTells a.way a.points a.session.timeline b.points b.session.timeline [] told
+  pub keeps : KeepsSaid a b
   pub events : Events [] told
 
 -- it pauses

@@ -3,19 +3,17 @@ use Rattle.std.specs.Prelude.{◌≡◌, ◌⊎◌, ◌^◌, ℕ, List, codes, B
 use Rattle.serde_json.specs.Data.{Data}
 use Rattle.mix_machine.specs.World.{register_of}
 use Rattle.mix_machine.specs.declared.fault.MixFault.{MixFault}
-use Rattle.mix_session.specs.Command.{Effect, after, Begun}
 use Rattle.mix_session.specs.Timeline.{Timeline, world_of}
 use Rattle.mix_session.specs.declared.answer.Answer.{Answer}
-use Rattle.mix_session.specs.declared.answer.Answer.TheVariants as answers
 use Rattle.mix_session.specs.declared.reply.End.{End}
 use Rattle.mix_word.specs.declared.register.Reg.TheVariants as reg
 use Rattle.dap_message.specs.declared.command.Command.{Command}
 use Rattle.dap_message.specs.declared.request.Request.{Request}
-use Rattle.mix_dap.specs.Deed.{deed_of, effect_of_deed, is_console_of}
+use Rattle.mix_dap.specs.Deed.{deed_of, effect_of_deed}
 use Rattle.mix_dap.specs.Kind.{kind_of}
 use Rattle.mix_dap.specs.Points.{PointsState, reason_at, points_after}
 use Rattle.mix_dap.specs.Replies.{EndsWith}
-use Rattle.mix_dap.specs.Runs.{effect_of_piece, is_limit}
+use Rattle.mix_dap.specs.Runs.{PieceDone, PieceBroken, is_limit}
 use Rattle.mix_dap.specs.Stopped.{Why, only, why_of, fault_at, end_of, out_of_memory, long_enough, stopped_message, terminated_message}
 use Rattle.mix_dap.specs.declared.adapter.Adapter.{Adapter}
 use Rattle.mix_dap.specs.declared.adapter.Flow.{Flow}
@@ -99,9 +97,9 @@ ActTells act.SetVariable answer at_break stops new = Unit {0}
 ActTells act.SetExpression answer at_break stops new = Unit {0}
 ActTells act.Evaluate answer at_break stops new = Unit {0}
 
--- the word of a breakpoint at the location
+-- the word of a breakpoint that stops a run there
 abbrev pub word_at : PointsState → Timeline → List ℕ
-word_at points t = reason_at points (world_of t).loc
+word_at points t = reason_at points (world_of t)
 
 abbrev pub DeedTells : Act → Result Deed Fault → Adapter → Timeline → List Data → Type 0
 DeedTells act (Err why) a new told = Unit {0}
@@ -139,27 +137,28 @@ StopTells true why told = Unit {0}
 StopTells false why told = EndsWith (stopped_message why) told
 
 -- A piece of a run was done that ended so, or memory was refused for it.
-pub record PieceTells (effect : Effect) (points : PointsState) (new : Timeline) (told : List Data) : Type 0 where
-  pub count : ℕ
+pub record PieceTells (way : Way) (points : PointsState) (t : Timeline) (now : PointsState) (new : Timeline) (told : List Data) : Type 0 where
   pub end : End
-  pub answer : effect.answer ≡ answers.Ran count end
-  pub done : new ≡ after effect
-  pub tells : StopTells (is_limit end) (why_of (word_at points new) end) told
+  pub piece : PieceDone way points t end now new
+  pub tells : StopTells (is_limit end) (why_of (word_at now new) end) told
 
-pub record BrokenTells (effect : Effect) (new : Timeline) (told : List Data) : Type 0 where
-  pub begun : Begun effect new
+pub record BrokenTells (way : Way) (points : PointsState) (t : Timeline) (now : PointsState) (new : Timeline) (told : List Data) : Type 0 where
+  pub piece : PieceBroken way points t now new
   pub tells : EndsWith (stopped_message out_of_memory) told
 
-abbrev pub AdvanceTells : Option Way → PointsState → Timeline → Timeline → List Data → List Data → Type 0
-AdvanceTells None points t new old told = told ≡ old
-AdvanceTells (Some way) points t new old told =
-    PieceTells (effect_of_piece way points t) points new told ⊎ BrokenTells (effect_of_piece way points t) new told
+abbrev pub AdvanceTells : Option Way → PointsState → Timeline → PointsState → Timeline → List Data → List Data → Type 0
+AdvanceTells None points t now new old told = told ≡ old
+AdvanceTells (Some way) points t now new old told = PieceTells way points t now new told ⊎ BrokenTells way points t now new told
 
 -- a run that has come to no stop pauses
 abbrev pub RestTells : Option Way → List Data → List Data → Type 0
 RestTells None old told = told ≡ old
 RestTells (Some way) old told = EndsWith (stopped_message long_enough) told
 
--- what no request alters but one that sets breakpoints: those, and what the launch and the client said
+-- what nothing alters: what the launch and the client said
+abbrev pub KeepsSaid : Adapter → Adapter → Type 0
+KeepsSaid a b = (b.name ≡ a.name) × (b.client ≡ a.client) × (b.stops ≡ a.stops)
+
+-- what no request alters but one that sets breakpoints: those too
 abbrev pub Keeps : Adapter → Adapter → Type 0
 Keeps a b = (b.name ≡ a.name) × (b.client ≡ a.client) × (b.stops ≡ a.stops) × (b.points ≡ a.points)

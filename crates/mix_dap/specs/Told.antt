@@ -1,5 +1,5 @@
 -- How a request is answered: by exactly one response, after which come its events.
-use Rattle.std.specs.Prelude.{ℕ, Option, None, Some, Result, Ok, Err}
+use Rattle.std.specs.Prelude.{Result, Ok, Err}
 use Rattle.serde_json.specs.Data.{Data}
 use Rattle.mix_session.specs.Session.{SessionState}
 use Rattle.dap_message.specs.Told.{Outcome, done, refused}

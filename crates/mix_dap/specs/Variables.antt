@@ -1,5 +1,5 @@
 -- The variables of a scope: each with its name, its value, and the reference of what is inside it, or 0.
-use Rattle.std.specs.Prelude.{ℕ, ◌+◌, ◌*◌, ◌==◌, List, [], ◌∷◌, ◌++◌, codes, decimal, Option, None, Some, Result, Ok, Err, ok_or, unwrap_or, option_and_then, length, map, take, drop, nat_lt, slice_get, if◌then◌else◌}
+use Rattle.std.specs.Prelude.{ℕ, ◌+◌, ◌*◌, ◌==◌, List, [], ◌∷◌, ◌++◌, codes, decimal, Option, None, Some, Result, Ok, ok_or, unwrap_or, option_and_then, length, map, take, drop, nat_lt, slice_get, if◌then◌else◌}
 use Rattle.serde_json.specs.Data.{Data, Members, string, number, unsigned, object, no_members, put}
 use Rattle.mixal_text.specs.Steps.{◌>>=◌}
 use Rattle.mix_word.specs.Word.{WordValue}

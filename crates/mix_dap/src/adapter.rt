@@ -1,25 +1,27 @@
 //! The adapter of a program that was launched.
 
 ghost use Rattle.std.specs.Prelude.{◌≡◌, ◌⊎◌, IfErr, IfOk, IfNone, IfSome, IsErr, OnOk, Ok, is_some, true, false};
-ghost use Rattle.mix_dap.specs.Answer.{HasTexts, launch_shown, answer_of, answer_to};
-ghost use Rattle.mix_dap.specs.Replies.{Replies, Tells, answer_message};
-ghost use Rattle.mix_refused.specs.Refused.{IfFault, IfMemory};
+ghost use Rattle.mix_dap.specs.Answer.{HasTexts, launch_shown, answer_to};
+ghost use Rattle.mix_dap.specs.Output.{none_told};
+ghost use Rattle.mix_dap.specs.Replies.{Replies, answer_message};
 ghost use Rattle.dap_message.specs.Message.{waits};
 ghost use Rattle.dap_message.specs.Request.{command_of};
 ghost use Rattle.dap_message.specs.Told.{response_to, done, Answers};
-ghost use Rattle.mix_dap.specs.Leaves.{flow_of, KindAnswered, KindRefused, KindBegun, Begins, FlowLeaves};
-ghost use Rattle.mix_dap.specs.Kind.{kind_of};
-ghost use Rattle.mix_dap.specs.Stays.{GoesOn, KindTells, points_of, way_after};
+ghost use Rattle.mix_dap.specs.Leaves.{flow_of, Begins, FlowLeaves};
+ghost use Rattle.mix_dap.specs.Stays.{GoesOn};
 ghost use Rattle.mix_dap.specs.Launched.{launched_of};
 ghost use Rattle.mix_dap.specs.Told.{outcome_of, outcome_of_launch};
 
 mod act;
+mod answer;
 mod ends;
+mod piece;
 mod run;
 mod show;
+mod stop;
 mod tell;
 
-use crate::capabilities::{Client, capabilities};
+use crate::capabilities::Client;
 use crate::fault::{Fault, refuse};
 use crate::kind::Kind;
 use crate::launch::{Texts, session_of};
@@ -27,13 +29,11 @@ use crate::list::nothing;
 use crate::look::Name;
 use crate::points::Points;
 use crate::printed::Printed;
-use crate::view::tell_check;
 use crate::waiting::Waiting;
-use dap_message::{Command, Outbox, Request};
+use dap_message::{Outbox, Request};
 use mix_machine::MixFault;
 use mix_refused::{Memory, Refused};
 use mix_session::Session;
-use serde_json::Value;
 use std::alloc::Global;
 
 /// Whether the client has more to ask.
@@ -122,6 +122,7 @@ impl<'s> Adapter<'s> {
         ensures rests { IfOk result (λ o. IfSome o (λ a. is_some a.way ≡ false)) }
         ensures texts { IfOk result (λ o. IfSome o (λ a. HasTexts a texts.now)) }
         ensures client { IfOk result (λ o. IfSome o (λ a. a.client ≡ waiting.now.client)) }
+        ensures printed { IfOk result (λ o. IfSome o (λ a. a.printed ≡ none_told)) }
         ensures shows { OnOk result (Replies (answer_message request.now (launch_shown (launched_of texts.now))) out.old out.new) }
         ensures answers { OnOk result (Answers (response_to request.now (outcome_of_launch (launched_of texts.now))) (waits out.old) (waits out.new)) }
     {
@@ -196,59 +197,6 @@ impl<'s> Adapter<'s> {
             Err(Refused::Fault(Fault::Running))
         } else {
             Ok(())
-        }
-    }
-
-    // What a request asks for, by what it is about.
-    #[tactic(auto, using(dap_message::proofs::Telling::telling, crate::proofs::RepliesLemmas::replying))]
-    fn answer(
-        &mut self,
-        command: Command,
-        request: &Request,
-        out: &mut Outbox,
-    ) -> Result<(), Refused<Fault>>
-        ensures program { self.new.session.program ≡ self.old.session.program }
-        ensures first { self.new.session.timeline.first ≡ self.old.session.timeline.first }
-        ensures done { IfOk result (λ _. KindAnswered (is_some self.old.way) (kind_of command) request.now self.old.session self.new.session.timeline) }
-        ensures refused { IfFault result (λ why. (self.new.session.timeline ≡ self.old.session.timeline)
-            × KindRefused (is_some self.old.way) (kind_of command) request.now self.old.session why) }
-        ensures begun { IfMemory result ((self.new.session.timeline ≡ self.old.session.timeline)
-            ⊎ KindBegun (is_some self.old.way) (kind_of command) request.now self.old.session self.new.session.timeline) }
-        ensures answers { OnOk result (Answers (response_to request.now done) (waits out.old) (waits out.new)) }
-        ensures shows { Tells (answer_of (kind_of command) request.now self.old) request.now out.old out.new result }
-        ensures keeps { (self.new.name ≡ self.old.name) × (self.new.client ≡ self.old.client) × (self.new.stops ≡ self.old.stops) }
-        ensures way { OnOk result (self.new.way ≡ way_after (kind_of command) self.old self.new.session.timeline) }
-        ensures points { OnOk result (self.new.points ≡ points_of (kind_of command) request.now self.old) }
-        ensures waits { IfFault result (λ _. (self.new.way ≡ self.old.way) × (self.new.points ≡ self.old.points)) }
-        ensures tells { OnOk result (KindTells (kind_of command) request.now self.old self.new.session.timeline (waits out.new)) }
-    {
-        match Kind::of(command) {
-            Kind::Initialize => {
-                let body = capabilities(self.alloc)?;
-                Ok(out.reply(request, body)?)
-            }
-            Kind::Look(look) => {
-                let body = self.show(look, request)?;
-                Ok(out.reply(request, body)?)
-            }
-            Kind::Check => tell_check(self.alloc, request, out),
-            Kind::Points(target) => {
-                let body = self.set_points(target, request)?;
-                Ok(out.reply(request, body)?)
-            }
-            Kind::Pause => Ok(self.pause(request, out)?),
-            Kind::Terminate => Ok(self.terminate(request, out)?),
-            Kind::Restart => Ok(self.restart(request, out)?),
-            Kind::Cancel | Kind::Disconnect => Ok(out.reply(request, nothing())?),
-            Kind::Launch => Err(Refused::Fault(Fault::Launched)),
-            Kind::Write => {
-                self.at_rest()?;
-                self.write(request, out)
-            }
-            Kind::Act(act) => {
-                self.at_rest()?;
-                self.act(act, request, out)
-            }
         }
     }
 }

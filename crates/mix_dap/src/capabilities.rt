@@ -3,20 +3,23 @@
 ghost use Rattle.std.specs.Prelude.{◌≡◌, IfOk, OnOk, map};
 ghost use Rattle.serde_json.specs.View.{view};
 ghost use Rattle.dap_message.specs.Fields.{members_in};
-ghost use Rattle.mix_dap.specs.Capabilities.{put_abilities, capabilities, first_by, client_of, unknown_client};
+ghost use Rattle.mix_dap.specs.Capabilities.{put_abilities, capabilities, asked_flag, first_by, client_of, unknown_client};
 
 use dap_message::{Fields, Request};
 use mix_refused::Memory;
 use serde_json::Value;
 use std::alloc::Global;
 
-const ABLE: [&str; 15] = [
+const ABLE: [&str; 19] = [
     "supportsConfigurationDoneRequest",
+    "supportsConditionalBreakpoints",
+    "supportsHitConditionalBreakpoints",
     "supportsStepBack",
     "supportsSetVariable",
     "supportsSetExpression",
     "supportsGotoTargetsRequest",
     "supportsEvaluateForHovers",
+    "supportsCompletionsRequest",
     "supportsRestartRequest",
     "supportsExceptionInfoRequest",
     "supportsTerminateRequest",
@@ -25,6 +28,7 @@ const ABLE: [&str; 15] = [
     "supportsWriteMemoryRequest",
     "supportsDisassembleRequest",
     "supportsInstructionBreakpoints",
+    "supportsBreakpointLocationsRequest",
     "supportsSteppingGranularity",
 ];
 
@@ -46,10 +50,12 @@ fn put_abilities(body: &mut Fields, names: &[&str]) -> Result<(), Memory>
     Ok(())
 }
 
-/// What the client says of itself: the number of its first line and column, 0 or 1, and whether it hears that what it shows is out of date.
+/// What the client says of itself: the number of its first line and that of its first column, each 0 or 1, and whether it hears that what it shows
+/// is out of date.
 #[derive(Clone, Copy)]
 pub(crate) struct Client {
     pub first: u64,
+    pub first_column: u64,
     pub hears_invalidated: bool,
 }
 
@@ -60,6 +66,7 @@ impl Client {
     {
         Client {
             first: 1,
+            first_column: 1,
             hears_invalidated: false,
         }
     }
@@ -68,15 +75,22 @@ impl Client {
     pub(crate) fn of(request: &Request) -> Client
         ensures { result ≡ client_of request.now }
     {
-        let starts_at_one = request.argument("linesStartAt1").and_then(Value::as_bool);
         Client {
-            first: first_by(starts_at_one),
+            first: first_by(asked_flag(request, "linesStartAt1")),
+            first_column: first_by(asked_flag(request, "columnsStartAt1")),
             hears_invalidated: request.flag("supportsInvalidatedEvent"),
         }
     }
 }
 
-// The number of the first line and column.
+// What an argument says, where it is `true` or `false`.
+fn asked_flag(request: &Request, name: &str) -> Option<bool>
+    ensures { result ≡ asked_flag request.now name.now }
+{
+    request.argument(name).and_then(Value::as_bool)
+}
+
+// The number of the first line, or of the first column.
 fn first_by(starts_at_one: Option<bool>) -> u64
     ensures { result ≡ first_by starts_at_one }
 {

@@ -55,6 +55,10 @@ pub(crate) enum Look {
     Targets,
     /// What a data breakpoint would watch.
     Watch,
+    /// The lines on which breakpoints stay.
+    Locations,
+    /// How a line of the console may go on.
+    Completions,
     /// The program as it was assembled.
     Program,
     /// How often each instruction was executed.
@@ -121,6 +125,8 @@ impl Kind {
             Command::Disassemble => Kind::Look(Look::Instructions),
             Command::GotoTargets => Kind::Look(Look::Targets),
             Command::DataBreakpointInfo => Kind::Look(Look::Watch),
+            Command::BreakpointLocations => Kind::Look(Look::Locations),
+            Command::Completions => Kind::Look(Look::Completions),
             Command::ViewProgram => Kind::Look(Look::Program),
             Command::ViewCounts => Kind::Look(Look::Counts),
             Command::ViewState => Kind::Look(Look::State),

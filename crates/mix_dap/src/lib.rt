@@ -4,6 +4,7 @@
 mod adapter;
 mod broken;
 mod capabilities;
+mod completions;
 mod deed;
 mod disassembly;
 mod fault;

@@ -1,50 +1,54 @@
 //! The breakpoints of the client. They stand outside the machine, so no change of it takes one away.
 
 ghost use Rattle.std.specs.Prelude.{◌≡◌, ◌++◌, IfOk, OnOk, OnErr};
-ghost use Rattle.std.specs.List.{list_any};
 ghost use Rattle.serde_json.specs.View.{view};
-ghost use Rattle.mix_dap.specs.Points.{no_points, reason_at, is_among, with_lines, lines_told, with_instructions, instructions_told, with_watched, watched_told};
+ghost use Rattle.mix_session.specs.Stops.{is_awaited};
+ghost use Rattle.mix_dap.specs.Points.{no_points, cells_of, passes, reason_at, with_arrivals, with_lines, lines_told, with_instructions, instructions_told, with_watched, watched_told};
 ghost use Rattle.mix_dap.specs.Runs.{stops_of};
 
+mod breakpoint;
 mod entry;
 mod kinds;
 mod line;
+mod locations;
 mod source;
 
+use breakpoint::{Breakpoint, count_all, stop_any};
 use dap_message::Request;
 use kinds::{Instructions, Lines, Other, Parts, set_all};
 pub(crate) use line::cell_of_line;
-use mix_machine::Place;
+pub(crate) use locations::breakpoint_locations;
+use mix_machine::{Place, World};
 use mix_refused::Memory;
 use mix_session::{Condition, Session, Stops};
-use mixal_asm::Program;
 use serde_json::Value;
 use source::is_source;
 use std::alloc::Global;
 use std::marker::Model;
 
-/// The cells of lines and of instructions where runs stop, and what is watched.
+/// The breakpoints of lines and of instructions where runs stop, and what is watched.
 #[derive(Drop)]
 pub(crate) struct Points {
+    lines: Vec<Breakpoint>,
+    instructions: Vec<Breakpoint>,
     // Those of lines first.
     cells: Vec<Place>,
-    lines: usize,
     watched: Vec<Condition>,
 }
 
 impl Model for Points {
-    ghost use Rattle.std.specs.Prelude.{◌≤◌, length, take, drop};
-    ghost use Rattle.mix_dap.specs.Points.{PointsState};
+    ghost use Rattle.std.specs.Prelude.{◌≡◌, ◌++◌};
+    ghost use Rattle.mix_dap.specs.Points.{PointsState, cells_of};
 
     ghost Value = { PointsState };
 
     ghost view = { λ p. record {
-      lines = take p.lines p.cells.items;
-      instructions = drop p.lines p.cells.items;
+      lines = p.lines.items;
+      instructions = p.instructions.items;
       watched = p.watched.items;
     } };
 
-    ghost invariant = { λ p. p.lines ≤ length p.cells.items };
+    ghost invariant = { λ p. p.cells.items ≡ cells_of (p.lines.items ++ p.instructions.items) };
 }
 
 impl Points {
@@ -53,14 +57,14 @@ impl Points {
         ensures { result ≡ no_points }
     {
         Points {
+            lines: Vec::new(alloc),
+            instructions: Vec::new(alloc),
             cells: Vec::new(alloc),
-            lines: 0,
             watched: Vec::new(alloc),
         }
     }
 
     /// What stops a run, with a location that is waited for.
-    #[tactic(auto, using(crate::proofs::PointLemmas::both_parts))]
     pub(crate) fn stops(&self, location: Option<u16>) -> Stops<'_>
         ensures { result ≡ stops_of self.now location }
     {
@@ -72,58 +76,75 @@ impl Points {
         }
     }
 
-    /// Why a run stops at a cell where it does, in the protocol's words.
-    pub(crate) fn reason_at(&self, loc: u16) -> &'static str
-        ensures { result.now ≡ reason_at self.now loc }
+    /// Counts that a run has come to a cell of breakpoints.
+    pub(crate) fn count(&mut self, world: &World)
+        ensures { self.new ≡ with_arrivals world.now self.old }
     {
-        let (lines, instructions) = self.cells.split_at(self.lines);
-        if is_among(loc, instructions) && !is_among(loc, lines) {
+        count_all(self.lines.as_mut_slice(), world);
+        count_all(self.instructions.as_mut_slice(), world);
+    }
+
+    /// Whether a run goes on past a cell of breakpoints, that it has come there counted.
+    pub(crate) fn passes(&self, location: Option<u16>, world: &World) -> bool
+        ensures { result ≡ passes self.now location world.now }
+    {
+        let stops = stop_any(self.lines.as_slice(), world)
+            || stop_any(self.instructions.as_slice(), world)
+            || is_awaited(location, world);
+        !stops
+    }
+
+    /// Why a run stops at a cell of breakpoints, in the protocol's words.
+    pub(crate) fn reason_at(&self, world: &World) -> &'static str
+        ensures { result.now ≡ reason_at self.now world.now }
+    {
+        if stop_any(self.lines.as_slice(), world) {
+            "breakpoint"
+        } else if stop_any(self.instructions.as_slice(), world) {
             "instruction breakpoint"
         } else {
-            "breakpoint"
+            "step"
         }
     }
 
     /// Puts breakpoints of lines in place of those that stand; those of another source are none.
-    #[tactic(auto, using(crate::proofs::PointLemmas::front_of_both, crate::proofs::PointLemmas::back_of_both))]
     pub(crate) fn set_lines(
         &mut self,
         alloc: Global,
-        program: &Program,
+        session: &Session,
         name: &str,
         first: u64,
         request: &Request,
     ) -> Result<Value, Memory>
-        ensures stand { OnOk result (self.new ≡ with_lines program.now name.now first request.now self.old) }
+        ensures stand { OnOk result (self.new ≡ with_lines session.now name.now first request.now self.old) }
         ensures same { OnErr result (self.new ≡ self.old) }
-        ensures told { IfOk result (λ v. view v ≡ lines_told program.now name.now first request.now) }
+        ensures told { IfOk result (λ v. view v ≡ lines_told session.now name.now first request.now) }
     {
         if !is_source(name, request) {
             let (_, told) = set_all(alloc, &Other, request)?;
             return Ok(told);
         }
-        let (lines, told) = set_all(alloc, &Lines { program, first }, request)?;
-        let (_, instructions) = self.cells.split_at(self.lines);
-        let cells = joined(alloc, lines.as_slice(), instructions)?;
+        let (lines, told) = set_all(alloc, &Lines { session, first }, request)?;
+        let cells = cells_of(alloc, lines.as_slice(), self.instructions.as_slice())?;
+        self.lines = lines;
         self.cells = cells;
-        self.lines = lines.len();
         Ok(told)
     }
 
     /// Puts breakpoints of instructions in place of those that stand.
-    #[tactic(auto, using(crate::proofs::PointLemmas::front_of_both, crate::proofs::PointLemmas::back_of_both))]
     pub(crate) fn set_instructions(
         &mut self,
         alloc: Global,
+        session: &Session,
         request: &Request,
     ) -> Result<Value, Memory>
-        ensures stand { OnOk result (self.new ≡ with_instructions request.now self.old) }
+        ensures stand { OnOk result (self.new ≡ with_instructions session.now request.now self.old) }
         ensures same { OnErr result (self.new ≡ self.old) }
-        ensures told { IfOk result (λ v. view v ≡ instructions_told request.now) }
+        ensures told { IfOk result (λ v. view v ≡ instructions_told session.now request.now) }
     {
-        let (instructions, told) = set_all(alloc, &Instructions, request)?;
-        let (lines, _) = self.cells.split_at(self.lines);
-        let cells = joined(alloc, lines, instructions.as_slice())?;
+        let (instructions, told) = set_all(alloc, &Instructions { session }, request)?;
+        let cells = cells_of(alloc, self.lines.as_slice(), instructions.as_slice())?;
+        self.instructions = instructions;
         self.cells = cells;
         Ok(told)
     }
@@ -145,18 +166,36 @@ impl Points {
     }
 }
 
-// Whether a location is one of some cells.
-fn is_among(loc: u16, cells: &[Place]) -> bool
-    ensures { result ≡ is_among loc cells.now }
+// Whether the location is the one that is waited for.
+fn is_awaited(location: Option<u16>, world: &World) -> bool
+    ensures { result ≡ is_awaited location world.now }
 {
-    cells.iter().any(|place| place.number() == loc)
+    match location {
+        Some(location) => world.loc() == location,
+        None => false,
+    }
 }
 
-// The cells of lines, and then those of instructions.
-fn joined(alloc: Global, lines: &[Place], instructions: &[Place]) -> Result<Vec<Place>, Memory>
-    ensures { IfOk result (λ cells. cells.items ≡ lines.now ++ instructions.now) }
+// The cells of breakpoints of lines, and then those of instructions.
+#[tactic(auto, using(crate::proofs::PointLemmas::cells_joined))]
+fn cells_of(
+    alloc: Global,
+    lines: &[Breakpoint],
+    instructions: &[Breakpoint],
+) -> Result<Vec<Place>, Memory>
+    ensures { IfOk result (λ cells. cells.items ≡ cells_of (lines.now ++ instructions.now)) }
 {
-    let mut cells = Vec::from_slice(alloc, lines)?;
-    cells.extend_from_slice(instructions)?;
+    let mut cells = Vec::new(alloc);
+    add_cells(&mut cells, lines)?;
+    add_cells(&mut cells, instructions)?;
     Ok(cells)
+}
+
+fn add_cells(cells: &mut Vec<Place>, breakpoints: &[Breakpoint]) -> Result<(), Memory>
+    ensures { OnOk result (cells.new.items ≡ cells.old.items ++ cells_of breakpoints.now) }
+{
+    for breakpoint in breakpoints {
+        cells.push(breakpoint.cell)?;
+    }
+    Ok(())
 }

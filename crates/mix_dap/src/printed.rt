@@ -1,28 +1,38 @@
 //! What the units 17 to 20 have written, told as it comes.
-#![tactic(auto, using(dap_message::proofs::Telling::telling))]
+#![tactic(auto, using(dap_message::proofs::Telling::telling, crate::proofs::EventLemmas::events))]
 
-ghost use Rattle.std.specs.Prelude.{◌<◌, OnOk};
+ghost use Rattle.std.specs.Prelude.{◌≡◌, ◌<◌, ◌-◌, ◌∷◌, [], IfOk, OnOk, None, codes, drop, length, map, slice_index_or, string_bytes};
 ghost use Rattle.dap_message.specs.Message.{waits};
 ghost use Rattle.dap_message.specs.Told.{Events};
+ghost use Rattle.mix_machine.specs.World.{unit_at};
+ghost use Rattle.mix_dap.specs.Events.{AddsEvents};
+ghost use Rattle.mix_dap.specs.Output.{all_told, none_told, output, outputs, row_line, row_output, taken_line, taken_output, unit_outputs};
 
-use crate::variables::row_text;
+use crate::variables::{row_text, unit_at};
 use dap_message::Outbox;
-use mix_machine::{Row, UnitNo, World};
+use mix_machine::{Row, Unit, UnitNo, World};
 use mix_refused::Memory;
 use std::alloc::Global;
 
-// The first of the units that write text: card punch, printer, typewriter, paper tape.
-const FIRST: u8 = 17;
-
-/// How many rows of each of the units 17 to 20 were told.
+/// How many rows of each of the units that write text were told.
 #[derive(Clone, Copy)]
 pub(crate) struct Printed {
-    rows: [u16; 4],
+    card_punch: u16,
+    printer: u16,
+    typewriter: u16,
+    paper_tape: u16,
 }
 
 impl Printed {
-    pub(crate) fn none() -> Printed {
-        Printed { rows: [0; 4] }
+    pub(crate) fn none() -> Printed
+        ensures { result ≡ none_told }
+    {
+        Printed {
+            card_punch: 0,
+            printer: 0,
+            typewriter: 0,
+            paper_tape: 0,
+        }
     }
 
     /// Tells the rows that were written since, and that rows were taken back; these stay where they were told.
@@ -32,63 +42,78 @@ impl Printed {
         world: &World,
         out: &mut Outbox,
     ) -> Result<(), Memory>
-        ensures { OnOk result (Events (waits out.old) (waits out.new)) }
+        ensures events { OnOk result (Events (waits out.old) (waits out.new)) }
+        ensures prints { OnOk result (AddsEvents (outputs self.old world.now) out.old out.new) }
+        ensures counts { OnOk result (self.new ≡ all_told world.now) }
     {
-        for i in 0..4u8 {
-            self.tell_unit(alloc, world, i, out)?;
-        }
-        Ok(())
-    }
-
-    // The same of one of the units.
-    fn tell_unit(
-        &mut self,
-        alloc: Global,
-        world: &World,
-        i: u8,
-        out: &mut Outbox,
-    ) -> Result<(), Memory>
-        requires { i < 4 }
-        ensures { OnOk result (Events (waits out.old) (waits out.new)) }
-    {
-        let Some(number) = UnitNo::of(FIRST + i) else {
-            return Ok(());
+        let told = *self;
+        let card_punch = tell_unit(alloc, world, unit_at(17), told.card_punch, out)?;
+        let printer = tell_unit(alloc, world, unit_at(18), told.printer, out)?;
+        let typewriter = tell_unit(alloc, world, unit_at(19), told.typewriter, out)?;
+        let paper_tape = tell_unit(alloc, world, unit_at(20), told.paper_tape, out)?;
+        *self = Printed {
+            card_punch,
+            printer,
+            typewriter,
+            paper_tape,
         };
-        let told = self.rows[usize::from(i)];
-        let rows = world.unit(number).rows();
-        tell_rows(alloc, world, number, told, out)?;
-        tell_taken(alloc, number, told, rows, out)?;
-        self.rows[usize::from(i)] = rows;
         Ok(())
     }
 }
 
-// The rows of a unit from one on.
-fn tell_rows(
+// The same of one unit, of which so many rows were told: how many are told then.
+fn tell_unit(
     alloc: Global,
     world: &World,
     number: UnitNo,
-    from: u16,
+    told: u16,
     out: &mut Outbox,
-) -> Result<(), Memory>
-    ensures { OnOk result (Events (waits out.old) (waits out.new)) }
+) -> Result<u16, Memory>
+    ensures events { OnOk result (Events (waits out.old) (waits out.new)) }
+    ensures prints { OnOk result (AddsEvents (unit_outputs number told (unit_at world.now number).rows) out.old out.new) }
+    ensures count { IfOk result (λ count. count ≡ length (unit_at world.now number).rows) }
 {
     let unit = world.unit(number);
-    for i in from..unit.rows() {
-        tell_row(alloc, unit.row(i), out)?;
+    tell_rows(alloc, unit, told, out)?;
+    tell_taken(alloc, number, told, unit.rows(), out)?;
+    Ok(unit.rows())
+}
+
+// The rows of a unit from one on.
+fn tell_rows(alloc: Global, unit: &Unit, from: u16, out: &mut Outbox) -> Result<(), Memory>
+    ensures events { OnOk result (Events (waits out.old) (waits out.new)) }
+    ensures prints { OnOk result (AddsEvents (map row_output (drop from unit.now.rows)) out.old out.new) }
+{
+    let mut at = from;
+    while at < unit.rows() {
+        tell_row(alloc, row_at(unit, at), out)?;
+        at += 1;
     }
     Ok(())
 }
 
-fn tell_row(alloc: Global, row: Option<&Row>, out: &mut Outbox) -> Result<(), Memory>
-    ensures { OnOk result (Events (waits out.old) (waits out.new)) }
+fn row_at(unit: &Unit, number: u16) -> &Row
+    requires { number < length unit.now.rows }
+    ensures { result.now ≡ slice_index_or unit.now.rows number None }
 {
-    let Some(row) = row else {
-        return Ok(());
-    };
+    unit.row(number).unwrap()
+}
+
+fn tell_row(alloc: Global, row: &Row, out: &mut Outbox) -> Result<(), Memory>
+    ensures events { OnOk result (Events (waits out.old) (waits out.new)) }
+    ensures prints { OnOk result (AddsEvents (row_output row.now ∷ []) out.old out.new) }
+{
+    let line = row_line(alloc, row)?;
+    out.output("stdout", line.as_str())?;
+    Ok(())
+}
+
+fn row_line(alloc: Global, row: &Row) -> Result<String, Memory>
+    ensures { IfOk result (λ line. string_bytes line ≡ row_line row.now) }
+{
     let text = row_text(alloc, row)?;
     let line = format!(in alloc; "{text}\n")?;
-    out.output("stdout", line.as_str())
+    Ok(line)
 }
 
 // That the last of the rows that were told are taken back, if they are.
@@ -99,12 +124,29 @@ fn tell_taken(
     rows: u16,
     out: &mut Outbox,
 ) -> Result<(), Memory>
-    ensures { OnOk result (Events (waits out.old) (waits out.new)) }
+    ensures events { OnOk result (Events (waits out.old) (waits out.new)) }
+    ensures prints { OnOk result (AddsEvents (taken_output number told rows) out.old out.new) }
 {
-    if told <= rows {
-        return Ok(());
+    if rows < told {
+        tell_count(alloc, number, told - rows, out)
+    } else {
+        Ok(())
     }
-    let (unit, count) = (number.number(), told - rows);
+}
+
+fn tell_count(alloc: Global, number: UnitNo, count: u16, out: &mut Outbox) -> Result<(), Memory>
+    ensures events { OnOk result (Events (waits out.old) (waits out.new)) }
+    ensures prints { OnOk result (AddsEvents (output (codes "console") (taken_line number count) ∷ []) out.old out.new) }
+{
+    let line = taken_line(alloc, number.number(), count)?;
+    out.output("console", line.as_str())?;
+    Ok(())
+}
+
+#[tactic(auto, using(std::proofs::Common::append_assoc))]
+fn taken_line(alloc: Global, unit: u8, count: u16) -> Result<String, Memory>
+    ensures { IfOk result (λ line. string_bytes line ≡ taken_line unit count) }
+{
     let line = format!(in alloc; "(unit {unit}: the last rows are taken back, {count} of them)\n")?;
-    out.output("console", line.as_str())
+    Ok(line)
 }

@@ -4,7 +4,8 @@ ghost use Rattle.std.specs.Prelude.{◌≡◌, ◌≢◌, ◌<◌, ◌≤◌, �
 ghost use Rattle.mix_stream.specs.Stream.{CountsFailure};
 ghost use Rattle.dap_message.specs.Message.{waits};
 ghost use Rattle.dap_message.specs.Told.{response_to, Answers};
-ghost use Rattle.dap_stream.specs.Hearing.{unheard};
+ghost use Rattle.dap_frame.specs.Frame.{first_frame, partial};
+ghost use Rattle.dap_stream.specs.Hearing.{kept, unheard};
 ghost use Rattle.dap_stream.specs.declared.broken.Broken.{Broken};
 ghost use Rattle.dap_stream.specs.declared.broken.Broken.TheVariants as broken;
 ghost use Rattle.mix_dap.specs.Dialogue.{DialogueAs, PartAs, TellsBroken};
@@ -40,7 +41,8 @@ pub fn serve<F: Files, R: In, W: Out, E: Out>(
     // In a talk that ends well no write failed, and nothing was told on the error output.
     ensures written { result ≢ 2 → W.failed out.new ≡ W.failed out.old }
     ensures quiet { result ≢ 2 → errors.new ≡ errors.old }
-    // Status 0: the dialogue came to its end, and nothing failed. Status 2: this broke it off, and a line on the error output tells it.
+    // Status 0: the dialogue came to its end, and nothing failed. Status 2: this broke it off, and a line on the error output tells it; what was sent before
+    // is the answers to the frames that were heard, of the last one perhaps a beginning.
     ensures done { result ≢ 2 → (result ≡ 0) × DialogueAs (Ok tt) (R.rest input.old) (R.rest input.new) (W.told out.old) (W.told out.new)
         × (R.failed input.new ≡ R.failed input.old) }
     ensures broken { result ≡ 2 → (why : Broken) × DialogueAs (Err why) (R.rest input.old) (R.rest input.new) (W.told out.old) (W.told out.new)
@@ -65,7 +67,8 @@ pub fn serve_from<L: Library, R: In, W: Out, E: Out>(
     ensures range { result ≤ 2 }
     ensures written { result ≢ 2 → W.failed out.new ≡ W.failed out.old }
     ensures quiet { result ≢ 2 → errors.new ≡ errors.old }
-    // Status 0: the dialogue came to its end, and nothing failed. Status 2: this broke it off, and a line on the error output tells it.
+    // Status 0: the dialogue came to its end, and nothing failed. Status 2: this broke it off, and a line on the error output tells it; what was sent before
+    // is the answers to the frames that were heard, of the last one perhaps a beginning.
     ensures done { result ≢ 2 → (result ≡ 0) × DialogueAs (Ok tt) (R.rest input.old) (R.rest input.new) (W.told out.old) (W.told out.new)
         × (R.failed input.new ≡ R.failed input.old) }
     ensures broken { result ≡ 2 → (why : Broken) × DialogueAs (Err why) (R.rest input.old) (R.rest input.new) (W.told out.old) (W.told out.new)
@@ -121,6 +124,7 @@ fn launch<L: Library, R: In, W: Out>(
     requires written { W.failed out.old < 2 ^ 64 - 1 }
     ensures part { PartAs result (unheard talk.old.ear (R.rest input.old)) (unheard talk.new.ear (R.rest input.new)) (W.told out.old) (W.told out.new) }
     ensures none { result ≡ Ok false → waits talk.new.outbox ≡ [] }
+    ensures partial { result ≡ Err broken.Read → first_frame (kept talk.new.ear) ≡ partial }
     ensures read { CountsFailure (result ≡ Err broken.Read) (R.failed input.old) (R.failed input.new) }
     ensures written { CountsFailure (result ≡ Err broken.Write) (W.failed out.old) (W.failed out.new) }
 {

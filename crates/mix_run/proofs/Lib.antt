@@ -1,5 +1,6 @@
 mod CheckLemmas
 mod CutLemmas
+mod PersonLemmas
 mod PrintLemmas
 mod PrintOutputLemmas
 mod RunLemmas

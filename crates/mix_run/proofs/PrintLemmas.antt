@@ -1,5 +1,5 @@
 -- A run goes on by one step, and rows by one row.
-use Rattle.std.proofs.Common.{◌≡◌, ◌<◌, ◌≤◌, ◌+◌, ℕ, zero, suc, Bool, true, false, List, [], ◌∷◌, ◌++◌, Option, None, Some, Result, Ok, Err, refl, sym, ap, ◌∙◌, arith, append_assoc, drop, length, flat_map, slice_index_or}
+use Rattle.std.proofs.Common.{◌≡◌, ◌<◌, ◌≤◌, ◌+◌, ℕ, zero, suc, Bool, true, false, List, [], ◌∷◌, ◌++◌, Option, None, Some, Result, Ok, Err, IfErr, refl, sym, ap, ◌∙◌, arith, append_assoc, drop, length, flat_map, slice_index_or}
 use Rattle.std.proofs.lemmas.List.{append-nil}
 use Rattle.std.specs.Io.KnownBytes.{Appends}
 use Rattle.mix_machine.specs.Do.{does, is_halt_next}
@@ -9,8 +9,9 @@ use Rattle.mix_machine.specs.units.Unit.{UnitState}
 use Rattle.mix_machine.specs.declared.fault.MixFault.{MixFault}
 use Rattle.mix_machine.specs.declared.old.Change.TheVariants.{Step}
 use Rattle.mix_stream.specs.Stream.{AppendsFront}
-use Rattle.mix_run.specs.Print.{Run, printed, printed_row, printed_from, printed_between, printed_first, step_and_rest}
+use Rattle.mix_run.specs.Print.{Run, if_asked, printed, printed_row, printed_from, printed_between, printed_first, step_and_rest, traced_line, written_by}
 use Rattle.mix_run.specs.PrintSteps.{HasCounts, StepPrints, bytes_to, step_bytes, printed_after}
+use Rattle.mix_run.specs.declared.print.options.PrintOptions.{PrintOptions}
 use Rattle.mix_run.specs.declared.print.options.UnitSet.{UnitSet}
 use Rattle.mix_run.specs.declared.print.steps.RowCounts.{RowCounts}
 use Rattle.mix_run.specs.declared.print.steps.RunEnd.{RunEnd}
@@ -18,64 +19,65 @@ use Rattle.mix_run.specs.declared.print.steps.RunEnd.TheVariants.{Halted, Faulte
 use Rattle.mix_run.proofs.Written.{Appends-then, Appends-same, Appends-nothing, AppendsFront-after}
 
 -- no step is left
-pub run-none : (units : UnitSet) (steps : ℕ) (w : WorldState) → steps ≤ 0 → (printed units steps w).bytes ≡ []
-run-none units zero w h = refl
-run-none units (suc steps) w h = absurd (omega arith)
+pub run-none : (options : PrintOptions) (number steps : ℕ) (w : WorldState) → steps ≤ 0 → (printed options number steps w).bytes ≡ []
+run-none options number zero w h = refl
+run-none options number (suc steps) w h = absurd (omega arith)
 
 -- a step that is no halt, and the rest of the run
-pub run-on : (units : UnitSet) (steps rest : ℕ) (w next : WorldState) → steps ≡ suc rest → does w Step ≡ Ok next → is_halt_next w ≡ false →
-    printed units steps w ≡ printed_first (printed_between units w next) (printed units rest next)
-run-on units steps rest w next e done goes = rw (e, done, goes) refl
+pub run-on : (options : PrintOptions) (number steps rest : ℕ) (w next : WorldState) → steps ≡ suc rest → does w Step ≡ Ok next → is_halt_next w ≡ false →
+    printed options number steps w ≡ printed_first (written_by options number w next) (printed options (number + 1) rest next)
+run-on options number steps rest w next e done goes = rw (e, done, goes) refl
 
 -- a step that is a halt
-pub run-halted : (units : UnitSet) (steps rest : ℕ) (w next : WorldState) → steps ≡ suc rest → does w Step ≡ Ok next → is_halt_next w ≡ true →
-    printed units steps w ≡ record { bytes = printed_between units w next ++ []; end = Halted; world = next }
-run-halted units steps rest w next e done halts = rw (e, done, halts) refl
+pub run-halted : (options : PrintOptions) (number steps rest : ℕ) (w next : WorldState) → steps ≡ suc rest → does w Step ≡ Ok next → is_halt_next w ≡ true →
+    printed options number steps w ≡ record { bytes = written_by options number w next ++ []; end = Halted; world = next }
+run-halted options number steps rest w next e done halts = rw (e, done, halts) refl
 
 -- a step that is a fault
-pub run-faulted : (units : UnitSet) (steps rest : ℕ) (w : WorldState) (fault : MixFault) → steps ≡ suc rest → does w Step ≡ Err fault →
-    printed units steps w ≡ record { bytes = []; end = Faulted fault; world = w }
-run-faulted units steps rest w fault e failed = rw (e, failed) refl
+pub run-faulted : (options : PrintOptions) (number steps rest : ℕ) (w : WorldState) (fault : MixFault) → steps ≡ suc rest → does w Step ≡ Err fault →
+    printed options number steps w ≡ record { bytes = []; end = Faulted fault; world = w }
+run-faulted options number steps rest w fault e failed = rw (e, failed) refl
 
 -- what ends a run, or the step after which it goes on
-pub run-ended : (units : UnitSet) (steps rest : ℕ) (w next : WorldState) (end : RunEnd) (a b c : Option (List ℕ)) (whole : Run) → steps ≡ suc rest →
-    (done : List ℕ) × Appends a b done × (whole.bytes ≡ done ++ (printed units steps w).bytes) → (printed units steps w).end ≡ whole.end →
-    (printed units steps w).world ≡ whole.world → StepPrints units w next (Some end) b c →
+pub run-ended : (options : PrintOptions) (number steps rest : ℕ) (w next : WorldState) (end : RunEnd) (a b c : Option (List ℕ)) (whole : Run) → steps ≡ suc rest →
+    (done : List ℕ) × Appends a b done × (whole.bytes ≡ done ++ (printed options number steps w).bytes) → (printed options number steps w).end ≡ whole.end →
+    (printed options number steps w).world ≡ whole.world → StepPrints options number w next (Some end) b c →
     (end ≡ whole.end) × (next ≡ whole.world) × Appends a c whole.bytes
-run-ended units steps rest w next Halted a b c whole e so_far ends stands step =
-    let run = run-halted units steps rest w next e step.0 step.1 in
-    let bytes = ap (λ r. r.bytes) run ∙ append-nil (printed_between units w next) in (
+run-ended options number steps rest w next Halted a b c whole e so_far ends stands step =
+    let run = run-halted options number steps rest w next e step.0 step.1 in
+    let bytes = ap (λ r. r.bytes) run ∙ append-nil (written_by options number w next) in (
       sym (ap (λ r. r.end) run) ∙ ends,
       sym (ap (λ r. r.world) run) ∙ stands,
       Appends-same a c _ whole.bytes (sym (so_far.2 ∙ ap (λ t. so_far.0 ++ t) bytes)) (Appends-then a b c so_far.0 _ so_far.1 step.2),
     )
-run-ended units steps rest w next (Faulted fault) a b c whole e so_far ends stands step =
-    let run = run-faulted units steps rest w fault e step.0 in
+run-ended options number steps rest w next (Faulted fault) a b c whole e so_far ends stands step =
+    let run = run-faulted options number steps rest w fault e step.0 in
     let bytes = ap (λ r. r.bytes) run in (
       sym (ap (λ r. r.end) run) ∙ ends,
       step.1 ∙ sym (ap (λ r. r.world) run) ∙ stands,
       Appends-same a c _ whole.bytes (sym (so_far.2 ∙ ap (λ t. so_far.0 ++ t) bytes)) (Appends-then a b c so_far.0 _ so_far.1 step.2),
     )
-run-ended units steps rest w next UsedUp a b c whole e so_far ends stands step = absurd step
+run-ended options number steps rest w next UsedUp a b c whole e so_far ends stands step = absurd step
 
-begins : (units : UnitSet) (w : WorldState) (done : Result WorldState MixFault) (halts : Bool) (rest : WorldState → Run) → is_halt_next w ≡ halts →
-    (more : List ℕ) × ((step_and_rest units w done rest).bytes ≡ bytes_to units w done ++ more)
-begins units w (Ok next) true rest e = ([], rw e refl)
-begins units w (Ok next) false rest e = ((rest next).bytes, rw e refl)
-begins units w (Err fault) halts rest e = ([], refl)
+begins : (options : PrintOptions) (number : ℕ) (w : WorldState) (done : Result WorldState MixFault) (halts : Bool) (rest : WorldState → Run) → is_halt_next w ≡ halts →
+    (more : List ℕ) × ((step_and_rest options number w done rest).bytes ≡ bytes_to options number w done ++ more)
+begins options number w (Ok next) true rest e = ([], rw e refl)
+begins options number w (Ok next) false rest e = ((rest next).bytes, rw e refl)
+begins options number w (Err fault) halts rest e = ([], refl)
 
 -- what a step prints is the beginning of what the run prints
-pub step-begins : (units : UnitSet) (steps : ℕ) (w : WorldState) → 0 < steps →
-    (more : List ℕ) × ((printed units steps w).bytes ≡ step_bytes units w ++ more)
-step-begins units zero w more = absurd (omega arith)
-step-begins units (suc steps) w more = begins units w (does w Step) (is_halt_next w) (λ next. printed units steps next) refl
+pub step-begins : (options : PrintOptions) (number steps : ℕ) (w : WorldState) → 0 < steps →
+    (more : List ℕ) × ((printed options number steps w).bytes ≡ step_bytes options number w ++ more)
+step-begins options number zero w more = absurd (omega arith)
+step-begins options number (suc steps) w more =
+    begins options number w (does w Step) (is_halt_next w) (λ next. printed options (number + 1) steps next) refl
 
 -- a beginning of what one step prints
-pub begun-in_step : (units : UnitSet) (steps : ℕ) (w : WorldState) (a b c : Option (List ℕ)) (whole : List ℕ) → 0 < steps →
-    (done : List ℕ) × Appends a b done × (whole ≡ done ++ (printed units steps w).bytes) → AppendsFront b c (step_bytes units w) → AppendsFront a c whole
-begun-in_step units steps w a b c whole more so_far begun =
-    let step = step-begins units steps w more in
-    AppendsFront-after a b c so_far.0 (step_bytes units w) step.0 whole so_far.1 begun
+pub begun-in_step : (options : PrintOptions) (number steps : ℕ) (w : WorldState) (a b c : Option (List ℕ)) (whole : List ℕ) → 0 < steps →
+    (done : List ℕ) × Appends a b done × (whole ≡ done ++ (printed options number steps w).bytes) → AppendsFront b c (step_bytes options number w) → AppendsFront a c whole
+begun-in_step options number steps w a b c whole more so_far begun =
+    let step = step-begins options number steps w more in
+    AppendsFront-after a b c so_far.0 (step_bytes options number w) step.0 whole so_far.1 begun
     (so_far.2 ∙ ap (λ bytes. so_far.0 ++ bytes) step.1)
 
 -- what is written more, where it is a beginning of what is left
@@ -134,3 +136,33 @@ none-after units counts w h =
 -- what was written since the rows of a state
 pub after-between : (units : UnitSet) (counts : RowCounts) (w next : WorldState) → HasCounts w counts → printed_after units counts next ≡ printed_between units w next
 after-between units counts w next h = rw (h.card_punch, h.printer, h.typewriter, h.paper_tape) refl
+
+-- what holds after an error, whatever it is
+pub on-error : {T E : Type 0} (r : Result T E) (P : Type 0) → P → IfErr r (λ _. P)
+on-error (Ok x) P h = tt
+on-error (Err e) P h = h
+
+-- the line of a step, and then what it printed
+pub line-then : (options : PrintOptions) (number : ℕ) (counts : RowCounts) (w next : WorldState) (was : Option WorldState) (a b c : Option (List ℕ))
+    → HasCounts w counts → was ≡ if_asked options.trace w → Appends a b (traced_line was number next)
+    → Appends b c (printed_after options.units counts next) → Appends a c (written_by options number w next)
+line-then options number counts w next was a b c h copied line rows =
+    Appends-same a c (traced_line was number next ++ printed_after options.units counts next) (written_by options number w next)
+    (ap (λ o. traced_line o number next ++ printed_after options.units counts next) copied
+    ∙ ap (λ t. traced_line (if_asked options.trace w) number next ++ t) (after-between options.units counts w next h))
+    (Appends-then a b c _ _ line rows)
+
+-- a beginning of the line
+pub line-begun : (options : PrintOptions) (number : ℕ) (w next : WorldState) (was : Option WorldState) (a b : Option (List ℕ))
+    → does w Step ≡ Ok next → was ≡ if_asked options.trace w → AppendsFront a b (traced_line was number next)
+    → AppendsFront a b (step_bytes options number w)
+line-begun options number w next was a b done copied line =
+    rw done (begun-front a b (traced_line (if_asked options.trace w) number next) _ (rw copied at line))
+
+-- the line, and a beginning of what the step printed
+pub rows-begun : (options : PrintOptions) (number : ℕ) (counts : RowCounts) (w next : WorldState) (was : Option WorldState) (a b c : Option (List ℕ))
+    → HasCounts w counts → does w Step ≡ Ok next → was ≡ if_asked options.trace w → Appends a b (traced_line was number next)
+    → AppendsFront b c (printed_after options.units counts next) → AppendsFront a c (step_bytes options number w)
+rows-begun options number counts w next was a b c h done copied line rows =
+    rw done (begun-later a b c (traced_line (if_asked options.trace w) number next) (printed_between options.units w next)
+    (rw copied at line) (rw (after-between options.units counts w next h) at rows))

@@ -6,11 +6,11 @@ use Rattle.mixal_asm.specs.Assembly.{assembly}
 use Rattle.mixal_asm.specs.Program.{ProgramValue}
 use Rattle.mixal_asm.specs.declared.fault.AsmFault.{AsmFault}
 use Rattle.mix_machine.specs.units.Units.{UnitsState}
-use Rattle.mix_machine.specs.units.deck.Deck.{deck_of, cards_of}
+use Rattle.mix_machine.specs.units.deck.Deck.{text_of_unit}
 use Rattle.mix_machine.specs.declared.units.deck_fault.DeckFault.{DeckFault}
 use Rattle.mix_run.specs.declared.fault.ToolFault.{ToolFault}
 use Rattle.mix_run.specs.declared.fault.ToolFault.TheVariants as faults
-use Rattle.mix_run.specs.PrintOutput.{Prints, with_cards, outcome_of_run, parts_of, print_outcome, print_output}
+use Rattle.mix_run.specs.PrintOutput.{Prints, with_text, units_asked, outcome_of_run, parts_of, print_outcome, print_output}
 use Rattle.mix_run.specs.UnitsRead.{GivesUnits, deck_given}
 use Rattle.mix_run.specs.declared.print.PrintAnswer.{PrintAnswer}
 use Rattle.mix_run.specs.declared.print.PrintAnswer.TheVariants.{Refused}
@@ -37,24 +37,28 @@ parts-read-as text read e false few =
     let same : read ≡ text = e ∙ take_all 41943041 text (omega arith) in
     (ap (λ t. assembly (parts_of t).source) same, ap (λ t. (parts_of t).deck) same)
 
--- a deck that gives no units
-pub gives-no_deck : (deck : Result UnitsState DeckFault) (given : Bool) (cards : List ℕ) (fault : ToolFault) → GivesUnits deck (Err fault) →
-    GivesUnits (with_cards deck given cards) (Err fault)
-gives-no_deck deck given cards faults.Memory h = tt
-gives-no_deck deck given cards faults.Read h = tt
-gives-no_deck deck given cards (faults.Deck fault) h = rw h refl
-gives-no_deck deck given cards faults.Write h = absurd h
-gives-no_deck deck given cards faults.Long h = absurd h
+-- no units to which a text could be given
+pub gives-none : (n : ℕ) (before : Result UnitsState DeckFault) (given : Bool) (text : List ℕ) (fault : ToolFault) → GivesUnits before (Err fault) →
+    GivesUnits (with_text n before given text) (Err fault)
+gives-none n before given text faults.Memory h = tt
+gives-none n before given text faults.Read h = tt
+gives-none n before given text (faults.Deck fault) h = rw h refl
+gives-none n before given text faults.Write h = absurd h
+gives-none n before given text faults.Long h = absurd h
 
--- the cards of a text
-pub gives-cards : (deck : Result UnitsState DeckFault) (units : UnitsState) (given : Bool) (cards : List ℕ) (read : Result UnitsState ToolFault) → deck ≡ Ok units →
-    given ≡ true → GivesUnits (cards_of units cards) read → GivesUnits (with_cards deck given cards) read
-gives-cards deck units given cards read made asked h = rw (made, asked) h
+-- the lines of a text
+pub gives-text : (n : ℕ) (before : Result UnitsState DeckFault) (units : UnitsState) (given : Bool) (text : List ℕ) (read : Result UnitsState ToolFault) →
+    before ≡ Ok units → given ≡ true → GivesUnits (text_of_unit units n text) read → GivesUnits (with_text n before given text) read
+gives-text n before units given text read made asked h = rw (made, asked) h
 
--- those of the deck
-pub gives-deck : (deck : Result UnitsState DeckFault) (units : UnitsState) (given : Bool) (cards : List ℕ) → deck ≡ Ok units → given ≡ false →
-    GivesUnits (with_cards deck given cards) (Ok units)
-gives-deck deck units given cards made unasked = rw (made, unasked) refl
+-- those that were there
+pub gives-same : (n : ℕ) (before : Result UnitsState DeckFault) (units : UnitsState) (given : Bool) (text : List ℕ) → before ≡ Ok units → given ≡ false →
+    GivesUnits (with_text n before given text) (Ok units)
+gives-same n before units given text made unasked = rw (made, unasked) refl
+
+-- units that are given have no fault
+pub gives-no_fault : (expected : Result UnitsState DeckFault) (units : UnitsState) (fault : DeckFault) → expected ≡ Ok units → expected ≡ Err fault → ⊥
+gives-no_fault expected units fault made refused = cc
 
 -- no units
 pub Prints-no_units : (options : PrintOptions) (program : ProgramValue) (units : Result UnitsState DeckFault) (fault : ToolFault) (told : Option (List ℕ)) →
@@ -85,21 +89,21 @@ parts-taken text read source program fault e s taken refused =
     let same : assembly source ≡ assembly (parts_of text).source = ap assembly s ∙ (parts-read text read e).0 in cc
 
 -- a refused source
-pub Prints-refused : (options : PrintOptions) (text read source deck cards : List ℕ) (fault : AsmFault) (answer : PrintAnswer) (told : Option (List ℕ)) →
+pub Prints-refused : (options : PrintOptions) (text read source deck cards typewriter : List ℕ) (fault : AsmFault) (answer : PrintAnswer) (told : Option (List ℕ)) →
     read ≡ take 41943041 text → source ≡ (parts_of read).source → assembly source ≡ Err fault → answer ≡ Refused fault
-    → Prints (print_output options text deck cards) (Ok answer) told told
+    → Prints (print_output options text deck cards typewriter) (Ok answer) told told
 unfolding print_output print_outcome
-Prints-refused options text read source deck cards fault answer told e s f is =
+Prints-refused options text read source deck cards typewriter fault answer told e s f is =
     let here : assembly (parts_of text).source ≡ Err fault = sym (parts-read text read e).0 ∙ sym (ap assembly s) ∙ f in
     rw (here, is) (refl, Appends-nothing told)
 
 -- a source, with the deck of its bundle
-pub Prints-parts : (options : PrintOptions) (text read source own deck cards : List ℕ) (program : ProgramValue) (done : Result PrintAnswer ToolFault)
+pub Prints-parts : (options : PrintOptions) (text read source own deck cards typewriter : List ℕ) (program : ProgramValue) (done : Result PrintAnswer ToolFault)
     (old new : Option (List ℕ)) → read ≡ take 41943041 text → source ≡ (parts_of read).source → own ≡ (parts_of read).deck → assembly source ≡ Ok program →
-    Prints (print_outcome options (Ok program) (with_cards (deck_of (deck_given options.deck own deck)) options.cards cards)) done old new
-    → Prints (print_output options text deck cards) done old new
+    Prints (print_outcome options (Ok program) (units_asked options (deck_given options.deck own deck) cards typewriter)) done old new
+    → Prints (print_output options text deck cards typewriter) done old new
 unfolding print_output
-Prints-parts options text read source own deck cards program done old new e s o made met =
+Prints-parts options text read source own deck cards typewriter program done old new e s o made met =
     let here : assembly (parts_of text).source ≡ Ok program = sym (parts-read text read e).0 ∙ sym (ap assembly s) ∙ made in
     let deck-here : own ≡ (parts_of text).deck = o ∙ (parts-read text read e).1 in
     rw here (rw deck-here at met)

@@ -15,7 +15,7 @@ use Rattle.mixal_asm.specs.Assembly.{assembly}
 use Rattle.mixal_asm.specs.Program.{ProgramValue}
 use Rattle.mixal_asm.specs.declared.fault.AsmFault.{AsmFault}
 use Rattle.mix_machine.specs.units.Units.{UnitsState}
-use Rattle.mix_machine.specs.units.deck.Deck.{deck_of, cards_of}
+use Rattle.mix_machine.specs.units.deck.Deck.{deck_of, text_of_unit}
 use Rattle.mix_run.specs.Fault.{fault_of_read}
 use Rattle.mix_machine.specs.declared.units.deck_fault.DeckFault.{DeckFault}
 use Rattle.mix_run.specs.declared.fault.ToolFault.{ToolFault}
@@ -23,7 +23,7 @@ use Rattle.mix_run.specs.declared.fault.ToolFault.TheVariants as faults
 use Rattle.mix_refused.specs.declared.refused.Refused.{Refused as Refusal}
 use Rattle.mix_stream.specs.declared.counted.Failed.{Failed}
 use Rattle.mix_refused.specs.declared.refused.Refused.TheVariants as reads
-use Rattle.mix_run.proofs.Truncation.{limited-take, deck_of-take, cards_of-take, assembly-take}
+use Rattle.mix_run.proofs.Truncation.{limited-take, deck_of-take, text_of-take, assembly-take}
 use Rattle.mix_session.specs.Reply.{told_of_both}
 use Rattle.mix_session.specs.declared.reply.Told.{Told}
 use Rattle.mix_session.specs.declared.reply.Told.TheVariants.{Accepted, Refused}
@@ -139,9 +139,9 @@ pub gives-unread : (expected : Result UnitsState DeckFault) (fault : Refusal Fai
 gives-unread expected reads.Memory = tt
 gives-unread expected (reads.Fault _) = tt
 
--- cards that were read up to one byte more than they may have
-pub cards_of-read : (units : UnitsState) (cards read : List ℕ) → read ≡ take 33554433 cards → cards_of units read ≡ cards_of units cards
-cards_of-read units cards read e = ap (cards_of units) e ∙ cards_of-take units cards
+-- a text of a unit that was read up to one byte more than it may have
+pub text_of-read : (units : UnitsState) (n : ℕ) (text read : List ℕ) → read ≡ take 33554433 text → text_of_unit units n read ≡ text_of_unit units n text
+text_of-read units n text read e = ap (text_of_unit units n) e ∙ text_of-take units n text
 
 pub Meets-no_units : (echo : Bool) (program : ProgramValue) (units : Result UnitsState DeckFault) (script : List ℕ) (fault : ToolFault) (told : Option (List ℕ)) →
     GivesUnits units (Err fault) → Meets (outcome_of echo (Ok program) units script) (Err fault) told told

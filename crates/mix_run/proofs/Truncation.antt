@@ -8,7 +8,7 @@ use Rattle.mixal_asm.specs.Program.{ProgramValue}
 use Rattle.mixal_asm.specs.declared.fault.AsmFault.{AsmFault}
 use Rattle.mix_machine.specs.declared.units.deck_fault.DeckFault.{DeckFault}
 use Rattle.mix_machine.specs.units.Units.{UnitsState}
-use Rattle.mix_machine.specs.units.deck.Deck.{lines_from, deck_of, cards_of, nothing_read, no_card_read}
+use Rattle.mix_machine.specs.units.deck.Deck.{lines_from, deck_of, text_of_unit, nothing_read, no_line_read}
 use Rattle.mix_lines.specs.Lines.{lines}
 
 by_length : {A : Type 0} (limit : ℕ) (refused : A) (read : List ℕ → A) (bytes : List ℕ) (v : Bool) → ltb limit (length bytes) ≡ v
@@ -30,10 +30,10 @@ pub deck_of-take : (bytes : List ℕ) → deck_of (take 33554433 bytes) ≡ deck
 unfolding deck_of
 deck_of-take bytes = limited-take 33554432 _ (λ text. lines_from true 1 nothing_read (lines text)) bytes
 
--- cards are read from their first 33,554,433 bytes
-pub cards_of-take : (units : UnitsState) (bytes : List ℕ) → cards_of units (take 33554433 bytes) ≡ cards_of units bytes
-unfolding cards_of
-cards_of-take units bytes = limited-take 33554432 _ (λ text. lines_from false 1 (no_card_read units) (lines text)) bytes
+-- the text of a unit is read from its first 33,554,433 bytes
+pub text_of-take : (units : UnitsState) (n : ℕ) (bytes : List ℕ) → text_of_unit units n (take 33554433 bytes) ≡ text_of_unit units n bytes
+unfolding text_of_unit
+text_of-take units n bytes = limited-take 33554432 _ (λ text. lines_from false 1 (no_line_read units n) (lines text)) bytes
 
 -- a source is assembled from its first 1,048,577 bytes
 pub assembly-take : (source : List ℕ) → assembly (take 1048577 source) ≡ assembly source

@@ -1,5 +1,5 @@
 -- What a person types at a prompt, and the line of a script that it stands for.
-use Rattle.std.specs.Prelude.{ℕ, List, [], ◌∷◌, ◌++◌, ◌&&◌, ◌||◌, ◌==◌, false, nat_le, length, take, drop, find, Option, None, Some, Bool, codes, if◌then◌else◌}
+use Rattle.std.specs.Prelude.{ℕ, List, [], ◌∷◌, ◌++◌, ◌&&◌, ◌||◌, ◌==◌, false, nat_le, length, take, drop, find, Option, None, Some, Bool, true, codes, if◌then◌else◌}
 use Rattle.std.specs.Str.{str_eq_ignore_ascii_case}
 use Rattle.std.specs.List.{list_any}
 use Rattle.mix_lines.specs.Lines.{words}
@@ -84,6 +84,14 @@ abbrev pub plain_first : List (List ℕ) → List (List ℕ)
 plain_first [] = []
 plain_first (word ∷ rest) = plain word ∷ rest
 
+-- of the words of conditions with `or` between them, the first of each may be a register: it comes first, or after `or`
+abbrev pub plain_words : Bool → List (List ℕ) → List (List ℕ)
+plain_words is_first [] = []
+plain_words is_first (word ∷ rest) = (if is_first then plain word else word) ∷ plain_words (str_eq_ignore_ascii_case word (codes "or")) rest
+
+abbrev pub plain_conditions : List (List ℕ) → List (List ℕ)
+plain_conditions words = plain_words true words
+
 -- `until` may be begun too
 abbrev pub until_of : List ℕ → List ℕ
 until_of word = if is_beginning word (codes "until") then codes "until" else word
@@ -96,11 +104,11 @@ spaced (word ∷ rest) = 32 ∷ (word ++ spaced rest)
 -- what follows the number of steps of `run`: until what is watched, where nothing is said
 abbrev pub limit_of : List ℕ → List (List ℕ) → List ℕ
 limit_of watch [] = watch
-limit_of watch (word ∷ rest) = spaced (until_of word ∷ plain_first rest)
+limit_of watch (word ∷ rest) = spaced (until_of word ∷ plain_conditions rest)
 
--- as many steps as one command may do, until a condition
+-- as many steps as one command may do, until a condition, or one of several
 abbrev pub most_until : List (List ℕ) → List ℕ
-most_until rest = spaced (codes "1000000" ∷ codes "until" ∷ plain_first rest)
+most_until rest = spaced (codes "1000000" ∷ codes "until" ∷ plain_conditions rest)
 
 -- what follows `run`: as many steps as one command may do, where no number is said
 abbrev pub steps_of : List ℕ → List (List ℕ) → List ℕ
@@ -115,7 +123,7 @@ one_of (byte ∷ watch) = byte ∷ watch
 -- what follows `back` and `forth`
 abbrev pub changes_of : List ℕ → List (List ℕ) → List ℕ
 changes_of watch [] = one_of watch
-changes_of watch (word ∷ rest) = spaced (until_of word ∷ plain_first rest)
+changes_of watch (word ∷ rest) = spaced (until_of word ∷ plain_conditions rest)
 
 -- from a cell to a cell: one alone is the first and the last
 abbrev pub last_of : List ℕ → List (List ℕ) → List (List ℕ)
@@ -188,6 +196,10 @@ person_line again watch line = line_of_words again watch line (words line)
 -- what is watched, said so: from `until` on
 abbrev pub watched_in : List ℕ → List ℕ
 watched_in typed = drop (length (codes "run 1000000")) typed
+
+-- and the same from what follows `until` on
+abbrev pub condition_in : List ℕ → List ℕ
+condition_in typed = drop (length (codes "run 1000000 until")) typed
 
 -- what a line is that begins with such a word: `quit` alone ends the talk
 abbrev pub kind_of_word : Option PersonWord → List (List ℕ) → Line

@@ -1,5 +1,6 @@
--- What a run of a program prints: the rows that its steps write to the card punch, the printer, the typewriter and the paper tape.
-use Rattle.std.specs.Prelude.{ℕ, zero, suc, Bool, ◌==◌, nat_lt, List, [], ◌∷◌, ◌++◌, length, drop, reverse, flat_map, Option, Some, None, Result, Ok, Err, if◌then◌else◌}
+-- What a run of a program prints: the rows that its steps write to the card punch, the printer, the typewriter and the paper tape; and the lines of
+-- its steps, where it is traced.
+use Rattle.std.specs.Prelude.{ℕ, zero, suc, Bool, ◌+◌, ◌==◌, nat_lt, List, [], ◌∷◌, ◌++◌, length, drop, reverse, flat_map, Option, Some, None, Result, Ok, Err, if◌then◌else◌}
 use Rattle.mixal_asm.specs.PassOne.{SourceValue, Line, OfLiteral, OfName}
 use Rattle.mixal_asm.specs.Program.{ProgramValue}
 use Rattle.mixal_asm.specs.Source.{source_at}
@@ -9,7 +10,9 @@ use Rattle.mix_machine.specs.units.Row.{RowState}
 use Rattle.mix_machine.specs.units.Unit.{UnitState}
 use Rattle.mix_machine.specs.declared.fault.MixFault.{MixFault}
 use Rattle.mix_machine.specs.declared.old.Change.TheVariants.{Step}
+use Rattle.mix_session.specs.Change.{change_line}
 use Rattle.mix_session.specs.ShowUnit.{characters_text}
+use Rattle.mix_run.specs.declared.print.options.PrintOptions.{PrintOptions}
 use Rattle.mix_run.specs.declared.print.options.UnitSet.{UnitSet}
 use Rattle.mix_run.specs.declared.print.steps.RunEnd.{RunEnd}
 use Rattle.mix_run.specs.declared.print.steps.RunEnd.TheVariants.{Halted, Faulted, UsedUp}
@@ -42,6 +45,19 @@ printed_between units before after =
     printed_by units.card_punch before after 17 ++ (printed_by units.printer before after 18
     ++ (printed_by units.typewriter before after 19 ++ printed_by units.paper_tape before after 20))
 
+-- the line of a step from a machine that was kept, as `trace` has it; none where none was
+abbrev pub traced_line : Option WorldState → ℕ → WorldState → List ℕ
+traced_line None number after = []
+traced_line (Some before) number after = change_line number Step before after
+
+abbrev pub if_asked : Bool → WorldState → Option WorldState
+if_asked asked w = if asked then Some w else None
+
+-- what a step of a number writes: its line, where it is traced, and then what was printed
+abbrev pub written_by : PrintOptions → ℕ → WorldState → WorldState → List ℕ
+written_by options number before after =
+    traced_line (if_asked options.trace before) number after ++ printed_between options.units before after
+
 -- what a run prints, how it ends, and the machine then
 pub record Run : Type 0 where
   pub bytes : List ℕ
@@ -53,16 +69,16 @@ abbrev pub printed_first : List ℕ → Run → Run
 printed_first bytes run = record run { bytes = bytes ++ run.bytes }
 
 -- one step, from what it does, and then the rest of the run, unless the step is a fault or a halt
-abbrev pub step_and_rest : UnitSet → WorldState → Result WorldState MixFault → (WorldState → Run) → Run
-step_and_rest units w (Err fault) rest = record { bytes = []; end = Faulted fault; world = w }
-step_and_rest units w (Ok next) rest =
-    printed_first (printed_between units w next)
+abbrev pub step_and_rest : PrintOptions → ℕ → WorldState → Result WorldState MixFault → (WorldState → Run) → Run
+step_and_rest options number w (Err fault) rest = record { bytes = []; end = Faulted fault; world = w }
+step_and_rest options number w (Ok next) rest =
+    printed_first (written_by options number w next)
     (if is_halt_next w then record { bytes = []; end = Halted; world = next } else rest next)
 
--- a run of so many steps at most, up to a halt or a fault
-abbrev pub printed : UnitSet → ℕ → WorldState → Run
-printed units zero w = record { bytes = []; end = UsedUp; world = w }
-printed units (suc steps) w = step_and_rest units w (does w Step) (λ next. printed units steps next)
+-- a run of so many steps at most, the first of which has this number, up to a halt or a fault
+abbrev pub printed : PrintOptions → ℕ → ℕ → WorldState → Run
+printed options number zero w = record { bytes = []; end = UsedUp; world = w }
+printed options number (suc steps) w = step_and_rest options number w (does w Step) (λ next. printed options (number + 1) steps next)
 
 -- the number of a line of the source; a literal or a name that END brings in has none
 abbrev pub line_number : Option SourceValue → Option ℕ

@@ -1,4 +1,4 @@
--- What `run` writes and answers: a function of the source or bundle, the deck, the cards, and what is asked for.
+-- What `run` writes and answers: a function of the source or bundle, the deck, the cards, the lines for the typewriter, and what is asked for.
 use Rattle.std.specs.Prelude.{◌≡◌, ℕ, Bool, Option, List, [], Result, Ok, Err, length, nat_lt, if◌then◌else◌}
 use Rattle.std.specs.Io.KnownBytes.{Appends, Keeps}
 use Rattle.mixal_asm.specs.Assembly.{assembly}
@@ -6,7 +6,7 @@ use Rattle.mixal_asm.specs.Program.{ProgramValue}
 use Rattle.mixal_asm.specs.declared.fault.AsmFault.{AsmFault}
 use Rattle.mix_machine.specs.Loaded.{loaded}
 use Rattle.mix_machine.specs.units.Units.{UnitsState}
-use Rattle.mix_machine.specs.units.deck.Deck.{deck_of, cards_of}
+use Rattle.mix_machine.specs.units.deck.Deck.{deck_of, text_of_unit}
 use Rattle.mix_machine.specs.declared.units.deck_fault.DeckFault.{DeckFault}
 use Rattle.mix_run.specs.declared.fault.ToolFault.{ToolFault}
 use Rattle.mix_run.specs.declared.fault.ToolFault.TheVariants as faults
@@ -20,15 +20,27 @@ use Rattle.mix_run.specs.declared.print.PrintAnswer.TheVariants.{Ran, Refused}
 use Rattle.mix_run.specs.declared.print.RanTo.{RanTo}
 use Rattle.mix_run.specs.declared.print.options.PrintOptions.{PrintOptions}
 
--- how `run` ends: with these bytes and this answer, or, with no byte written, for its deck or its cards
+-- how `run` ends: with these bytes and this answer, or, with no byte written, for its deck or a text of a unit
 pub data PrintOutcome : Type 0 where
   Answered : List ℕ → PrintAnswer → PrintOutcome
   UnitsRefused : DeckFault → PrintOutcome
 
--- the cards of a text, if there is one, in the units of a deck
+-- the lines of a text, if there is one, for a unit of those that were read before
+abbrev pub with_text : ℕ → Result UnitsState DeckFault → Bool → List ℕ → Result UnitsState DeckFault
+with_text unit (Err fault) given text = Err fault
+with_text unit (Ok units) given text = if given then text_of_unit units unit text else Ok units
+
+-- the cards of a text in the units of a deck
 abbrev pub with_cards : Result UnitsState DeckFault → Bool → List ℕ → Result UnitsState DeckFault
-with_cards (Err fault) given cards = Err fault
-with_cards (Ok units) given cards = if given then cards_of units cards else Ok units
+with_cards units given cards = with_text 16 units given cards
+
+-- and the lines of another, which the typewriter reads
+abbrev pub with_typewriter : Result UnitsState DeckFault → Bool → List ℕ → Result UnitsState DeckFault
+with_typewriter units given typewriter = with_text 19 units given typewriter
+
+-- the units of a deck, with the texts that are asked for
+abbrev pub units_asked : PrintOptions → List ℕ → List ℕ → List ℕ → Result UnitsState DeckFault
+units_asked options deck cards typewriter = with_typewriter (with_cards (deck_of deck) options.cards cards) options.typewriter typewriter
 
 -- where a run of a program came to
 abbrev pub ran_to : ProgramValue → Run → RanTo
@@ -37,7 +49,7 @@ ran_to program run = record { end = run.end; loc = run.world.loc; clock = run.wo
 -- a program run on the machine that it is loaded into, with its units
 unfoldable pub outcome_of_run : PrintOptions → ProgramValue → UnitsState → PrintOutcome
 outcome_of_run options program units =
-    let run = printed options.units options.steps (loaded program.words program.start units) in
+    let run = printed options 1 options.steps (loaded program.words program.start units) in
     Answered run.bytes (Ran (ran_to program run))
 
 -- an assembled source, with its units
@@ -50,11 +62,11 @@ print_outcome options (Ok program) (Ok units) = outcome_of_run options program u
 unfoldable pub parts_of : List ℕ → Cut
 parts_of text = if nat_lt max_bundle_bytes (length text) then record { source = text; deck = []; script = [] } else cut_of text
 
--- a bundle or a source, a deck that is given in place of its own, and cards
-unfoldable pub print_output : PrintOptions → List ℕ → List ℕ → List ℕ → PrintOutcome
-print_output options text deck cards =
+-- a bundle or a source, a deck that is given in place of its own, cards, and lines for the typewriter
+unfoldable pub print_output : PrintOptions → List ℕ → List ℕ → List ℕ → List ℕ → PrintOutcome
+print_output options text deck cards typewriter =
     let parts = parts_of text in
-    print_outcome options (assembly parts.source) (with_cards (deck_of (deck_given options.deck parts.deck deck)) options.cards cards)
+    print_outcome options (assembly parts.source) (units_asked options (deck_given options.deck parts.deck deck) cards typewriter)
 
 -- the bytes that an outcome writes
 abbrev pub bytes_of : PrintOutcome → List ℕ

@@ -5,7 +5,8 @@ use Rattle.mix_machine.specs.Do.{does, is_halt_next}
 use Rattle.mix_machine.specs.World.{WorldState, unit_at}
 use Rattle.mix_machine.specs.declared.fault.MixFault.{MixFault}
 use Rattle.mix_machine.specs.declared.old.Change.TheVariants.{Step}
-use Rattle.mix_run.specs.Print.{printed_from, printed_between}
+use Rattle.mix_run.specs.Print.{printed_from, written_by}
+use Rattle.mix_run.specs.declared.print.options.PrintOptions.{PrintOptions}
 use Rattle.mix_run.specs.declared.print.options.UnitSet.{UnitSet}
 use Rattle.mix_run.specs.declared.print.steps.RowCounts.{RowCounts}
 use Rattle.mix_run.specs.declared.print.steps.RunEnd.{RunEnd}
@@ -24,17 +25,17 @@ printed_after units counts w =
     printed_from units.card_punch counts.card_punch (unit_at w 17) ++ (printed_from units.printer counts.printer (unit_at w 18)
     ++ (printed_from units.typewriter counts.typewriter (unit_at w 19) ++ printed_from units.paper_tape counts.paper_tape (unit_at w 20)))
 
-abbrev pub bytes_to : UnitSet → WorldState → Result WorldState MixFault → List ℕ
-bytes_to units w (Ok next) = printed_between units w next
-bytes_to units w (Err fault) = []
+abbrev pub bytes_to : PrintOptions → ℕ → WorldState → Result WorldState MixFault → List ℕ
+bytes_to options number w (Ok next) = written_by options number w next
+bytes_to options number w (Err fault) = []
 
--- what one step prints
-abbrev pub step_bytes : UnitSet → WorldState → List ℕ
-step_bytes units w = bytes_to units w (does w Step)
+-- what one step writes
+abbrev pub step_bytes : PrintOptions → ℕ → WorldState → List ℕ
+step_bytes options number w = bytes_to options number w (does w Step)
 
--- what one step does and has printed, with the end that it is, if it is one
-abbrev pub StepPrints : UnitSet → WorldState → WorldState → Option RunEnd → Option (List ℕ) → Option (List ℕ) → Type 0
-StepPrints units w next None old new = (does w Step ≡ Ok next) × (is_halt_next w ≡ false) × Appends old new (printed_between units w next)
-StepPrints units w next (Some Halted) old new = (does w Step ≡ Ok next) × (is_halt_next w ≡ true) × Appends old new (printed_between units w next)
-StepPrints units w next (Some (Faulted fault)) old new = (does w Step ≡ Err fault) × (next ≡ w) × Appends old new []
-StepPrints units w next (Some UsedUp) old new = ⊥
+-- what one step does and has written, with the end that it is, if it is one
+abbrev pub StepPrints : PrintOptions → ℕ → WorldState → WorldState → Option RunEnd → Option (List ℕ) → Option (List ℕ) → Type 0
+StepPrints options number w next None old new = (does w Step ≡ Ok next) × (is_halt_next w ≡ false) × Appends old new (written_by options number w next)
+StepPrints options number w next (Some Halted) old new = (does w Step ≡ Ok next) × (is_halt_next w ≡ true) × Appends old new (written_by options number w next)
+StepPrints options number w next (Some (Faulted fault)) old new = (does w Step ≡ Err fault) × (next ≡ w) × Appends old new []
+StepPrints options number w next (Some UsedUp) old new = ⊥

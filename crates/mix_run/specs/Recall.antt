@@ -1,11 +1,12 @@
 -- What a talk recalls of a person's lines, and the lines of a script that the next one then stands for.
-use Rattle.std.specs.Prelude.{ℕ, List, [], ◌∷◌, ◌++◌, Result, Ok, Err}
+use Rattle.std.specs.Prelude.{ℕ, ◌+◌, List, [], ◌∷◌, ◌++◌, codes, length, nat_lt, Result, Ok, Err, if◌then◌else◌}
 use Rattle.mix_lines.specs.Lines.{words}
+use Rattle.mix_session.specs.Conditions.{most_conditions}
 use Rattle.mix_session.specs.Session.{SessionState, request_in}
 use Rattle.mix_session.specs.declared.fault.Refusal.{Refusal}
 use Rattle.mix_session.specs.declared.request.Request.{Request}
 use Rattle.mix_session.specs.declared.request.Request.TheVariants as ask
-use Rattle.mix_run.specs.Person.{kind_of, person_line, watched_in}
+use Rattle.mix_run.specs.Person.{kind_of, person_line, watched_in, condition_in}
 use Rattle.mix_run.specs.declared.talk.aside.After.{After}
 use Rattle.mix_run.specs.declared.talk.aside.After.TheVariants as after
 use Rattle.mix_run.specs.declared.talk.aside.Talker.{Talker}
@@ -14,15 +15,16 @@ use Rattle.mix_run.specs.declared.talk.person.Line.{Line}
 use Rattle.mix_run.specs.declared.talk.person.Line.TheVariants as line_kind
 
 -- the line of a script that a blank line stands for: the last one that took steps, or changes back; an empty one before that. And what is watched, from
--- its `until` on; empty, where nothing is. And the lines of a script that show what is displayed after each stop
+-- its `until` on, and how many conditions that are; empty, where nothing is. And the lines of a script that show what is displayed after each stop
 pub record RecallState : Type 0 where
   pub again : List ℕ
   pub watch : List ℕ
+  pub watched : ℕ
   pub displays : List ℕ
 
 -- nothing yet
 abbrev pub nothing : RecallState
-nothing = record { again = []; watch = []; displays = [] }
+nothing = record { again = []; watch = []; watched = 0; displays = [] }
 
 -- what a request leads to: a stop after steps, or after changes that were taken back, which a blank line repeats; one after other changes that were done;
 -- another stop; or none
@@ -31,13 +33,13 @@ after_request (ask.Step n) = after.Stepped
 after_request (ask.Back n) = after.Repeated
 after_request ask.BackAll = after.Repeated
 after_request ask.BackBreak = after.Repeated
-after_request (ask.BackUntil condition) = after.Repeated
+after_request (ask.BackUntil conditions) = after.Repeated
 after_request (ask.Trace n) = after.Stop
 after_request (ask.Run n) = after.Done
-after_request (ask.RunUntil n condition) = after.Stop
+after_request (ask.RunUntil n conditions) = after.Stop
 after_request (ask.Forth n) = after.Done
 after_request ask.ForthAll = after.Done
-after_request (ask.ForthUntil condition) = after.Stop
+after_request (ask.ForthUntil conditions) = after.Stop
 after_request (ask.Goto n) = after.Stop
 after_request ask.Nothing = after.Nothing
 after_request (ask.Change change) = after.Nothing
@@ -57,14 +59,23 @@ recalled_after after.Stop typed r = r
 recalled_after after.Nothing typed r = r
 recalled_after after.Refused typed r = r
 
--- what is watched after a line that asks for it: one condition alone, until that is forgotten
+-- what is watched after a line that asks for more: that from its `until` on; after what is watched already, the word `or` and what follows `until`
 abbrev pub watched_after : List ℕ → List ℕ → List ℕ
 watched_after [] typed = watched_in typed
-watched_after (byte ∷ watch) typed = byte ∷ watch
+watched_after (byte ∷ watch) typed = byte ∷ watch ++ codes " or" ++ condition_in typed
 
--- and what is recalled: a condition must be one
+-- the same for so many conditions more, unless there are then more than one command may wait for
+abbrev pub watched_more : ℕ → List ℕ → RecallState → RecallState
+watched_more more typed r =
+    if nat_lt most_conditions (r.watched + more) then r else record r { watch = watched_after r.watch typed; watched = r.watched + more }
+
+abbrev pub watched_by : Request → List ℕ → RecallState → RecallState
+watched_by (ask.RunUntil n conditions) typed r = watched_more (length conditions) typed r
+watched_by other typed r = r
+
+-- and what is recalled: the conditions must be such as one command may wait for
 abbrev pub recalled_watch : Result Request Refusal → List ℕ → RecallState → RecallState
-recalled_watch (Ok request) typed r = record r { watch = watched_after r.watch typed }
+recalled_watch (Ok request) typed r = watched_by request typed r
 recalled_watch (Err refusal) typed r = r
 
 -- what is displayed after a line that asks for more: that must be there to be shown
@@ -78,7 +89,7 @@ recalled_by s line_kind.Command typed r = recalled_after (after_read (request_in
 recalled_by s line_kind.Help typed r = r
 recalled_by s line_kind.Listing typed r = r
 recalled_by s line_kind.Watch typed r = recalled_watch (request_in s typed) typed r
-recalled_by s line_kind.Delete typed r = record r { watch = [] }
+recalled_by s line_kind.Delete typed r = record r { watch = []; watched = 0 }
 recalled_by s line_kind.Display typed r = recalled_display (request_in s typed) typed r
 recalled_by s line_kind.Undisplay typed r = record r { displays = [] }
 recalled_by s line_kind.Quit typed r = r

@@ -9,34 +9,29 @@ ghost use Rattle.mix_run.specs.Fault.{IsMemoryOrWrite};
 ghost use Rattle.mix_stream.specs.Stream.{ConsumesAtMost, CountsFailure};
 ghost use Rattle.mix_run.specs.Output.{max_bundle_bytes};
 ghost use Rattle.mix_run.specs.Print.{line_at};
-ghost use Rattle.mix_run.specs.UnitsRead.{GivesUnits, deck_given};
-ghost use Rattle.mix_run.specs.PrintOutput.{Prints, outcome_of_run, parts_of, print_outcome, print_output, with_cards};
+ghost use Rattle.mix_run.specs.UnitsRead.{deck_given};
+ghost use Rattle.mix_run.specs.PrintOutput.{Prints, outcome_of_run, parts_of, print_outcome, print_output, units_asked, with_cards};
 
 pub(crate) mod options;
 mod row;
 mod steps;
+mod texts;
+mod trace;
 
 use crate::beside::tell_report;
 use crate::bundle::{MAX_BUNDLE_BYTES, parts_of};
 use crate::fault::ToolFault;
 use crate::print::options::PrintOptions;
 use crate::print::steps::print_steps;
+use crate::print::texts::units_with_texts;
 use crate::statuses::tell_refusal;
-use crate::units::{given_units, read_cards};
 use mix_machine::{Place, Units, World};
 use mix_refused::Refused;
 use mix_stream::{In, Out, read_up_to};
 use mixal_asm::{AsmFault, Program, Source, assemble};
 use std::alloc::Global;
 pub use steps::RunEnd;
-
-/// The texts of a run: a source or a whole bundle, and a deck and cards, which are read if they are asked for.
-#[derive(Drop)]
-pub struct PrintTexts<S, D, C> {
-    pub source: S,
-    pub deck: D,
-    pub cards: C,
-}
+pub use texts::PrintTexts;
 
 /// Where a run came to: why it ended, the location and the clock in u then, and the line of the source that put the last word into the cell at
 /// that location, if one did. After a fault that is the line of the instruction at fault.
@@ -82,7 +77,7 @@ fn print_loaded<W: Out>(
     ensures ran { (f : AsmFault) → result ≢ Ok (PrintAnswer.Refused f) }
 {
     let mut world = World::load(alloc, program.words(), program.start(), units)?;
-    let end = print_steps(alloc, &mut world, options.steps, options.units, out)?;
+    let end = print_steps(alloc, &mut world, options, out)?;
     let (loc, clock) = (world.loc(), world.clock());
     let line = line_at(program, loc);
     Ok(PrintAnswer::Ran(RanTo {
@@ -93,87 +88,69 @@ fn print_loaded<W: Out>(
     }))
 }
 
-// The units of the deck that is given or otherwise of a text, and the cards of a text if they are asked for.
-fn units_with_cards<D: In, C: In>(
-    alloc: Global,
-    own: &[u8],
-    deck: &mut D,
-    cards: &mut C,
-    options: PrintOptions,
-) -> Result<Units, ToolFault>
-    requires deck_count { D.failed deck.old < 2 ^ 64 - 1 }
-    requires cards_count { C.failed cards.old < 2 ^ 64 - 1 }
-    ensures units { (d c : List ℕ) → D.rest deck.old ≡ Some d → C.rest cards.old ≡ Some c
-        → GivesUnits (with_cards (deck_of (deck_given options.deck own.now d)) options.cards c) result }
-    ensures read { CountsFailure (result ≡ Err ToolFault.Read) (D.failed deck.old + C.failed cards.old) (D.failed deck.new + C.failed cards.new) }
-    ensures reads { (D.failed deck.old ≤ D.failed deck.new) × (C.failed cards.old ≤ C.failed cards.new) }
-    ensures deck { ConsumesAtMost (D.rest deck.old) (D.rest deck.new) (max_deck_bytes + 1) }
-    ensures cards { ConsumesAtMost (C.rest cards.old) (C.rest cards.new) (max_deck_bytes + 1) }
-    ensures no_deck { options.deck ≡ false → deck.new ≡ deck.old }
-    ensures no_cards { options.cards ≡ false → cards.new ≡ cards.old }
-    ensures bad_deck { (d : List ℕ) (f : DeckFault) → D.rest deck.old ≡ Some d → deck_of (deck_given options.deck own.now d) ≡ Err f
-        → cards.new ≡ cards.old }
-    ensures deck_failed { D.failed deck.old < D.failed deck.new → cards.new ≡ cards.old }
-    ensures cards_in_turn { (d : List ℕ) → D.rest deck.old ≡ Some d → options.deck ≡ true
-        → (cards.new ≡ cards.old) ⊎ (D.rest deck.new ≡ Some (drop (max_deck_bytes + 1) d)) }
-    ensures only { result ≢ Err ToolFault.Write }
-{
-    let units = given_units(alloc, own, deck, options.deck)?;
-    if options.cards {
-        read_cards(alloc, units, cards)
-    } else {
-        Ok(units)
-    }
-}
-
-// The deck and the cards of an assembled source, and then its run; the deck of its bundle is a text.
-fn print_program<S, D: In, C: In, W: Out>(
+// The units of an assembled source, and then its run; the deck of its bundle is a text.
+fn print_program<S, D: In, C: In, T: In, W: Out>(
     alloc: Global,
     program: &Program<'_>,
     own: &[u8],
-    texts: &mut PrintTexts<S, D, C>,
+    texts: &mut PrintTexts<S, D, C, T>,
     options: PrintOptions,
     out: &mut W,
 ) -> Result<PrintAnswer, ToolFault>
     requires deck_count { D.failed texts.old.deck < 2 ^ 64 - 1 }
     requires cards_count { C.failed texts.old.cards < 2 ^ 64 - 1 }
+    requires typewriter_count { T.failed texts.old.typewriter < 2 ^ 64 - 1 }
     requires out_count { W.failed out.old < 2 ^ 64 - 1 }
-    ensures output { (d c : List ℕ) → D.rest texts.old.deck ≡ Some d → C.rest texts.old.cards ≡ Some c
-        → Prints (print_outcome options (Ok program.now) (with_cards (deck_of (deck_given options.deck own.now d)) options.cards c)) result (W.told out.old) (W.told out.new) }
+    ensures output { (d c t : List ℕ) → D.rest texts.old.deck ≡ Some d → C.rest texts.old.cards ≡ Some c → T.rest texts.old.typewriter ≡ Some t
+        → Prints (print_outcome options (Ok program.now) (units_asked options (deck_given options.deck own.now d) c t)) result (W.told out.old) (W.told out.new) }
     ensures source { texts.new.source ≡ texts.old.source }
-    ensures read { CountsFailure (result ≡ Err ToolFault.Read) (D.failed texts.old.deck + C.failed texts.old.cards)
-        (D.failed texts.new.deck + C.failed texts.new.cards) }
-    ensures reads { (D.failed texts.old.deck ≤ D.failed texts.new.deck) × (C.failed texts.old.cards ≤ C.failed texts.new.cards) }
+    ensures read { CountsFailure (result ≡ Err ToolFault.Read) (D.failed texts.old.deck + C.failed texts.old.cards + T.failed texts.old.typewriter)
+        (D.failed texts.new.deck + C.failed texts.new.cards + T.failed texts.new.typewriter) }
+    ensures reads { (D.failed texts.old.deck ≤ D.failed texts.new.deck) × (C.failed texts.old.cards ≤ C.failed texts.new.cards)
+        × (T.failed texts.old.typewriter ≤ T.failed texts.new.typewriter) }
     ensures write { CountsFailure (result ≡ Err ToolFault.Write) (W.failed out.old) (W.failed out.new) }
     ensures unread { result ≡ Err ToolFault.Read → Keeps (W.told out.old) (W.told out.new) }
     ensures deck { ConsumesAtMost (D.rest texts.old.deck) (D.rest texts.new.deck) (max_deck_bytes + 1) }
     ensures cards { ConsumesAtMost (C.rest texts.old.cards) (C.rest texts.new.cards) (max_deck_bytes + 1) }
+    ensures typewriter { ConsumesAtMost (T.rest texts.old.typewriter) (T.rest texts.new.typewriter) (max_deck_bytes + 1) }
     ensures no_deck { options.deck ≡ false → texts.new.deck ≡ texts.old.deck }
     ensures no_cards { options.cards ≡ false → texts.new.cards ≡ texts.old.cards }
+    ensures no_typewriter { options.typewriter ≡ false → texts.new.typewriter ≡ texts.old.typewriter }
     ensures bad_deck { (d : List ℕ) (f : DeckFault) → D.rest texts.old.deck ≡ Some d → deck_of (deck_given options.deck own.now d) ≡ Err f
         → texts.new.cards ≡ texts.old.cards }
-    ensures deck_failed { D.failed texts.old.deck < D.failed texts.new.deck → texts.new.cards ≡ texts.old.cards }
+    ensures bad_cards { (d c : List ℕ) (f : DeckFault) → D.rest texts.old.deck ≡ Some d → C.rest texts.old.cards ≡ Some c
+        → with_cards (deck_of (deck_given options.deck own.now d)) options.cards c ≡ Err f → texts.new.typewriter ≡ texts.old.typewriter }
+    ensures deck_failed { D.failed texts.old.deck < D.failed texts.new.deck
+        → (texts.new.cards ≡ texts.old.cards) × (texts.new.typewriter ≡ texts.old.typewriter) }
+    ensures cards_failed { C.failed texts.old.cards < C.failed texts.new.cards → texts.new.typewriter ≡ texts.old.typewriter }
     ensures cards_in_turn { (d : List ℕ) → D.rest texts.old.deck ≡ Some d → options.deck ≡ true
         → (texts.new.cards ≡ texts.old.cards) ⊎ (D.rest texts.new.deck ≡ Some (drop (max_deck_bytes + 1) d)) }
+    ensures after_deck { (d : List ℕ) → D.rest texts.old.deck ≡ Some d → options.deck ≡ true
+        → (texts.new.typewriter ≡ texts.old.typewriter) ⊎ (D.rest texts.new.deck ≡ Some (drop (max_deck_bytes + 1) d)) }
+    ensures after_cards { (c : List ℕ) → C.rest texts.old.cards ≡ Some c → options.cards ≡ true
+        → (texts.new.typewriter ≡ texts.old.typewriter) ⊎ (C.rest texts.new.cards ≡ Some (drop (max_deck_bytes + 1) c)) }
     ensures ran { (f : AsmFault) → result ≢ Ok (PrintAnswer.Refused f) }
 {
-    let units = units_with_cards(alloc, own, &mut texts.deck, &mut texts.cards, options)?;
+    let (deck, cards, typewriter) = (&mut texts.deck, &mut texts.cards, &mut texts.typewriter);
+    let units = units_with_texts(alloc, own, deck, cards, typewriter, options)?;
     print_loaded(alloc, program, units, options, out)
 }
 
 /// Assembles a source, or that of a bundle, and takes the deck of the bundle, or reads one if `options.deck` is true, which then is in the place of
-/// that; if `options.cards` is true it reads a text of cards, which are in the place of those that the deck gives to unit 16. Then it runs the loaded machine (1.3.1, 1.3.2) up to a halt, a fault, or `options.steps` steps, and writes what it prints: each row of the
-/// units in `options.units` as soon as its step is done, without the blanks at its end and with a line feed, a page mark as a form feed alone. It keeps
+/// that; if `options.cards` is true it reads a text of cards, which are in the place of those that the deck gives to unit 16, and if
+/// `options.typewriter` is true a text of lines, which replace those that it gives to unit 19. Then it runs the loaded machine (1.3.1, 1.3.2) up to a halt, a fault, or `options.steps` steps, and writes what it prints: each row of the
+/// units in `options.units` as soon as its step is done, without the blanks at its end and with a line feed, a page mark as a form feed alone. If
+/// `options.trace` is true, the line of each step is written before what it prints, as the command `trace` has it. It keeps
 /// nothing of the steps, so it takes no more memory for many steps than for few. Where the source is refused, its first fault is the answer, nothing is
 /// written, and on the error output all are told, with their lines and marks. A script of the bundle is not executed. At most 41,943,041 bytes of the
-/// source or bundle are read, and 33,554,433 of the deck and of the cards each, all of them before the first byte is written; the deck is read after the
-/// source, and the cards after the deck. After a refusal or a read that failed nothing else is read.
+/// source or bundle are read, and 33,554,433 of each other text, all of them before the first byte is written; the deck is read after the
+/// source, the cards after the deck, and the lines for the typewriter after the cards. After a refusal or a read that failed nothing else is read.
 ///
-/// It fails with T1 where memory is refused, with T2 or T3 where a read or the write fails, and with T5 where the deck or the cards are refused. After T1 and T3 a beginning of what the run prints has been written, after the others nothing.
-pub fn run_printed<S: In, D: In, C: In, W: Out, E: Out>(
+/// It fails with T1 where memory is refused, with T2 or T3 where a read or the write fails, and with T5 where one of the texts for the units is refused. After T1 and T3 a beginning of what the run prints has been written, after the others nothing.
+pub fn run_printed<S: In, D: In, C: In, T: In, W: Out, E: Out>(
     alloc: Global,
     name: &str,
-    texts: &mut PrintTexts<S, D, C>,
+    texts: &mut PrintTexts<S, D, C, T>,
     options: PrintOptions,
     out: &mut W,
     errors: &mut E,
@@ -181,16 +158,19 @@ pub fn run_printed<S: In, D: In, C: In, W: Out, E: Out>(
     requires source_count { S.failed texts.old.source < 2 ^ 64 - 1 }
     requires deck_count { D.failed texts.old.deck < 2 ^ 64 - 1 }
     requires cards_count { C.failed texts.old.cards < 2 ^ 64 - 1 }
+    requires typewriter_count { T.failed texts.old.typewriter < 2 ^ 64 - 1 }
     requires out_count { W.failed out.old < 2 ^ 64 - 1 }
 
     // What is printed is what the loaded machine prints, run to its end, and the answer says where it came to.
-    ensures output { (b d c : List ℕ) → S.rest texts.old.source ≡ Some b → D.rest texts.old.deck ≡ Some d → C.rest texts.old.cards ≡ Some c
-        → Prints (print_output options b d c) result (W.told out.old) (W.told out.new) }
+    ensures output { (b d c t : List ℕ) → S.rest texts.old.source ≡ Some b → D.rest texts.old.deck ≡ Some d → C.rest texts.old.cards ≡ Some c
+        → T.rest texts.old.typewriter ≡ Some t → Prints (print_output options b d c t) result (W.told out.old) (W.told out.new) }
 
     // A read or a write has failed exactly where that is answered.
-    ensures read { CountsFailure (result ≡ Err ToolFault.Read) (S.failed texts.old.source + D.failed texts.old.deck + C.failed texts.old.cards)
-        (S.failed texts.new.source + D.failed texts.new.deck + C.failed texts.new.cards) }
-    ensures reads { (S.failed texts.old.source ≤ S.failed texts.new.source) × (D.failed texts.old.deck ≤ D.failed texts.new.deck) × (C.failed texts.old.cards ≤ C.failed texts.new.cards) }
+    ensures read { CountsFailure (result ≡ Err ToolFault.Read)
+        (S.failed texts.old.source + D.failed texts.old.deck + C.failed texts.old.cards + T.failed texts.old.typewriter)
+        (S.failed texts.new.source + D.failed texts.new.deck + C.failed texts.new.cards + T.failed texts.new.typewriter) }
+    ensures reads { (S.failed texts.old.source ≤ S.failed texts.new.source) × (D.failed texts.old.deck ≤ D.failed texts.new.deck)
+        × (C.failed texts.old.cards ≤ C.failed texts.new.cards) × (T.failed texts.old.typewriter ≤ T.failed texts.new.typewriter) }
     ensures write { CountsFailure (result ≡ Err ToolFault.Write) (W.failed out.old) (W.failed out.new) }
     ensures unread { result ≡ Err ToolFault.Read → Keeps (W.told out.old) (W.told out.new) }
 
@@ -198,29 +178,42 @@ pub fn run_printed<S: In, D: In, C: In, W: Out, E: Out>(
     ensures source { ConsumesAtMost (S.rest texts.old.source) (S.rest texts.new.source) (max_bundle_bytes + 1) }
     ensures deck { ConsumesAtMost (D.rest texts.old.deck) (D.rest texts.new.deck) (max_deck_bytes + 1) }
     ensures cards { ConsumesAtMost (C.rest texts.old.cards) (C.rest texts.new.cards) (max_deck_bytes + 1) }
+    ensures typewriter { ConsumesAtMost (T.rest texts.old.typewriter) (T.rest texts.new.typewriter) (max_deck_bytes + 1) }
 
-    // A deck and cards that are not asked for are not read.
+    // A text that is not asked for is not read.
     ensures no_deck { options.deck ≡ false → texts.new.deck ≡ texts.old.deck }
     ensures no_cards { options.cards ≡ false → texts.new.cards ≡ texts.old.cards }
+    ensures no_typewriter { options.typewriter ≡ false → texts.new.typewriter ≡ texts.old.typewriter }
 
     // After a refusal nothing else is read.
-    ensures source_refused { (f : AsmFault) → result ≡ Ok (PrintAnswer.Refused f) → (texts.new.deck ≡ texts.old.deck) × (texts.new.cards ≡ texts.old.cards) }
+    ensures source_refused { (f : AsmFault) → result ≡ Ok (PrintAnswer.Refused f)
+        → (texts.new.deck ≡ texts.old.deck) × (texts.new.cards ≡ texts.old.cards) × (texts.new.typewriter ≡ texts.old.typewriter) }
 
-    // Nor is it after a source or a deck that is to be refused, whatever the call answers.
+    // Nor is it after a source, a deck or cards that are to be refused, whatever the call answers.
     ensures bad_source { (b : List ℕ) (f : AsmFault) → S.rest texts.old.source ≡ Some b → assembly (parts_of b).source ≡ Err f
-        → (texts.new.deck ≡ texts.old.deck) × (texts.new.cards ≡ texts.old.cards) }
+        → (texts.new.deck ≡ texts.old.deck) × (texts.new.cards ≡ texts.old.cards) × (texts.new.typewriter ≡ texts.old.typewriter) }
     ensures bad_deck { (b d : List ℕ) (f : DeckFault) → S.rest texts.old.source ≡ Some b → D.rest texts.old.deck ≡ Some d
         → deck_of (deck_given options.deck (parts_of b).deck d) ≡ Err f → texts.new.cards ≡ texts.old.cards }
+    ensures bad_cards { (b d c : List ℕ) (f : DeckFault) → S.rest texts.old.source ≡ Some b → D.rest texts.old.deck ≡ Some d → C.rest texts.old.cards ≡ Some c
+        → with_cards (deck_of (deck_given options.deck (parts_of b).deck d)) options.cards c ≡ Err f → texts.new.typewriter ≡ texts.old.typewriter }
 
     // Nor after a read that failed.
-    ensures source_failed { S.failed texts.old.source < S.failed texts.new.source → (texts.new.deck ≡ texts.old.deck) × (texts.new.cards ≡ texts.old.cards) }
-    ensures deck_failed { D.failed texts.old.deck < D.failed texts.new.deck → texts.new.cards ≡ texts.old.cards }
+    ensures source_failed { S.failed texts.old.source < S.failed texts.new.source
+        → (texts.new.deck ≡ texts.old.deck) × (texts.new.cards ≡ texts.old.cards) × (texts.new.typewriter ≡ texts.old.typewriter) }
+    ensures deck_failed { D.failed texts.old.deck < D.failed texts.new.deck
+        → (texts.new.cards ≡ texts.old.cards) × (texts.new.typewriter ≡ texts.old.typewriter) }
+    ensures cards_failed { C.failed texts.old.cards < C.failed texts.new.cards → texts.new.typewriter ≡ texts.old.typewriter }
 
-    // Each is read when the one before it has been read up to its end or its limit.
+    // Each is read when those before it have been read up to their end or their limit.
     ensures in_turn { (b : List ℕ) → S.rest texts.old.source ≡ Some b
-        → ((texts.new.deck ≡ texts.old.deck) × (texts.new.cards ≡ texts.old.cards)) ⊎ (S.rest texts.new.source ≡ Some (drop (max_bundle_bytes + 1) b)) }
+        → ((texts.new.deck ≡ texts.old.deck) × (texts.new.cards ≡ texts.old.cards) × (texts.new.typewriter ≡ texts.old.typewriter))
+        ⊎ (S.rest texts.new.source ≡ Some (drop (max_bundle_bytes + 1) b)) }
     ensures cards_in_turn { (d : List ℕ) → D.rest texts.old.deck ≡ Some d → options.deck ≡ true
         → (texts.new.cards ≡ texts.old.cards) ⊎ (D.rest texts.new.deck ≡ Some (drop (max_deck_bytes + 1) d)) }
+    ensures after_deck { (d : List ℕ) → D.rest texts.old.deck ≡ Some d → options.deck ≡ true
+        → (texts.new.typewriter ≡ texts.old.typewriter) ⊎ (D.rest texts.new.deck ≡ Some (drop (max_deck_bytes + 1) d)) }
+    ensures after_cards { (c : List ℕ) → C.rest texts.old.cards ≡ Some c → options.cards ≡ true
+        → (texts.new.typewriter ≡ texts.old.typewriter) ⊎ (C.rest texts.new.cards ≡ Some (drop (max_deck_bytes + 1) c)) }
 {
     let text = read_up_to(alloc, &mut texts.source, MAX_BUNDLE_BYTES + 1)?;
     let parts = parts_of(&text);

@@ -1,6 +1,6 @@
-//! The units that a run begins with: those of a deck, and the cards of a text.
+//! The units that a run begins with: those of a deck, and the lines of texts for the card reader and the typewriter.
 ghost use Rattle.std.specs.Prelude.{◌≡◌, ◌≢◌, ◌<◌, ◌+◌, ◌-◌, ◌^◌, ℕ, List, Some, Ok, Err, IfErr, IfOk, drop, false, true};
-ghost use Rattle.mix_machine.specs.units.deck.Deck.{deck_of, cards_of, max_deck_bytes};
+ghost use Rattle.mix_machine.specs.units.deck.Deck.{deck_of, cards_of, typewriter_of, max_deck_bytes};
 ghost use Rattle.mix_stream.specs.Stream.{ConsumesAtMost, CountsFailure};
 ghost use Rattle.mix_run.specs.Output.{IsDeckRefusal};
 ghost use Rattle.mix_run.specs.UnitsRead.{GivesUnits, deck_given};
@@ -66,6 +66,7 @@ pub(crate) fn read_cards<C: In>(
 ) -> Result<Units, ToolFault>
     requires { C.failed cards.old < 2 ^ 64 - 1 }
     ensures units { (c : List ℕ) → C.rest cards.old ≡ Some c → GivesUnits (cards_of units c) result }
+    ensures whole { (c : List ℕ) → C.rest cards.old ≡ Some c → IfOk result (λ _. C.rest cards.new ≡ Some (drop (max_deck_bytes + 1) c)) }
     ensures read { CountsFailure (result ≡ Err ToolFault.Read) (C.failed cards.old) (C.failed cards.new) }
     ensures cards { ConsumesAtMost (C.rest cards.old) (C.rest cards.new) (max_deck_bytes + 1) }
     ensures only { result ≢ Err ToolFault.Write }
@@ -80,6 +81,34 @@ fn with_cards(alloc: Global, units: Units, text: &[u8]) -> Result<Units, ToolFau
     ensures refused { IfErr result (IsDeckRefusal (cards_of units text.now)) }
 {
     match units.with_cards(alloc, text) {
+        Err(Refused::Memory) => Err(ToolFault::Memory),
+        Err(Refused::Fault(fault)) => Err(ToolFault::Deck(fault)),
+        Ok(units) => Ok(units),
+    }
+}
+
+/// Units with the lines of a text in place of the blocks of unit 19; the text is read up to one byte more than it may have.
+pub(crate) fn read_typewriter<T: In>(
+    alloc: Global,
+    units: Units,
+    typewriter: &mut T,
+) -> Result<Units, ToolFault>
+    requires { T.failed typewriter.old < 2 ^ 64 - 1 }
+    ensures units { (t : List ℕ) → T.rest typewriter.old ≡ Some t → GivesUnits (typewriter_of units t) result }
+    ensures read { CountsFailure (result ≡ Err ToolFault.Read) (T.failed typewriter.old) (T.failed typewriter.new) }
+    ensures typewriter { ConsumesAtMost (T.rest typewriter.old) (T.rest typewriter.new) (max_deck_bytes + 1) }
+    ensures only { result ≢ Err ToolFault.Write }
+{
+    let text = read_up_to(alloc, typewriter, MAX_DECK_BYTES + 1)?;
+    with_typewriter(alloc, units, &text)
+}
+
+// Units with the lines of a text for the typewriter, or why there are none.
+fn with_typewriter(alloc: Global, units: Units, text: &[u8]) -> Result<Units, ToolFault>
+    ensures units { IfOk result (λ us. typewriter_of units text.now ≡ Ok us) }
+    ensures refused { IfErr result (IsDeckRefusal (typewriter_of units text.now)) }
+{
+    match units.with_typewriter(alloc, text) {
         Err(Refused::Memory) => Err(ToolFault::Memory),
         Err(Refused::Fault(fault)) => Err(ToolFault::Deck(fault)),
         Ok(units) => Ok(units),

@@ -1,5 +1,5 @@
 -- Facts of the lines of changes, over plain variables.
-use Rattle.std.proofs.Common.{◌≡◌, ℕ, suc, ◌+◌, ◌-◌, ◌<◌, ◌≤◌, List, [], ◌++◌, length, take, min, get_or, reverse, flat_map, Some, refl, sym, ap, ◌∙◌, arith}
+use Rattle.std.proofs.Common.{◌≡◌, ℕ, suc, ◌+◌, ◌-◌, ◌<◌, ◌≤◌, List, [], ◌++◌, length, take, min, get_or, reverse, flat_map, Bool, Option, Some, Ok, refl, sym, ap, ap₂, ◌∙◌, arith, if◌then◌else◌}
 use Rattle.std.proofs.lemmas.List.{take-append-le, reverse-append, get_or_default, get_or_append_left, take_min}
 use Rattle.std.proofs.Math.Seq.{take-append_seam, take-length}
 use Rattle.std.specs.List.{range_with_len}
@@ -8,9 +8,11 @@ use Rattle.mix_machine.specs.World.{WorldState}
 use Rattle.mix_machine.specs.Do.{does}
 use Rattle.mix_machine.specs.declared.old.Change.{Change}
 use Rattle.mix_machine.specs.declared.old.Change.TheVariants.{Step}
-use Rattle.mix_session.specs.Change.{world_at, change_at, change_line, change_line_at}
+use Rattle.mix_session.specs.Change.{world_at, change_at, change_line, change_line_at, chosen_line_at, is_chosen}
 use Rattle.mix_session.specs.Each.{texts}
 use Rattle.mix_session.specs.Timeline.{Timeline, world_of}
+use Rattle.mix_session.specs.declared.condition.Condition.{Condition}
+use Rattle.mix_session.proofs.ConditionLemmas.{last-given}
 
 -- the machine after the first changes of all
 pub world_at-is : (t : Timeline) (n : ℕ) (w : WorldState) → replay does t.first (take n (t.changes ++ t.ahead)) ≡ Some w → world_at t n ≡ w
@@ -55,6 +57,18 @@ change_line_at-done t n change v w below done from to =
     ∙ sym done in
     let before : world_at t (n + 1 - 1) ≡ v = ap (world_at t) one ∙ world_at-done t n v (omega arith) from in
     rw (here, before, world_at-done t (n + 1) w (omega arith) to) refl
+
+-- the line of a change that is done, if it is chosen
+pub chosen_line_at-done : (chosen : Option Condition) (t : Timeline) (n : ℕ) (v w : WorldState) (b : Bool) → n < length t.changes →
+    replay does t.first (take n t.changes) ≡ Some v → replay does t.first (take (n + 1) t.changes) ≡ Some w →
+    ((c : Change) → does v c ≡ Ok w → b ≡ is_chosen chosen v w) → (if b then change_line_at t (n + 1) else []) ≡ chosen_line_at chosen t (n + 1)
+chosen_line_at-done chosen t n v w b below from to is =
+    let given = last-given t.first t.changes n v w below from to in
+    let one : n + 1 - 1 ≡ n = omega arith in
+    let before : world_at t (n + 1 - 1) ≡ v = ap (world_at t) one ∙ world_at-done t n v (omega arith) from in
+    let after : world_at t (n + 1) ≡ w = world_at-done t (n + 1) w (omega arith) to in
+    let met : b ≡ is_chosen chosen (world_at t (n + 1 - 1)) (world_at t (n + 1)) = is given.0 given.1 ∙ ap₂ (is_chosen chosen) (sym before) (sym after) in
+    ap (λ (a : Bool). if a then change_line_at t (n + 1) else []) met
 
 -- the line of the next change ahead
 pub change_line_at-next : (t : Timeline) (n : ℕ) (change : Change) (v w : WorldState) → n ≡ length t.changes + 1 → change ≡ change_at t (length t.changes + 1) →

@@ -15,7 +15,7 @@ use Rattle.mix_session.specs.declared.fault.Refusal.TheVariants.{TooFewChanges, 
 use Rattle.mix_session.specs.declared.request.topics.Topic.{Topic}
 use Rattle.mix_session.specs.declared.request.Request.{Request}
 use Rattle.mix_session.specs.declared.request.Request.TheVariants as ask
-use Rattle.mix_session.proofs.ConditionLemmas.{sought-end}
+use Rattle.mix_session.proofs.UntilLemmas.{sought-end}
 
 -- what is refused leaves the timeline
 abbrev pub Spares : Timeline → Effect → Type 0
@@ -37,17 +37,17 @@ spares t ask.Nothing = tt
 spares t (ask.Step n) = tt
 spares t (ask.Trace n) = tt
 spares t (ask.Run n) = tt
-spares t (ask.RunUntil n condition) = tt
+spares t (ask.RunUntil n conditions) = tt
 spares t (ask.Back n) = either (ltb (length t.changes) n) t (refusal_effect t TooFewChanges) (effect_of_back t n) refl tt
 spares t ask.BackAll = tt
 spares t ask.BackBreak = tt
-spares t (ask.BackUntil condition) =
-    let k = count_back condition t in
+spares t (ask.BackUntil conditions) =
+    let k = count_back conditions t in
     either (ltb k (length t.changes)) t (at_once (back_by t (k + 1)) (answers.BackUntil (k + 1))) (refusal_effect t NoSuchChange) tt refl
 spares t (ask.Forth n) = either (ltb (length t.ahead) n) t (refusal_effect t TooFewChanges) (effect_of_forth t n) refl tt
 spares t ask.ForthAll = tt
-spares t (ask.ForthUntil condition) =
-    let k = count_forth condition t in
+spares t (ask.ForthUntil conditions) =
+    let k = count_forth conditions t in
     either (ltb k (length t.ahead)) t (record { stage = forth_by t; last = k + 1; answer = answers.ForthUntil (k + 1) })
     (record { stage = sought t; last = length t.ahead; answer = answers.Refused NoSuchChange }) tt (sym (sought-end t))
 spares t (ask.Goto n) =

@@ -10,8 +10,6 @@ use Rattle.mix_word.specs.declared.word.Sign.{Sign}
 use Rattle.mix_word.specs.declared.word.Sign.TheVariants.{Plus, Minus}
 use Rattle.mix_word.specs.declared.word.Cmp.{Cmp}
 use Rattle.mix_word.specs.declared.word.Cmp.TheVariants.{Less, Equal, Greater}
-use Rattle.undo_core.specs.Replay.{replay}
-use Rattle.mix_machine.specs.Do.{does}
 use Rattle.mix_machine.specs.World.{WorldState, IsWorld}
 use Rattle.mix_machine.specs.Part.{IsPart, is_same_indicator, is_same_mark, mark_of}
 use Rattle.mix_machine.specs.declared.old.Change.TheVariants.{Step}
@@ -27,7 +25,6 @@ use Rattle.mix_session.specs.declared.command.stops.Way.{Way}
 use Rattle.mix_session.specs.declared.command.stops.Way.TheVariants.{New, Again, Back}
 use Rattle.mix_session.specs.declared.condition.Condition.{Condition}
 use Rattle.mix_session.specs.declared.condition.Condition.TheVariants.{Alters, At}
-use Rattle.mix_session.proofs.TimelineLemmas.{world_of-is}
 use Rattle.mix_session.proofs.CommandLemmas.{end_of_last-next}
 use Rattle.mix_session.proofs.ConditionLemmas.{AlteredLaw, reached_by_marks}
 
@@ -99,11 +96,6 @@ AreMarks-length [] [] w are = refl
 AreMarks-length [] (m ∷ ms) w are = absurd are
 AreMarks-length (c ∷ cs) [] w are = absurd are
 AreMarks-length (c ∷ cs) (m ∷ ms) w are = let rest = AreMarks-length cs ms w are.3 in cc
-
--- the mark of one condition
-pub AreMarks-one : (t : Timeline) (w : WorldState) (c : Condition) (part : Part) (m : Mark) → replay does t.first t.changes ≡ Some w → part ≡ watched c →
-    m ≡ mark_of w part → IsPart part → IsWorld w → AreMarks (c ∷ []) (m ∷ []) (world_of t)
-AreMarks-one t w c part m here part_is is real world = rw (world_of-is t t w refl here) (is ∙ ap (mark_of w) part_is, rw part_is at real, world, tt)
 
 -- one mark more
 pub AreMarks-push : (conditions : List Condition) (marks : List Mark) (w : WorldState) (i : ℕ) (c : Condition) (m : Mark) → i < length conditions →

@@ -1,5 +1,5 @@
 -- The line of a change: its number, where it was done, what it did, how long it took, and what it altered.
-use Rattle.std.specs.Prelude.{ℕ, ◌+◌, ◌-◌, List, [], ◌∷◌, ◌++◌, codes, take, get_or, length, unwrap_or, nat_lt, if◌then◌else◌}
+use Rattle.std.specs.Prelude.{ℕ, ◌+◌, ◌-◌, List, [], ◌∷◌, ◌++◌, codes, take, get_or, length, unwrap_or, nat_lt, Bool, true, Option, None, Some, if◌then◌else◌}
 use Rattle.std.specs.Fmt.{decimal}
 use Rattle.undo_core.specs.Replay.{replay}
 use Rattle.mix_word.specs.Instruction.{instruction_text}
@@ -10,10 +10,12 @@ use Rattle.mix_machine.specs.Do.{does}
 use Rattle.mix_machine.specs.declared.old.Change.{Change}
 use Rattle.mix_machine.specs.declared.old.Change.TheVariants.{Step, SetReg, SetCell, SetLoc, SetOver, SetCmp, Break, Clear}
 use Rattle.mix_session.specs.Altered.{altered_by}
+use Rattle.mix_session.specs.Condition.{is_reached}
 use Rattle.mix_session.specs.Columns.{left_in, right_in}
 use Rattle.mix_session.specs.Differences.{columns_text, differences}
 use Rattle.mix_session.specs.Each.{texts}
 use Rattle.mix_session.specs.Timeline.{Timeline, world_of}
+use Rattle.mix_session.specs.declared.condition.Condition.{Condition}
 
 -- all changes, those done and those ahead
 abbrev pub all_changes : Timeline → List Change
@@ -58,6 +60,19 @@ change_line_at t n = change_line n (change_at t n) (world_at t (n - 1)) (world_a
 -- the lines of the last n changes that are done, or of all where there are fewer
 abbrev pub last_lines : Timeline → ℕ → List ℕ
 last_lines t n = texts (change_line_at t) (length t.changes - n + 1) (length t.changes + 1)
+
+-- whether a change from one state to another is chosen: each is, or those that meet a condition
+abbrev pub is_chosen : Option Condition → WorldState → WorldState → Bool
+is_chosen None v w = true
+is_chosen (Some condition) v w = is_reached condition v w w
+
+-- the line of the change of a number, if it is chosen
+abbrev pub chosen_line_at : Option Condition → Timeline → ℕ → List ℕ
+chosen_line_at chosen t n = if is_chosen chosen (world_at t (n - 1)) (world_at t n) then change_line_at t n else []
+
+-- the reply of `show writes`: the lines of the changes done that meet a condition
+abbrev pub writes_text : Condition → Timeline → List ℕ
+writes_text condition t = texts (chosen_line_at (Some condition) t) 1 (length t.changes + 1)
 
 -- the reply of `show diff`: what differs between the state after the first n changes and now
 unfoldable pub diff_text : Timeline → ℕ → List ℕ

@@ -1,6 +1,7 @@
 -- What a request does to the timeline of a session, and what it answers. The machine is run anew, from its first state on the changes
 -- done, wherever something of it is asked; no value from before a `back` is left to be shown.
 use Rattle.std.specs.Prelude.{◌≡◌, ◌≤◌, ◌+◌, ◌-◌, ◌==◌, ◌&&◌, ◌||◌, ℕ, zero, suc, List, [], ◌∷◌, length, position, Bool, true, false, Option, None, Some, Result, Ok, Err, is_some, unwrap_or, nat_le, nat_lt, if◌then◌else◌}
+use Rattle.std.specs.List.{list_any}
 use Rattle.std.specs.Option.{option_map, option_or}
 use Rattle.mix_refused.specs.declared.refused.Memory.{Memory}
 use Rattle.mix_word.specs.Word.{plus}
@@ -129,36 +130,36 @@ effect_of_back_within t n = if nat_lt (length t.changes) n then refusal_effect t
 abbrev pub effect_of_back_break : Timeline → Effect
 effect_of_back_break t = effect_of_back t (count_of_run way.Back at_breaks t (length t.changes))
 
--- whether taking back one change more than k meets a condition
-abbrev pub is_reached_back : Condition → Timeline → ℕ → Bool
-is_reached_back condition t k = is_met_by way.Back (world_of (back_by t k)) (world_of (back_by t (k + 1))) condition
+-- whether taking back one change more than k meets one of the conditions
+abbrev pub is_reached_back : List Condition → Timeline → ℕ → Bool
+is_reached_back conditions t k = list_any (is_met_by way.Back (world_of (back_by t k)) (world_of (back_by t (k + 1)))) conditions
 
--- how many changes `back until` takes back but one: the least number at which one more meets the condition
-unfoldable pub count_back : Condition → Timeline → ℕ
-count_back condition t = least_below (length t.changes) (is_reached_back condition t)
+-- how many changes `back until` takes back but one: the least number at which one more meets one of the conditions
+unfoldable pub count_back : List Condition → Timeline → ℕ
+count_back conditions t = least_below (length t.changes) (is_reached_back conditions t)
 
--- `back until`: nothing is taken back where no change meets the condition
-unfoldable pub effect_of_back_until : Condition → Timeline → Effect
-effect_of_back_until condition t =
-    let k = count_back condition t in
+-- `back until`: nothing is taken back where no change meets one of the conditions
+unfoldable pub effect_of_back_until : List Condition → Timeline → Effect
+effect_of_back_until conditions t =
+    let k = count_back conditions t in
     if nat_lt k (length t.changes) then at_once (back_by t (k + 1)) (answers.BackUntil (k + 1)) else refusal_effect t NoSuchChange
 
--- whether doing again one change more than k meets a condition
-abbrev pub is_reached_forth : Condition → Timeline → ℕ → Bool
-is_reached_forth condition t k = is_met_by way.Again (world_of (forth_by t k)) (world_of (forth_by t (k + 1))) condition
+-- whether doing again one change more than k meets one of the conditions
+abbrev pub is_reached_forth : List Condition → Timeline → ℕ → Bool
+is_reached_forth conditions t k = list_any (is_met_by way.Again (world_of (forth_by t k)) (world_of (forth_by t (k + 1)))) conditions
 
 -- how many changes `forth until` does again but one
-unfoldable pub count_forth : Condition → Timeline → ℕ
-count_forth condition t = least_below (length t.ahead) (is_reached_forth condition t)
+unfoldable pub count_forth : List Condition → Timeline → ℕ
+count_forth conditions t = least_below (length t.ahead) (is_reached_forth conditions t)
 
 -- on the way to the end of what stands ahead, and back where that is reached
 abbrev pub sought : Timeline → ℕ → Timeline
 sought t k = if nat_lt k (length t.ahead) then forth_by t k else t
 
--- `forth until`: where no change meets the condition, all are done again and taken back
-unfoldable pub effect_of_forth_until : Condition → Timeline → Effect
-effect_of_forth_until condition t =
-    let k = count_forth condition t in
+-- `forth until`: where no change meets one of the conditions, all are done again and taken back
+unfoldable pub effect_of_forth_until : List Condition → Timeline → Effect
+effect_of_forth_until conditions t =
+    let k = count_forth conditions t in
     if nat_lt k (length t.ahead) then record { stage = forth_by t; last = k + 1; answer = answers.ForthUntil (k + 1) }
     else record { stage = sought t; last = length t.ahead; answer = answers.Refused NoSuchChange }
 
@@ -204,14 +205,14 @@ effect_of t ask.Nothing = at_once t answers.Nothing
 effect_of t (ask.Step n) = effect_of_run way.New no_stops t n
 effect_of t (ask.Trace n) = effect_of_trace t n
 effect_of t (ask.Run n) = effect_of_run way.New at_breaks t n
-effect_of t (ask.RunUntil n condition) = effect_of_run way.New (at_breaks_or condition) t n
+effect_of t (ask.RunUntil n conditions) = effect_of_run way.New (at_breaks_or conditions) t n
 effect_of t (ask.Back n) = effect_of_back_within t n
 effect_of t ask.BackAll = effect_of_back t (length t.changes)
 effect_of t ask.BackBreak = effect_of_back_break t
-effect_of t (ask.BackUntil condition) = effect_of_back_until condition t
+effect_of t (ask.BackUntil conditions) = effect_of_back_until conditions t
 effect_of t (ask.Forth n) = effect_of_forth_within t n
 effect_of t ask.ForthAll = effect_of_forth t (length t.ahead)
-effect_of t (ask.ForthUntil condition) = effect_of_forth_until condition t
+effect_of t (ask.ForthUntil conditions) = effect_of_forth_until conditions t
 effect_of t (ask.Goto n) = effect_of_goto t n
 effect_of t (ask.Change change) = effect_of_change t change
 effect_of t (ask.Show topic) = effect_of_show t topic

@@ -4,7 +4,9 @@ pub mod Change
 pub mod Client
 pub mod Columns
 pub mod Command
+pub mod Completion
 pub mod Condition
+pub mod Conditions
 pub mod Counts
 pub mod Differences
 pub mod Each
@@ -27,4 +29,5 @@ pub mod Sums
 pub mod Tally
 pub mod Timeline
 pub mod Topic
+pub mod Until
 pub mod law

@@ -3,7 +3,8 @@
 use Rattle.std.specs.Prelude.{ℕ, List, [], ◌∷◌, codes, Option, Some, None, Result, Ok, Err, ok_or, if◌then◌else◌}
 use Rattle.mix_session.specs.Keyword.{is_name, keyword_named, command_name, all_commands, back_name, all_backs, forth_name, all_forths}
 use Rattle.mix_session.specs.Operand.{no_word, one_word, number_in, from_one, up_to, place_named}
-use Rattle.mix_session.specs.Setting.{condition_in, change_in}
+use Rattle.mix_session.specs.Setting.{change_in}
+use Rattle.mix_session.specs.Until.{conditions_in}
 use Rattle.mix_session.specs.ShowRequest.{topic_in}
 use Rattle.mix_lines.specs.Lines.{words, is_comment}
 use Rattle.mix_word.specs.Word.{WordValue}
@@ -47,13 +48,13 @@ count_request (word ∷ more) = do
   none ← no_word more
   steps_in word
 
--- steps until a condition is met
+-- steps until one of some conditions is met
 abbrev pub run_until : NamesValue → WordValue → List ℕ → List (List ℕ) → Result Request Refusal
 run_until names here word words = do
   n ← number_in word
-  condition ← condition_in names here words
+  conditions ← conditions_in names here words
   steps ← steps_of n
-  Ok (ask.RunUntil steps condition)
+  Ok (ask.RunUntil steps conditions)
 
 -- the words after the number of `run`
 abbrev pub run_after : NamesValue → WordValue → List ℕ → List (List ℕ) → Result Request Refusal
@@ -85,8 +86,8 @@ abbrev pub back_by_word : NamesValue → WordValue → List ℕ → List (List �
 back_by_word names here word more (Some back.All) = request_alone ask.BackAll more
 back_by_word names here word more (Some back.Break) = request_alone ask.BackBreak more
 back_by_word names here word more (Some back.Until) = do
-  condition ← condition_in names here more
-  Ok (ask.BackUntil condition)
+  conditions ← conditions_in names here more
+  Ok (ask.BackUntil conditions)
 back_by_word names here word more None = do
   count ← amount_in word more
   Ok (ask.Back count)
@@ -100,8 +101,8 @@ back_request names here (word ∷ more) = back_by_word names here word more (key
 abbrev pub forth_by_word : NamesValue → WordValue → List ℕ → List (List ℕ) → Option ForthWord → Result Request Refusal
 forth_by_word names here word more (Some forth.All) = request_alone ask.ForthAll more
 forth_by_word names here word more (Some forth.Until) = do
-  condition ← condition_in names here more
-  Ok (ask.ForthUntil condition)
+  conditions ← conditions_in names here more
+  Ok (ask.ForthUntil conditions)
 forth_by_word names here word more None = do
   count ← amount_in word more
   Ok (ask.Forth count)

@@ -4,6 +4,7 @@ use Rattle.mix_word.specs.Word.{WordValue}
 use Rattle.mixal_text.specs.Names.{NamesValue}
 use Rattle.mixal_text.specs.Steps.{◌>>=◌}
 use Rattle.mix_session.specs.Operand.{no_word, one_word, two_words, first_keyword, number_in, word_in, expression_in, from_one, place_of, one_unit}
+use Rattle.mix_session.specs.Setting.{condition_in}
 use Rattle.mix_session.specs.declared.fault.Refusal.{Refusal}
 use Rattle.mix_session.specs.declared.fault.Refusal.TheVariants.{OutOfRange}
 use Rattle.mix_session.specs.declared.request.topics.ShowWord.{ShowWord}
@@ -25,12 +26,13 @@ show_name show.Value = codes "value"
 show_name show.Values = codes "values"
 show_name show.Symbols = codes "symbols"
 show_name show.Last = codes "last"
+show_name show.Writes = codes "writes"
 show_name show.Diff = codes "diff"
 show_name show.Counts = codes "counts"
 
 abbrev pub all_shows : List ShowWord
 all_shows =
-    show.Registers ∷ show.Cells ∷ show.Clock ∷ show.Breaks ∷ show.Changes ∷ show.Unit ∷ show.All ∷ show.Code ∷ show.Value ∷ show.Values ∷ show.Symbols ∷ show.Last ∷ show.Diff ∷ show.Counts ∷ []
+    show.Registers ∷ show.Cells ∷ show.Clock ∷ show.Breaks ∷ show.Changes ∷ show.Unit ∷ show.All ∷ show.Code ∷ show.Value ∷ show.Values ∷ show.Symbols ∷ show.Last ∷ show.Writes ∷ show.Diff ∷ show.Counts ∷ []
 
 -- a topic after which there is no word
 abbrev pub alone : Topic → List (List ℕ) → Result Topic Refusal
@@ -91,6 +93,12 @@ last_topic words = do
   count ← from_one n
   Ok (topic.Last count)
 
+-- `show writes COND`
+abbrev pub writes_topic : NamesValue → WordValue → List (List ℕ) → Result Topic Refusal
+writes_topic names here words = do
+  condition ← condition_in names here words
+  Ok (topic.Writes condition)
+
 -- `show diff N`
 abbrev pub diff_topic : List (List ℕ) → Result Topic Refusal
 diff_topic words = do
@@ -112,6 +120,7 @@ topic_of names here show.Value words = value_of names here words
 topic_of names here show.Values words = values_of names here words
 topic_of names here show.Symbols words = alone topic.Symbols words
 topic_of names here show.Last words = last_topic words
+topic_of names here show.Writes words = writes_topic names here words
 topic_of names here show.Diff words = diff_topic words
 topic_of names here show.Counts words = alone topic.Counts words
 

@@ -1,5 +1,5 @@
 -- What stops a run.
-use Rattle.std.specs.Prelude.{◌==◌, ◌&&◌, ◌||◌, ℕ, Bool, true, false, List, [], ◌∷◌, Option, None, Some}
+use Rattle.std.specs.Prelude.{◌==◌, ◌&&◌, ◌||◌, ℕ, Bool, true, false, List, [], Option, None, Some}
 use Rattle.std.specs.List.{list_any}
 use Rattle.mix_machine.specs.World.{WorldState}
 use Rattle.mix_session.specs.Timeline.{is_at_break}
@@ -13,15 +13,15 @@ pub record StopsState : Type 0 where
   pub watched : List Condition
   pub location : Option ℕ
 
--- what stops the runs of a script: nothing; breakpoints; breakpoints and a condition
+-- what stops the runs of a script: nothing; breakpoints; breakpoints and some conditions
 abbrev pub no_stops : StopsState
 no_stops = record { breaks = false; cells = []; watched = []; location = None }
 
 abbrev pub at_breaks : StopsState
 at_breaks = record no_stops { breaks = true }
 
-abbrev pub at_breaks_or : Condition → StopsState
-at_breaks_or condition = record at_breaks { watched = condition ∷ [] }
+abbrev pub at_breaks_or : List Condition → StopsState
+at_breaks_or conditions = record at_breaks { watched = conditions }
 
 -- whether the machine is at a cell where the run stops: one that has a breakpoint, where those stop it, or one of the client's
 abbrev pub is_at_stop : StopsState → WorldState → Bool

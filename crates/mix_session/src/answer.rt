@@ -6,7 +6,8 @@ ghost use Rattle.mix_session.specs.Answer.{refusal_of, told_of, told_before, tex
 use crate::fault::Refusal;
 use crate::reply::{End, Told, moved_line, ok_line, ran_line, refused_line};
 use crate::request::Topic;
-use crate::show::changes::{last_lines, next_line};
+use crate::show::changes::next_line;
+use crate::show::last::last_lines;
 use crate::show::topic_lines;
 use crate::timeline::world_of;
 use mix_machine::World;

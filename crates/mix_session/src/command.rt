@@ -3,21 +3,19 @@
 ghost use Rattle.std.specs.Prelude.{◌≡◌, ◌≤◌, ◌<◌, ℕ, IfErr, IfOk, Ok, length};
 ghost use Rattle.mix_session.specs.Timeline.{back_by, forth_by};
 ghost use Rattle.mix_session.specs.Command.{effect_of, effect_of_back, effect_of_back_within, effect_of_forth, effect_of_forth_within, effect_of_goto, effect_of_change};
-ghost use Rattle.mix_session.specs.Command.{effect_of_back_until, effect_of_forth_until, effect_of_show, is_there, count_back, is_reached_forth, HasEffect};
-ghost use Rattle.mix_machine.specs.Part.{mark_before};
-ghost use Rattle.mix_session.specs.Condition.{watched, is_met};
+ghost use Rattle.mix_session.specs.Command.{effect_of_show, is_there, HasEffect};
 
 pub(crate) mod runs;
 pub(crate) mod stops;
+mod until;
 
 use crate::answer::Answer;
 use crate::command::runs::{back_break, run, run_until, step, trace};
-use crate::condition::Condition;
+use crate::command::until::{back_until, forth_until};
 use crate::fault::Refusal;
 use crate::request::{Request, Topic};
-use crate::timeline::earlier;
-use mix_machine::{Change, Mark, Old, World, mark_before, mark_law};
-use undo_core::{Journal, Memory, Refused, Values};
+use mix_machine::{Change, World};
+use undo_core::{Journal, Memory, Refused};
 
 /// Does what a request asks for.
 #[tactic(auto, unfolding(crate::specs::Command::effect_of))]
@@ -29,20 +27,20 @@ pub(crate) fn execute(journal: &mut Journal<World>, request: Request) -> Result<
         Request::Step(count) => step(journal, count),
         Request::Trace(count) => trace(journal, count),
         Request::Run(count) => run(journal, count),
-        Request::RunUntil(count, condition) => run_until(journal, count, condition),
+        Request::RunUntil(count, conditions) => run_until(journal, count, &conditions),
         Request::Back(count) => Ok(back(journal, count)),
         Request::BackAll => {
             let count = journal.done();
             Ok(take_back(journal, count))
         }
         Request::BackBreak => Ok(back_break(journal)),
-        Request::BackUntil(condition) => Ok(back_until(journal, &condition)),
+        Request::BackUntil(conditions) => Ok(back_until(journal, &conditions)),
         Request::Forth(count) => forth(journal, count),
         Request::ForthAll => {
             let count = journal.ahead();
             do_again(journal, count)
         }
-        Request::ForthUntil(condition) => forth_until(journal, &condition),
+        Request::ForthUntil(conditions) => forth_until(journal, &conditions),
         Request::Goto(number) => go_to(journal, number),
         Request::Change(change) => change_by(journal, change),
         Request::Show(topic) => Ok(show(journal, topic)),
@@ -66,83 +64,14 @@ fn take_back(journal: &mut Journal<World>, count: usize) -> Answer
     Answer::Back(count)
 }
 
-// Takes back the last changes, one at a time.
-fn go_back(journal: &mut Journal<World>, count: usize)
+/// Takes back the last changes, one at a time.
+pub(crate) fn go_back(journal: &mut Journal<World>, count: usize)
     requires { count ≤ length journal.old.changes }
     ensures { journal.new ≡ back_by journal.old count }
 {
     for taken in 0..count {
         journal.back();
     }
-}
-
-fn back_until(journal: &mut Journal<World>, condition: &Condition) -> Answer
-    ensures { HasEffect (effect_of_back_until condition.now journal.old) journal.old journal.new (Ok result) }
-{
-    let all = journal.done();
-    let count = count_back(journal, condition);
-    if count < all {
-        go_back(journal, count + 1);
-        Answer::BackUntil(count + 1)
-    } else {
-        Answer::Refused(Refusal::NoSuchChange)
-    }
-}
-
-// How many changes stand after the last one that meets the condition, or all where none does. It reads what the journal keeps.
-fn count_back(journal: &Journal<World>, condition: &Condition) -> usize
-    ensures { result ≡ count_back condition.now journal.now }
-{
-    mark_law();
-    let mut mark = journal.state().mark(condition.watched());
-    let all = journal.done();
-    let mut past = journal.past();
-    for count in 0..all {
-        let kept = earlier(journal, &mut past, all - 1 - count);
-        let (before, is_met) = step_back(condition, &kept, &mark);
-        if is_met {
-            return count;
-        }
-        mark = before;
-    }
-    all
-}
-
-// The mark before a change that kept these values, and whether taking the change back meets the condition.
-fn step_back(condition: &Condition, kept: &Values<'_, Old>, mark: &Mark) -> (Mark, bool)
-    ensures before { result.0 ≡ mark_before kept.now (watched condition.now) mark.now }
-    ensures met { result.1 ≡ is_met condition.now result.0 mark.now result.0 }
-{
-    let before = mark_before(kept, condition.watched(), *mark);
-    let is_met = condition.is_met(&before, mark, &before);
-    (before, is_met)
-}
-
-fn forth_until(journal: &mut Journal<World>, condition: &Condition) -> Result<Answer, Memory>
-    ensures { HasEffect (effect_of_forth_until condition.now journal.old) journal.old journal.new result }
-{
-    let all = journal.ahead();
-    for done in 0..all {
-        if step_forth(journal, condition)? {
-            return Ok(Answer::ForthUntil(done + 1));
-        }
-    }
-    go_back(journal, all);
-    Ok(Answer::Refused(Refusal::NoSuchChange))
-}
-
-// Does the next change ahead again, and tells whether it meets the condition.
-fn step_forth(journal: &mut Journal<World>, condition: &Condition) -> Result<bool, Memory>
-    requires { 0 < length journal.old.ahead }
-    ensures forth { IfOk result (λ _. journal.new ≡ forth_by journal.old 1) }
-    ensures met { IfOk result (λ b. b ≡ is_reached_forth condition.now journal.old 0) }
-    ensures memory { IfErr result (λ _. journal.new ≡ journal.old) }
-{
-    mark_law();
-    let before = journal.state().mark(condition.watched());
-    journal.forth()?;
-    let after = journal.state().mark(condition.watched());
-    Ok(condition.is_met(&before, &after, &after))
 }
 
 fn forth(journal: &mut Journal<World>, count: u64) -> Result<Answer, Memory>

@@ -1,11 +1,12 @@
 //! What is asked of the changes: the machine after each of them, what each did, and how often each instruction was executed.
 
 ghost use Rattle.std.specs.Prelude.{◌≡◌, ◌<◌, ℕ, IfOk, string_bytes};
-ghost use Rattle.mix_session.specs.Change.{world_at, change_text};
+ghost use Rattle.mix_session.specs.Change.{world_at, change_line, change_text};
 ghost use Rattle.mix_session.specs.Counts.{tally_at, tally_of_all};
 ghost use Rattle.mix_session.specs.Client.{change_numbered};
 ghost use Rattle.mix_session.specs.Tally.{tally_in};
 
+use crate::altered::Worlds;
 use crate::session::Session;
 use crate::show::changes;
 use crate::tally::{Tallies, tallies_of};
@@ -48,4 +49,18 @@ pub fn change_text(alloc: Global, change: &Change, before: &World) -> Result<Str
     ensures { IfOk result (λ s. string_bytes s ≡ change_text before.now change.now) }
 {
     Ok(changes::change_text(alloc, change, before)?)
+}
+
+/// The line of a change of a number, as `trace` and `show last` have it: what it did to a machine, and what it altered. Only out of memory
+/// refuses it.
+pub fn change_line(
+    alloc: Global,
+    number: u64,
+    change: &Change,
+    before: &World,
+    after: &World,
+) -> Result<Vec<u8>, Memory>
+    ensures { IfOk result (λ text. text.items ≡ change_line number change.now before.now after.now) }
+{
+    changes::line_of(alloc, number as usize, change, Worlds { before, after })
 }

@@ -3,12 +3,13 @@
 mod operand;
 mod set;
 mod topics;
+mod until;
 
 ghost use Rattle.std.specs.Prelude.{◌≡◌, ◌≤◌, ◌∷◌, [], Ok, Err, MatchResult, IfOk, codes, option_copied};
 ghost use Rattle.mix_lines.specs.Lines.{words};
 ghost use Rattle.mix_session.specs.Request.{steps_of, steps_in, count_request, run_until, run_after, run_request, request_alone, amount_in, back_request, forth_request, goto_request, line_place, break_place, request_after, request_of_words, request_of};
 
-use crate::condition::Condition;
+use crate::conditions::Conditions;
 use crate::fault::Refusal;
 use crate::keyword::{BackWord, CommandWord, ForthWord, named};
 use mix_lines::{Words, is_comment};
@@ -17,9 +18,12 @@ use mixal_asm::Program;
 use mixal_text::Names;
 use operand::{first_word, from_one, no_word, number_in, one_word, place_named, up_to};
 use set::read_change;
-pub(crate) use set::{read_condition, read_setting};
+pub(crate) use set::read_setting;
+pub(crate) use topics::ShowWord;
 pub use topics::Topic;
 use topics::read_topic;
+pub(crate) use until::read_condition;
+use until::read_conditions;
 
 /// A request to a session: what one line of a script asks for.
 #[derive(Clone, Copy)]
@@ -28,14 +32,14 @@ pub enum Request {
     Step(u32),
     Trace(u32),
     Run(u32),
-    RunUntil(u32, Condition),
+    RunUntil(u32, Conditions),
     Back(u64),
     BackAll,
     BackBreak,
-    BackUntil(Condition),
+    BackUntil(Conditions),
     Forth(u64),
     ForthAll,
-    ForthUntil(Condition),
+    ForthUntil(Conditions),
     Goto(u64),
     Change(Change),
     Show(Topic),
@@ -122,7 +126,7 @@ fn read_run<N: Names>(words: &mut Words, names: &N, here: Word) -> Result<Reques
     }
 }
 
-// Steps until a condition is met.
+// Steps until one of some conditions is met.
 fn read_run_until<N: Names>(
     word: &[u8],
     words: &mut Words,
@@ -132,8 +136,8 @@ fn read_run_until<N: Names>(
     ensures { result ≡ run_until (N.names names.now) here word.now words.old }
 {
     let count = number_in(word)?;
-    let condition = read_condition(words, names, here)?;
-    Ok(Request::RunUntil(steps_of(count)?, condition))
+    let conditions = read_conditions(words, names, here)?;
+    Ok(Request::RunUntil(steps_of(count)?, conditions))
 }
 
 // How many steps a word asks for.
@@ -158,7 +162,7 @@ fn read_back<N: Names>(words: &mut Words, names: &N, here: Word) -> Result<Reque
     match named(word) {
         Some(BackWord::All) => request_alone(Request::BackAll, words),
         Some(BackWord::Break) => request_alone(Request::BackBreak, words),
-        Some(BackWord::Until) => Ok(Request::BackUntil(read_condition(words, names, here)?)),
+        Some(BackWord::Until) => Ok(Request::BackUntil(read_conditions(words, names, here)?)),
         None => Ok(Request::Back(amount_in(word, words)?)),
     }
 }
@@ -170,7 +174,7 @@ fn read_forth<N: Names>(words: &mut Words, names: &N, here: Word) -> Result<Requ
     let word = first_word(words)?;
     match named(word) {
         Some(ForthWord::All) => request_alone(Request::ForthAll, words),
-        Some(ForthWord::Until) => Ok(Request::ForthUntil(read_condition(words, names, here)?)),
+        Some(ForthWord::Until) => Ok(Request::ForthUntil(read_conditions(words, names, here)?)),
         None => Ok(Request::Forth(amount_in(word, words)?)),
     }
 }

@@ -13,6 +13,7 @@ mod columns;
 pub(crate) mod counts;
 pub(crate) mod differences;
 mod each;
+pub(crate) mod last;
 mod lines;
 pub(crate) mod unit;
 mod values;
@@ -23,10 +24,11 @@ use crate::reply::position_of;
 use crate::request::Topic;
 use crate::show::all::all_lines;
 use crate::show::cells::{Breakpoints, CellLines, Cells};
-use crate::show::changes::{diff_lines, last_lines};
+use crate::show::changes::diff_lines;
 use crate::show::code::code_lines;
 use crate::show::counts::count_lines;
 use crate::show::each::Each;
+use crate::show::last::{last_lines, write_lines};
 use crate::show::unit::unit_lines;
 use crate::show::values::{cell_value_lines, register_value_lines, value_lines};
 use crate::timeline::world_of;
@@ -61,6 +63,7 @@ pub(crate) fn topic_lines(
         Topic::CellValues(first, last) => Ok(cell_value_lines(alloc, world, first, last)?),
         Topic::Symbols => program.symbols_text(alloc),
         Topic::Last(count) => last_lines(alloc, journal, count),
+        Topic::Writes(condition) => write_lines(alloc, journal, condition),
         Topic::Diff(number) => diff_lines(alloc, journal, number),
         Topic::Counts => count_lines(alloc, program, journal),
     }

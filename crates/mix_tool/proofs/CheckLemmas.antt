@@ -1,15 +1,15 @@
 -- The sources of a check: one file more, up to the last or the first that can't be opened.
-use Rattle.std.proofs.Common.{◌≡◌, ◌≢◌, ℕ, ◌-◌, ◌≤◌, Bool, true, false, List, [], ◌∷◌, ◌++◌, length, take, drop, map, get_or, arith, Option, None, Some, Result, Ok, refl, sym, ap, ◌∙◌, subst, append_assoc}
+use Rattle.std.proofs.Common.{◌≡◌, ◌≢◌, ℕ, ◌-◌, ◌≤◌, Bool, true, false, ◌⊎◌, inl, inr, List, [], ◌∷◌, ◌++◌, length, take, drop, map, get_or, arith, Option, None, Some, Result, Ok, refl, sym, ap, ◌∙◌, subst, append_assoc}
 use Rattle.std.proofs.lemmas.List.{map-append, append-nil, take_all}
 use Rattle.mix_cli.specs.declared.words.Plan.{Plan}
 use Rattle.mix_cli.specs.declared.words.Plan.TheVariants as plan
 use Rattle.mix_run.specs.Check.{Named, Reported}
 use Rattle.mix_run.specs.declared.check.Reports.{Reports}
 use Rattle.mix_run.specs.declared.fault.ToolFault.{ToolFault}
-use Rattle.mix_tool.specs.Ending.{Seen}
+use Rattle.mix_tool.specs.Ending.{IsAmong, IsFileOf, Seen}
 use Rattle.mix_tool.specs.Opening.{Asks, Files, Missing, Opens, asked_of, missing_of, named, opened_text}
 use Rattle.mix_tool.specs.Plan.{DoneAfter, FileNames, hears_client, in_order, named_of, names_of}
-use Rattle.mix_tool.proofs.OpeningLemmas.{named-later, opens-end, opens-then}
+use Rattle.mix_tool.proofs.OpeningLemmas.{named-first, named-later, opens-end, opens-then}
 
 -- some of the names are left; those before them were opened, and their sources reported
 abbrev pub SoFar : Files → Bool → List (List ℕ) → List (List ℕ) → Option (List (List ℕ)) → Option (List (List ℕ)) → Result Reports ToolFault → Type 0
@@ -61,6 +61,42 @@ all-files all json names a b reports so_far =
       subst (λ (all_names : List (List ℕ)). Reported json (named_of all all_names) reports) (sym same) so_far.3,
     )
 
+-- some of the names are left; the file that was read last is one of those before them
+abbrev pub ReadSoFar : List (List ℕ) → List (List ℕ) → Option (List ℕ) → Type 0
+ReadSoFar names left file = (done : List (List ℕ)) × (names ≡ done ++ left) × IsFileOf done file
+
+among-more : (names more : List (List ℕ)) (name : List ℕ) → IsAmong names name → IsAmong (names ++ more) name
+among-more [] more name h = absurd h
+among-more (first ∷ rest) more name (inl e) = inl e
+among-more (first ∷ rest) more name (inr h) = inr (among-more rest more name h)
+
+among-last : (names : List (List ℕ)) (name : List ℕ) → IsAmong (names ++ name ∷ []) name
+among-last [] name = inl refl
+among-last (first ∷ rest) name = inr (among-last rest name)
+
+-- a name more, which may be the one that is read last
+pub file-stays : (names : List (List ℕ)) (name : List ℕ) (file : List ℕ) → IsFileOf names (Some file) → IsFileOf (names ++ name ∷ []) (Some file)
+file-stays names name file h = among-more names (name ∷ []) file h
+
+pub file-last : (names : List (List ℕ)) (name : List ℕ) → IsFileOf (names ++ name ∷ []) (Some name)
+file-last names name = among-last names name
+
+pub none-read : (names : List (List ℕ)) → ReadSoFar names names None
+none-read names = ([], refl, refl)
+
+pub read-next : (names rest : List (List ℕ)) (name : List ℕ) (left : List (List ℕ)) (file next : Option (List ℕ)) → rest ≡ name ∷ left → ReadSoFar names rest file
+    → ((before : List (List ℕ)) → IsFileOf before file → IsFileOf (before ++ name ∷ []) next) → ReadSoFar names left next
+read-next names rest name left file next split so_far more =
+    let done = so_far.0 in (
+      done ++ name ∷ [],
+      so_far.1 ∙ ap (λ (l : List (List ℕ)). done ++ l) split ∙ sym (append_assoc done (name ∷ []) left),
+      more done so_far.2,
+    )
+
+pub all-read : (names : List (List ℕ)) (file : Option (List ℕ)) → ReadSoFar names [] file → IsFileOf names file
+all-read names file so_far =
+    let same = so_far.1 ∙ append-nil so_far.0 in subst (λ (all_names : List (List ℕ)). IsFileOf all_names file) (sym same) so_far.2
+
 -- the files of a plan, and then its sources
 pub plan-opened : (all : Files) (found names sources : List (List ℕ)) (a b c : Option (List (List ℕ))) → found ≡ names → Opens all found a b None
     → Asks b c (asked_of all sources) → Opens all (names ++ sources) a c (missing_of all sources)
@@ -84,11 +120,21 @@ client-unnamed plan.Bundle hears = refl
 client-unnamed (plan.List source) hears = absurd cc
 client-unnamed (plan.Check sources json) hears = refl
 client-unnamed (plan.Debug source script devices echo) hears = absurd cc
-client-unnamed (plan.Run source cards devices steps printing) hears = absurd cc
+client-unnamed (plan.Run source cards typewriter devices steps printing trace) hears = absurd cc
 client-unnamed plan.Dap hears = refl
+
+-- a plan with lines for the typewriter names a file
+pub typewriter-named : (names : FileNames) → named names.typewriter ≢ [] → in_order names ≢ []
+typewriter-named names some =
+    let first = named-first (named names.typewriter) (named names.script) some in
+    let later = named-later (named names.cards) (named names.typewriter ++ named names.script) first in
+    named-later (named names.source) (named names.deck ++ (named names.cards ++ (named names.typewriter ++ named names.script)))
+    (named-later (named names.deck) (named names.cards ++ (named names.typewriter ++ named names.script)) later)
 
 -- a plan with a script names a file
 pub script-named : (names : FileNames) → named names.script ≢ [] → in_order names ≢ []
 script-named names some =
-    named-later (named names.source) (named names.deck ++ (named names.cards ++ named names.script))
-    (named-later (named names.deck) (named names.cards ++ named names.script) (named-later (named names.cards) (named names.script) some))
+    let last = named-later (named names.typewriter) (named names.script) some in
+    let later = named-later (named names.cards) (named names.typewriter ++ named names.script) last in
+    named-later (named names.source) (named names.deck ++ (named names.cards ++ (named names.typewriter ++ named names.script)))
+    (named-later (named names.deck) (named names.cards ++ (named names.typewriter ++ named names.script)) later)

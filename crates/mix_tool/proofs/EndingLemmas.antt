@@ -1,8 +1,30 @@
 -- A line that is told, or where memory is refused for it another.
-use Rattle.std.proofs.Common.{◌≡◌, ◌⊎◌, ℕ, List, Result, Ok, Err, IfOk, inl, inr, subst}
+use Rattle.std.proofs.Common.{◌≡◌, ◌≤◌, ◌⊎◌, ℕ, List, ◌∷◌, ◌++◌, Option, Result, Ok, Err, IfOk, arith, inl, inr, subst}
+use Rattle.std.specs.Prelude.{OnOk}
 use Rattle.std.specs.Result.{MatchResult}
+use Rattle.mix_run.specs.Output.{IsStatus}
+use Rattle.mix_run.specs.declared.fault.ToolFault.{ToolFault}
+use Rattle.mix_tool.specs.Opening.{named}
+use Rattle.mix_tool.specs.Ending.{IsAmong, status_of_run}
 
 pub either_told : {S E : Type 0} (r : Result S E) (P : List ℕ → Type 0) (bytes : S → List ℕ) (line other : List ℕ)
     → IfOk r (λ s. bytes s ≡ line) → MatchResult r (λ s. P (bytes s)) (λ _. P other) → P line ⊎ P other
 either_told (Ok s) P bytes line other is told = inl (subst P is told)
 either_told (Err e) P bytes line other is told = inr told
+
+-- a run has a status of 0 to 3
+pub run_range : (run : Result ℕ ToolFault) (status : ℕ) → status ≡ status_of_run run → IfOk run IsStatus → status ≤ 3
+run_range (Ok s) status e h = rw e h.0
+run_range (Err fault) status e h = rw e (omega arith)
+
+-- what holds where a run ends well holds where its status is not 2
+pub run_well : (run : Result ℕ ToolFault) (status : ℕ) (P : Type 0) → status ≡ status_of_run run → (status ≡ 2 → ⊥) → OnOk run P → P
+run_well (Ok s) status P e n h = h
+run_well (Err fault) status P e n h = absurd (n e)
+
+-- a name among others, as these are known
+pub among_same : (source : List ℕ) (d e l m : Option (List ℕ)) (name : List ℕ) → d ≡ e → l ≡ m
+    → IsAmong (source ∷ (named d ++ named l)) name → IsAmong (source ∷ (named e ++ named m)) name
+among_same source d e l m name p q h =
+    subst (λ (o : Option (List ℕ)). IsAmong (source ∷ (named o ++ named m)) name) p
+    (subst (λ (o : Option (List ℕ)). IsAmong (source ∷ (named d ++ named o)) name) q h)

@@ -1,5 +1,5 @@
 -- How the program ends: its status, and what stands on its error output.
-use Rattle.std.specs.Prelude.{◌≡◌, ◌⊎◌, ◌+◌, ℕ, Option, List, [], ◌∷◌, ◌++◌, Result, Ok, Err, codes}
+use Rattle.std.specs.Prelude.{◌≡◌, ◌⊎◌, ◌+◌, ℕ, Option, None, Some, List, [], ◌∷◌, ◌++◌, Result, Ok, Err, codes}
 use Rattle.std.specs.Io.KnownBytes.{Appends, Keeps}
 use Rattle.mix_stream.specs.Stream.{AppendsFront}
 use Rattle.mix_run.specs.Fault.{tool_fault_text}
@@ -16,12 +16,36 @@ use Rattle.mixal_asm.specs.declared.fault.AsmFault.{AsmFault}
 use Rattle.mix_machine.specs.units.Units.{UnitsState}
 use Rattle.mix_machine.specs.declared.units.deck_fault.DeckFault.{DeckFault}
 use Rattle.mix_run.specs.declared.fault.ToolFault.{ToolFault}
+use Rattle.mix_run.specs.declared.fault.ToolFault.TheVariants as faults
 use Rattle.mix_tool.specs.Reason.{reason_text}
 use Rattle.mix_tool.specs.declared.reason.Reason.{Reason}
 
--- `mixrev: T2 read failed`
-abbrev pub report : ToolFault → List ℕ
-report fault = codes "mixrev: " ++ tool_fault_text fault ++ 10 ∷ []
+-- the file that a fault is about: of a read that failed, the one that was read
+abbrev pub file_of_fault : ToolFault → Option (List ℕ) → Option (List ℕ)
+file_of_fault faults.Memory file = None
+file_of_fault faults.Read file = file
+file_of_fault faults.Write file = None
+file_of_fault (faults.Deck fault) file = None
+file_of_fault faults.Long file = None
+
+-- the name of a file after a colon, if there is one
+abbrev pub file_text : Option (List ℕ) → List ℕ
+file_text None = []
+file_text (Some name) = codes ": " ++ name
+
+-- `mixrev: T2 read failed: NAME`; where no file was read, `mixrev: T2 read failed`
+abbrev pub report : ToolFault → Option (List ℕ) → List ℕ
+report fault file = codes "mixrev: " ++ (tool_fault_text fault ++ (file_text (file_of_fault fault file) ++ 10 ∷ []))
+
+-- a name is one of some names
+abbrev pub IsAmong : List (List ℕ) → List ℕ → Type 0
+IsAmong [] name = ⊥
+IsAmong (first ∷ rest) name = (name ≡ first) ⊎ IsAmong rest name
+
+-- one of the files that are read; none where no file is
+abbrev pub IsFileOf : List (List ℕ) → Option (List ℕ) → Type 0
+IsFileOf names None = names ≡ []
+IsFileOf names (Some name) = IsAmong names name
 
 -- `mixrev: T4 not opened: NAME: No such file or directory`
 abbrev pub not_opened : List ℕ → Reason → List ℕ
@@ -46,9 +70,9 @@ abbrev pub Tells : List ℕ → Option (List ℕ) → Option (List ℕ) → ℕ 
 Tells line old new failed_old failed_new = Wrote line old new failed_old failed_new ⊎ Wrote memory_line old new failed_old failed_new
 
 -- a run that ends well tells nothing, a fault of the tool is told
-abbrev pub TellsRun : Result ℕ ToolFault → Option (List ℕ) → Option (List ℕ) → ℕ → ℕ → Type 0
-TellsRun (Ok status) old new failed_old failed_new = Keeps old new × (failed_new ≡ failed_old)
-TellsRun (Err fault) old new failed_old failed_new = Tells (report fault) old new failed_old failed_new
+abbrev pub TellsRun : Result ℕ ToolFault → Option (List ℕ) → Option (List ℕ) → Option (List ℕ) → ℕ → ℕ → Type 0
+TellsRun (Ok status) file old new failed_old failed_new = Keeps old new × (failed_new ≡ failed_old)
+TellsRun (Err fault) file old new failed_old failed_new = Tells (report fault file) old new failed_old failed_new
 
 -- what is known of the streams of a run at one moment: what the input still has, what the output and the error output were told, and how many
 -- writes on the error output have failed
@@ -58,11 +82,12 @@ pub record Seen : Type 0 where
   pub errors : Option (List ℕ)
   pub failed : ℕ
 
--- a run with this outcome was made: what it wrote and answered is the outcome, its status is answered, and its fault is told
-abbrev pub Runs : Outcome → ℕ → Seen → Seen → Type 0
-Runs outcome status before after =
-    (run : Result ℕ ToolFault) × Meets outcome run before.out after.out × (status ≡ status_of_run run)
-    × TellsRun run before.errors after.errors before.failed after.failed
+-- a run with this outcome was made on some files: what it wrote and answered is the outcome, its status is answered, and its fault is told, of a read
+-- with one of these files
+abbrev pub Runs : List (List ℕ) → Outcome → ℕ → Seen → Seen → Type 0
+Runs names outcome status before after =
+    (run : Result ℕ ToolFault) × (file : Option (List ℕ)) × Meets outcome run before.out after.out × (status ≡ status_of_run run)
+    × IsFileOf names file × TellsRun run file before.errors after.errors before.failed after.failed
 
 -- a talk was made, and its status is answered
 abbrev pub TalkRuns : Result ProgramValue AsmFault → Result UnitsState DeckFault → Talker → List ℕ → ℕ → Seen → Seen → Type 0

@@ -1,5 +1,5 @@
 -- What a plan does: the files that it opens, in their order, and the run that it makes on their texts.
-use Rattle.std.specs.Prelude.{◌≡◌, ◌≤◌, ℕ, Bool, true, false, not, List, [], ◌++◌, Option, None, Some, option_map, is_some, map, string_bytes}
+use Rattle.std.specs.Prelude.{◌≡◌, ◌≤◌, ℕ, Bool, true, false, not, List, [], ◌∷◌, ◌++◌, Option, None, Some, option_map, is_some, map, string_bytes}
 use Rattle.std.specs.Option.{option_map_or}
 use Rattle.mixal_asm.specs.Assembly.{assembly}
 use Rattle.mix_machine.specs.units.deck.Deck.{deck_of}
@@ -18,26 +18,33 @@ use Rattle.mix_tool.specs.Opening.{Files, Missing, missing_of, named, opened_tex
 use Rattle.mix_tool.specs.declared.texts.Names.{Names}
 use Rattle.mix_tool.specs.declared.texts.Texts.{Texts}
 
--- the names of the files of a plan: of a source, a deck, cards and a script, each if there is one; a check has a list of its own
+-- the names of the files of a plan: of a source, a deck, cards, lines for the typewriter and a script, each if there is one; a check has a list of its own
 pub record FileNames : Type 0 where
   pub source : Option (List ℕ)
   pub deck : Option (List ℕ)
   pub cards : Option (List ℕ)
+  pub typewriter : Option (List ℕ)
   pub script : Option (List ℕ)
 
 abbrev pub names_of : Plan → FileNames
-names_of plan.Bundle = record { source = None; deck = None; cards = None; script = None }
-names_of (plan.List source) = record { source = Some (string_bytes source); deck = None; cards = None; script = None }
-names_of (plan.Check sources json) = record { source = None; deck = None; cards = None; script = None }
+names_of plan.Bundle = record { source = None; deck = None; cards = None; typewriter = None; script = None }
+names_of (plan.List source) = record { source = Some (string_bytes source); deck = None; cards = None; typewriter = None; script = None }
+names_of (plan.Check sources json) = record { source = None; deck = None; cards = None; typewriter = None; script = None }
 names_of (plan.Debug source script devices echo) =
-    record { source = Some (string_bytes source); deck = option_map string_bytes devices; cards = None; script = option_map string_bytes script }
-names_of (plan.Run source cards devices steps printing) =
-    record { source = Some (string_bytes source); deck = option_map string_bytes devices; cards = option_map string_bytes cards; script = None }
-names_of plan.Dap = record { source = None; deck = None; cards = None; script = None }
+    record { source = Some (string_bytes source); deck = option_map string_bytes devices; cards = None; typewriter = None; script = option_map string_bytes script }
+names_of (plan.Run source cards typewriter devices steps printing trace) =
+    record {
+      source = Some (string_bytes source);
+      deck = option_map string_bytes devices;
+      cards = option_map string_bytes cards;
+      typewriter = option_map string_bytes typewriter;
+      script = None;
+    }
+names_of plan.Dap = record { source = None; deck = None; cards = None; typewriter = None; script = None }
 
 -- in the order in which they are opened
 abbrev pub in_order : FileNames → List (List ℕ)
-in_order names = named names.source ++ (named names.deck ++ (named names.cards ++ named names.script))
+in_order names = named names.source ++ (named names.deck ++ (named names.cards ++ (named names.typewriter ++ named names.script)))
 
 -- the names of the sources of a check
 abbrev pub sources_of : Plan → List (List ℕ)
@@ -45,7 +52,7 @@ sources_of plan.Bundle = []
 sources_of (plan.List source) = []
 sources_of (plan.Check sources json) = map string_bytes sources.items
 sources_of (plan.Debug source script devices echo) = []
-sources_of (plan.Run source cards devices steps printing) = []
+sources_of (plan.Run source cards typewriter devices steps printing trace) = []
 sources_of plan.Dap = []
 
 -- all files of a plan, in the order in which they are opened
@@ -58,6 +65,7 @@ names_in names = record {
   source = option_map (λ n. n.now) names.source;
   deck = option_map (λ n. n.now) names.deck;
   cards = option_map (λ n. n.now) names.cards;
+  typewriter = option_map (λ n. n.now) names.typewriter;
   script = option_map (λ n. n.now) names.script;
 }
 
@@ -66,6 +74,7 @@ pub record Given : Type 0 where
   pub source : List ℕ
   pub deck : List ℕ
   pub cards : List ℕ
+  pub typewriter : List ℕ
   pub script : List ℕ
 
 abbrev pub given_of : Files → FileNames → Given
@@ -73,6 +82,7 @@ given_of all names = record {
   source = text_of all names.source;
   deck = text_of all names.deck;
   cards = text_of all names.cards;
+  typewriter = text_of all names.typewriter;
   script = text_of all names.script;
 }
 
@@ -88,6 +98,7 @@ pub record HoldTexts {R : Type 0} (rest : R → Option (List ℕ)) (texts : Text
   pub source : rest_of rest texts.source.reader ≡ Some given.source
   pub deck : rest_of rest texts.deck.reader ≡ Some given.deck
   pub cards : rest_of rest texts.cards.reader ≡ Some given.cards
+  pub typewriter : rest_of rest texts.typewriter.reader ≡ Some given.typewriter
   pub script : rest_of rest texts.script.reader ≡ Some given.script
 
 -- and no read of them has failed
@@ -95,6 +106,7 @@ pub record AreFresh {R : Type 0} (failed : R → ℕ) (texts : Texts R) : Type 0
   pub source : option_map_or failed texts.source.reader 0 ≡ 0
   pub deck : option_map_or failed texts.deck.reader 0 ≡ 0
   pub cards : option_map_or failed texts.cards.reader 0 ≡ 0
+  pub typewriter : option_map_or failed texts.typewriter.reader 0 ≡ 0
   pub script : option_map_or failed texts.script.reader 0 ≡ 0
 
 -- what is asked of a run
@@ -102,17 +114,22 @@ abbrev pub units_of : Printing → UnitSet
 units_of printing =
     record { card_punch = printing.punch; printer = printing.printer; typewriter = printing.typewriter; paper_tape = printing.tape }
 
-abbrev pub options_of : {Name : Type 0} → Option Name → Option Name → ℕ → Printing → PrintOptions
-options_of devices cards steps printing = record { steps = steps; units = units_of printing; deck = is_some devices; cards = is_some cards }
+abbrev pub options_of : {Name : Type 0} → Option Name → Option Name → Option Name → ℕ → Printing → Bool → PrintOptions
+options_of devices cards typewriter steps printing trace =
+    record { steps = steps; units = units_of printing; deck = is_some devices; cards = is_some cards; typewriter = is_some typewriter; trace = trace }
 
 -- what is seen of some streams
 abbrev pub seen : {R W E : Type 0} → (R → Option (List ℕ)) → (W → Option (List ℕ)) → (E → Option (List ℕ)) → (E → ℕ) → Streams R W E → Seen
 seen rest told errors failed s = record { input = rest s.input; out = told s.out; errors = errors s.errors; failed = failed s.errors }
 
+-- the files that a session reads
+abbrev pub names_of_session : List ℕ → Option (List ℕ) → Option (List ℕ) → List (List ℕ)
+names_of_session source deck script = source ∷ (named deck ++ named script)
+
 -- a session by a script, whose commands are echoed or not, or without one by the lines of the input
-abbrev pub DebugsOn : {Name : Type 0} → Bool → Option Name → Given → Talker → ℕ → Seen → Seen → Type 0
-DebugsOn echo (Some script) given talker status before after = Runs (output echo given.source given.deck given.script) status before after
-DebugsOn echo None given talker status before after =
+abbrev pub DebugsOn : {Name : Type 0} → List (List ℕ) → Bool → Option Name → Given → Talker → ℕ → Seen → Seen → Type 0
+DebugsOn names echo (Some script) given talker status before after = Runs names (output echo given.source given.deck given.script) status before after
+DebugsOn names echo None given talker status before after =
     (t : List ℕ) → before.input ≡ Some t → TalkRuns (assembly given.source) (deck_of given.deck) talker t status before after
 
 -- whether a session is by the lines of the input
@@ -122,13 +139,15 @@ is_talk None = true
 
 -- the run of a plan on its texts; a check finds its sources in the files; a client of the debug adapter is served
 abbrev pub RunsOn : Files → Plan → Given → Talker → ℕ → Seen → Seen → Type 0
-RunsOn all plan.Bundle given talker status before after = (b : List ℕ) → before.input ≡ Some b → Runs (bundle_output b) status before after
-RunsOn all (plan.List source) given talker status before after = Runs (list_output given.source) status before after
+RunsOn all plan.Bundle given talker status before after = (b : List ℕ) → before.input ≡ Some b → Runs [] (bundle_output b) status before after
+RunsOn all (plan.List source) given talker status before after = Runs (string_bytes source ∷ []) (list_output given.source) status before after
 RunsOn all (plan.Check sources json) given talker status before after =
-    Runs (check_output json (named_of all (map string_bytes sources.items))) status before after
-RunsOn all (plan.Debug source script devices echo) given talker status before after = DebugsOn echo script given talker status before after
-RunsOn all (plan.Run source cards devices steps printing) given talker status before after =
-    PrintRuns (print_output (options_of devices cards steps printing) given.source given.deck given.cards) status before after
+    Runs (map string_bytes sources.items) (check_output json (named_of all (map string_bytes sources.items))) status before after
+RunsOn all (plan.Debug source script devices echo) given talker status before after =
+    DebugsOn (names_of_session (string_bytes source) (option_map string_bytes devices) (option_map string_bytes script)) echo script given talker status before
+    after
+RunsOn all (plan.Run source cards typewriter devices steps printing trace) given talker status before after =
+    PrintRuns (print_output (options_of devices cards typewriter steps printing trace) given.source given.deck given.cards given.typewriter) status before after
 RunsOn all plan.Dap given talker status before after = status ≤ 2
 
 -- the first file that can't be opened is told and why, and the status is 2; if there is none, the run is made
@@ -149,7 +168,7 @@ reads_input plan.Bundle = true
 reads_input (plan.List source) = false
 reads_input (plan.Check sources json) = false
 reads_input (plan.Debug source script devices echo) = is_talk script
-reads_input (plan.Run source cards devices steps printing) = false
+reads_input (plan.Run source cards typewriter devices steps printing trace) = false
 reads_input plan.Dap = false
 
 -- whether a plan hears a client: the debug adapter does
@@ -158,7 +177,7 @@ hears_client plan.Bundle = false
 hears_client (plan.List source) = false
 hears_client (plan.Check sources json) = false
 hears_client (plan.Debug source script devices echo) = false
-hears_client (plan.Run source cards devices steps printing) = false
+hears_client (plan.Run source cards typewriter devices steps printing trace) = false
 hears_client plan.Dap = true
 
 -- whether nothing is told on the error output but a fault of the tool: of a talk and of a run other things are
@@ -167,5 +186,5 @@ is_quiet plan.Bundle = true
 is_quiet (plan.List source) = true
 is_quiet (plan.Check sources json) = true
 is_quiet (plan.Debug source script devices echo) = not (is_talk script)
-is_quiet (plan.Run source cards devices steps printing) = false
+is_quiet (plan.Run source cards typewriter devices steps printing trace) = false
 is_quiet plan.Dap = true

@@ -1,8 +1,8 @@
 //! A check of the sources of some files.
 
-ghost use Rattle.std.specs.Prelude.{◌≡◌, ◌≢◌, ◌<◌, ◌≤◌, ◌-◌, ◌^◌, ◌++◌, ◌∷◌, [], ℕ, List, None, Some, IfErr, IfOk, map, string_bytes};
+ghost use Rattle.std.specs.Prelude.{◌≡◌, ◌≢◌, ◌<◌, ◌≤◌, ◌-◌, ◌^◌, ◌++◌, ◌∷◌, [], ℕ, List, None, Some, IfErr, IfOk, map, option_map, string_bytes};
 ghost use Rattle.mix_run.specs.Check.{Named, Reported, check_output};
-ghost use Rattle.mix_tool.specs.Ending.{Runs};
+ghost use Rattle.mix_tool.specs.Ending.{IsFileOf, Runs};
 ghost use Rattle.mix_tool.specs.Opening.{Asks, Files, Opens, asked_of, missing_of, opened_text};
 ghost use Rattle.mix_tool.specs.Plan.{DoneAfter, named_of, seen};
 
@@ -38,27 +38,45 @@ fn report_file<'n, O: Opener>(
     }
 }
 
-// The reports of the sources of some files, up to the first that can't be opened.
+// The file that was read last: the one of a name, unless there was a fault before.
+fn last_read<'n>(
+    reports: &Result<Reports, ToolFault>,
+    before: Option<&'n str>,
+    name: &'n str,
+) -> Option<&'n str>
+    ensures { (names : List (List ℕ)) → IsFileOf names (option_map (λ n. n.now) before.entry)
+        → IsFileOf (names ++ name.now ∷ []) (option_map (λ n. n.now) result) }
+{
+    match (reports, before) {
+        (Err(_), Some(file)) => Some(file),
+        _ => Some(name),
+    }
+}
+
+// The reports of the sources of some files, up to the first that can't be opened, and the file that was read last.
 fn report_files<'n, O: Opener>(
     files: &mut O,
     alloc: Global,
     sources: &'n [String],
     json: bool,
-) -> Result<Result<Reports, ToolFault>, NotOpened<'n>>
+) -> Result<(Result<Reports, ToolFault>, Option<&'n str>), NotOpened<'n>>
     ensures opened { (all : Files) → O.holds files.old ≡ Some all
         → IfOk result (λ _. Opens all (map string_bytes sources.entry.now) (O.asked files.old) (O.asked files.new) None) }
     ensures missing { (all : Files) → O.holds files.old ≡ Some all
         → IfErr result (λ e. Opens all (map string_bytes sources.entry.now) (O.asked files.old) (O.asked files.new) (Some (e.name.now, e.reason))) }
     ensures reported { (all : Files) → O.holds files.old ≡ Some all
-        → IfOk result (Reported json (named_of all (map string_bytes sources.entry.now))) }
+        → IfOk result (λ r. Reported json (named_of all (map string_bytes sources.entry.now)) r.0) }
+    ensures file { IfOk result (λ r. IsFileOf (map string_bytes sources.entry.now) (option_map (λ n. n.now) r.1)) }
 {
     let mut reports = Ok(no_reports(alloc));
+    let mut file = None;
     let mut rest = sources;
     while let [name, after @ ..] = rest {
+        file = last_read(&reports, file, name.as_str());
         reports = report_file(files, alloc, reports, name, json)?;
         rest = after;
     }
-    Ok(reports)
+    Ok((reports, file))
 }
 
 /// The check of the sources of some files: each is opened, read and reported before the next is opened, and all reports are
@@ -76,7 +94,7 @@ pub(crate) fn check_files<O: Opener, R: In, W: Out, E: Out>(
         → Asks (O.asked files.old) (O.asked files.new) (asked_of all (map string_bytes sources.now)) }
     ensures done { (all : Files) → O.holds files.old ≡ Some all → let names = map string_bytes sources.now in
         DoneAfter (missing_of all names)
-        (Runs (check_output json (named_of all names)) result (seen R.rest W.told E.told E.failed streams.old) (seen R.rest W.told E.told E.failed streams.new))
+        (Runs names (check_output json (named_of all names)) result (seen R.rest W.told E.told E.failed streams.old) (seen R.rest W.told E.told E.failed streams.new))
         result (seen R.rest W.told E.told E.failed streams.old) (seen R.rest W.told E.told E.failed streams.new) }
     ensures input { streams.new.input ≡ streams.old.input }
     ensures range { result ≤ 3 }
@@ -84,9 +102,9 @@ pub(crate) fn check_files<O: Opener, R: In, W: Out, E: Out>(
     ensures quiet { result ≢ 2 → streams.new.errors ≡ streams.old.errors }
 {
     match report_files(files, alloc, sources, json) {
-        Ok(reports) => {
+        Ok((reports, file)) => {
             let outcome = write_reports(reports, &mut streams.out);
-            status(alloc, outcome, &mut streams.errors)
+            status(alloc, outcome, file, &mut streams.errors)
         }
         Err(fault) => tell_not_opened(alloc, fault.name, fault.reason, &mut streams.errors),
     }

@@ -1,7 +1,8 @@
 //! How a run ends: its status, and what is told on the error output.
 
-ghost use Rattle.std.specs.Prelude.{◌≡◌, ◌<◌, ◌-◌, ◌^◌, IfOk, OnOk, MatchResult, string_bytes};
-ghost use Rattle.mix_tool.specs.Ending.{Tells, TellsRun, Wrote, memory_line, not_opened, report, status_of_end, status_of_print, status_of_run};
+ghost use Rattle.std.specs.Prelude.{◌≡◌, ◌<◌, ◌-◌, ◌^◌, ◌∷◌, ◌++◌, IfOk, OnOk, MatchResult, option_map, string_bytes};
+ghost use Rattle.mix_tool.specs.Ending.{IsAmong, Tells, TellsRun, Wrote, file_of_fault, memory_line, not_opened, report, status_of_end, status_of_print, status_of_run};
+ghost use Rattle.mix_tool.specs.Opening.{named};
 
 use crate::reason::Reason;
 use mix_cli::FAILED;
@@ -12,11 +13,50 @@ use std::alloc::{AllocError, Global};
 /// What is told where memory is refused for a longer line.
 const OUT_OF_MEMORY: &str = "mixrev: T1 out of memory\n";
 
-fn fault_line(alloc: Global, fault: ToolFault) -> Result<String, AllocError>
-    ensures { IfOk result (λ s. string_bytes s ≡ report fault) }
+// The file that a fault is about: of a read that failed, the one that was read.
+fn file_of_fault(fault: ToolFault, file: Option<&str>) -> Option<&str>
+    ensures { option_map (λ n. n.now) result ≡ file_of_fault fault (option_map (λ n. n.now) file.entry) }
 {
-    let text = format!(in alloc; "mixrev: {fault}\n")?;
+    match fault {
+        ToolFault::Read => file,
+        ToolFault::Memory | ToolFault::Write | ToolFault::Deck(_) | ToolFault::Long => None,
+    }
+}
+
+fn fault_line(alloc: Global, fault: ToolFault, file: Option<&str>) -> Result<String, AllocError>
+    ensures { IfOk result (λ s. string_bytes s ≡ report fault (option_map (λ n. n.now) file.entry)) }
+{
+    let text = match file_of_fault(fault, file) {
+        None => format!(in alloc; "mixrev: {fault}\n")?,
+        Some(name) => format!(in alloc; "mixrev: {fault}: {name}\n")?,
+    };
     Ok(text)
+}
+
+/// Of a source, a deck and another file, the one of which a read has failed, as the failures of the deck and of the last one say.
+pub(crate) fn unread<'n>(
+    source: &'n str,
+    deck: Option<&'n str>,
+    last: Option<&'n str>,
+    failures: (u64, u64),
+) -> &'n str
+    ensures { IsAmong (source.now ∷ (named (option_map (λ n. n.now) deck.entry) ++ named (option_map (λ n. n.now) last.entry))) result.now }
+{
+    let (of_deck, of_last) = (failures.0 > 0, failures.1 > 0);
+    match (deck, last) {
+        (Some(deck), Some(last)) => {
+            if of_deck {
+                deck
+            } else if of_last {
+                last
+            } else {
+                source
+            }
+        }
+        (Some(deck), None) => if of_deck { deck } else { source },
+        (None, Some(last)) => if of_last { last } else { source },
+        (None, None) => source,
+    }
 }
 
 fn not_opened_line(alloc: Global, name: &str, reason: Reason) -> Result<String, AllocError>
@@ -65,17 +105,22 @@ pub(crate) fn tell_not_opened<E: Out>(
     FAILED
 }
 
-/// The status of a run; its fault is reported.
-pub(crate) fn status<E: Out>(alloc: Global, outcome: Result<u8, ToolFault>, errors: &mut E) -> u8
+/// The status of a run; its fault is reported, of a read that failed with the file.
+pub(crate) fn status<E: Out>(
+    alloc: Global,
+    outcome: Result<u8, ToolFault>,
+    file: Option<&str>,
+    errors: &mut E,
+) -> u8
     requires { E.failed errors.old < 2 ^ 64 - 1 }
     ensures status { result ≡ status_of_run outcome }
-    ensures told { TellsRun outcome (E.told errors.old) (E.told errors.new) (E.failed errors.old) (E.failed errors.new) }
+    ensures told { TellsRun outcome (option_map (λ n. n.now) file.entry) (E.told errors.old) (E.told errors.new) (E.failed errors.old) (E.failed errors.new) }
     ensures quiet { OnOk outcome (errors.new ≡ errors.old) }
 {
     match outcome {
         Ok(status) => status,
         Err(fault) => {
-            tell(fault_line(alloc, fault), errors);
+            tell(fault_line(alloc, fault, file), errors);
             FAILED
         }
     }
@@ -92,6 +137,7 @@ fn tell_beside<E: Out>(line: Result<String, AllocError>, errors: &mut E) {
 pub(crate) fn status_beside<E: Out>(
     alloc: Global,
     outcome: Result<u8, ToolFault>,
+    file: Option<&str>,
     errors: &mut E,
 ) -> u8
     ensures { result ≡ status_of_run outcome }
@@ -99,7 +145,7 @@ pub(crate) fn status_beside<E: Out>(
     match outcome {
         Ok(status) => status,
         Err(fault) => {
-            tell_beside(fault_line(alloc, fault), errors);
+            tell_beside(fault_line(alloc, fault, file), errors);
             FAILED
         }
     }
@@ -140,12 +186,13 @@ pub(crate) fn print_status<E: Out>(
     alloc: Global,
     name: &str,
     outcome: Result<PrintAnswer, ToolFault>,
+    file: Option<&str>,
     errors: &mut E,
 ) -> u8
     ensures { result ≡ status_of_print outcome }
 {
     match outcome {
-        Err(fault) => status_beside(alloc, Err(fault), errors),
+        Err(fault) => status_beside(alloc, Err(fault), file, errors),
         Ok(PrintAnswer::Refused(_)) => SOURCE_REFUSED,
         Ok(PrintAnswer::Ran(ran)) => {
             match ran.end {

@@ -1,7 +1,9 @@
 //! The tool: what a plan asks for is done on its files, and a fault is told.
 #![tactic(auto)]
 
+mod asked;
 mod check;
+mod debug;
 mod ending;
 mod opener;
 mod plan;

@@ -6,129 +6,19 @@ ghost use Rattle.dap_stream.specs.declared.broken.Broken.TheVariants as broken;
 ghost use Rattle.mix_dap.specs.Dialogue.{DialogueAs, TellsBroken};
 ghost use Rattle.mix_stream.specs.Stream.{CountsFailure};
 ghost use Rattle.mix_tool.specs.Opening.{Asks, Files, asked_of, missing_of};
-ghost use Rattle.mix_tool.specs.Plan.{AreFresh, DebugsOn, Given, HoldTexts, DoneAfter, IsDone, RunsOn, files_of, given_of, hears_client, in_order, is_quiet, is_talk, names_in, names_of, options_of, reads_input, seen, sources_of};
+ghost use Rattle.mix_tool.specs.Plan.{AreFresh, Given, HoldTexts, DoneAfter, IsDone, RunsOn, files_of, given_of, hears_client, in_order, is_quiet, reads_input, seen, sources_of};
 
+use crate::asked::{names_in, options_of};
 use crate::check::check_files;
-use crate::ending::{print_status, status, status_beside, tell_not_opened};
+use crate::debug::debug_on;
+use crate::ending::{print_status, status, tell_not_opened, unread};
 use crate::opener::Opener;
-use crate::texts::{Names, Texts, open_texts};
-use mix_cli::{Plan, Printing};
+use crate::texts::{Texts, open_texts};
+use mix_cli::Plan;
 use mix_dap::{Library, serve_from};
-use mix_run::{
-    PrintOptions, Streams, UnitSet, run_bundle, run_debug, run_list, run_printed, run_talk,
-};
+use mix_run::{Streams, run_bundle, run_list, run_printed};
 use mix_stream::{In, Out};
 use std::alloc::Global;
-
-// The names of the files of a plan.
-fn names_in(plan: &Plan) -> Names<'_>
-    ensures { names_in result ≡ names_of plan.now }
-{
-    match plan {
-        Plan::Bundle | Plan::Check { .. } | Plan::Dap => Names {
-            source: None,
-            deck: None,
-            cards: None,
-            script: None,
-        },
-        Plan::List(source) => Names {
-            source: Some(source),
-            deck: None,
-            cards: None,
-            script: None,
-        },
-        Plan::Debug {
-            source,
-            script,
-            devices,
-            ..
-        } => Names {
-            source: Some(source),
-            deck: devices.as_deref(),
-            cards: None,
-            script: script.as_deref(),
-        },
-        Plan::Run {
-            source,
-            cards,
-            devices,
-            ..
-        } => Names {
-            source: Some(source),
-            deck: devices.as_deref(),
-            cards: cards.as_deref(),
-            script: None,
-        },
-    }
-}
-
-// What is asked of a run.
-fn options_of(
-    devices: &Option<String>,
-    cards: &Option<String>,
-    steps: u64,
-    printing: Printing,
-) -> PrintOptions
-    ensures { result ≡ options_of devices.now cards.now steps printing }
-{
-    PrintOptions {
-        steps,
-        units: UnitSet {
-            card_punch: printing.punch,
-            printer: printing.printer,
-            typewriter: printing.typewriter,
-            paper_tape: printing.tape,
-        },
-        deck: devices.is_some(),
-        cards: cards.is_some(),
-    }
-}
-
-// A session by a script, or without one by the lines of the input.
-fn debug_on<F: In + Drop, R: In, W: Out, E: Out>(
-    alloc: Global,
-    name: &str,
-    script: &Option<String>,
-    echo: bool,
-    texts: Texts<F>,
-    streams: &mut Streams<R, W, E>,
-) -> u8
-    requires fresh { AreFresh F.failed texts }
-    requires input_count { R.failed streams.old.input < 2 ^ 64 - 1 }
-    requires out_count { W.failed streams.old.out < 2 ^ 64 - 1 }
-    requires errors_count { E.failed streams.old.errors < 2 ^ 64 - 1 }
-    ensures runs { (given : Given) → HoldTexts F.rest texts given
-        → DebugsOn echo script.now given streams.old.talker result (seen R.rest W.told E.told E.failed streams.old) (seen R.rest W.told E.told E.failed streams.new) }
-    ensures input { is_talk script.now ≡ false → streams.new.input ≡ streams.old.input }
-    ensures range { result ≤ 3 }
-    ensures written { result ≢ 2 → W.failed streams.new.out ≡ W.failed streams.old.out }
-    ensures quiet { is_talk script.now ≡ false → result ≢ 2 → streams.new.errors ≡ streams.old.errors }
-{
-    let Texts {
-        source,
-        deck,
-        cards: _,
-        script: lines,
-    } = texts;
-    let (mut source, mut deck, mut lines) = (source, deck, lines);
-    match script {
-        Some(_) => {
-            let outcome = run_debug(
-                alloc,
-                &mut source,
-                &mut deck,
-                &mut lines,
-                echo,
-                &mut streams.out,
-            );
-            status(alloc, outcome, &mut streams.errors)
-        }
-        None => {
-            let outcome = run_talk(alloc, name, &mut source, &mut deck, streams);
-            status_beside(alloc, outcome, &mut streams.errors)
-        }
-    }
-}
 
 // The run of a plan on its texts; a check opens its sources, and a client of the debug adapter finds others in a library.
 fn run_on<O: Opener + Library, C: In, R: In, W: Out, E: Out>(
@@ -166,32 +56,38 @@ fn run_on<O: Opener + Library, C: In, R: In, W: Out, E: Out>(
     match plan {
         Plan::Bundle => {
             let outcome = run_bundle(alloc, &mut streams.input, &mut streams.out);
-            status(alloc, outcome, &mut streams.errors)
+            status(alloc, outcome, None, &mut streams.errors)
         }
-        Plan::List(_) => {
+        Plan::List(source) => {
             let mut texts = texts;
             let outcome = run_list(alloc, &mut texts.source, &mut streams.out);
-            status(alloc, outcome, &mut streams.errors)
+            status(alloc, outcome, Some(source), &mut streams.errors)
         }
         Plan::Check { sources, json } => check_files(files, alloc, sources, *json, streams),
         Plan::Debug {
             source,
             script,
+            devices,
             echo,
-            ..
-        } => debug_on(alloc, source, script, *echo, texts, streams),
+        } => debug_on(alloc, source, devices, script, *echo, texts, streams),
         Plan::Run {
             source,
             cards,
+            typewriter,
             devices,
             steps,
             printing,
+            trace,
         } => {
-            let options = options_of(devices, cards, *steps, *printing);
+            let options = options_of(devices, cards, typewriter, *steps, *printing, *trace);
             let mut texts = texts.of_run();
             let (out, errors) = (&mut streams.out, &mut streams.errors);
             let outcome = run_printed(alloc, source, &mut texts, options, out, errors);
-            print_status(alloc, source, outcome, errors)
+            let failures = (texts.deck.failures(), texts.cards.failures());
+            let file = unread(source, devices.as_deref(), cards.as_deref(), failures);
+            let lines = (0, texts.typewriter.failures());
+            let file = unread(file, None, typewriter.as_deref(), lines);
+            print_status(alloc, source, outcome, Some(file), errors)
         }
         Plan::Dap => {
             let (out, errors) = (&mut streams.out, &mut streams.errors);
@@ -201,11 +97,11 @@ fn run_on<O: Opener + Library, C: In, R: In, W: Out, E: Out>(
 }
 
 /// Does what a plan asks for: a bundle or a talk from the input, a listing, a check, a run or a session of files, or what a client of the debug adapter asks
-/// for. All go to the output. The files of a plan are opened before any is read, in the order source, deck, cards or script; without a deck all
+/// for. All go to the output. The files of a plan are opened before any is read, in the order source, deck, cards, typewriter or source, deck, script; without a deck all
 /// units are empty, but a run takes that of its bundle. Each source of a check is read before the next is opened, and nothing is written before all were read.
 ///
 /// The status is that of the run. It is 2 where the tool itself fails; then that fault stands on the error output, as
-/// `mixrev: T2 read failed`, or for the first file that cannot be opened `mixrev: T4 not opened: NAME: REASON`. A write there that
+/// `mixrev: T2 read failed: NAME`, or for the first file that cannot be opened `mixrev: T4 not opened: NAME: REASON`. A write there that
 /// fails changes no status. Of a talk the prompts and the help stand there too, of a run where it came to if not to a halt, and of both a refused source
 /// with its line and a mark.
 pub fn run_plan<O: Opener + Library, C: In, R: In, W: Out, E: Out>(

@@ -45,6 +45,7 @@ pub(crate) struct Names<'n> {
     pub(crate) source: Option<&'n str>,
     pub(crate) deck: Option<&'n str>,
     pub(crate) cards: Option<&'n str>,
+    pub(crate) typewriter: Option<&'n str>,
     pub(crate) script: Option<&'n str>,
 }
 
@@ -54,24 +55,27 @@ pub(crate) struct Texts<R> {
     pub(crate) source: Text<R>,
     pub(crate) deck: Text<R>,
     pub(crate) cards: Text<R>,
+    pub(crate) typewriter: Text<R>,
     pub(crate) script: Text<R>,
 }
 
 impl<R: Drop> Texts<R> {
     /// Those that a run reads.
-    pub(crate) fn of_run(self) -> PrintTexts<Text<R>, Text<R>, Text<R>>
-        ensures { result ≡ record { source = self.source; deck = self.deck; cards = self.cards } }
+    pub(crate) fn of_run(self) -> PrintTexts<Text<R>, Text<R>, Text<R>, Text<R>>
+        ensures { result ≡ record { source = self.source; deck = self.deck; cards = self.cards; typewriter = self.typewriter } }
     {
         let Texts {
             source,
             deck,
             cards,
+            typewriter,
             script: _,
         } = self;
         PrintTexts {
             source,
             deck,
             cards,
+            typewriter,
         }
     }
 }
@@ -109,7 +113,7 @@ fn open_text<'n, O: Opener>(
     }
 }
 
-/// Opens the files of a plan, in the order source, deck, cards, script, up to the first that can't be opened.
+/// Opens the files of a plan, in the order source, deck, cards, typewriter, script, up to the first that can't be opened.
 pub(crate) fn open_texts<'n, O: Opener>(
     files: &mut O,
     names: Names<'n>,
@@ -126,11 +130,13 @@ pub(crate) fn open_texts<'n, O: Opener>(
     let source = open_text(files, names.source)?;
     let deck = open_text(files, names.deck)?;
     let cards = open_text(files, names.cards)?;
+    let typewriter = open_text(files, names.typewriter)?;
     let script = open_text(files, names.script)?;
     Ok(Texts {
         source,
         deck,
         cards,
+        typewriter,
         script,
     })
 }

@@ -58,7 +58,7 @@ fn done(alloc: Global, plan: &Plan, shelf: &mut Shelf<'_>, input: &[u8]) -> Opti
     Some(told)
 }
 
-// The plan of a line; a file that is not named is `-`.
+// The plan of a line; a file that is not named is `-`, as is one that a line leaves out at its end.
 fn plan_of(alloc: Global, line: &str) -> Option<Plan> {
     let mut words = line.split(' ');
     match words.next()? {
@@ -76,7 +76,9 @@ fn plan_of(alloc: Global, line: &str) -> Option<Plan> {
             source: named(alloc, words.next()?)??,
             devices: named(alloc, words.next()?)?,
             cards: named(alloc, words.next()?)?,
+            typewriter: named(alloc, words.next().unwrap_or("-"))?,
             printing: PRINTING,
+            trace: words.next() == Some("trace"),
         }),
         _ => None,
     }

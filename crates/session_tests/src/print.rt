@@ -18,8 +18,9 @@ const PRINTER: UnitSet = UnitSet {
     paper_tape: false,
 };
 
-/// Runs a source and a deck for so many steps at most, with the rows of some units, and with cards where a field gives them; the readers
-/// and the writer take all bytes, one, or seven at a call.
+/// Runs a source and a deck for so many steps at most, which are traced if the word `trace` follows, with the rows of some units, with cards where a
+/// field gives them, and with lines for the typewriter where another does, which has `-` before it where there are no cards; the readers and the writer
+/// take all bytes, one, or seven at a call.
 pub fn printed(alloc: Global, fields: &[&str]) -> Option<String> {
     let whole = printed_by(alloc, fields, ALL)?;
     for size in [1, 7] {
@@ -32,26 +33,37 @@ pub fn printed(alloc: Global, fields: &[&str]) -> Option<String> {
 }
 
 fn printed_by(alloc: Global, fields: &[&str], size: usize) -> Option<String> {
-    let [source, deck, steps, units, cards @ ..] = fields else {
+    let [source, deck, steps, units, texts @ ..] = fields else {
         return None
     };
     let (source, deck) = (bytes(alloc, source)?, bytes(alloc, deck)?);
-    let (text, is_given) = match cards {
-        [] => (Vec::new(alloc), false),
-        [cards] => (bytes(alloc, cards)?, true),
+    let (cards, typewriter) = match texts {
+        [] => (None, None),
+        [cards] => (Some(*cards), None),
+        ["-", typewriter] => (None, Some(*typewriter)),
+        [cards, typewriter] => (Some(*cards), Some(*typewriter)),
         _ => return None,
     };
+    let (steps, trace) = match steps.strip_suffix(" trace") {
+        Some(steps) => (steps, true),
+        None => (*steps, false),
+    };
+    let cards_text = bytes(alloc, cards.unwrap_or(""))?;
+    let typewriter_text = bytes(alloc, typewriter.unwrap_or(""))?;
     let options = PrintOptions {
         steps: number(steps)?,
         units: units_of(units)?,
         deck: true,
-        cards: is_given,
+        cards: cards.is_some(),
+        typewriter: typewriter.is_some(),
+        trace,
     };
     let mut out = Sink::of(size, 0);
     let mut texts = PrintTexts {
         source: Chunks::of(&source, size, 0),
         deck: Chunks::of(&deck, size, 0),
-        cards: Chunks::of(&text, size, 0),
+        cards: Chunks::of(&cards_text, size, 0),
+        typewriter: Chunks::of(&typewriter_text, size, 0),
     };
     let mut errors = Sink::of(ALL, 0);
     let answer = run_printed(alloc, "f", &mut texts, options, &mut out, &mut errors);

@@ -45,6 +45,7 @@ fn wanted_and_answer(alloc: Global, row: &str) -> Option<(&str, String)> {
 fn answer(alloc: Global, kind: &str, fields: &[&str]) -> Option<String> {
     match kind {
         "session setting" => session::setting(alloc, fields),
+        "session waiting" => session::waiting(alloc, fields),
         "run printed" => print::printed(alloc, fields),
         "tool plan" => plan::planned(alloc, fields),
         _ => None,

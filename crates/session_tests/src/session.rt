@@ -1,9 +1,9 @@
-//! A kind of rows: registers that are set to what texts say. The first field is a source, whose machine has empty units; each field after it
-//! has the name of a register, a blank and the text. A row ends with where the machine stands, what rA holds, and how many changes are done
-//! and stand ahead.
+//! Kinds of rows: registers that are set to what texts say, and a run that waits for conditions that texts name. The first field is a source,
+//! whose machine has empty units; each field after it has the name of a register, a blank and the text, or a condition. A row ends with where
+//! the machine stands, what rA holds, and how many changes are done and stand ahead.
 use crate::reader::bytes;
 use mix_machine::{Part, Reg, Units};
-use mix_session::{Refusal, Request, Session};
+use mix_session::{Answer, Conditions, Refusal, Request, Session};
 use mixal_asm::assemble;
 use std::alloc::Global;
 use std::fmt::Write;
@@ -26,6 +26,36 @@ pub fn setting(alloc: Global, fields: &[&str]) -> Option<String> {
     }
     push_state(&mut told, &session)?;
     Some(told)
+}
+
+/// Runs nine steps, or fewer, until one of the conditions is met, or tells the refusal of a condition.
+pub fn waiting(alloc: Global, fields: &[&str]) -> Option<String> {
+    let [source, texts @ ..] = fields else {
+        return None
+    };
+    let source = bytes(alloc, source)?;
+    let mut session = opened(alloc, &source)?;
+    let mut told = String::new(alloc);
+    match conditions_of(&session, texts) {
+        Ok(conditions) => match session.execute(Request::RunUntil(9, conditions)) {
+            Ok(Answer::Ran(done, _)) => write!(told, "ran {done}, ").ok()?,
+            Ok(_) | Err(_) => return None,
+        },
+        Err(refusal) => write!(told, "{refusal}, ").ok()?,
+    }
+    push_state(&mut told, &session)?;
+    Some(told)
+}
+
+// The conditions that texts name, as many as there may be.
+fn conditions_of(session: &Session, texts: &[&str]) -> Result<Conditions, Refusal> {
+    let mut conditions = Conditions::none();
+    for text in texts {
+        if conditions.len() < Conditions::MOST {
+            conditions.push(session.condition(text.as_bytes())?);
+        }
+    }
+    Ok(conditions)
 }
 
 // Why a register is not set to what a text says, if it is not; nothing where memory is refused.

@@ -133,6 +133,8 @@ impl<S: Undo> Journal<S> {
 
     /// Takes the last change back; it can then be done again. It takes no memory, and returns false
     /// if no change is left.
+    // (inlined too: a loop that takes changes back then calls nothing for a step)
+    #[inline(always)]
     pub fn back(&mut self) -> bool
         ensures left { IsTrue result ↔ (0 < length self.old.changes) }
         ensures first { self.new.first ≡ self.old.first }

@@ -1,9 +1,10 @@
 //! What moves the machine or changes it: it is read into values, done by the session, and told.
 
-ghost use Rattle.std.specs.Prelude.{◌≡◌, Ok, IfOk, IfErr, OnOk};
+ghost use Rattle.std.specs.Prelude.{◌≡◌, ◌++◌, Ok, IfOk, IfErr, OnOk};
 ghost use Rattle.mix_refused.specs.Refused.{IfFault};
 ghost use Rattle.mix_session.specs.Command.{after, effect_of, effect_of_run, Begun};
 ghost use Rattle.mix_session.specs.Stops.{no_stops};
+ghost use Rattle.mix_session.specs.Timeline.{world_of};
 ghost use Rattle.mix_session.specs.declared.command.stops.Way.TheVariants as ways;
 ghost use Rattle.mix_session.specs.declared.request.Request.TheVariants.{BackAll};
 ghost use Rattle.serde_json.specs.Data.{null};
@@ -11,7 +12,10 @@ ghost use Rattle.dap_message.specs.Message.{waits};
 ghost use Rattle.dap_message.specs.Told.{response_to, done, Answers};
 ghost use Rattle.mix_dap.specs.Answer.{act_body, continued, done_body, deed_body};
 ghost use Rattle.mix_dap.specs.Deed.{deed_of, effect_of_deed};
+ghost use Rattle.mix_dap.specs.Events.{AddsAnswer, beginning, invalidated};
 ghost use Rattle.mix_dap.specs.Leaves.{Does, Leaves, unless_refused};
+ghost use Rattle.mix_dap.specs.Output.{all_told, outputs};
+ghost use Rattle.mix_dap.specs.Prints.{act_events, act_printed, deed_events};
 ghost use Rattle.mix_dap.specs.Replies.{Replies, Tells, answer_message};
 ghost use Rattle.mix_dap.specs.Stays.{Keeps, ActTells, BeginTells, DeedTells, way_begun, way_of_act, word_at};
 ghost use Rattle.mix_dap.specs.Written.{Writes, write_asked, write_shown};
@@ -43,6 +47,10 @@ impl Adapter<'_> {
         ensures way { OnOk result (self.new.way ≡ way_of_act act self.old.stops self.new.session.timeline) }
         ensures waits { IfFault result (λ _. self.new.way ≡ self.old.way) }
         ensures tells { OnOk result (DeedTells act (deed_of act request.now self.old.session) self.old self.new.session.timeline (waits out.new)) }
+        ensures prints { OnOk result (AddsAnswer (answer_message request.now (deed_body act (deed_of act request.now self.old.session) request.now self.old.session))
+            (deed_events act request.now (deed_of act request.now self.old.session) self.old self.new.session.timeline) out.old out.new) }
+        ensures printed { OnOk result (self.new.printed ≡ act_printed act request.now self.old.printed (world_of self.new.session.timeline)) }
+        ensures unprinted { IfFault result (λ _. self.new.printed ≡ self.old.printed) }
     {
         match deed_of(act, request, &self.session) {
             Ok(deed) => self.act_on(act, deed, request, out),
@@ -67,6 +75,10 @@ impl Adapter<'_> {
         ensures way { OnOk result (self.new.way ≡ way_of_act act self.old.stops self.new.session.timeline) }
         ensures waits { IfFault result (λ _. self.new.way ≡ self.old.way) }
         ensures tells { OnOk result (ActTells act (effect_of_deed deed self.old.session.timeline).answer (word_at self.old.points self.new.session.timeline) self.old.stops (waits out.new)) }
+        ensures prints { OnOk result (AddsAnswer (answer_message request.now (done_body act (effect_of_deed deed self.old.session.timeline) request.now self.old.session))
+            (act_events act request.now (effect_of_deed deed self.old.session.timeline).answer (word_at self.old.points self.new.session.timeline) self.old.printed self.old.client self.old.stops (world_of self.new.session.timeline)) out.old out.new) }
+        ensures printed { OnOk result (self.new.printed ≡ act_printed act request.now self.old.printed (world_of self.new.session.timeline)) }
+        ensures unprinted { IfFault result (λ _. self.new.printed ≡ self.old.printed) }
     {
         match self.done(deed) {
             Ok(answer) => Ok(self.tell(act, answer, request, out)?),
@@ -81,6 +93,7 @@ impl Adapter<'_> {
         ensures first { self.new.session.timeline.first ≡ self.old.session.timeline.first }
         ensures does { Does (effect_of_deed deed self.old.session.timeline) self.old.session.timeline self.new.session.timeline result }
         ensures way { self.new.way ≡ self.old.way }
+        ensures printed { self.new.printed ≡ self.old.printed }
         ensures answer { IfOk result (λ answer. answer ≡ (effect_of_deed deed self.old.session.timeline).answer) }
     {
         match deed {
@@ -98,6 +111,7 @@ impl Adapter<'_> {
         ensures first { self.new.session.timeline.first ≡ self.old.session.timeline.first }
         ensures does { Does (effect_of_run ways.Again no_stops self.old.session.timeline 1) self.old.session.timeline self.new.session.timeline result }
         ensures way { self.new.way ≡ self.old.way }
+        ensures printed { self.new.printed ≡ self.old.printed }
         ensures answer { IfOk result (λ answer. answer ≡ (effect_of_run ways.Again no_stops self.old.session.timeline 1).answer) }
     {
         let stops = Stops {
@@ -118,6 +132,7 @@ impl Adapter<'_> {
         ensures first { self.new.session.timeline.first ≡ self.old.session.timeline.first }
         ensures does { Does (effect_of self.old.session.timeline request) self.old.session.timeline self.new.session.timeline result }
         ensures way { self.new.way ≡ self.old.way }
+        ensures printed { self.new.printed ≡ self.old.printed }
         ensures answer { IfOk result (λ answer. answer ≡ (effect_of self.old.session.timeline request).answer) }
     {
         match self.session.execute(request) {
@@ -137,6 +152,8 @@ impl Adapter<'_> {
         ensures shows { OnOk result (Replies (answer_message request.now (Ok null)) out.old out.new) }
         ensures way { OnOk result (self.new.way ≡ way_begun self.old.stops) }
         ensures tells { OnOk result (BeginTells self.old.stops (waits out.new)) }
+        ensures prints { OnOk result (AddsAnswer (answer_message request.now (Ok null)) (outputs self.old.printed (world_of self.new.session.timeline) ++ beginning self.old.stops) out.old out.new) }
+        ensures printed { OnOk result (self.new.printed ≡ all_told (world_of self.new.session.timeline)) }
     {
         self.way = None;
         self.fault = None;
@@ -160,6 +177,8 @@ impl Adapter<'_> {
         ensures answers { OnOk result (Answers (response_to request.now done) (waits out.old) (waits out.new)) }
         ensures shows { Tells (write_shown self.old.session request.now) request.now out.old out.new result }
         ensures way { self.new.way ≡ self.old.way }
+        ensures invalid { OnOk result (AddsAnswer (answer_message request.now (write_shown self.old.session request.now)) (invalidated self.old.client) out.old out.new) }
+        ensures printed { self.new.printed ≡ self.old.printed }
     {
         let count = write_memory(self.alloc, &mut self.session, request)?;
         let mut body = Fields::new(self.alloc);

@@ -8,12 +8,14 @@ ghost use Rattle.mix_dap.specs.Look.{exception_of, exception_shown};
 ghost use Rattle.mix_dap.specs.Points.{points_after, points_told};
 
 use crate::adapter::Adapter;
+use crate::completions::completions;
 use crate::disassembly::disassemble;
 use crate::fault::Fault;
 use crate::kind::{Look, Target};
 use crate::list::list_alone;
 use crate::look::{scopes, stack_trace, threads};
 use crate::memory::read_memory;
+use crate::points::breakpoint_locations;
 use crate::set::goto_targets;
 use crate::variables::variables;
 use crate::view::{change_view, counts_view, program_view, state_view, units_view};
@@ -43,6 +45,10 @@ impl Adapter<'_> {
             Look::Instructions => disassemble(alloc, session, name, first, request),
             Look::Targets => goto_targets(alloc, session, first, request),
             Look::Watch => data_breakpoint_info(alloc, session, request),
+            Look::Locations => {
+                breakpoint_locations(alloc, session.program(), name.whole, first, request)
+            }
+            Look::Completions => completions(alloc, session, self.client.first_column, request),
             Look::Program => Ok(program_view(alloc, session.program())?),
             Look::Counts => Ok(counts_view(alloc, session)?),
             Look::State => state_view(alloc, session, request),
@@ -60,12 +66,11 @@ impl Adapter<'_> {
         let alloc = self.alloc;
         match target {
             Target::Lines => {
-                let program = self.session.program();
                 let first = self.client.first;
                 self.points
-                    .set_lines(alloc, program, self.name.whole, first, request)
+                    .set_lines(alloc, &self.session, self.name.whole, first, request)
             }
-            Target::Instructions => self.points.set_instructions(alloc, request),
+            Target::Instructions => { self.points.set_instructions(alloc, &self.session, request) }
             Target::Data => self.points.set_data(alloc, &self.session, request),
             Target::Nothing => list_alone(alloc, "breakpoints", Vec::new(alloc)),
         }

@@ -1,7 +1,7 @@
 //! What was done is told: the request is answered, and then comes what the client has to know.
-#![tactic(auto, using(dap_message::proofs::Telling::telling, crate::proofs::RepliesLemmas::replying))]
+#![tactic(auto, using(dap_message::proofs::Telling::telling, crate::proofs::RepliesLemmas::replying, crate::proofs::EventLemmas::answering))]
 
-ghost use Rattle.std.specs.Prelude.{◌≡◌, Ok, IfOk, OnOk, None};
+ghost use Rattle.std.specs.Prelude.{◌≡◌, [], ◌∷◌, ◌++◌, Ok, IfOk, OnOk, None};
 ghost use Rattle.serde_json.specs.Data.{null};
 ghost use Rattle.dap_message.specs.Message.{waits, refusal_message, Adds};
 ghost use Rattle.dap_message.specs.Told.{response_to, done, Answers};
@@ -9,9 +9,12 @@ ghost use Rattle.mix_session.specs.Answer.{text_of};
 ghost use Rattle.mix_session.specs.Timeline.{world_of};
 ghost use Rattle.std.specs.Str.Lossy.{utf8_lossy};
 ghost use Rattle.mix_dap.specs.Answer.{act_body, value_body, result_body, result_text, continued};
-ghost use Rattle.mix_dap.specs.Replies.{Replies, answer_message};
+ghost use Rattle.mix_dap.specs.Events.{AddsAnswer, beginning, invalidated, stopped};
+ghost use Rattle.mix_dap.specs.Output.{all_told, outputs};
+ghost use Rattle.mix_dap.specs.Prints.{act_events, act_printed};
+ghost use Rattle.mix_dap.specs.Replies.{EndsWith, Replies, answer_message};
 ghost use Rattle.mix_dap.specs.Stays.{Keeps, ActTells, BeginTells, way_begun, way_of_act, word_at};
-ghost use Rattle.mix_dap.specs.Stopped.{end_of};
+ghost use Rattle.mix_dap.specs.Stopped.{end_of, stopped_message, why_of};
 ghost use Rattle.mix_dap.specs.Value.{value_asked, worth_asked};
 ghost use Rattle.mix_dap.specs.Fault.{fault_number, fault_text, fault_place};
 ghost use Rattle.mix_dap.specs.Told.{refused_for};
@@ -44,12 +47,12 @@ impl Adapter<'_> {
         ensures shows { OnOk result (Replies (answer_message request.now (Ok (act_body act answer request.now self.old.session))) out.old out.new) }
         ensures way { OnOk result (self.new.way ≡ way_of_act act self.old.stops self.new.session.timeline) }
         ensures tells { OnOk result (ActTells act answer (word_at self.old.points self.old.session.timeline) self.old.stops (waits out.new)) }
+        ensures prints { OnOk result (AddsAnswer (answer_message request.now (Ok (act_body act answer request.now self.old.session)))
+            (act_events act request.now answer (word_at self.old.points self.old.session.timeline) self.old.printed self.old.client self.old.stops (world_of self.old.session.timeline)) out.old out.new) }
+        ensures printed { OnOk result (self.new.printed ≡ act_printed act request.now self.old.printed (world_of self.old.session.timeline)) }
     {
         match act {
-            Act::Step | Act::StepBack => {
-                out.reply(request, nothing())?;
-                self.stop(end_of(answer), out)
-            }
+            Act::Step | Act::StepBack => self.tell_step(end_of(answer), request, out),
             Act::Continue => {
                 self.run(Way::Forth(None));
                 let mut body = Fields::new(self.alloc);
@@ -67,11 +70,13 @@ impl Adapter<'_> {
             }
             Act::Begin => {
                 out.reply(request, nothing())?;
-                self.begin(out)
+                self.begin(out)?;
+                Ok(())
             }
             Act::Goto => {
                 out.reply(request, nothing())?;
-                self.stopped("goto", None, out)
+                self.stopped("goto", None, out)?;
+                Ok(())
             }
             Act::SetVariable => {
                 let value = value_asked(self.alloc, self.session.world(), request)?;
@@ -86,15 +91,34 @@ impl Adapter<'_> {
         }
     }
 
+    // A step, which has ended so.
+    fn tell_step(&mut self, end: End, request: &Request, out: &mut Outbox) -> Result<(), Memory>
+        ensures keeps { Keeps self.old self.new }
+        ensures session { self.new.session ≡ self.old.session }
+        ensures answers { OnOk result (Answers (response_to request.now done) (waits out.old) (waits out.new)) }
+        ensures shows { OnOk result (Replies (answer_message request.now (Ok null)) out.old out.new) }
+        ensures way { OnOk result (self.new.way ≡ None) }
+        ensures tells { OnOk result (EndsWith (stopped_message (why_of (word_at self.old.points self.old.session.timeline) end)) (waits out.new)) }
+        ensures prints { OnOk result (AddsAnswer (answer_message request.now (Ok null)) (outputs self.old.printed (world_of self.old.session.timeline)
+            ++ stopped (why_of (word_at self.old.points self.old.session.timeline) end) ∷ []) out.old out.new) }
+        ensures printed { OnOk result (self.new.printed ≡ all_told (world_of self.old.session.timeline)) }
+    {
+        out.reply(request, nothing())?;
+        self.stop(end, out)?;
+        Ok(())
+    }
+
     // The value of what was set.
     fn tell_value(&self, value: &str, request: &Request, out: &mut Outbox) -> Result<(), Memory>
         ensures answers { OnOk result (Answers (response_to request.now done) (waits out.old) (waits out.new)) }
         ensures shows { OnOk result (Replies (answer_message request.now (Ok (value_body value.now))) out.old out.new) }
+        ensures prints { OnOk result (AddsAnswer (answer_message request.now (Ok (value_body value.now))) (invalidated self.now.client) out.old out.new) }
     {
         let mut body = Fields::new(self.alloc);
         body.text("value", value)?;
         out.reply(request, body.done())?;
-        self.invalidated(out)
+        self.invalidated(out)?;
+        Ok(())
     }
 
     // The reply to a line of the script, and what it has written.
@@ -110,6 +134,9 @@ impl Adapter<'_> {
         ensures answers { OnOk result (Answers (response_to request.now done) (waits out.old) (waits out.new)) }
         ensures shows { OnOk result (Replies (answer_message request.now (Ok (result_body (utf8_lossy (text_of answer self.old.session.program self.old.session.timeline))))) out.old out.new) }
         ensures way { self.new.way ≡ self.old.way }
+        ensures prints { OnOk result (AddsAnswer (answer_message request.now (Ok (result_body (utf8_lossy (text_of answer self.old.session.program self.old.session.timeline)))))
+            (outputs self.old.printed (world_of self.old.session.timeline) ++ invalidated self.old.client) out.old out.new) }
+        ensures printed { OnOk result (self.new.printed ≡ all_told (world_of self.old.session.timeline)) }
     {
         self.fault = None;
         let text = self.session.text(&answer)?;
@@ -124,6 +151,7 @@ impl Adapter<'_> {
     fn tell_worth(&self, request: &Request, out: &mut Outbox) -> Result<(), Memory>
         ensures answers { OnOk result (Answers (response_to request.now done) (waits out.old) (waits out.new)) }
         ensures shows { OnOk result (Replies (answer_message request.now (Ok (result_body (worth_asked self.now.session request.now)))) out.old out.new) }
+        ensures prints { OnOk result (AddsAnswer (answer_message request.now (Ok (result_body (worth_asked self.now.session request.now)))) [] out.old out.new) }
     {
         let text = worth_asked(self.alloc, &self.session, request)?;
         self.tell_result(text.as_str(), request, out)
@@ -132,11 +160,13 @@ impl Adapter<'_> {
     fn tell_result(&self, text: &str, request: &Request, out: &mut Outbox) -> Result<(), Memory>
         ensures answers { OnOk result (Answers (response_to request.now done) (waits out.old) (waits out.new)) }
         ensures shows { OnOk result (Replies (answer_message request.now (Ok (result_body text.now))) out.old out.new) }
+        ensures prints { OnOk result (AddsAnswer (answer_message request.now (Ok (result_body text.now))) [] out.old out.new) }
     {
         let mut body = Fields::new(self.alloc);
         body.text("result", text)?;
         body.number("variablesReference", 0)?;
-        out.reply(request, body.done())
+        out.reply(request, body.done())?;
+        Ok(())
     }
 
     // A request is refused, for this reason.
@@ -167,6 +197,8 @@ impl Adapter<'_> {
         ensures shows { OnOk result (Replies (answer_message request.now (Ok null)) out.old out.new) }
         ensures way { OnOk result (self.new.way ≡ way_begun self.old.stops) }
         ensures tells { OnOk result (BeginTells self.old.stops (waits out.new)) }
+        ensures prints { OnOk result (AddsAnswer (answer_message request.now (Ok null)) (outputs self.old.printed (world_of self.old.session.timeline) ++ beginning self.old.stops) out.old out.new) }
+        ensures printed { OnOk result (self.new.printed ≡ all_told (world_of self.old.session.timeline)) }
     {
         out.reply(request, nothing())?;
         self.printed.tell(self.alloc, self.session.world(), out)?;

@@ -6,11 +6,12 @@ ghost use Rattle.std.specs.List.{filter_map};
 ghost use Rattle.serde_json.specs.Data.{Data};
 ghost use Rattle.serde_json.specs.View.{view};
 ghost use Rattle.dap_message.specs.Fields.{members_in};
-ghost use Rattle.mix_dap.specs.Points.{asked_in, answer_by, verified, verified_at, unverified, line_asked, line_point, line_told, instruction_point, instruction_told, data_point, data_told, elsewhere};
+ghost use Rattle.mix_dap.specs.Points.{asked_in, answer_by, verified, verified_at, unverified, line_asked, line_point, line_told, instruction_cell, instruction_asked, instruction_point, instruction_told, data_point, data_told, elsewhere};
 
 use crate::layout::{cell_of_reference, reference_of};
 use crate::list::{add, list_alone};
 use crate::look::{line_for, source_line};
+use crate::points::breakpoint::{Breakpoint, Flaw, breakpoint_at};
 use crate::points::entry::{entries_of, integer_in, number_in, text_in};
 use crate::points::line::cell_of_line;
 use crate::watch::part_named;
@@ -18,7 +19,6 @@ use dap_message::{Fields, Request};
 use mix_machine::Place;
 use mix_refused::Memory;
 use mix_session::{Condition, Session};
-use mixal_asm::Program;
 use serde_json::Value;
 use std::alloc::Global;
 
@@ -65,55 +65,86 @@ pub(crate) fn set_all<K: PointKind>(
 /// Those of lines of the program, which the client counts from this first one on.
 #[derive(Clone, Copy)]
 pub(crate) struct Lines<'a, 's> {
-    pub program: &'a Program<'s>,
+    pub session: &'a Session<'s>,
     pub first: u64,
 }
 
 impl PointKind for Lines<'_, '_> {
-    type Point = Place;
+    type Point = Breakpoint;
 
-    ghost point = { λ kind. line_point kind.program.now kind.first };
+    ghost point = { λ kind. line_point kind.session.now kind.first };
 
-    ghost told = { λ kind entry. line_told kind.first (line_asked kind.program.now kind.first entry) };
+    ghost told = { λ kind entry. line_told kind.first (line_asked kind.session.now kind.first entry) };
 
-    fn add(&self, alloc: Global, entry: &Value, points: &mut Vec<Place>) -> Result<Value, Memory> {
-        let number = source_line(self.first, number_in("line", entry).unwrap_or(0));
-        match cell_of_line(self.program, number) {
-            Some((place, line)) => {
-                points.push(place)?;
-                let mut fields = verified_at(alloc, place)?;
+    fn add(
+        &self,
+        alloc: Global,
+        entry: &Value,
+        points: &mut Vec<Breakpoint>,
+    ) -> Result<Value, Memory> {
+        match line_asked(self.session, self.first, entry) {
+            Ok((breakpoint, line)) => {
+                let cell = breakpoint.cell;
+                points.push(breakpoint)?;
+                let mut fields = verified_at(alloc, cell)?;
                 fields.number("line", line_for(self.first, line))?;
                 Ok(fields.done())
             }
-            None => unverified(alloc, "no word from this line on"),
+            Err(flaw) => unverified(alloc, flaw.text()),
         }
     }
+}
+
+// One of a line, with the line of the word at its cell.
+fn line_asked(session: &Session, first: u64, entry: &Value) -> Result<(Breakpoint, u64), Flaw>
+    ensures { result ≡ line_asked session.now first (view entry.now) }
+{
+    let number = source_line(first, number_in("line", entry).unwrap_or(0));
+    let (cell, line) = cell_of_line(session.program(), number).ok_or(Flaw::NoWord)?;
+    let breakpoint = breakpoint_at(session, entry, cell)?;
+    Ok((breakpoint, line))
 }
 
 /// Those of instructions.
 #[derive(Clone, Copy)]
-pub(crate) struct Instructions;
+pub(crate) struct Instructions<'a, 's> {
+    pub session: &'a Session<'s>,
+}
 
-impl PointKind for Instructions {
-    type Point = Place;
+impl PointKind for Instructions<'_, '_> {
+    type Point = Breakpoint;
 
-    ghost point = { λ _. instruction_point };
+    ghost point = { λ kind. instruction_point kind.session.now };
 
-    ghost told = { λ _ entry. instruction_told (instruction_point entry) };
+    ghost told = { λ kind entry. instruction_told (instruction_asked kind.session.now entry) };
 
-    fn add(&self, alloc: Global, entry: &Value, points: &mut Vec<Place>) -> Result<Value, Memory> {
-        match instruction_point(entry) {
-            Some(place) => {
-                points.push(place)?;
-                Ok(verified_at(alloc, place)?.done())
+    fn add(
+        &self,
+        alloc: Global,
+        entry: &Value,
+        points: &mut Vec<Breakpoint>,
+    ) -> Result<Value, Memory> {
+        match instruction_asked(self.session, entry) {
+            Ok((breakpoint, cell)) => {
+                points.push(breakpoint)?;
+                Ok(verified_at(alloc, cell)?.done())
             }
-            None => unverified(alloc, "no such cell"),
+            Err(flaw) => unverified(alloc, flaw.text()),
         }
     }
 }
 
-fn instruction_point(entry: &Value) -> Option<Place>
-    ensures { result ≡ instruction_point (view entry.now) }
+// One of an instruction, with its cell.
+fn instruction_asked(session: &Session, entry: &Value) -> Result<(Breakpoint, Place), Flaw>
+    ensures { result ≡ instruction_asked session.now (view entry.now) }
+{
+    let cell = instruction_cell(entry).ok_or(Flaw::NoCell)?;
+    let breakpoint = breakpoint_at(session, entry, cell)?;
+    Ok((breakpoint, cell))
+}
+
+fn instruction_cell(entry: &Value) -> Option<Place>
+    ensures { result ≡ instruction_cell (view entry.now) }
 {
     let reference = text_in("instructionReference", entry)?;
     cell_of_reference(reference, integer_in("offset", entry).unwrap_or(0))
@@ -153,7 +184,7 @@ impl PointKind for Parts<'_, '_> {
 pub(crate) struct Other;
 
 impl PointKind for Other {
-    type Point = Place;
+    type Point = Breakpoint;
 
     ghost point = { λ _ _. None };
 
@@ -163,7 +194,7 @@ impl PointKind for Other {
         &self,
         alloc: Global,
         _entry: &Value,
-        _points: &mut Vec<Place>,
+        _points: &mut Vec<Breakpoint>,
     ) -> Result<Value, Memory> {
         unverified(alloc, "another source")
     }

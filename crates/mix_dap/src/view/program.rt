@@ -95,7 +95,7 @@ fn symbol_shown(alloc: Global, symbol: &Symbol, value: Word) -> Result<Value, Me
 }
 
 // The name of a symbol as a text.
-#[tactic(auto, using(crate::proofs::SymbolLemmas::ordinary_is_utf8))]
+#[tactic(auto, using(mix_session::proofs::SymbolLemmas::ordinary_is_utf8))]
 fn name_of(alloc: Global, symbol: &Symbol) -> Result<String, Memory>
     ensures { IfOk result (λ s. string_bytes s ≡ symbol.now) }
 {

@@ -1,4 +1,5 @@
-//! What is asked of a run: how many steps, the rows of which units, and whether a deck and cards are given.
+//! What is asked of a run: how many steps, the rows of which units, whether a deck, cards and lines for the typewriter are given, and whether its steps
+//! are traced.
 ghost use Rattle.std.specs.Prelude.{◌≡◌, true, false};
 
 /// The units whose rows are printed (1.3.1): of the card punch, unit 17, the printer, 18, the typewriter, 19, and the paper tape, 20, those that
@@ -40,4 +41,8 @@ pub struct PrintOptions {
     pub deck: bool,
     /// Whether the cards of unit 16 are read from a text of their own, in place of those of the deck.
     pub cards: bool,
+    /// Whether the lines that unit 19 reads come from a text of their own, instead of the deck.
+    pub typewriter: bool,
+    /// Whether the line of each step is written too.
+    pub trace: bool,
 }

@@ -9,8 +9,9 @@ ghost use Rattle.mix_run.specs.Print.{printed, printed_row, printed_from};
 ghost use Rattle.mix_run.specs.PrintSteps.{HasCounts, StepPrints, step_bytes, printed_after};
 
 use crate::fault::ToolFault;
-use crate::print::options::UnitSet;
+use crate::print::options::{PrintOptions, UnitSet};
 use crate::print::row::print_row;
+use crate::print::trace::{copied_if, print_line};
 use mix_machine::{Change, MixFault, Old, Row, Unit, UnitNo, World};
 use mix_stream::Out;
 use std::alloc::Global;
@@ -33,27 +34,36 @@ pub(crate) struct RowCounts {
     paper_tape: u16,
 }
 
-/// Does steps, up to a halt or a fault and so many at most, and writes what each prints as soon as it is done. It keeps nothing of the steps, so many
-/// take no more memory than few.
+// What is kept from one step to the next: room for what a step overwrites, and how many rows each unit has.
+#[derive(Drop)]
+struct Records {
+    kept: Kept<Old>,
+    rows: RowCounts,
+}
+
+/// Does steps, up to a halt or a fault and so many at most, and writes what each prints as soon as it is done, and before that its line, if they are
+/// traced. It keeps nothing of the steps, so many take no more memory than few.
 pub(super) fn print_steps<W: Out>(
     alloc: Global,
     world: &mut World,
-    steps: u64,
-    units: UnitSet,
+    options: PrintOptions,
     out: &mut W,
 ) -> Result<RunEnd, ToolFault>
     requires { W.failed out.old < 2 ^ 64 - 1 }
-    ensures printed { let run = printed units steps world.old in
+    ensures printed { let run = printed options 1 options.steps world.old in
         IfOk result (λ end. (end ≡ run.end) × (world.new ≡ run.world) × Appends (W.told out.old) (W.told out.new) run.bytes) }
-    ensures begun { AppendsFront (W.told out.old) (W.told out.new) (printed units steps world.old).bytes }
+    ensures begun { AppendsFront (W.told out.old) (W.told out.new) (printed options 1 options.steps world.old).bytes }
     ensures write { CountsFailure (result ≡ Err ToolFault.Write) (W.failed out.old) (W.failed out.new) }
     ensures only { IfErr result IsMemoryOrWrite }
 {
-    let mut kept = Kept::new(alloc);
-    let mut before = row_counts(world);
-    let mut left = steps;
+    let mut records = Records {
+        kept: Kept::new(alloc),
+        rows: row_counts(world),
+    };
+    let mut left = options.steps;
     while left > 0 {
-        match print_step(alloc, world, &mut kept, &mut before, units, out)? {
+        let number = options.steps - left + 1;
+        match print_step(alloc, world, &mut records, number, options, out)? {
             None => left -= 1,
             Some(end) => return Ok(end),
         }
@@ -61,32 +71,34 @@ pub(super) fn print_steps<W: Out>(
     Ok(RunEnd::UsedUp)
 }
 
-// One step, and what it prints; its end, if it ends the run. What it overwrote is forgotten before the next one.
+// The step of a number, its line, if it is traced, and what it prints; its end, if it ends the run. What it overwrote is forgotten before the next one.
 #[inline(always)]
 fn print_step<W: Out>(
     alloc: Global,
     world: &mut World,
-    kept: &mut Kept<Old>,
-    before: &mut RowCounts,
-    units: UnitSet,
+    records: &mut Records,
+    number: u64,
+    options: PrintOptions,
     out: &mut W,
 ) -> Result<Option<RunEnd>, ToolFault>
     requires count { W.failed out.old < 2 ^ 64 - 1 }
-    requires before { HasCounts world.old before.old }
-    ensures before { IfOk result (λ _. HasCounts world.new before.new) }
-    ensures printed { IfOk result (λ end. StepPrints units world.old world.new end (W.told out.old) (W.told out.new)) }
-    ensures begun { IfErr result (λ _. AppendsFront (W.told out.old) (W.told out.new) (step_bytes units world.old)) }
+    requires before { HasCounts world.old records.old.rows }
+    ensures before { IfOk result (λ _. HasCounts world.new records.new.rows) }
+    ensures printed { IfOk result (λ end. StepPrints options number world.old world.new end (W.told out.old) (W.told out.new)) }
+    ensures begun { IfErr result (λ _. AppendsFront (W.told out.old) (W.told out.new) (step_bytes options number world.old)) }
     ensures write { CountsFailure (result ≡ Err ToolFault.Write) (W.failed out.old) (W.failed out.new) }
     ensures only { IfErr result IsMemoryOrWrite }
 {
     let halts = world.next_is_halt();
-    kept.clear();
-    match world.apply(&Change::Step, kept) {
+    let was = copied_if(alloc, world, options.trace)?;
+    records.kept.clear();
+    match world.apply(&Change::Step, &mut records.kept) {
         Ok(()) => {}
         Err(Refused::Fault(fault)) => return Ok(Some(RunEnd::Faulted(fault))),
         Err(Refused::Memory) => return Err(ToolFault::Memory),
     }
-    print_new(alloc, world, before, units, out)?;
+    print_line(alloc, &was, world, number, out)?;
+    print_new(alloc, world, &mut records.rows, options.units, out)?;
     if halts {
         Ok(Some(RunEnd::Halted))
     } else {

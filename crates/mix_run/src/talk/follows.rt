@@ -1,7 +1,8 @@
 //! What follows the first word of a person's line, as the words of the line of a script that it stands for.
 
-ghost use Rattle.std.specs.Prelude.{◌≡◌, ◌++◌, ◌∷◌, [], OnOk, codes};
-ghost use Rattle.mix_run.specs.Person.{after_of, changes_of, is_register, limit_of, most_until, one_of, plain, plain_first, printed, range_of, shown, spaced, steps_of, until_of};
+ghost use Rattle.std.specs.Prelude.{◌≡◌, ◌++◌, ◌∷◌, [], OnOk, codes, if◌then◌else◌};
+ghost use Rattle.std.specs.Str.{str_eq_ignore_ascii_case};
+ghost use Rattle.mix_run.specs.Person.{after_of, changes_of, is_register, limit_of, most_until, one_of, plain, plain_conditions, plain_first, plain_words, printed, range_of, shown, spaced, steps_of, until_of};
 
 use crate::talk::person::{PersonWord, is_beginning};
 use crate::talk::shown::{put_printed, put_shown, put_topic};
@@ -66,9 +67,35 @@ fn put_plain(text: &mut Vec<u8>, words: &mut Words) -> Result<(), Memory>
     }
 }
 
+// The first word of a condition may be a register; any other is as it is.
+fn first_plain(is_first: bool, word: &[u8]) -> &[u8]
+    ensures { result.now ≡ (if is_first then plain word.now else word.now) }
+{
+    if is_first { plain(word) } else { word }
+}
+
+// Whether a word is `or`, in capitals or small letters.
+fn is_or(word: &[u8]) -> bool
+    ensures { result ≡ str_eq_ignore_ascii_case word.now (codes "or") }
+{
+    word.eq_ignore_ascii_case(b"or")
+}
+
+// The words that are left, conditions with `or` between them, of each of which the first may be a register.
+fn put_conditions(text: &mut Vec<u8>, words: &mut Words) -> Result<(), Memory>
+    ensures { OnOk result (text.new.items ≡ text.old.items ++ spaced (plain_conditions words.old)) }
+{
+    let mut is_first = true;
+    while let Some(word) = words.next() {
+        put(text, first_plain(is_first, word))?;
+        is_first = is_or(word);
+    }
+    Ok(())
+}
+
 // A word, read as `until` where it begins that, and the words after it.
 fn put_until(text: &mut Vec<u8>, word: &[u8], words: &mut Words) -> Result<(), Memory>
-    ensures { OnOk result (text.new.items ≡ text.old.items ++ spaced (until_of word.now ∷ plain_first words.old)) }
+    ensures { OnOk result (text.new.items ≡ text.old.items ++ spaced (until_of word.now ∷ plain_conditions words.old)) }
 {
     put(
         text,
@@ -78,7 +105,7 @@ fn put_until(text: &mut Vec<u8>, word: &[u8], words: &mut Words) -> Result<(), M
             word
         },
     )?;
-    put_plain(text, words)
+    put_conditions(text, words)
 }
 
 // What is watched, from its `until` on.
@@ -117,13 +144,13 @@ fn put_limit(text: &mut Vec<u8>, watch: &[u8], words: &mut Words) -> Result<(), 
     }
 }
 
-// As many steps as one command may do, until a condition is met.
+// As many steps as one command may do, until a condition is met, or one of several.
 fn put_most_until(text: &mut Vec<u8>, words: &mut Words) -> Result<(), Memory>
     ensures { OnOk result (text.new.items ≡ text.old.items ++ most_until words.old) }
 {
     put(text, b"1000000")?;
     put(text, b"until")?;
-    put_plain(text, words)
+    put_conditions(text, words)
 }
 
 fn put_steps(text: &mut Vec<u8>, watch: &[u8], words: &mut Words) -> Result<(), Memory>

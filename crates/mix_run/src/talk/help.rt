@@ -8,7 +8,7 @@ show                 shows the machine, its code, its past, counts
 quit                 ends the session
 Beginnings will do: s for step, b for break, ba for back, u for until; n is step too, c is run.
 back and forth alone take 1, run alone 1000000. Who wrote cell 100? run, then back until cell 100.
-watch COND stops run, back and forth at that from now on; delete forgets it.
+watch COND stops run, back and forth at that from now on; delete forgets all.
 print shows a register, cell E or a word W; list shows the source, where what comes next.
 display shows what print shows after each stop; undisplay ends that.
 help COMMAND explains one, as help back. A blank line repeats the last step or back.
@@ -69,14 +69,15 @@ show code [E E]  the cell at the location, or cells: word, instruction, line of 
 show value W     a word as bytes, as a number and in characters
 show values [E E]  the registers, or cells, in the same way
 show last N      what the last N changes altered
+show writes COND  each change done that reaches COND, and what it altered, the first one first
 show diff N      what differs between the state after N changes and now
 show counts      how often each instruction was executed, and the time that it took
 show clock, show breaks, show changes, show symbols
 ";
 
 const SHOW_TAKES: &str = "\
-show takes regs, all, cells E E, unit N, code, value W, values, last N, diff N, counts,
-clock, breaks, changes or symbols
+show takes regs, all, cells E E, unit N, code, value W, values, last N, writes COND, diff N,
+counts, clock, breaks, changes or symbols
 ";
 
 const WATCH_TAKES: &str = "watch takes COND: a register, over, cmp, cell E, unit N or loc E\n";
@@ -97,7 +98,8 @@ list LINE        shows those around a line, or around the line of a symbol
 const WATCH: &str = "\
 watch COND       run stops there too from now on, back and forth alone go up to it: until COND
 delete           nothing is watched any more
-One condition can be watched. COND is as after until; help until says more.
+Each watch adds to what is watched, up to eight conditions. COND is as after until; help until
+says more.
 ";
 
 const DISPLAY: &str = "\
@@ -110,7 +112,8 @@ const LIST: &str = "list takes the number of a line, a symbol, or nothing\n";
 
 const UNTIL: &str = "\
 COND is a register, over, cmp, cell E, unit N or loc E: a change reaches it by altering what it names,
-or by leading to location E. As: run 1000 until A, back until cell 100.
+or by leading to location E. As: run 1000 until A, back until cell 100. Up to eight may be joined
+by or: run 1000 until A or loc LOOP ends with the first step that reaches one of them.
 ";
 
 const NONE: &str = "There is no help on that; help alone names the commands.\n";

@@ -1,16 +1,17 @@
 //! What a talk recalls of a person's lines, and what it reads them with.
 
-ghost use Rattle.std.specs.Prelude.{◌≡◌, [], IfOk, OnOk};
-ghost use Rattle.mix_run.specs.Recall.{nothing, recalled_after, recalled_display, recalled_watch};
+ghost use Rattle.std.specs.Prelude.{◌≡◌, ◌≤◌, ◌++◌, [], IfOk, OnOk};
+ghost use Rattle.mix_session.specs.Conditions.{most_conditions};
+ghost use Rattle.mix_run.specs.Recall.{nothing, recalled_after, recalled_display, recalled_watch, watched_after, watched_by, watched_more};
 ghost use Rattle.mix_session.specs.Session.{request_in};
-ghost use Rattle.mix_run.specs.Person.{person_line, watched_in};
+ghost use Rattle.mix_run.specs.Person.{condition_in, person_line, watched_in};
 
 use crate::talk::aside::{After, say, tell_shown};
 use crate::talk::help::form_of;
 use crate::talk::listing::list;
 use crate::talk::person::person_line;
 use mix_refused::Memory;
-use mix_session::Session;
+use mix_session::{Conditions, Request, Session};
 use mix_stream::Out;
 use std::alloc::Global;
 use std::marker::Model;
@@ -23,12 +24,15 @@ pub(crate) struct Recall<'s> {
     source: &'s [u8],
     again: Vec<u8>,
     watch: Vec<u8>,
+    watched: usize,
     displays: Vec<u8>,
 }
 
-const WATCHED: &str = "watch takes one condition; delete forgets it\n";
+const WATCHED: &str = "watch takes no more than eight conditions; delete forgets them\n";
 
 const RUN_LEN: usize = 11;
+
+const UNTIL_LEN: usize = 17;
 
 // What is watched, of a line that runs until it: from its `until` on.
 fn watched_in(line: &[u8]) -> &[u8]
@@ -37,12 +41,38 @@ fn watched_in(line: &[u8]) -> &[u8]
     &line[RUN_LEN.min(line.len())..]
 }
 
+// The same from what follows `until` on.
+fn condition_in(line: &[u8]) -> &[u8]
+    ensures { result.now ≡ condition_in line.now }
+{
+    &line[UNTIL_LEN.min(line.len())..]
+}
+
+// Appends what a line asks for to what is watched: after the word `or`, where something is.
+fn put_watched(watch: &mut Vec<u8>, line: &[u8]) -> Result<(), Memory>
+    ensures { OnOk result (watch.new.items ≡ watched_after watch.old.items line.now) }
+{
+    match watch.split_first() {
+        None => watch.extend_from_slice(watched_in(line))?,
+        Some(_) => {
+            watch.extend_from_slice(b" or")?;
+            watch.extend_from_slice(condition_in(line))?;
+        }
+    }
+    Ok(())
+}
+
 impl<'s> Model for Recall<'s> {
     ghost use Rattle.mix_run.specs.Recall.{RecallState};
 
     ghost Value = { RecallState };
 
-    ghost view = { λ r. record { again = r.again.items; watch = r.watch.items; displays = r.displays.items } };
+    ghost view = { λ r. record { again = r.again.items; watch = r.watch.items; watched = r.watched; displays = r.displays.items } };
+
+    ghost use Rattle.std.specs.Prelude.{◌≤◌};
+    ghost use Rattle.mix_session.specs.Conditions.{most_conditions};
+
+    ghost invariant = { λ r. r.watched ≤ most_conditions };
 }
 
 impl<'s> Recall<'s> {
@@ -54,6 +84,7 @@ impl<'s> Recall<'s> {
             source,
             again: Vec::new(alloc),
             watch: Vec::new(alloc),
+            watched: 0,
             displays: Vec::new(alloc),
         }
     }
@@ -79,7 +110,7 @@ impl<'s> Recall<'s> {
         list(self.alloc, session, self.source, line, errors)
     }
 
-    /// What a line asks for is watched, if it has a condition, and nothing is watched yet; a person is told what is not.
+    /// What a line asks for is watched too, if it has conditions, and there are then no more than eight; a person is told what is not.
     pub(crate) fn watch<E: Out>(
         &mut self,
         session: &Session,
@@ -88,22 +119,49 @@ impl<'s> Recall<'s> {
     ) -> Result<(), Memory>
         ensures { OnOk result (self.new ≡ recalled_watch (request_in session.now line.now) line.now self.old) }
     {
-        if session.read(line).is_err() {
-            say(form_of(Some(b"watch")), errors);
-        } else {
-            match self.watch.split_first() {
-                Some(_) => say(WATCHED, errors),
-                None => self.watch.extend_from_slice(watched_in(line))?,
-            }
+        match session.read(line) {
+            Ok(request) => self.watch_request(request, line, errors)?,
+            Err(_) => say(form_of(Some(b"watch")), errors),
         }
+        Ok(())
+    }
+
+    fn watch_request<E: Out>(
+        &mut self,
+        request: Request,
+        line: &[u8],
+        errors: &mut E,
+    ) -> Result<(), Memory>
+        ensures { OnOk result (self.new ≡ watched_by request line.now self.old) }
+    {
+        match request {
+            Request::RunUntil(_, conditions) => self.watch_more(conditions.len(), line, errors)?,
+            _ => {}
+        }
+        Ok(())
+    }
+
+    // So many conditions more are watched, if there are then no more than eight.
+    fn watch_more<E: Out>(&mut self, more: usize, line: &[u8], errors: &mut E) -> Result<(), Memory>
+        requires { more ≤ most_conditions }
+        ensures { OnOk result (self.new ≡ watched_more more line.now self.old) }
+    {
+        let watched = self.watched + more;
+        if watched > Conditions::MOST {
+            say(WATCHED, errors);
+            return Ok(());
+        }
+        put_watched(&mut self.watch, line)?;
+        self.watched = watched;
         Ok(())
     }
 
     /// Nothing is watched any more.
     pub(crate) fn delete(&mut self)
-        ensures { self.new ≡ record self.old { watch = [] } }
+        ensures { self.new ≡ record self.old { watch = []; watched = 0 } }
     {
         self.watch.clear();
+        self.watched = 0;
     }
 
     /// What a line asks for is shown, now and after each stop, if it is there to be shown.

@@ -7,13 +7,15 @@ ghost use Rattle.mix_session.specs.Stops.{no_stops, at_breaks, at_breaks_or};
 ghost use Rattle.mix_session.specs.Marks.{AreMarks, HasMoved};
 
 use crate::answer::Answer;
-use crate::command::stops::{Stops, Way, end_of_move};
+use crate::command::stops::{Stops, Way, end_of_move, marks_at};
 use crate::condition::Condition;
+use crate::conditions::Conditions;
 use crate::reply::End;
 use mix_machine::{Change, Mark, World, mark_law};
 use undo_core::{Journal, Memory, Refused};
 
-// New steps, which something may stop.
+// New steps, which something may stop. (Inlined, so that the loop of a command asks only for what stops that command.)
+#[inline(always)]
 fn ran(
     journal: &mut Journal<World>,
     count: u32,
@@ -41,16 +43,17 @@ pub(crate) fn run(journal: &mut Journal<World>, count: u32) -> Result<Answer, Me
     ran(journal, count, &stops_at(true, &[]), &mut [])
 }
 
-/// `run N until COND`.
+/// `run N until COND`, with one condition or several.
 pub(crate) fn run_until(
     journal: &mut Journal<World>,
     count: u32,
-    condition: Condition,
+    conditions: &Conditions,
 ) -> Result<Answer, Memory>
-    ensures { HasEffect (effect_of_run Way.New (at_breaks_or condition) journal.old count) journal.old journal.new result }
+    ensures { HasEffect (effect_of_run Way.New (at_breaks_or conditions.now) journal.old count) journal.old journal.new result }
 {
-    let mut marks = [journal.state().mark(condition.watched())];
-    ran(journal, count, &stops_at(true, &[condition]), &mut marks)
+    let mut marks = marks_at(conditions, journal.state());
+    let stops = stops_at(true, conditions.as_slice());
+    ran(journal, count, &stops, &mut marks[..conditions.len()])
 }
 
 /// `trace N`.
@@ -74,6 +77,7 @@ pub(crate) fn back_break(journal: &mut Journal<World>) -> Answer
 }
 
 // What stops the commands of a script: breakpoints, or not, and what is waited for.
+#[inline(always)]
 fn stops_at<'a>(breaks: bool, watched: &'a [Condition]) -> Stops<'a>
     ensures { result ≡ record { breaks = breaks; cells = []; watched = watched.entry.now; location = None } }
 {

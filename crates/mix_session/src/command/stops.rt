@@ -1,6 +1,6 @@
 //! What stops a run, and which way it goes.
 
-ghost use Rattle.std.specs.Prelude.{◌≡◌, ◌==◌, IfOk, Some, None, length, if◌then◌else◌};
+ghost use Rattle.std.specs.Prelude.{◌≡◌, ◌==◌, IfOk, Some, None, length, take, if◌then◌else◌};
 ghost use Rattle.std.specs.List.{list_any};
 ghost use Rattle.std.specs.Option.{option_or};
 ghost use Rattle.mix_session.specs.Timeline.{is_at_break};
@@ -9,8 +9,9 @@ ghost use Rattle.mix_session.specs.Stops.{is_at_stop, is_awaited};
 ghost use Rattle.mix_session.specs.Marks.{AreMarks, first_met, end_by_marks};
 
 use crate::condition::Condition;
+use crate::conditions::Conditions;
 use crate::reply::End;
-use mix_machine::{Mark, Place, World};
+use mix_machine::{Mark, Part, Place, World};
 use std::alloc::Global;
 use std::marker::Model;
 use undo_core::Memory;
@@ -62,7 +63,20 @@ pub(crate) fn marks_of(
     Ok(marks)
 }
 
+/// The marks of some conditions, which are the first of these marks.
+pub(crate) fn marks_at(conditions: &Conditions, world: &World) -> [Mark; Conditions::MOST]
+    ensures { AreMarks conditions.now (take (length conditions.now) result) world.now }
+{
+    let watched = conditions.as_slice();
+    let mut marks = [world.mark(Part::Clock); Conditions::MOST];
+    for index in 0..watched.len() {
+        marks[index] = world.mark(watched[index].watched());
+    }
+    marks
+}
+
 /// Why a run ends after a change, if it does, by the marks before it, which are made those after it.
+#[inline(always)]
 pub(crate) fn end_of_move(
     halts: bool,
     stops: &Stops<'_>,
@@ -84,6 +98,7 @@ pub(crate) fn end_of_move(
 }
 
 // Why a run ends at a state, whichever change led there.
+#[inline(always)]
 fn end_there(stops: &Stops<'_>, world: &World) -> Option<End>
     ensures { result ≡ end_there stops.now world.now }
 {
@@ -97,6 +112,7 @@ fn end_there(stops: &Stops<'_>, world: &World) -> Option<End>
 }
 
 // Whether the machine is at a cell where the run stops.
+#[inline(always)]
 fn is_at_stop(stops: &Stops<'_>, world: &World) -> bool
     ensures { result ≡ is_at_stop stops.now world.now }
 {
@@ -104,6 +120,7 @@ fn is_at_stop(stops: &Stops<'_>, world: &World) -> bool
 }
 
 // Whether the location is a cell that has a breakpoint.
+#[inline(always)]
 fn is_at_break(world: &World) -> bool
     ensures { result ≡ is_at_break world.now }
 {
@@ -114,6 +131,7 @@ fn is_at_break(world: &World) -> bool
 }
 
 // Whether a location is one of some cells.
+#[inline(always)]
 fn has_cell(cells: &[Place], loc: u16) -> bool
     ensures { result ≡ list_any (λ p. p == loc) cells.now }
 {
@@ -121,6 +139,7 @@ fn has_cell(cells: &[Place], loc: u16) -> bool
 }
 
 // Whether the location is the one that is waited for.
+#[inline(always)]
 fn is_awaited(location: Option<u16>, world: &World) -> bool
     ensures { result ≡ is_awaited location world.now }
 {
@@ -130,8 +149,9 @@ fn is_awaited(location: Option<u16>, world: &World) -> bool
     }
 }
 
-// The first of the conditions that a change meets, by the marks before it, which are made those after it.
-fn first_met(watched: &[Condition], marks: &mut [Mark], world: &World) -> Option<usize>
+/// The first of the conditions that a change meets, by the marks before it, which are made those after it.
+#[inline(always)]
+pub(crate) fn first_met(watched: &[Condition], marks: &mut [Mark], world: &World) -> Option<usize>
     requires { length watched.now ≡ length marks.old }
     ensures first { result ≡ first_met 0 watched.now marks.old world.now }
     ensures marks { AreMarks watched.now marks.new world.now }

@@ -1,14 +1,12 @@
-//! What `set` sets, and what is waited for after `until`.
+//! What `set` sets.
 
 ghost use Rattle.std.specs.Prelude.{◌≡◌, Ok, Err};
-ghost use Rattle.mix_session.specs.Setting.{condition_alone, condition_in, change_of, change_in, one_value, setting_of};
+ghost use Rattle.mix_session.specs.Setting.{change_of, change_in, one_value, setting_of};
 
-use crate::condition::Condition;
 use crate::fault::Refusal;
-use crate::keyword::{SetWord, UntilWord};
+use crate::keyword::SetWord;
 use crate::request::operand::{
-    expression_in, first_keyword, keyword, no_word, one_place, one_unit, one_word, place_of,
-    two_words, word_in,
+    expression_in, first_keyword, keyword, one_place, one_word, place_of, two_words, word_in,
 };
 use mix_lines::Words;
 use mix_machine::{Change, Part, Word};
@@ -68,37 +66,4 @@ fn read_cell<N: Names>(words: &mut Words, names: &N, here: Word) -> Result<Chang
     let at = expression_in(at, names, here)?;
     let value = word_in(value, names, here)?;
     Ok(Change::SetCell(place_of(at)?, value))
-}
-
-/// What is waited for.
-#[tactic(auto, unfolding(crate::specs::Setting::condition_in))]
-pub(crate) fn read_condition<N: Names>(
-    words: &mut Words,
-    names: &N,
-    here: Word,
-) -> Result<Condition, Refusal>
-    ensures { result ≡ condition_in (N.names names.now) here words.old }
-{
-    let word: UntilWord = first_keyword(words)?;
-    match word {
-        UntilWord::Set(SetWord::Register(register)) => {
-            condition_alone(Condition::Alters(Part::Register(register)), words)
-        }
-        UntilWord::Set(SetWord::Toggle) => condition_alone(Condition::Alters(Part::Over), words),
-        UntilWord::Set(SetWord::Indicator) => condition_alone(Condition::Alters(Part::Cmp), words),
-        UntilWord::Set(SetWord::Cell) => {
-            let place = one_place(words, names, here)?;
-            Ok(Condition::Alters(Part::Cell(place)))
-        }
-        UntilWord::Set(SetWord::Location) => Ok(Condition::At(one_place(words, names, here)?)),
-        UntilWord::Unit => Ok(Condition::Alters(Part::Unit(one_unit(words)?))),
-    }
-}
-
-// A condition after which no word is left.
-fn condition_alone(condition: Condition, words: &mut Words) -> Result<Condition, Refusal>
-    ensures { result ≡ condition_alone condition words.old }
-{
-    no_word(words)?;
-    Ok(condition)
 }

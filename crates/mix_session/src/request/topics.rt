@@ -1,21 +1,23 @@
 //! What `show` is to show: its keywords, and the words that each takes after it.
 
 ghost use Rattle.std.specs.Prelude.{◌≡◌, Ok, Err, refl};
-ghost use Rattle.mix_session.specs.ShowRequest.{show_name, all_shows, last_topic, diff_topic, alone, range_of, cells_of, code_of, values_of, value_of, unit_topic, topic_in};
+ghost use Rattle.mix_session.specs.ShowRequest.{show_name, all_shows, last_topic, writes_topic, diff_topic, alone, range_of, cells_of, code_of, values_of, value_of, unit_topic, topic_in};
 ghost use Rattle.mix_session.specs.declared.request.topics.ShowWord.TheVariants as show;
 
+use crate::condition::Condition;
 use crate::fault::Refusal;
 use crate::keyword::Keyword;
 use crate::request::operand::{
     expression_in, first_keyword, from_one, no_word, number_in, one_unit, one_word, place_of,
     two_words, word_in,
 };
+use crate::request::until::read_condition;
 use mix_lines::Words;
 use mix_machine::{Place, UnitNo, Word};
 use mixal_text::Names;
 
 /// What `show` shows. `Cells`, `Code` and `CellValues` have the first and the last cell, `Last` the
-/// number of changes, `Diff` the number of changes after which the other state is taken.
+/// number of changes, `Writes` the condition that they meet, `Diff` the number of changes after which the other state is taken.
 #[derive(Clone, Copy)]
 pub enum Topic {
     Registers,
@@ -31,13 +33,14 @@ pub enum Topic {
     CellValues(Place, Place),
     Symbols,
     Last(u64),
+    Writes(Condition),
     Diff(u64),
     Counts,
 }
 
 /// What `show` may show.
 #[derive(Clone, Copy)]
-enum ShowWord {
+pub(crate) enum ShowWord {
     Registers,
     Cells,
     Clock,
@@ -50,6 +53,7 @@ enum ShowWord {
     Values,
     Symbols,
     Last,
+    Writes,
     Diff,
     Counts,
 }
@@ -73,6 +77,7 @@ impl Keyword for ShowWord {
             ShowWord::Values => "values",
             ShowWord::Symbols => "symbols",
             ShowWord::Last => "last",
+            ShowWord::Writes => "writes",
             ShowWord::Diff => "diff",
             ShowWord::Counts => "counts",
         }
@@ -84,11 +89,11 @@ impl Keyword for ShowWord {
             ShowWord::Registers, ShowWord::Cells, ShowWord::Clock, ShowWord::Breaks,
             ShowWord::Changes, ShowWord::Unit, ShowWord::All, ShowWord::Code,
             ShowWord::Value, ShowWord::Values, ShowWord::Symbols,
-            ShowWord::Last, ShowWord::Diff, ShowWord::Counts,
+            ShowWord::Last, ShowWord::Writes, ShowWord::Diff, ShowWord::Counts,
         ]
     }
 
-    ghost named = { elim [ show.Registers ↦ refl | show.Cells ↦ refl | show.Clock ↦ refl | show.Breaks ↦ refl | show.Changes ↦ refl | show.Unit ↦ refl | show.All ↦ refl | show.Code ↦ refl | show.Value ↦ refl | show.Values ↦ refl | show.Symbols ↦ refl | show.Last ↦ refl | show.Diff ↦ refl | show.Counts ↦ refl ] };
+    ghost named = { elim [ show.Registers ↦ refl | show.Cells ↦ refl | show.Clock ↦ refl | show.Breaks ↦ refl | show.Changes ↦ refl | show.Unit ↦ refl | show.All ↦ refl | show.Code ↦ refl | show.Value ↦ refl | show.Values ↦ refl | show.Symbols ↦ refl | show.Last ↦ refl | show.Writes ↦ refl | show.Diff ↦ refl | show.Counts ↦ refl ] };
 }
 
 #[tactic(auto, unfolding(crate::specs::ShowRequest::topic_in))]
@@ -113,6 +118,7 @@ pub(crate) fn read_topic<N: Names>(
         ShowWord::Values => read_values(words, names, here),
         ShowWord::Symbols => alone(Topic::Symbols, words),
         ShowWord::Last => read_last(words),
+        ShowWord::Writes => read_writes(words, names, here),
         ShowWord::Diff => read_diff(words),
         ShowWord::Counts => alone(Topic::Counts, words),
     }
@@ -182,6 +188,13 @@ fn read_last(words: &mut Words) -> Result<Topic, Refusal>
 {
     let count = from_one(number_in(one_word(words)?)?)?;
     Ok(Topic::Last(count))
+}
+
+fn read_writes<N: Names>(words: &mut Words, names: &N, here: Word) -> Result<Topic, Refusal>
+    ensures { result ≡ writes_topic (N.names names.now) here words.old }
+{
+    let condition = read_condition(words, names, here)?;
+    Ok(Topic::Writes(condition))
 }
 
 fn read_diff(words: &mut Words) -> Result<Topic, Refusal>

@@ -1,78 +1,18 @@
 //! The lines of the changes: what each did, and what it altered.
 
-ghost use Rattle.std.specs.Prelude.{◌≡◌, ◌<◌, ◌+◌, ◌++◌, Some, OnOk, IfOk, length, reverse, take, string_bytes};
-ghost use Rattle.undo_core.specs.Replay.{replay, TakesBack};
-ghost use Rattle.mix_machine.specs.Do.{does};
-ghost use Rattle.mix_machine.specs.Write.{put_value};
+ghost use Rattle.std.specs.Prelude.{◌≡◌, ◌+◌, ◌++◌, OnOk, IfOk, length, string_bytes};
 ghost use Rattle.mix_machine.specs.declared.old.Change.TheVariants.{Step};
-ghost use Rattle.mix_session.specs.Change.{change_at, change_text, change_columns, change_line, change_line_at, last_lines, diff_text};
+ghost use Rattle.mix_session.specs.Change.{change_at, change_text, change_columns, change_line, change_line_at, diff_text};
 ghost use Rattle.mix_session.specs.Differences.{differences};
 
 use crate::altered::{Worlds, alterations, altered_by};
 use crate::show::columns::{add_left, add_right};
 use crate::show::differences::{add_item_columns, add_item_lines};
-use crate::timeline::{earlier, unwind, world_at, world_of};
-use mix_machine::{Change, Old, Place, World};
+use crate::timeline::{world_at, world_of};
+use mix_machine::{Change, Place, World};
 use mix_word::{Instruction, Location};
 use std::alloc::{AllocError, Global};
-use undo_core::{Journal, Memory, Values};
-
-/// The lines of the last changes that are done, or of all where there are fewer. They are told from now backwards, by what the journal keeps: no
-/// change is done again.
-pub(crate) fn last_lines(
-    alloc: Global,
-    journal: &Journal<World>,
-    count: u64,
-) -> Result<Vec<u8>, Memory>
-    ensures { IfOk result (λ text. text.items ≡ last_lines journal.now count) }
-{
-    let done = journal.done();
-    let first = done.saturating_sub(count as usize);
-    let mut text = Vec::new(alloc);
-    if first == done {
-        return Ok(text);
-    }
-    let (mut before, mut after) = (
-        journal.state().copied(alloc)?,
-        journal.state().copied(alloc)?,
-    );
-    let mut past = journal.past();
-    let mut number = done;
-    while number > first {
-        number -= 1;
-        let values = earlier(journal, &mut past, number);
-        add_line_before(&mut text, journal, number, &values, &mut before, &mut after)?;
-    }
-    text.reverse();
-    Ok(text)
-}
-
-// Appends the line of the change after the first ones that are done, its last byte first. Two machines as they were after it are led back to
-// before it, by the values that it overwrote.
-fn add_line_before(
-    text: &mut Vec<u8>,
-    journal: &Journal<World>,
-    number: usize,
-    values: &Values<'_, Old>,
-    before: &mut World,
-    after: &mut World,
-) -> Result<(), Memory>
-    requires within { number < length journal.now.changes }
-    requires back { TakesBack does put_value journal.now.first journal.now.changes number values.now }
-    requires before { replay does journal.now.first (take (number + 1) journal.now.changes) ≡ Some before.old }
-    requires after { replay does journal.now.first (take (number + 1) journal.now.changes) ≡ Some after.old }
-    ensures before { OnOk result (replay does journal.now.first (take number journal.now.changes) ≡ Some before.new) }
-    ensures after { OnOk result (replay does journal.now.first (take number journal.now.changes) ≡ Some after.new) }
-    ensures text { OnOk result (text.new.items ≡ text.old.items ++ reverse (change_line_at journal.now (number + 1))) }
-{
-    unwind(journal, number, values, before);
-    let change = journal.changes().at(number);
-    let alloc = *text.allocator();
-    let line = line_of(alloc, number + 1, &change, Worlds { before, after })?;
-    add_reversed(text, &line)?;
-    unwind(journal, number, values, after);
-    Ok(())
-}
+use undo_core::{Journal, Memory};
 
 /// The line of the next change ahead.
 pub(crate) fn next_line(alloc: Global, journal: &Journal<World>) -> Result<Vec<u8>, Memory>
@@ -99,21 +39,9 @@ pub(crate) fn next_change(journal: &Journal<World>) -> Change
     }
 }
 
-// Appends bytes, the last one first.
-fn add_reversed(text: &mut Vec<u8>, bytes: &[u8]) -> Result<(), AllocError>
-    ensures { OnOk result (text.new.items ≡ text.old.items ++ reverse bytes.now) }
-{
-    let mut left = bytes.len();
-    while left > 0 {
-        left -= 1;
-        text.push(bytes[left])?;
-    }
-    Ok(())
-}
-
-// The line of a change of a number.
+/// The line of a change of a number.
 #[tactic(auto, unfolding(crate::specs::Change::change_line))]
-fn line_of(
+pub(crate) fn line_of(
     alloc: Global,
     number: usize,
     change: &Change,

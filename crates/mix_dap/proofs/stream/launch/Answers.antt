@@ -1,8 +1,9 @@
 -- What comes before a launch, the launch, and what comes after it are one part of a dialogue.
-use Rattle.std.proofs.Common.{Ok, Err, sym, ◌∙◌}
+use Rattle.std.proofs.Common.{Ok, Err, inr, sym, ◌∙◌}
 use Rattle.std.proofs.lemmas.Result.{err_from_is_err_and}
 use Rattle.mix_dap.proofs.BeforeLemmas.{before-broken, before-done, texts-left}
-use Rattle.mix_dap.proofs.DialogueLemmas.{answer-broken, debug-broken, debug-done, launch-done, launch-refused}
+use Rattle.mix_dap.proofs.DialogueLemmas.{debug-broken, debug-done, launch-done, launch-refused}
+use Rattle.mix_dap.proofs.LaunchLemmas.{launch-broken, launch-unsent}
 use Rattle.mix_dap.proofs.TalkLemmas.{counted-later, none-counted}
 use Rattle.mix_dap.proofs.stream.launch.Goals as goal
 
@@ -22,12 +23,16 @@ unreachable-requires g c =
 pub returns-in_err-opened-in-Some-clause-part : goal.returns-in_err-opened-in-Some-clause-part
 returns-in_err-opened-in-Some-clause-part g c =
     let p = err_from_is_err_and c.from_residual-in_err-opened-in-Some.result c.from_residual-in_err-opened-in-Some.ensures.1 in
-    rw (p.1, p.2) tt
+    rw (p.1, p.2)
+    (inr (launch-unsent _ _ _ c.in-Left.request c.args.before.now c.with.new.served _ _ _ _ _ c.in-Left.is c.in_ok-with.ensures.talked))
 
 pub returns-in_err-send-in-Some-clause-part : goal.returns-in_err-send-in-Some-clause-part
 returns-in_err-send-in-Some-clause-part g c =
     let p = err_from_is_err_and c.from_residual-in_err-send-in-Some.result c.from_residual-in_err-send-in-Some.ensures.1 in
-    rw (p.1, p.2) (answer-broken _ _ _ _ _ c.in_err-send-in-Some.ensures.only)
+    rw (p.1, p.2)
+    (launch-broken _ _ _ c.in-Left.request c.args.before.now c.with.new.served c.in-Some.texts c.in_ok-opened-in-Some.opened _ _ _ _ _ _ _ _ c.in-Left.is
+    c.in_ok-with.ensures.talked (sym c.take.ensures.value ∙ c.in-Some.is) c.in_ok-opened-in-Some.ensures.refused c.in_ok-opened-in-Some.ensures.opened
+    c.in_ok-opened-in-Some.ensures.rests c.in_ok-opened-in-Some.ensures.answers c.in_err-send-in-Some.ensures.begun c.in_err-send-in-Some.ensures.only)
 
 pub returns-in-None-opened-clause-part : goal.returns-in-None-opened-clause-part
 returns-in-None-opened-clause-part g c =

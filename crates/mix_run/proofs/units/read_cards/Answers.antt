@@ -2,7 +2,7 @@
 use Rattle.std.proofs.Common.{◌∙◌}
 use Rattle.std.proofs.lemmas.Result.{err_from_is_err_and}
 use Rattle.mix_machine.specs.units.deck.Deck.{cards_of}
-use Rattle.mix_run.proofs.RunLemmas.{cards_of-read, gives-units, gives-unread}
+use Rattle.mix_run.proofs.RunLemmas.{text_of-read, gives-units, gives-unread, if-ok}
 use Rattle.mix_run.proofs.units.read_cards.Goals as goal
 
 pub returns-in_err-text-clause-units : goal.returns-in_err-text-clause-units
@@ -12,5 +12,8 @@ returns-in_err-text-clause-units g c d hd =
 
 pub returns-clause-units : goal.returns-clause-units
 returns-clause-units g c d hd =
-    let same = cards_of-read c.args.units d _ (c.deref.ensures.value ∙ (c.in_ok-text.ensures.whole d hd).0) in
+    let same = text_of-read c.args.units 16 d _ (c.deref.ensures.value ∙ (c.in_ok-text.ensures.whole d hd).0) in
     gives-units (cards_of c.args.units d) _ (rw same at c.with_cards.ensures.units) (rw same at c.with_cards.ensures.refused)
+
+pub returns-clause-whole : goal.returns-clause-whole
+returns-clause-whole g c d hd = if-ok c.with_cards.result _ (c.in_ok-text.ensures.whole d hd).1

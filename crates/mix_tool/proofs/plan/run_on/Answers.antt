@@ -1,6 +1,23 @@
--- The run of a program is that of the texts of the plan; a client is served.
+-- The run of a plan is that of its texts; a client is served.
+use Rattle.std.proofs.Common.{None, inl, refl}
 use Rattle.mix_tool.proofs.CheckLemmas.{asks-nothing}
 use Rattle.mix_tool.proofs.plan.run_on.Goals as goal
+
+pub returns-in-Bundle-clause-done : goal.returns-in-Bundle-clause-done
+returns-in-Bundle-clause-done g c all given e holds =
+    rw c.in-Bundle.is (λ b there.
+    (c.run_bundle-outcome.result, None, c.run_bundle-outcome.ensures.output b there, c.status.ensures.status, refl, c.status.ensures.told))
+
+pub returns-in-List-clause-done : goal.returns-in-List-clause-done
+returns-in-List-clause-done g c all given e holds =
+    rw c.in-List.is (
+      c.run_list-outcome.result,
+      _,
+      c.run_list-outcome.ensures.output given.source holds.source,
+      c.status-in-List.ensures.status,
+      inl c.deref.ensures,
+      c.status-in-List.ensures.told,
+    )
 
 pub returns-in-Run-clause-opened : goal.returns-in-Run-clause-opened
 returns-in-Run-clause-opened g c all e = rw c.in-Run.is (asks-nothing _)
@@ -8,8 +25,8 @@ returns-in-Run-clause-opened g c all e = rw c.in-Run.is (asks-nothing _)
 pub returns-in-Run-clause-done : goal.returns-in-Run-clause-done
 returns-in-Run-clause-done g c all given e holds =
     let texts = c.of_run-texts.ensures in
-    let prints = c.run_printed-outcome.ensures.output given.source given.deck given.cards
-    (rw texts holds.source) (rw texts holds.deck) (rw texts holds.cards) in
+    let prints = c.run_printed-outcome.ensures.output given.source given.deck given.cards given.typewriter
+    (rw texts holds.source) (rw texts holds.deck) (rw texts holds.cards) (rw texts holds.typewriter) in
     rw c.in-Run.is (c.run_printed-outcome.result, rw c.options_of-options.ensures at prints, c.print_status.ensures)
 
 pub returns-in-Dap-clause-served : goal.returns-in-Dap-clause-served

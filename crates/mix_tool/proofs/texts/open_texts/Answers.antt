@@ -2,7 +2,7 @@
 use Rattle.std.proofs.Common.{◌∙◌}
 use Rattle.std.proofs.lemmas.Result.{err_from_is_err_and}
 use Rattle.mix_tool.specs.Plan.{names_in}
-use Rattle.mix_tool.proofs.CheckLemmas.{script-named}
+use Rattle.mix_tool.proofs.CheckLemmas.{script-named, typewriter-named}
 use Rattle.mix_tool.proofs.OpeningLemmas.{named-first, named-later, opens-end, opens-then}
 use Rattle.mix_tool.proofs.texts.open_texts.Goals as goal
 
@@ -25,22 +25,36 @@ returns-in_err-cards-clause-missing g c all e =
     rw (p.1, p.2) (opens-then all _ _ _ _ _ _ (c.in_ok-source.ensures.opened all e) (opens-then all _ _ _ _ _ _ (c.in_ok-deck.ensures.opened all second)
     (opens-end all _ _ _ _ _ (c.in_err-cards.ensures.missing all third))))
 
+pub returns-in_err-typewriter-clause-missing : goal.returns-in_err-typewriter-clause-missing
+returns-in_err-typewriter-clause-missing g c all e =
+    let p = err_from_is_err_and c.from_residual-in_err-typewriter.result c.from_residual-in_err-typewriter.ensures.1 in
+    let second = c.in_ok-source.ensures.same ∙ e in
+    let third = c.in_ok-deck.ensures.same ∙ second in
+    let fourth = c.in_ok-cards.ensures.same ∙ third in
+    rw (p.1, p.2) (opens-then all _ _ _ _ _ _ (c.in_ok-source.ensures.opened all e) (opens-then all _ _ _ _ _ _ (c.in_ok-deck.ensures.opened all second)
+    (opens-then all _ _ _ _ _ _ (c.in_ok-cards.ensures.opened all third)
+    (opens-end all _ _ _ _ _ (c.in_err-typewriter.ensures.missing all fourth)))))
+
 pub returns-in_err-script-clause-missing : goal.returns-in_err-script-clause-missing
 returns-in_err-script-clause-missing g c all e =
     let p = err_from_is_err_and c.from_residual-in_err-script.result c.from_residual-in_err-script.ensures.1 in
     let second = c.in_ok-source.ensures.same ∙ e in
     let third = c.in_ok-deck.ensures.same ∙ second in
-    let last = c.in_ok-cards.ensures.same ∙ third in
+    let fourth = c.in_ok-cards.ensures.same ∙ third in
+    let last = c.in_ok-typewriter.ensures.same ∙ fourth in
     rw (p.1, p.2) (opens-then all _ _ _ _ _ _ (c.in_ok-source.ensures.opened all e) (opens-then all _ _ _ _ _ _ (c.in_ok-deck.ensures.opened all second)
-    (opens-then all _ _ _ _ _ _ (c.in_ok-cards.ensures.opened all third) (c.in_err-script.ensures.missing all last))))
+    (opens-then all _ _ _ _ _ _ (c.in_ok-cards.ensures.opened all third) (opens-then all _ _ _ _ _ _ (c.in_ok-typewriter.ensures.opened all fourth)
+    (c.in_err-script.ensures.missing all last)))))
 
 pub returns-clause-opened : goal.returns-clause-opened
 returns-clause-opened g c all e =
     let second = c.in_ok-source.ensures.same ∙ e in
     let third = c.in_ok-deck.ensures.same ∙ second in
-    let last = c.in_ok-cards.ensures.same ∙ third in
+    let fourth = c.in_ok-cards.ensures.same ∙ third in
+    let last = c.in_ok-typewriter.ensures.same ∙ fourth in
     opens-then all _ _ _ _ _ _ (c.in_ok-source.ensures.opened all e) (opens-then all _ _ _ _ _ _ (c.in_ok-deck.ensures.opened all second)
-    (opens-then all _ _ _ _ _ _ (c.in_ok-cards.ensures.opened all third) (c.in_ok-script.ensures.opened all last)))
+    (opens-then all _ _ _ _ _ _ (c.in_ok-cards.ensures.opened all third) (opens-then all _ _ _ _ _ _ (c.in_ok-typewriter.ensures.opened all fourth)
+    (c.in_ok-script.ensures.opened all last))))
 
 pub returns-in_err-source-clause-named : goal.returns-in_err-source-clause-named
 returns-in_err-source-clause-named g c =
@@ -56,6 +70,11 @@ pub returns-in_err-cards-clause-named : goal.returns-in_err-cards-clause-named
 returns-in_err-cards-clause-named g c =
     let p = err_from_is_err_and c.from_residual-in_err-cards.result c.from_residual-in_err-cards.ensures.1 in
     rw p.1 (named-later _ _ (named-later _ _ (named-first _ _ c.in_err-cards.ensures.named)))
+
+pub returns-in_err-typewriter-clause-named : goal.returns-in_err-typewriter-clause-named
+returns-in_err-typewriter-clause-named g c =
+    let p = err_from_is_err_and c.from_residual-in_err-typewriter.result c.from_residual-in_err-typewriter.ensures.1 in
+    rw p.1 (typewriter-named (names_in c.args.names) c.in_err-typewriter.ensures.named)
 
 pub returns-in_err-script-clause-named : goal.returns-in_err-script-clause-named
 returns-in_err-script-clause-named g c =

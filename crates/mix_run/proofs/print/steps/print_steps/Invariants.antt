@@ -1,4 +1,4 @@
-use Rattle.std.proofs.Common.{◌≡◌, ◌++◌, List, ℕ}
+use Rattle.std.proofs.Common.{◌≡◌, ◌≤◌, ◌+◌, ◌-◌, ◌++◌, List, ℕ}
 use Rattle.std.specs.Io.KnownBytes.{Appends}
 use Rattle.mix_run.specs.Print.{printed}
 use Rattle.mix_run.specs.PrintSteps.{HasCounts}
@@ -7,14 +7,15 @@ use Rattle.mix_run.proofs.print.steps.print_steps.Given as goal
 -- what was printed so far, and what the steps that are left print, is what all of them print
 abbrev pub invariant-loop-left : goal.invariant-loop-left
 invariant-loop-left g l =
-    let whole = printed l.units l.steps l.fn.world in
-    let rest = printed l.units l.left l.world in
+    let whole = printed l.options 1 l.options.steps l.fn.world in
+    let rest = printed l.options (l.options.steps - l.left + 1) l.left l.world in
     record {
+      within : l.left ≤ l.options.steps;
       written : (done : List ℕ) × Appends (g.W.Out.told l.fn.out) (g.W.Out.told l.out) done × (whole.bytes ≡ done ++ rest.bytes);
       end : rest.end ≡ whole.end;
       world : rest.world ≡ whole.world;
       failed : g.W.Out.failed l.out ≡ g.W.Out.failed l.fn.out;
-      counts : HasCounts l.world l.before;
+      counts : HasCounts l.world l.records.rows;
     }
 
 abbrev pub decreases-loop-left : goal.decreases-loop-left

@@ -1,8 +1,9 @@
--- The mark is that of the machine before the first step.
-use Rattle.mix_session.proofs.RunLemmas.{AreMarks-one}
+-- The marks are those of the machine before the first step.
+use Rattle.mix_session.proofs.UntilLemmas.{marks_there}
 use Rattle.mix_session.proofs.command.runs.run_until.Goals as goal
 
 pub ran-requires : goal.ran-requires
 ran-requires c =
-    rw c.stops_at.ensures
-    (AreMarks-one c.args.journal.now _ c.args.condition c.watched.result c.mark.result c.state.ensures c.watched.ensures c.mark.ensures.is c.mark.ensures.real c.mark.ensures.world)
+    rw c.stops_at-stops.ensures
+    (marks_there c.args.journal.now c.state.result.now c.args.conditions.now c.as_slice.result.now c.marks_at-marks.result c.len.result c.state.ensures c.as_slice.ensures.is
+    c.len.ensures.is c.marks_at-marks.ensures)

@@ -1,6 +1,0 @@
-use Rattle.dap_message.specs.Message.{waits}
-use Rattle.dap_message.specs.Told.{Events}
-use Rattle.mix_dap.proofs.printed.Printed.tell.Given as goal
-
-abbrev pub invariant-loop-i : goal.invariant-loop-i
-invariant-loop-i l = Events (waits l.initial.out) (waits l.out)

@@ -1,0 +1,150 @@
+//! What is told when the program stops or ends, or when what the client shows is out of date.
+#![tactic(auto, using(dap_message::proofs::Telling::telling, crate::proofs::RepliesLemmas::replying, crate::proofs::EventLemmas::events))]
+
+ghost use Rattle.std.specs.Prelude.{◌≡◌, [], ◌∷◌, ◌++◌, IfOk, OnOk, None};
+ghost use Rattle.std.specs.Option.{option_map};
+ghost use Rattle.serde_json.specs.View.{view};
+ghost use Rattle.dap_message.specs.Message.{waits};
+ghost use Rattle.dap_message.specs.Told.{Events};
+ghost use Rattle.mix_session.specs.Timeline.{world_of};
+ghost use Rattle.mix_dap.specs.Events.{AddsEvents, all_areas, invalidated, out_of_date, stopped, terminated};
+ghost use Rattle.mix_dap.specs.Output.{all_told, outputs};
+ghost use Rattle.mix_dap.specs.Replies.{EndsWith};
+ghost use Rattle.mix_dap.specs.Stays.{Keeps, word_at};
+ghost use Rattle.mix_dap.specs.Stopped.{reason_of, terminated_message, fault_at, out_of_memory, stopped_message, why_of};
+
+use crate::adapter::Adapter;
+use crate::adapter::ends::{fault_at, put_text, text_of};
+use crate::list::nothing;
+use crate::look::THREAD;
+use dap_message::{Fields, Outbox};
+use mix_refused::Memory;
+use mix_session::End;
+use serde_json::Value;
+use std::alloc::Global;
+
+impl Adapter<'_> {
+    // Tells what was written and why the program stops.
+    pub(crate) fn stop(&mut self, end: End, out: &mut Outbox) -> Result<(), Memory>
+        ensures keeps { Keeps self.old self.new }
+        ensures session { self.new.session ≡ self.old.session }
+        ensures rests { self.new.way ≡ None }
+        ensures fault { OnOk result (self.new.fault ≡ fault_at end) }
+        ensures tells { OnOk result (EndsWith (stopped_message (why_of (word_at self.old.points self.old.session.timeline) end)) (waits out.new)) }
+        ensures events { OnOk result (Events (waits out.old) (waits out.new)) }
+        ensures prints { OnOk result (AddsEvents (outputs self.old.printed (world_of self.old.session.timeline)
+            ++ stopped (why_of (word_at self.old.points self.old.session.timeline) end) ∷ []) out.old out.new) }
+        ensures printed { OnOk result (self.new.printed ≡ all_told (world_of self.old.session.timeline)) }
+    {
+        self.way = None;
+        self.fault = fault_at(end);
+        self.printed.tell(self.alloc, self.session.world(), out)?;
+        self.tell_end(end, out)?;
+        Ok(())
+    }
+
+    // Tells why the program stops.
+    fn tell_end(&self, end: End, out: &mut Outbox) -> Result<(), Memory>
+        ensures tells { OnOk result (EndsWith (stopped_message (why_of (word_at self.now.points self.now.session.timeline) end)) (waits out.new)) }
+        ensures events { OnOk result (Events (waits out.old) (waits out.new)) }
+        ensures prints { OnOk result (AddsEvents (stopped (why_of (word_at self.now.points self.now.session.timeline) end) ∷ []) out.old out.new) }
+    {
+        let text = text_of(self.alloc, end)?;
+        self.stopped(self.reason_of(end), text.as_deref(), out)?;
+        Ok(())
+    }
+
+    // Why a run has ended so, in the protocol's word.
+    fn reason_of(&self, end: End) -> &'static str
+        ensures { result.now ≡ reason_of (word_at self.now.points self.now.session.timeline) end }
+    {
+        match end {
+            End::Halt => "halt",
+            End::Fault(_) => "exception",
+            End::Until(_) => "data breakpoint",
+            End::Break => self.points.reason_at(self.session.world()),
+            End::Arrived | End::Limit => "step",
+            End::Start => "entry",
+        }
+    }
+
+    // Tells that memory was refused for a run.
+    pub(crate) fn stop_for_memory(&mut self, out: &mut Outbox) -> Result<(), Memory>
+        ensures keeps { Keeps self.old self.new }
+        ensures session { self.new.session ≡ self.old.session }
+        ensures rests { self.new.way ≡ None }
+        ensures tells { OnOk result (EndsWith (stopped_message out_of_memory) (waits out.new)) }
+        ensures events { OnOk result (Events (waits out.old) (waits out.new)) }
+        ensures prints { OnOk result (AddsEvents (outputs self.old.printed (world_of self.old.session.timeline) ++ stopped out_of_memory ∷ []) out.old out.new) }
+        ensures printed { OnOk result (self.new.printed ≡ all_told (world_of self.old.session.timeline)) }
+    {
+        self.way = None;
+        self.fault = None;
+        self.printed.tell(self.alloc, self.session.world(), out)?;
+        self.stopped("exception", Some("T1 out of memory"), out)?;
+        Ok(())
+    }
+
+    pub(crate) fn stopped(
+        &self,
+        reason: &str,
+        text: Option<&str>,
+        out: &mut Outbox,
+    ) -> Result<(), Memory>
+        ensures told { OnOk result (EndsWith (stopped_message (record { reason = reason.now; text = option_map (λ t. t.now) text.entry })) (waits out.new)) }
+        ensures events { OnOk result (Events (waits out.old) (waits out.new)) }
+        ensures prints { OnOk result (AddsEvents (stopped (record { reason = reason.now; text = option_map (λ t. t.now) text.entry }) ∷ []) out.old out.new) }
+    {
+        let mut body = Fields::new(self.alloc);
+        body.text("reason", reason)?;
+        body.number("threadId", THREAD)?;
+        body.flag("allThreadsStopped", true)?;
+        put_text(&mut body, text)?;
+        let body = body.done();
+        out.event("stopped", body)?;
+        Ok(())
+    }
+
+    // What the client shows is out of date, after a change that no stop tells of.
+    pub(crate) fn invalidated(&self, out: &mut Outbox) -> Result<(), Memory>
+        ensures events { OnOk result (Events (waits out.old) (waits out.new)) }
+        ensures invalid { OnOk result (AddsEvents (invalidated self.now.client) out.old out.new) }
+    {
+        if self.client.hears_invalidated {
+            out_of_date(self.alloc, out)
+        } else {
+            Ok(())
+        }
+    }
+}
+
+fn out_of_date(alloc: Global, out: &mut Outbox) -> Result<(), Memory>
+    ensures events { OnOk result (Events (waits out.old) (waits out.new)) }
+    ensures prints { OnOk result (AddsEvents (out_of_date ∷ []) out.old out.new) }
+{
+    let body = all_areas(alloc)?;
+    out.event("invalidated", body)?;
+    Ok(())
+}
+
+// All that a client shows.
+fn all_areas(alloc: Global) -> Result<Value, Memory>
+    ensures { IfOk result (λ body. view body ≡ all_areas) }
+{
+    let mut areas = Vec::new(alloc);
+    areas.push(Value::try_from_str(alloc, "all")?)?;
+    let mut body = Fields::new(alloc);
+    body.list("areas", areas)?;
+    Ok(body.done())
+}
+
+// The program has ended.
+pub(crate) fn terminated(out: &mut Outbox) -> Result<(), Memory>
+    ensures told { OnOk result (EndsWith terminated_message (waits out.new)) }
+    ensures events { OnOk result (Events (waits out.old) (waits out.new)) }
+    ensures prints { OnOk result (AddsEvents (terminated ∷ []) out.old out.new) }
+{
+    let body = nothing();
+    out.event("terminated", body)?;
+    Ok(())
+}

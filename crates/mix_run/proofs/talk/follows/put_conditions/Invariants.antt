@@ -1,0 +1,10 @@
+use Rattle.std.proofs.Common.{◌≡◌, ◌++◌, length, true}
+use Rattle.mix_run.specs.Person.{plain_words, spaced}
+use Rattle.mix_run.proofs.talk.follows.put_conditions.Given as goal
+
+-- what was put so far, and the words that are left, are all of them
+abbrev pub invariant-loop-word : goal.invariant-loop-word
+invariant-loop-word l = l.text.items ++ spaced (plain_words l.is_first l.words) ≡ l.fn.text.items ++ spaced (plain_words true l.fn.words)
+
+abbrev pub decreases-loop-word : goal.decreases-loop-word
+decreases-loop-word l = length l.words

@@ -1,0 +1,81 @@
+//! What a plan asks for: the names of its files, and what is asked of its run.
+
+ghost use Rattle.std.specs.Prelude.{◌≡◌};
+ghost use Rattle.mix_tool.specs.Plan.{names_in, names_of, options_of};
+
+use crate::texts::Names;
+use mix_cli::{Plan, Printing};
+use mix_run::{PrintOptions, UnitSet};
+
+/// The names of the files of a plan.
+pub(crate) fn names_in(plan: &Plan) -> Names<'_>
+    ensures { names_in result ≡ names_of plan.now }
+{
+    match plan {
+        Plan::Bundle | Plan::Check { .. } | Plan::Dap => Names {
+            source: None,
+            deck: None,
+            cards: None,
+            typewriter: None,
+            script: None,
+        },
+        Plan::List(source) => Names {
+            source: Some(source),
+            deck: None,
+            cards: None,
+            typewriter: None,
+            script: None,
+        },
+        Plan::Debug {
+            source,
+            script,
+            devices,
+            ..
+        } => Names {
+            source: Some(source),
+            deck: devices.as_deref(),
+            cards: None,
+            typewriter: None,
+            script: script.as_deref(),
+        },
+        Plan::Run {
+            source,
+            cards,
+            typewriter,
+            devices,
+            ..
+        } => Names {
+            source: Some(source),
+            deck: devices.as_deref(),
+            cards: cards.as_deref(),
+            typewriter: typewriter.as_deref(),
+            script: None,
+        },
+    }
+}
+
+/// What is asked of a run.
+pub(crate) fn options_of(
+    devices: &Option<String>,
+    cards: &Option<String>,
+    typewriter: &Option<String>,
+    steps: u64,
+    printing: Printing,
+    trace: bool,
+) -> PrintOptions
+    ensures { result ≡ options_of devices.now cards.now typewriter.now steps printing trace }
+{
+    PrintOptions {
+        steps,
+        units: UnitSet {
+            card_punch: printing.punch,
+            printer: printing.printer,
+            typewriter: printing.typewriter,
+            paper_tape: printing.tape,
+        },
+        deck: devices.is_some(),
+        cards: cards.is_some(),
+        typewriter: typewriter.is_some(),
+        trace,
+    }
+}

@@ -1,0 +1,67 @@
+//! A session of a plan.
+
+ghost use Rattle.std.specs.Prelude.{◌≡◌, ◌≢◌, ◌<◌, ◌≤◌, ◌-◌, ◌^◌, false, option_map, string_bytes};
+ghost use Rattle.mix_tool.specs.Plan.{AreFresh, DebugsOn, Given, HoldTexts, is_talk, names_of_session, seen};
+
+use crate::ending::{status, status_beside, unread};
+use crate::texts::Texts;
+use mix_run::{Streams, run_debug, run_talk};
+use mix_stream::{In, Out};
+use std::alloc::Global;
+
+/// A session by a script, or without one by the lines of the input.
+pub(crate) fn debug_on<'n, F: In + Drop, R: In, W: Out, E: Out>(
+    alloc: Global,
+    name: &'n str,
+    devices: &'n Option<String>,
+    script: &'n Option<String>,
+    echo: bool,
+    texts: Texts<F>,
+    streams: &mut Streams<R, W, E>,
+) -> u8
+    requires fresh { AreFresh F.failed texts }
+    requires input_count { R.failed streams.old.input < 2 ^ 64 - 1 }
+    requires out_count { W.failed streams.old.out < 2 ^ 64 - 1 }
+    requires errors_count { E.failed streams.old.errors < 2 ^ 64 - 1 }
+    ensures runs { (given : Given) → HoldTexts F.rest texts given
+        → DebugsOn (names_of_session name.now (option_map string_bytes devices.now) (option_map string_bytes script.now)) echo script.now given streams.old.talker result (seen R.rest W.told E.told E.failed streams.old) (seen R.rest W.told E.told E.failed streams.new) }
+    ensures input { is_talk script.now ≡ false → streams.new.input ≡ streams.old.input }
+    ensures range { result ≤ 3 }
+    ensures written { result ≢ 2 → W.failed streams.new.out ≡ W.failed streams.old.out }
+    ensures quiet { is_talk script.now ≡ false → result ≢ 2 → streams.new.errors ≡ streams.old.errors }
+{
+    let Texts {
+        source,
+        deck,
+        cards: _,
+        typewriter: _,
+        script: lines,
+    } = texts;
+    let (mut source, mut deck, mut lines) = (source, deck, lines);
+    match script {
+        Some(_) => {
+            let outcome = run_debug(
+                alloc,
+                &mut source,
+                &mut deck,
+                &mut lines,
+                echo,
+                &mut streams.out,
+            );
+            let failures = (deck.failures(), lines.failures());
+            let (deck, last) = (devices.as_deref(), script.as_deref());
+            let file = unread(name, deck, last, failures);
+            status(alloc, outcome, Some(file), &mut streams.errors)
+        }
+        None => {
+            let outcome = run_talk(alloc, name, &mut source, &mut deck, streams);
+            let failures = (deck.failures(), 0);
+            let file = if source.failures() > 0 || failures.0 > 0 {
+                Some(unread(name, devices.as_deref(), None, failures))
+            } else {
+                None
+            };
+            status_beside(alloc, outcome, file, &mut streams.errors)
+        }
+    }
+}

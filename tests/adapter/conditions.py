@@ -1,0 +1,157 @@
+#!/usr/bin/env python3
+"""Conditions and hit counts of breakpoints: tests/adapter/conditions.py PROGRAM [WORD..]
+
+Where runs stop that come to breakpoints with a condition or a hit count. What is wanted follows from docs/DAP.md and from the states of programs/calls.mixal,
+which talks.py lists. A run comes to cell 12 (line 6) after 2, 5 and 8 steps, where rI1 is 3, 2, 1 and rJ is 0, 15, 15, and to cell 14 (line 8) after 4, 7
+and 10 steps, where rI1 is 2, 1, 0. The last line counts."""
+import json
+import os
+import sys
+
+sys.dont_write_bytecode = True
+sys.path.insert(0, os.path.dirname(os.path.abspath(__file__)))
+
+from client import Count
+from exact import DONE, GOOD, launch, texts, told
+from talks import AFTER, CALLS, program
+
+ON, BACK, OUT, NEXT = "continue", "reverseContinue", "stepOut", "next"
+CELL_12 = "0x0048"  # 6 * 12 is 72
+SPOTS = [("breakpoint", 2), ("breakpoint", 5), ("breakpoint", 8)]
+END = ("halt", 16)
+
+
+def lines(*points):
+    """Breakpoints of lines, each a line, a condition and a hit count, of which there may be none."""
+    members = ("line", "condition", "hitCondition")
+    return "setBreakpoints", {"breakpoints": [{name: value for name, value in zip(members, point) if value is not None} for point in points]}
+
+
+def at_12(**given):
+    """A breakpoint of the instruction in cell 12."""
+    return "setInstructionBreakpoints", {"breakpoints": [{"instructionReference": CELL_12, **given}]}
+
+
+def put(scope, name, value):
+    return "setVariable", {"variablesReference": scope, "name": name, "value": value}
+
+
+def ons(*wanted):
+    return [(ON, *stop) for stop in wanted]
+
+
+# What is asked for first, and moves with why and where each stops: the number of steps done.
+RUNS = [
+    # a condition that holds, one that does not at first, and one that does not at last
+    ([lines((6, "rI1"))], ons(*SPOTS, END)), ([lines((6, "rJ"))], ons(*SPOTS[1:], END)), ([lines((8, "I1"))], ons(("breakpoint", 4), ("breakpoint", 7), END)),
+    ([lines((6, "cell 103"))], ons(*SPOTS[1:], END)), ([lines((6, "cell LOOP"))], ons(*SPOTS, END)), ([lines((6, "loc"))], ons(*SPOTS, END)),
+    ([lines((6, "clock"))], ons(*SPOTS, END)),
+    # constants; also what a symbol and an expression are worth; -0 is 0
+    ([lines((6, "0"))], ons(END)), ([lines((6, "-0"))], ons(END)), ([lines((6, "1"))], ons(*SPOTS, END)), ([lines((6, "-1"))], ons(*SPOTS, END)),
+    ([lines((6, "LOOP"))], ons(*SPOTS, END)), ([lines((6, "LOOP-12"))], ons(END)), ([lines((6, "0,1"))], ons(*SPOTS, END)),
+    ([put(1, "X", "-0"), lines((6, "X"))], ons(END)), ([put(1, "X", "-1"), lines((6, "rX"))], ons(*SPOTS, END)),
+    # the toggle and the indicator, which this program leaves as they are
+    ([lines((6, "over"))], ons(END)), ([put(2, "over", "on"), lines((6, "over"))], ons(*SPOTS, END)), ([lines((6, "cmp"))], ons(END)),
+    ([put(2, "cmp", "L"), lines((6, "cmp"))], ons(*SPOTS, END)), ([put(2, "cmp", "G"), lines((6, "cmp"))], ons(*SPOTS, END)),
+    # a blank one is none; one that is worth nothing stops nowhere
+    ([lines((6, ""))], ons(*SPOTS, END)), ([lines((6, "  "))], ons(*SPOTS, END)), ([lines((6, "NOWHERE"))], ons(END)), ([lines((6, "unit 16"))], ons(END)),
+    # backwards
+    ([lines((6, "rJ"))], [*ons(*SPOTS[1:], END), (BACK, "breakpoint", 8), (BACK, "breakpoint", 5), (BACK, "entry", 0)]),
+    # hit counts forwards: from that arrival on it stops
+    ([lines((6, None, "1"))], ons(*SPOTS, END)), ([lines((6, None, "2"))], ons(*SPOTS[1:], END)), ([lines((6, None, "03"))], ons(SPOTS[2], END)),
+    ([lines((6, None, "4"))], ons(END)), ([lines((6, None, " "))], ons(*SPOTS, END)), ([lines((6, None, "0"))], ons(END)), ([lines((6, None, ">=3"))], ons(END)),
+    # backwards, and both ways: steps and those that set anew are no arrivals
+    ([], [*ons(END)]), ([lines((6, None, "9"))], [*ons(END), lines((6, None, "2")), (BACK, "breakpoint", 5), (BACK, "breakpoint", 2), (BACK, "entry", 0)]),
+    ([lines((6, None, "3"), (8,))], [(ON, "breakpoint", 4), (BACK, "entry", 0), (ON, "breakpoint", 2), (ON, "breakpoint", 4), (ON, "breakpoint", 5)]),
+    ([lines((6, None, "2"))], [(ON, "breakpoint", 5), lines((6, None, "2")), (ON, *END)]),
+    ([lines((6, None, "2"))], [(NEXT, "step", 1), (NEXT, "step", 2), *ons(SPOTS[2], END)]), ([lines((6, "0"))], [(NEXT, "step", 1), (NEXT, "step", 2), (ON, *END)]),
+    # a condition and a hit count: only arrivals where it holds are counted
+    ([lines((6, "rJ", "2"))], ons(SPOTS[2], END)), ([lines((6, "rJ", "1"))], ons(*SPOTS[1:], END)), ([lines((6, "0", "1"))], ons(END)),
+    # instructions, and both kinds at a cell, of which each counts for itself; a later breakpoint of a line beside one that does not stop
+    ([at_12(condition="rJ")], ons(("instruction breakpoint", 5), ("instruction breakpoint", 8), END)), ([at_12(hitCondition="3")], ons(("instruction breakpoint", 8), END)),
+    ([at_12(condition="rJ"), lines((6, None, "3"))], ons(("instruction breakpoint", 5), ("breakpoint", 8), END)),
+    ([at_12(), lines((6, "0"))], ons(*[("instruction breakpoint", n) for n in (2, 5, 8)], END)),
+    ([lines((6, "0"), (6, "rJ"))], ons(*SPOTS[1:], END)), ([lines((6, "0"), (8,))], ons(*[("breakpoint", n) for n in (4, 7, 10)], END)),
+    # the location that stepOut waits for, 16, in which a breakpoint stops or does not
+    ([lines((12,))], [(ON, "breakpoint", 13), (OUT, "step", 15)]), ([lines((12,), (10, "0"))], [(ON, "breakpoint", 13), (OUT, "step", 15)]),
+    ([lines((12,), (10, "1"))], [(ON, "breakpoint", 13), (OUT, "breakpoint", 15)]), ([lines((12,), (10, None, "2"))], [(ON, "breakpoint", 13), (OUT, "step", 15)]),
+    ([lines((12,), (13, "0"))], [(ON, "breakpoint", 13), (OUT, "step", 15)]),
+    # data breakpoints and a halt end a run also beside one that does not stop: the step to cell 13 alters cell 103, and HLT leads to 17
+    ([lines((7, "0")), ("setDataBreakpoints", {"breakpoints": [{"dataId": "cell 103"}]})], ons(("data breakpoint", 3), END)), ([lines((11, "0"))], ons(END)),
+]
+
+# What is told of a breakpoint of line 6 and of one in cell 12: whether it stands, or why not.
+GOOD_TEXTS = [{}, {"condition": "rA"}, {"condition": "cell *+1"}, {"condition": " "}, {"condition": "-0"}, {"hitCondition": "1"}, {"hitCondition": "999999999999999999"},
+              {"hitCondition": ""}, {"condition": "over", "hitCondition": "007"}]
+BAD_TEXTS = [({"condition": "NOWHERE"}, "no such condition"), ({"condition": "unit 16"}, "no such condition"), ({"condition": "cell 4000"}, "no such condition"),
+             ({"condition": "rA > 3"}, "no such condition"), ({"condition": "rB", "hitCondition": "0"}, "no such condition"), ({"hitCondition": "0"}, "no such hit count"),
+             ({"hitCondition": "000"}, "no such hit count"), ({"hitCondition": "-1"}, "no such hit count"), ({"hitCondition": ">=3"}, "no such hit count"),
+             ({"hitCondition": "3 "}, "no such hit count"), ({"hitCondition": "1000000000000000000"}, "no such hit count"), ({"condition": "1", "hitCondition": "x"}, "no such hit count")]
+
+# A jump to itself, which comes to its cell with each step: a run pauses after a million of them, and goes on past as many breakpoints before that.
+LONG = [(lines((1, "0")), "pause", 1000000), (lines((1, None, "250000")), "breakpoint", 250000), (lines((1, "0"), (1, None, "1000001")), "pause", 1000000),
+        (lines((1, None, "100000")), "breakpoint", 100000), (lines((1, None, "1000000")), "breakpoint", 1000000)]
+
+
+def source_of(path):
+    with open(path) as file:
+        return file.read()
+
+
+def stops(command, source, requests):
+    """Why the program stopped last, with the location and the clock, where these are asked for."""
+    found, ended = texts(command, told(launch(source), DONE, *requests))
+    stopped, reason = [], ""
+    for message in map(json.loads, found):
+        if message.get("event") == "stopped":
+            reason = message["body"]["reason"]
+        elif message.get("command") == "mix/state":
+            stopped.append((reason, message["body"]["location"], int(message["body"]["clock"])))
+    return stopped, ended
+
+
+def runs(command, count):
+    source = source_of(CALLS)
+    for first, moves in RUNS:
+        asked, wanted = [*first], []
+        for move in moves:
+            if isinstance(move[1], dict):
+                asked.append(move)
+                continue
+            name, reason, steps = move
+            asked += [(name, {"threadId": 1}), ("mix/state", {})]
+            wanted.append((reason, *AFTER[steps][1:]))
+        count.same(f"{first} {moves}", stops(command, source, asked), (wanted, GOOD))
+
+
+def long_runs(command, count):
+    source = source_of(program("endless.mixal"))
+    for points, reason, steps in LONG:
+        count.same(f"{points}", stops(command, source, [points, (ON, {"threadId": 1}), ("mix/state", {})]), ([(reason, 0, steps)], GOOD))
+
+
+def answers(command, count):
+    """How a breakpoint is told, of a line and of an instruction."""
+    source = source_of(CALLS)
+    stands = [{"instructionReference": CELL_12, "line": 6, "verified": True}, {"instructionReference": CELL_12, "verified": True}]
+    rows = [(given, stands) for given in GOOD_TEXTS] + [(given, [{"message": why, "verified": False}] * 2) for given, why in BAD_TEXTS]
+    for given, wanted in rows:
+        requests = [("setBreakpoints", {"breakpoints": [{"line": 6, **given}]}), at_12(**given)]
+        found, ended = texts(command, told(launch(source), DONE, *requests))
+        bodies = [message["body"]["breakpoints"] for message in map(json.loads, found) if str(message.get("command")).endswith("Breakpoints")]
+        count.same(f"{given}", (bodies, ended), ([[point] for point in wanted], GOOD))
+    found, _ = texts(command, told(launch(source), DONE, lines((99, "NOWHERE", "0"))))
+    count.row("a line without a word is told first", any('"message":"no word from this line on"' in text for text in found), found)
+
+
+def main():
+    command = [os.path.abspath(sys.argv[1]), *sys.argv[2:]]
+    count = Count()
+    for part in (runs, long_runs, answers):
+        part(command, count)
+    print(f"{count.passed} passed, {count.failed} failed")
+    return 1 if count.failed else 0
+
+
+if __name__ == "__main__":
+    sys.exit(main())
