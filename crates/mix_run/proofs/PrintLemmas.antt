@@ -1,5 +1,5 @@
 -- A run goes on by one step, and rows by one row.
-use Rattle.std.proofs.Common.{◌≡◌, ◌<◌, ◌≤◌, ◌+◌, ℕ, zero, suc, Bool, true, false, List, [], ◌∷◌, ◌++◌, Option, None, Some, Result, Ok, Err, IfErr, refl, sym, ap, ◌∙◌, arith, append_assoc, drop, length, flat_map, slice_index_or}
+use Rattle.std.proofs.Common.{◌≡◌, ◌<◌, ◌≤◌, ◌+◌, ℕ, zero, suc, Bool, true, false, List, [], ◌∷◌, ◌++◌, Option, None, Some, Result, Ok, Err, IfOk, IfErr, refl, sym, ap, ◌∙◌, arith, append_assoc, drop, length, flat_map, slice_index_or}
 use Rattle.std.proofs.lemmas.List.{append-nil}
 use Rattle.std.specs.Io.KnownBytes.{Appends}
 use Rattle.mix_machine.specs.Do.{does, is_halt_next}
@@ -10,7 +10,7 @@ use Rattle.mix_machine.specs.declared.fault.MixFault.{MixFault}
 use Rattle.mix_machine.specs.declared.old.Change.TheVariants.{Step}
 use Rattle.mix_stream.specs.Stream.{AppendsFront}
 use Rattle.mix_run.specs.Print.{Run, if_asked, printed, printed_row, printed_from, printed_between, printed_first, step_and_rest, traced_line, written_by}
-use Rattle.mix_run.specs.PrintSteps.{HasCounts, StepPrints, bytes_to, step_bytes, printed_after}
+use Rattle.mix_run.specs.PrintSteps.{HasCounts, StepPrints, bytes_to, line_bytes, line_to, step_bytes, printed_after}
 use Rattle.mix_run.specs.declared.print.options.PrintOptions.{PrintOptions}
 use Rattle.mix_run.specs.declared.print.options.UnitSet.{UnitSet}
 use Rattle.mix_run.specs.declared.print.steps.RowCounts.{RowCounts}
@@ -137,32 +137,67 @@ none-after units counts w h =
 pub after-between : (units : UnitSet) (counts : RowCounts) (w next : WorldState) → HasCounts w counts → printed_after units counts next ≡ printed_between units w next
 after-between units counts w next h = rw (h.card_punch, h.printer, h.typewriter, h.paper_tape) refl
 
+-- what holds after no error, whatever the value is
+pub on-ok : {T E : Type 0} (r : Result T E) (P : Type 0) → P → IfOk r (λ _. P)
+on-ok (Ok x) P h = h
+on-ok (Err e) P h = tt
+
 -- what holds after an error, whatever it is
 pub on-error : {T E : Type 0} (r : Result T E) (P : Type 0) → P → IfErr r (λ _. P)
 on-error (Ok x) P h = tt
 on-error (Err e) P h = h
 
+no-line_to : (number : ℕ) (w : WorldState) (done : Result WorldState MixFault) → line_to false number w done ≡ []
+no-line_to number w (Ok next) = refl
+no-line_to number w (Err fault) = refl
+
+-- a step that is not traced has no line
+pub no-line : (number : ℕ) (w : WorldState) → line_bytes false number w ≡ []
+no-line number w = no-line_to number w (does w Step)
+
+pub quiet-written : (number : ℕ) (w : WorldState) (a : Option (List ℕ)) → Appends a a (line_bytes false number w)
+quiet-written number w a = Appends-same a a [] (line_bytes false number w) (sym (no-line number w)) (Appends-nothing a)
+
+-- a step that is a fault has none either
+pub fault-line : (trace : Bool) (number : ℕ) (w : WorldState) (fault : MixFault) → does w Step ≡ Err fault → line_bytes trace number w ≡ []
+fault-line trace number w fault failed = rw failed refl
+
+pub fault-written : (number : ℕ) (w : WorldState) (fault : MixFault) (a : Option (List ℕ)) → does w Step ≡ Err fault → Appends a a (line_bytes true number w)
+fault-written number w fault a failed =
+    Appends-same a a [] (line_bytes true number w) (sym (fault-line true number w fault failed)) (Appends-nothing a)
+
+-- the line of a step that is traced, from a copy of the machine before it
+pub line-written : (number : ℕ) (w next before : WorldState) (a b : Option (List ℕ)) → does w Step ≡ Ok next → before ≡ w
+    → Appends a b (traced_line (Some before) number next) → Appends a b (line_bytes true number w)
+line-written number w next before a b done same line = rw done (rw same at line)
+
+pub line-started : (number : ℕ) (w next before : WorldState) (a b : Option (List ℕ)) → does w Step ≡ Ok next → before ≡ w
+    → AppendsFront a b (traced_line (Some before) number next) → AppendsFront a b (line_bytes true number w)
+line-started number w next before a b done same line = rw done (rw same at line)
+
 -- the line of a step, and then what it printed
-pub line-then : (options : PrintOptions) (number : ℕ) (counts : RowCounts) (w next : WorldState) (was : Option WorldState) (a b c : Option (List ℕ))
-    → HasCounts w counts → was ≡ if_asked options.trace w → Appends a b (traced_line was number next)
+pub line-then : (options : PrintOptions) (number : ℕ) (counts : RowCounts) (w next : WorldState) (a b c : Option (List ℕ))
+    → HasCounts w counts → does w Step ≡ Ok next → Appends a b (line_bytes options.trace number w)
     → Appends b c (printed_after options.units counts next) → Appends a c (written_by options number w next)
-line-then options number counts w next was a b c h copied line rows =
-    Appends-same a c (traced_line was number next ++ printed_after options.units counts next) (written_by options number w next)
-    (ap (λ o. traced_line o number next ++ printed_after options.units counts next) copied
-    ∙ ap (λ t. traced_line (if_asked options.trace w) number next ++ t) (after-between options.units counts w next h))
-    (Appends-then a b c _ _ line rows)
+line-then options number counts w next a b c h done line rows =
+    Appends-same a c (traced_line (if_asked options.trace w) number next ++ printed_after options.units counts next) (written_by options number w next)
+    (ap (λ t. traced_line (if_asked options.trace w) number next ++ t) (after-between options.units counts w next h))
+    (Appends-then a b c _ _ (rw done at line) rows)
+
+begun_to : (options : PrintOptions) (number : ℕ) (w : WorldState) (done : Result WorldState MixFault) (a b : Option (List ℕ))
+    → AppendsFront a b (line_to options.trace number w done) → AppendsFront a b (bytes_to options number w done)
+begun_to options number w (Ok next) a b line = begun-front a b (traced_line (if_asked options.trace w) number next) _ line
+begun_to options number w (Err fault) a b line = line
 
 -- a beginning of the line
-pub line-begun : (options : PrintOptions) (number : ℕ) (w next : WorldState) (was : Option WorldState) (a b : Option (List ℕ))
-    → does w Step ≡ Ok next → was ≡ if_asked options.trace w → AppendsFront a b (traced_line was number next)
-    → AppendsFront a b (step_bytes options number w)
-line-begun options number w next was a b done copied line =
-    rw done (begun-front a b (traced_line (if_asked options.trace w) number next) _ (rw copied at line))
+pub line-begun : (options : PrintOptions) (number : ℕ) (w : WorldState) (a b : Option (List ℕ))
+    → AppendsFront a b (line_bytes options.trace number w) → AppendsFront a b (step_bytes options number w)
+line-begun options number w a b line = begun_to options number w (does w Step) a b line
 
 -- the line, and a beginning of what the step printed
-pub rows-begun : (options : PrintOptions) (number : ℕ) (counts : RowCounts) (w next : WorldState) (was : Option WorldState) (a b c : Option (List ℕ))
-    → HasCounts w counts → does w Step ≡ Ok next → was ≡ if_asked options.trace w → Appends a b (traced_line was number next)
+pub rows-begun : (options : PrintOptions) (number : ℕ) (counts : RowCounts) (w next : WorldState) (a b c : Option (List ℕ))
+    → HasCounts w counts → does w Step ≡ Ok next → Appends a b (line_bytes options.trace number w)
     → AppendsFront b c (printed_after options.units counts next) → AppendsFront a c (step_bytes options number w)
-rows-begun options number counts w next was a b c h done copied line rows =
+rows-begun options number counts w next a b c h done line rows =
     rw done (begun-later a b c (traced_line (if_asked options.trace w) number next) (printed_between options.units w next)
-    (rw copied at line) (rw (after-between options.units counts w next h) at rows))
+    (rw done at line) (rw (after-between options.units counts w next h) at rows))

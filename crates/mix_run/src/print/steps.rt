@@ -11,11 +11,11 @@ ghost use Rattle.mix_run.specs.PrintSteps.{HasCounts, StepPrints, step_bytes, pr
 use crate::fault::ToolFault;
 use crate::print::options::{PrintOptions, UnitSet};
 use crate::print::row::print_row;
-use crate::print::trace::{copied_if, print_line};
-use mix_machine::{Change, MixFault, Old, Row, Unit, UnitNo, World};
+use crate::print::trace::step_with_line;
+use mix_machine::{MixFault, Old, Row, Unit, UnitNo, World};
 use mix_stream::Out;
 use std::alloc::Global;
-use undo_core::{Kept, Refused, Undo};
+use undo_core::Kept;
 
 /// Why a run ended: the last step was a halt, one more step is a fault, or as many steps were done as were allowed.
 #[derive(Clone, Copy)]
@@ -90,14 +90,10 @@ fn print_step<W: Out>(
     ensures only { IfErr result IsMemoryOrWrite }
 {
     let halts = world.next_is_halt();
-    let was = copied_if(alloc, world, options.trace)?;
-    records.kept.clear();
-    match world.apply(&Change::Step, &mut records.kept) {
-        Ok(()) => {}
-        Err(Refused::Fault(fault)) => return Ok(Some(RunEnd::Faulted(fault))),
-        Err(Refused::Memory) => return Err(ToolFault::Memory),
+    match step_with_line(alloc, world, &mut records.kept, number, options.trace, out)? {
+        None => {}
+        Some(fault) => return Ok(Some(RunEnd::Faulted(fault))),
     }
-    print_line(alloc, &was, world, number, out)?;
     print_new(alloc, world, &mut records.rows, options.units, out)?;
     if halts {
         Ok(Some(RunEnd::Halted))
