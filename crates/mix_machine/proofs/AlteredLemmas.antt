@@ -58,7 +58,7 @@ Apart n (grow m gap block) = n ≢ m
 Apart n (print m row) = n ≢ m
 
 -- a write that sets no time of a unit
-abbrev TimelessValue : Old → Type 0
+abbrev pub TimelessValue : Old → Type 0
 TimelessValue (Loc l) = Unit {0}
 TimelessValue (Clock t) = Unit {0}
 TimelessValue (OldRegister r v) = Unit {0}
@@ -71,20 +71,20 @@ TimelessValue (Len m k) = Unit {0}
 TimelessValue (Item m i j v) = Unit {0}
 TimelessValue (Until m t) = IsTrue false
 
-abbrev Timeless : Write → Type 0
+abbrev pub Timeless : Write → Type 0
 Timeless (set o) = TimelessValue o
 Timeless (grow m gap block) = Unit {0}
 Timeless (print m row) = Unit {0}
 
-abbrev Every : (Write → Type 0) → List Write → Type 0
+abbrev pub Every : (Write → Type 0) → List Write → Type 0
 Every P [] = Unit {0}
 Every P (x ∷ xs) = P x × Every P xs
 
-every-append : (P : Write → Type 0) (xs ys : List Write) → Every P xs → Every P ys → Every P (xs ++ ys)
+pub every-append : (P : Write → Type 0) (xs ys : List Write) → Every P xs → Every P ys → Every P (xs ++ ys)
 every-append P [] ys h g = g
 every-append P (x ∷ xs) ys h g = (h.0, every-append P xs ys h.1 g)
 
-every-each : (P : Write → Type 0) (n j : ℕ) (f : ℕ → Old) → ((i : ℕ) → P (set (f i))) → Every P (each n j f)
+pub every-each : (P : Write → Type 0) (n j : ℕ) (f : ℕ → Old) → ((i : ℕ) → P (set (f i))) → Every P (each n j f)
 every-each P zero j f h = tt
 every-each P (suc n) j f h = (h j, every-each P n (j + 1) f h)
 
@@ -151,7 +151,7 @@ count-write_all w [] = refl
 count-write_all w (x ∷ xs) = count-write_all (written w x) xs ∙ count-written w x
 
 -- the time of a unit after writes one of which sets it, and none after that one
-timed : (w : WorldState) (before after : List Write) (n t : ℕ) → n < length w.units → Every Timeless after →
+pub timed : (w : WorldState) (before after : List Write) (n t : ℕ) → n < length w.units → Every Timeless after →
     (unit_at (write_all w (before ++ set (Until n t) ∷ after)) n).until ≡ t
 timed w before after n t l h =
     let s = write_all w before in

@@ -1,7 +1,9 @@
+pub mod AccessLemmas
 pub mod AlteredLemmas
 pub mod BlockLemmas
 pub mod BreakLemmas
 pub mod ClockLemmas
+pub mod ConflictLemmas
 pub mod CopyLemmas
 pub mod Counting
 pub mod DeckLemmas
@@ -15,6 +17,8 @@ pub mod SameFields
 pub mod SameUnit
 pub mod StageLemmas
 pub mod TransferLemmas
+pub mod TransferTimes
 pub mod UnitLemmas
 pub mod UnitsLemmas
+pub mod UnwrittenLemmas
 pub mod WriteLemmas

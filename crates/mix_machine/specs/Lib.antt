@@ -1,3 +1,4 @@
+pub mod Access
 pub mod Breakpoints
 pub mod Cells
 pub mod Decode
@@ -11,6 +12,7 @@ pub mod Order
 pub mod Pack
 pub mod Part
 pub mod Registers
+pub mod Transfers
 pub mod UnitAction
 pub mod View
 pub mod World

@@ -1,6 +1,7 @@
 //! The MIX computer: its state, its steps, and how each step is taken back (The Art of Computer Programming, 1.3.1).
 #![tactic(auto)]
 
+mod access;
 mod address;
 mod breakpoints;
 mod cells;
@@ -18,17 +19,20 @@ mod registers;
 mod step;
 mod time;
 mod transfer;
+mod transfers;
 mod undo;
 mod units;
 mod world;
 mod write;
 
+pub use access::Span;
 pub use fault::MixFault;
 pub use laws::{change_law, halt_law, kept_count_law, mark_law};
 pub use mix_word::{Cmp, Place, Reg, Sign, Word};
 pub use old::{Change, Old};
 pub use part::{Mark, Part, mark_before};
 pub use time::Time;
+pub use transfers::{Conflict, Direction, Pending, Transfers, transfer_law};
 pub use units::{
     DeckFault, DeckKind, MAX_DECK_BYTES, Row, Unit, UnitKind, UnitNo, Units, are_same_words,
 };

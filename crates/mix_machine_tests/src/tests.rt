@@ -11,11 +11,13 @@ mod same;
 mod stands;
 mod steps;
 mod texts;
+mod transfers;
 
 use self::alike::is_alike;
 use self::decks::{has_fault, is_dealt, is_filled, is_refused, is_typed};
 use self::packed::{are_cells_packed, are_mixed_packed, is_no_value, is_packed};
 use self::steps::{is_right, is_right_change};
+use self::transfers::are_conflicts;
 use std::test::Fail;
 
 #[test]
@@ -119,5 +121,14 @@ fn cells_with_a_location_are_packed(rt: HostRuntime) {
 fn ill_units_are_no_value(rt: HostRuntime) {
     for row in rows::packed::NONE.lines() {
         assert_eq!(rt; is_no_value(rt.alloc(), row), Some(true), "{row}");
+    }
+}
+
+#[test]
+fn changes_conflict_with_transfers(rt: HostRuntime) {
+    for table in &rows::CONFLICTS {
+        for row in table.lines() {
+            assert_eq!(rt; are_conflicts(rt.alloc(), row), Some(true), "{row}");
+        }
     }
 }

@@ -28,6 +28,7 @@ pub mod program;
 pub mod register_jump;
 pub mod shift;
 pub mod store;
+pub mod transfers;
 pub mod unit;
 pub mod wrong;
 
@@ -53,4 +54,11 @@ pub const UNITS: [&str; 6] = [
     unit::REFUSALS,
     unit::EDGES,
     unit::BACK,
+];
+
+pub const CONFLICTS: [&str; 4] = [
+    transfers::OUTPUTS,
+    transfers::INPUTS,
+    transfers::UNITS,
+    transfers::VALUES,
 ];

@@ -1,0 +1,277 @@
+//! The transfers under way, and which change conflicts with one (1.3.1, "Input-output operators").
+ghost use Rattle.std.specs.Prelude.{◌≡◌, ◌<◌, ◌≤◌, ◌+◌, ℕ, false, Ok, Some, None, drop, nat_lt, slice_index_or};
+ghost use Rattle.mix_word.specs.Uses.{unit_count};
+ghost use Rattle.mix_machine.specs.World.{WorldState, IsWorld, cell_of, unit_at};
+ghost use Rattle.mix_machine.specs.units.Unit.{last_delay};
+ghost use Rattle.mix_machine.specs.Access.{has_cell, access_of};
+ghost use Rattle.mix_machine.specs.Do.{does};
+ghost use Rattle.mix_machine.specs.declared.old.Change.{Change};
+ghost use Rattle.mix_machine.specs.declared.transfers.Pending.{Pending};
+ghost use Rattle.mix_machine.specs.Effects.{effects, transfer_of};
+ghost use Rattle.mix_machine.specs.UnitAction.{transfer_end};
+ghost use Rattle.mix_machine.specs.Transfers.{no_transfers, becomes, begun, made_by, transfer_by, with_transfer, transfers_after, common, forbidden, conflict_in, conflict_with, conflict_from, conflict_of};
+ghost use Rattle.mix_machine.specs.declared.transfers.Direction.TheVariants as way;
+ghost use Rattle.mix_machine.specs.declared.plan.Transfer.{Transfer};
+
+use crate::access::{Access, Span};
+use crate::decode::Arguments;
+use crate::old::Change;
+use crate::units::UnitNo;
+use crate::world::World;
+use mix_word::{Operation, Place, UNITS};
+use std::marker::Model;
+
+/// Which way a transfer moves words (1.3.1): into the cells, or out of them.
+#[derive(Clone, Copy, Debug, PartialEq, Eq)]
+pub enum Direction {
+    Input,
+    Output,
+}
+
+/// A transfer that an IN or an OUT began: its cells, and the clock at which it ends.
+#[derive(Clone, Copy, Debug, PartialEq, Eq)]
+pub struct Pending {
+    pub way: Direction,
+    pub cells: Span,
+    pub until: u64,
+}
+
+/// A conflict (1.3.1): a cell that is used while the transfer of a unit forbids it.
+#[derive(Clone, Copy, Debug, PartialEq, Eq)]
+pub struct Conflict {
+    pub cell: Place,
+    pub unit: UnitNo,
+    pub transfer: Pending,
+}
+
+/// The transfers that are under way: of each unit its last one, if an IN or OUT began it and no IOC came after it.
+#[derive(Drop)]
+pub struct Transfers {
+    list: [Option<Pending>; UnitNo::COUNT],
+}
+
+impl Model for Transfers {
+    ghost use Rattle.mix_machine.specs.Transfers.{TransfersState};
+
+    ghost Value = { TransfersState };
+
+    ghost view = { λ t. t.list };
+
+    ghost use Rattle.std.specs.Prelude.{◌≡◌, length};
+    ghost use Rattle.mix_word.specs.Uses.{unit_count};
+
+    ghost invariant = { λ t. length t.list ≡ unit_count };
+}
+
+impl Transfers {
+    /// None at all.
+    pub fn none() -> Transfers
+        ensures { result ≡ no_transfers }
+    {
+        Transfers {
+            list: [None; UnitNo::COUNT],
+        }
+    }
+
+    /// The transfer of a unit, which may be over.
+    pub fn of(&self, unit: UnitNo) -> Option<Pending>
+        ensures { result ≡ slice_index_or self.now unit None }
+    {
+        self.list[usize::from(unit.number())]
+    }
+
+    /// Sets what a change made of a unit's transfer, as `World::transfer_by` says it.
+    pub fn set(&mut self, made: Option<(UnitNo, Option<Pending>)>)
+        ensures { self.new ≡ with_transfer self.old made }
+    {
+        match made {
+            Some((unit, transfer)) => self.list[usize::from(unit.number())] = transfer,
+            None => {}
+        }
+    }
+
+    /// The transfers after a change that is accepted, from the machine before it.
+    pub fn go(&mut self, change: Change, before: &World)
+        ensures { self.new ≡ transfers_after self.old before.now change }
+    {
+        self.set(before.transfer_by(change));
+    }
+
+    /// The cell and the transfer with which a change conflicts, if it is accepted and conflicts with one, from the machine before it.
+    #[tactic(auto, using(crate::proofs::ConflictLemmas::conflict_steps))]
+    pub fn conflict(&self, change: Change, before: &World) -> Option<Conflict>
+        ensures { result ≡ conflict_of self.now before.now change }
+    {
+        // (the proof knows how many units there are where the field is named)
+        let _ = &self.list;
+        let access = before.access(change);
+        for number in 0..UNITS {
+            match self.conflict_of_unit(number, &access) {
+                Some(conflict) => return Some(conflict),
+                None => {}
+            }
+        }
+        None
+    }
+
+    // The same of the unit of a number.
+    fn conflict_of_unit(&self, number: u8, access: &Access) -> Option<Conflict>
+        requires { number < unit_count }
+        ensures { result ≡ conflict_with number (slice_index_or self.now number None) access.now }
+    {
+        match UnitNo::of(number) {
+            Some(unit) => conflict_with(unit, self.of(unit), access),
+            None => unreachable!(),
+        }
+    }
+}
+
+// Whether a unit's transfer is under way when something begins that uses a cell of it as it forbids.
+fn conflict_with(unit: UnitNo, transfer: Option<Pending>, access: &Access) -> Option<Conflict>
+    ensures { result ≡ conflict_with unit transfer access.now }
+{
+    match transfer {
+        None => None,
+        Some(pending) => {
+            if access.start < pending.until {
+                conflict_in(unit, pending, access)
+            } else {
+                None
+            }
+        }
+    }
+}
+
+fn conflict_in(unit: UnitNo, transfer: Pending, access: &Access) -> Option<Conflict>
+    ensures { result ≡ conflict_in unit transfer (forbidden transfer.way access.now transfer.cells) }
+{
+    match forbidden(transfer.way, access, transfer.cells) {
+        None => None,
+        Some(cell) => Some(Conflict {
+            cell,
+            unit,
+            transfer,
+        }),
+    }
+}
+
+// The first cell that is used as a transfer of these cells forbids.
+fn forbidden(way: Direction, access: &Access, cells: Span) -> Option<Place>
+    ensures { result ≡ forbidden way access.now cells }
+{
+    match way {
+        Direction::Input => common(access.fetched, cells).or(common(access.read, cells).or(common(
+            access.written,
+            cells,
+        ))),
+        Direction::Output => common(access.written, cells),
+    }
+}
+
+// The lowest cell that is in both.
+fn common(one: Span, other: Span) -> Option<Place>
+    ensures { result ≡ common one other }
+{
+    let cell = if one.first < other.first {
+        other.first
+    } else {
+        one.first
+    };
+    if is_below_end(cell, one) && is_below_end(cell, other) {
+        Place::of(cell)
+    } else {
+        None
+    }
+}
+
+// Whether a number is below the end of some cells.
+fn is_below_end(cell: u16, span: Span) -> bool
+    ensures { result ≡ nat_lt cell (span.first + span.count) }
+{
+    u32::from(cell) < u32::from(span.first) + u32::from(span.count)
+}
+
+impl World {
+    /// What a change makes of a unit's transfer, if it is accepted: a new one, or none any more.
+    #[tactic(auto, unfolding(crate::specs::Transfers::transfer_by))]
+    pub fn transfer_by(&self, change: Change) -> Option<(UnitNo, Option<Pending>)>
+        ensures { result ≡ transfer_by self.now change }
+    {
+        match change {
+            Change::Step => {
+                let (operation, arguments) = self.next_operation();
+                self.made_by(operation, arguments)
+            }
+            Change::SetReg(_, _) | Change::SetCell(_, _) | Change::SetLoc(_) => None,
+            Change::SetOver(_) | Change::SetCmp(_) | Change::Break(_) | Change::Clear(_) => None,
+        }
+    }
+
+    // What a step of an operation makes of a unit's transfer.
+    #[tactic(auto, using(crate::proofs::AccessLemmas::none_made))]
+    fn made_by(&self, operation: Operation, a: Arguments) -> Option<(UnitNo, Option<Pending>)>
+        ensures { result ≡ made_by self.now (effects operation self.now a).writes }
+    {
+        match operation {
+            Operation::In => self.begun(Direction::Input, a),
+            Operation::Out => self.begun(Direction::Output, a),
+            Operation::Ioc => match UnitNo::of(a.f) {
+                Some(unit) => Some((unit, None)),
+                None => None,
+            },
+            Operation::Move => None,
+            Operation::Store(_) | Operation::StoreJ | Operation::StoreZero => None,
+            Operation::Nop | Operation::Hlt | Operation::Num | Operation::Char => None,
+            Operation::Add | Operation::Sub | Operation::Mul | Operation::Div => None,
+            Operation::Shift(_) | Operation::Load(_) | Operation::LoadNegated(_) => None,
+            Operation::Jbus | Operation::Jred => None,
+            Operation::Jump(_) | Operation::RegisterJump(_, _) => None,
+            Operation::Increase(_) | Operation::Decrease(_) => None,
+            Operation::Enter(_) | Operation::EnterNegated(_) => None,
+            Operation::Compare(_) => None,
+        }
+    }
+
+    // The transfer that IN or OUT begins.
+    fn begun(&self, way: Direction, a: Arguments) -> Option<(UnitNo, Option<Pending>)>
+        ensures { result ≡ begun way self.now (transfer_of self.now a) }
+    {
+        match UnitNo::of(a.f) {
+            Some(unit) => {
+                let pending = Pending {
+                    way,
+                    cells: self.block_from(a.f, a.m.magnitude()),
+                    until: self.end_of_next(unit),
+                };
+                Some((unit, Some(pending)))
+            }
+            None => None,
+        }
+    }
+
+    // The clock at which a transfer of a unit would end.
+    fn end_of_next(&self, unit: UnitNo) -> u64
+        ensures { result ≡ transfer_end self.now unit }
+    {
+        self.start_at(unit) + 1 + self.delay_of(unit)
+    }
+
+    // The delay of a unit.
+    #[tactic(auto, using(crate::proofs::AccessLemmas::delay_bound))]
+    fn delay_of(&self, unit: UnitNo) -> u64
+        ensures is { result ≡ (unit_at self.now unit).delay }
+        ensures bound { result ≤ last_delay }
+    {
+        // (the proof knows the ranges of the machine where a field of it is named, and that of a number where it is taken)
+        let _ = &self.loc;
+        let _ = unit.number();
+        self.unit(unit).delay()
+    }
+}
+
+/// What follows from the definitions alone: the transfer that an accepted change begins ends at the time until which its unit is busy then, and
+/// a cell that is none of those that an accepted change writes stays as it was.
+pub fn transfer_law()
+    ensures until { (v w : WorldState) (c : Change) (n : ℕ) (p : Pending) → IsWorld v → does v c ≡ Ok w → transfer_by v c ≡ Some (n, Some p) → (unit_at w n).until ≡ p.until }
+    ensures written { (v w : WorldState) (c : Change) (p : ℕ) → does v c ≡ Ok w → has_cell (access_of v c).written p ≡ false → cell_of w p ≡ cell_of v p }
+{}
