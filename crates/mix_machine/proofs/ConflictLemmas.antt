@@ -1,8 +1,17 @@
 -- The conflicts with the units from one on.
-use Rattle.std.specs.Prelude.{ℕ, zero, suc, ◌+◌, ◌≡◌, ◌<◌, ◌≤◌, List, [], ◌∷◌, length, drop, slice_index_or, Option, Some, None, refl}
+use Rattle.std.specs.Prelude.{ℕ, zero, suc, false, IfSome, slice_set, nat_lt, ◌+◌, ◌≡◌, ◌<◌, ◌≤◌, List, [], ◌∷◌, length, drop, slice_index_or, Option, Some, None, refl}
 use Rattle.std.specs.Option.{option_or}
 use Rattle.std.proofs.Common.{sym, subst, add-one, arith}
-use Rattle.mix_machine.specs.Transfers.{TransfersState, conflict_with, conflict_from}
+use Rattle.std.proofs.lemmas.Bool.Decides.{nat_tests}
+use Rattle.mix_word.specs.declared.uses.UnitUse.{UnitUse}
+use Rattle.mix_word.specs.declared.uses.UnitUse.TheVariants.{Looks, Controls, Reads, Writes}
+use Rattle.mix_machine.specs.World.{WorldState}
+use Rattle.mix_machine.specs.Decode.{arguments_at}
+use Rattle.mix_machine.specs.UnitAction.{use_of, start_of}
+use Rattle.mix_machine.specs.Access.{operation_at, access_of}
+use Rattle.mix_machine.specs.Transfers.{TransfersState, AreOver, conflict_with, conflict_from, conflict_of}
+use Rattle.mix_machine.specs.declared.old.Change.{Change}
+use Rattle.mix_machine.specs.declared.old.Change.TheVariants.{Step, SetReg, SetCell, SetLoc, SetOver, SetCmp, Break, Clear}
 use Rattle.mix_machine.specs.declared.access.Access.{Access}
 use Rattle.mix_machine.specs.declared.transfers.Pending.{Pending}
 use Rattle.mix_machine.specs.declared.transfers.Conflict.{Conflict}
@@ -26,4 +35,51 @@ conflict-none [] m (suc n) a l = refl
 conflict-none (t ∷ ts) m zero a l = absurd (omega arith)
 conflict-none (t ∷ ts) m (suc n) a l = conflict-none ts m n a (omega arith)
 
-pub ruleset conflict_steps = (conflict-step, conflict-none)
+-- Where all transfers are over when a change is asked for, it conflicts with none.
+start-later : (u : Option UnitUse) (w : WorldState) (n : ℕ) → w.clock ≤ start_of u w n
+start-later None w n = omega arith
+start-later (Some Looks) w n = omega arith
+start-later (Some Controls) w n = omega arith
+start-later (Some Reads) w n = omega arith
+start-later (Some Writes) w n = omega arith
+
+access-later : (w : WorldState) (c : Change) → w.clock ≤ (access_of w c).start
+unfolding access_of
+access-later w Step = start-later (use_of (operation_at w)) w (arguments_at w).f
+access-later w (SetReg r v) = omega arith
+access-later w (SetCell p v) = omega arith
+access-later w (SetLoc p) = omega arith
+access-later w (SetOver b) = omega arith
+access-later w (SetCmp c) = omega arith
+access-later w (Break p) = omega arith
+access-later w (Clear p) = omega arith
+
+not-below : (m n : ℕ) → n ≤ m → nat_lt m n ≡ false
+not-below m n l = grind (arith, nat_tests)
+
+over-none : (ts : TransfersState) (m time : ℕ) (a : Access) → AreOver time ts → time ≤ a.start → conflict_from m ts a ≡ None
+over-none [] m time a h l = refl
+over-none (None ∷ ts) m time a h l = over-none ts (m + 1) time a h l
+over-none (Some p ∷ ts) m time a h l =
+    rw (not-below a.start p.until (omega (arith, h.0))) (over-none ts (m + 1) time a h.1 l)
+
+pub all-over : (ts : TransfersState) (w : WorldState) (c : Change) (time : ℕ) → AreOver time ts → time ≤ w.clock → conflict_of ts w c ≡ None
+all-over ts w c time h l = over-none ts 0 time (access_of w c) h (omega (arith, access-later w c))
+
+over-later : (ts : TransfersState) (s t : ℕ) → AreOver s ts → s ≤ t → AreOver t ts
+over-later [] s t h l = tt
+over-later (None ∷ ts) s t h l = over-later ts s t h l
+over-later (Some p ∷ ts) s t h l = (omega (arith, h.0), over-later ts s t h.1 l)
+
+pub over-set : (ts : TransfersState) (n s t : ℕ) (x : Option Pending) → AreOver s ts → s ≤ t → IfSome x (λ p. p.until ≤ t) → AreOver t (slice_set ts n x)
+over-set [] n s t x h l e = tt
+over-set (None ∷ ts) zero s t None h l e = over-later ts s t h l
+over-set (None ∷ ts) zero s t (Some q) h l e = (e, over-later ts s t h l)
+over-set (Some p ∷ ts) zero s t None h l e = over-later ts s t h.1 l
+over-set (Some p ∷ ts) zero s t (Some q) h l e = (e, over-later ts s t h.1 l)
+over-set (None ∷ ts) (suc n) s t x h l e = over-set ts n s t x h l e
+over-set (Some p ∷ ts) (suc n) s t x h l e = (omega (arith, h.0), over-set ts n s t x h.1 l e)
+
+pub ruleset are_over = (over-set)
+
+pub ruleset conflict_steps = (conflict-step, conflict-none, all-over)

@@ -1,6 +1,6 @@
 -- The transfers under way, and which change conflicts with one. Until a transfer is over, a program must not use the
 -- cells of an IN, nor alter those of an OUT (1.3.1, "Input-output operators").
-use Rattle.std.specs.Prelude.{ℕ, zero, suc, ◌+◌, max, Bool, ◌&&◌, nat_lt, List, [], ◌∷◌, replicate, slice_set, Option, Some, None, Result, Ok, Err, if◌then◌else◌}
+use Rattle.std.specs.Prelude.{ℕ, zero, suc, ◌+◌, ◌≡◌, ◌≤◌, length, max, Bool, ◌&&◌, nat_lt, List, [], ◌∷◌, replicate, slice_set, Option, Some, None, Result, Ok, Err, if◌then◌else◌}
 use Rattle.std.specs.Option.{option_or}
 use Rattle.mix_word.specs.Uses.{unit_count}
 use Rattle.mix_machine.specs.World.{WorldState}
@@ -28,6 +28,17 @@ TransfersState = List (Option Pending)
 
 abbrev pub no_transfers : TransfersState
 no_transfers = replicate unit_count None
+
+-- whether each of them is over at a time
+abbrev pub AreOver : ℕ → TransfersState → Type 0
+AreOver time [] = Unit {0}
+AreOver time (None ∷ ts) = AreOver time ts
+AreOver time (Some p ∷ ts) = (p.until ≤ time) × AreOver time ts
+
+-- what every value of the transfers meets: one for each unit, all over at a time
+pub record AreTransfers (ts : TransfersState) (time : ℕ) : Type 0 where
+  pub units : length ts ≡ unit_count
+  pub over : AreOver time ts
 
 -- what becomes of the transfer of a unit, where there is such a unit
 abbrev pub becomes : ℕ → Option Pending → Option (ℕ × Option Pending)

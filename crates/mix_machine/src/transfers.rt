@@ -1,24 +1,20 @@
 //! The transfers under way, and which change conflicts with one (1.3.1, "Input-output operators").
-ghost use Rattle.std.specs.Prelude.{◌≡◌, ◌<◌, ◌≤◌, ◌+◌, ℕ, false, Ok, Some, None, drop, nat_lt, slice_index_or};
+ghost use Rattle.std.specs.Prelude.{◌≡◌, ◌<◌, ◌≤◌, ◌+◌, ℕ, false, Ok, Some, None, IfSome, drop, nat_lt, slice_index_or};
 ghost use Rattle.mix_word.specs.Uses.{unit_count};
 ghost use Rattle.mix_machine.specs.World.{WorldState, IsWorld, cell_of, unit_at};
-ghost use Rattle.mix_machine.specs.units.Unit.{last_delay};
 ghost use Rattle.mix_machine.specs.Access.{has_cell, access_of};
 ghost use Rattle.mix_machine.specs.Do.{does};
 ghost use Rattle.mix_machine.specs.declared.old.Change.{Change};
 ghost use Rattle.mix_machine.specs.declared.transfers.Pending.{Pending};
-ghost use Rattle.mix_machine.specs.Effects.{effects, transfer_of};
-ghost use Rattle.mix_machine.specs.UnitAction.{transfer_end};
-ghost use Rattle.mix_machine.specs.Transfers.{no_transfers, becomes, begun, made_by, transfer_by, with_transfer, transfers_after, common, forbidden, conflict_in, conflict_with, conflict_from, conflict_of};
-ghost use Rattle.mix_machine.specs.declared.transfers.Direction.TheVariants as way;
-ghost use Rattle.mix_machine.specs.declared.plan.Transfer.{Transfer};
+ghost use Rattle.mix_machine.specs.Transfers.{no_transfers, transfer_by, with_transfer, transfers_after, common, forbidden, conflict_in, conflict_with, conflict_from, conflict_of};
+
+mod made;
 
 use crate::access::{Access, Span};
-use crate::decode::Arguments;
 use crate::old::Change;
 use crate::units::UnitNo;
 use crate::world::World;
-use mix_word::{Operation, Place, UNITS};
+use mix_word::{Place, UNITS};
 use std::marker::Model;
 
 /// Which way a transfer moves words (1.3.1): into the cells, or out of them.
@@ -48,6 +44,8 @@ pub struct Conflict {
 #[derive(Drop)]
 pub struct Transfers {
     list: [Option<Pending>; UnitNo::COUNT],
+    // A clock at which all of them are over, which a change asks first.
+    over: u64,
 }
 
 impl Model for Transfers {
@@ -57,10 +55,9 @@ impl Model for Transfers {
 
     ghost view = { λ t. t.list };
 
-    ghost use Rattle.std.specs.Prelude.{◌≡◌, length};
-    ghost use Rattle.mix_word.specs.Uses.{unit_count};
+    ghost use Rattle.mix_machine.specs.Transfers.{AreTransfers};
 
-    ghost invariant = { λ t. length t.list ≡ unit_count };
+    ghost invariant = { λ t. AreTransfers t.list t.over };
 }
 
 impl Transfers {
@@ -70,6 +67,7 @@ impl Transfers {
     {
         Transfers {
             list: [None; UnitNo::COUNT],
+            over: 0,
         }
     }
 
@@ -81,11 +79,15 @@ impl Transfers {
     }
 
     /// Sets what a change made of a unit's transfer, as `World::transfer_by` says it.
+    #[tactic(auto, using(crate::proofs::ConflictLemmas::are_over))]
     pub fn set(&mut self, made: Option<(UnitNo, Option<Pending>)>)
         ensures { self.new ≡ with_transfer self.old made }
     {
         match made {
-            Some((unit, transfer)) => self.list[usize::from(unit.number())] = transfer,
+            Some((unit, transfer)) => {
+                self.list[usize::from(unit.number())] = transfer;
+                self.over = over_after(self.over, transfer);
+            }
             None => {}
         }
     }
@@ -104,6 +106,9 @@ impl Transfers {
     {
         // (the proof knows how many units there are where the field is named)
         let _ = &self.list;
+        if before.clock() >= self.over {
+            return None;
+        }
         let access = before.access(change);
         for number in 0..UNITS {
             match self.conflict_of_unit(number, &access) {
@@ -123,6 +128,17 @@ impl Transfers {
             Some(unit) => conflict_with(unit, self.of(unit), access),
             None => unreachable!(),
         }
+    }
+}
+
+// A clock at which what was over at another one is over, and a transfer too.
+fn over_after(over: u64, transfer: Option<Pending>) -> u64
+    ensures kept { over ≤ result }
+    ensures ended { IfSome transfer (λ p. p.until ≤ result) }
+{
+    match transfer {
+        Some(pending) if pending.until > over => pending.until,
+        _ => over,
     }
 }
 
@@ -189,84 +205,6 @@ fn is_below_end(cell: u16, span: Span) -> bool
     ensures { result ≡ nat_lt cell (span.first + span.count) }
 {
     u32::from(cell) < u32::from(span.first) + u32::from(span.count)
-}
-
-impl World {
-    /// What a change makes of a unit's transfer, if it is accepted: a new one, or none any more.
-    #[tactic(auto, unfolding(crate::specs::Transfers::transfer_by))]
-    pub fn transfer_by(&self, change: Change) -> Option<(UnitNo, Option<Pending>)>
-        ensures { result ≡ transfer_by self.now change }
-    {
-        match change {
-            Change::Step => {
-                let (operation, arguments) = self.next_operation();
-                self.made_by(operation, arguments)
-            }
-            Change::SetReg(_, _) | Change::SetCell(_, _) | Change::SetLoc(_) => None,
-            Change::SetOver(_) | Change::SetCmp(_) | Change::Break(_) | Change::Clear(_) => None,
-        }
-    }
-
-    // What a step of an operation makes of a unit's transfer.
-    #[tactic(auto, using(crate::proofs::AccessLemmas::none_made))]
-    fn made_by(&self, operation: Operation, a: Arguments) -> Option<(UnitNo, Option<Pending>)>
-        ensures { result ≡ made_by self.now (effects operation self.now a).writes }
-    {
-        match operation {
-            Operation::In => self.begun(Direction::Input, a),
-            Operation::Out => self.begun(Direction::Output, a),
-            Operation::Ioc => match UnitNo::of(a.f) {
-                Some(unit) => Some((unit, None)),
-                None => None,
-            },
-            Operation::Move => None,
-            Operation::Store(_) | Operation::StoreJ | Operation::StoreZero => None,
-            Operation::Nop | Operation::Hlt | Operation::Num | Operation::Char => None,
-            Operation::Add | Operation::Sub | Operation::Mul | Operation::Div => None,
-            Operation::Shift(_) | Operation::Load(_) | Operation::LoadNegated(_) => None,
-            Operation::Jbus | Operation::Jred => None,
-            Operation::Jump(_) | Operation::RegisterJump(_, _) => None,
-            Operation::Increase(_) | Operation::Decrease(_) => None,
-            Operation::Enter(_) | Operation::EnterNegated(_) => None,
-            Operation::Compare(_) => None,
-        }
-    }
-
-    // The transfer that IN or OUT begins.
-    fn begun(&self, way: Direction, a: Arguments) -> Option<(UnitNo, Option<Pending>)>
-        ensures { result ≡ begun way self.now (transfer_of self.now a) }
-    {
-        match UnitNo::of(a.f) {
-            Some(unit) => {
-                let pending = Pending {
-                    way,
-                    cells: self.block_from(a.f, a.m.magnitude()),
-                    until: self.end_of_next(unit),
-                };
-                Some((unit, Some(pending)))
-            }
-            None => None,
-        }
-    }
-
-    // The clock at which a transfer of a unit would end.
-    fn end_of_next(&self, unit: UnitNo) -> u64
-        ensures { result ≡ transfer_end self.now unit }
-    {
-        self.start_at(unit) + 1 + self.delay_of(unit)
-    }
-
-    // The delay of a unit.
-    #[tactic(auto, using(crate::proofs::AccessLemmas::delay_bound))]
-    fn delay_of(&self, unit: UnitNo) -> u64
-        ensures is { result ≡ (unit_at self.now unit).delay }
-        ensures bound { result ≤ last_delay }
-    {
-        // (the proof knows the ranges of the machine where a field of it is named, and that of a number where it is taken)
-        let _ = &self.loc;
-        let _ = unit.number();
-        self.unit(unit).delay()
-    }
 }
 
 /// What follows from the definitions alone: the transfer that an accepted change begins ends at the time until which its unit is busy then, and
