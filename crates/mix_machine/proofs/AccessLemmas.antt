@@ -1,7 +1,6 @@
 -- What operations write that is in no cell and makes no transfer; a unit that is none; the word after the last cell.
-use Rattle.std.specs.Prelude.{ℕ, Bool, true, false, cond, ◌==◌, ◌≡◌, ◌<◌, ◌≤◌, List, length, max, Option, Some, None, refl}
-use Rattle.std.proofs.Common.{ap, sym, arith}
-use Rattle.std.proofs.lemmas.Bool.Decides.{nat_tests}
+use Rattle.std.specs.Prelude.{ℕ, Bool, true, false, cond, ◌==◌, ◌≡◌, ◌<◌, ◌≤◌, Option, Some, None, refl}
+use Rattle.std.proofs.Common.{arith}
 use Rattle.std.proofs.lemmas.List.{get_or_past}
 use Rattle.mix_word.specs.Word.{WordValue, zero_word, plus}
 use Rattle.mix_word.specs.Arithmetic.{sum_of}

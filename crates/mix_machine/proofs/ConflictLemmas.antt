@@ -1,5 +1,5 @@
 -- The conflicts with the units from one on.
-use Rattle.std.specs.Prelude.{ℕ, zero, suc, false, IfSome, slice_set, nat_lt, ◌+◌, ◌≡◌, ◌<◌, ◌≤◌, List, [], ◌∷◌, length, drop, slice_index_or, Option, Some, None, refl}
+use Rattle.std.specs.Prelude.{ℕ, zero, suc, false, IfSome, slice_set, nat_lt, ◌+◌, ◌≡◌, ◌<◌, ◌≤◌, [], ◌∷◌, length, drop, slice_index_or, Option, Some, None, refl}
 use Rattle.std.specs.Option.{option_or}
 use Rattle.std.proofs.Common.{sym, subst, add-one, arith}
 use Rattle.std.proofs.lemmas.Bool.Decides.{nat_tests}
@@ -14,7 +14,6 @@ use Rattle.mix_machine.specs.declared.old.Change.{Change}
 use Rattle.mix_machine.specs.declared.old.Change.TheVariants.{Step, SetReg, SetCell, SetLoc, SetOver, SetCmp, Break, Clear}
 use Rattle.mix_machine.specs.declared.access.Access.{Access}
 use Rattle.mix_machine.specs.declared.transfers.Pending.{Pending}
-use Rattle.mix_machine.specs.declared.transfers.Conflict.{Conflict}
 
 conflict-next : (ts : TransfersState) (m n : ℕ) (a : Access) → n < length ts →
     conflict_from m (drop n ts) a ≡ option_or (conflict_with m (slice_index_or ts n None) a) (conflict_from (m + 1) (drop (suc n) ts) a)

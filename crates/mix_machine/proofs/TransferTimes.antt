@@ -1,16 +1,15 @@
 -- A transfer ends when the step that began it says that its unit is free again; one of a unit without a delay is over after that step.
-use Rattle.std.specs.Prelude.{ℕ, ◌+◌, ◌-◌, max, Bool, true, false, not, cond, nat_lt, List, [], ◌∷◌, ◌++◌, ◌≡◌, ◌<◌, length, Option, Some, None, Result, Ok, Err, refl}
-use Rattle.std.proofs.Common.{ap, sym, subst, ◌∙◌, arith}
+use Rattle.std.specs.Prelude.{ℕ, ◌-◌, Bool, true, false, not, cond, nat_lt, List, [], ◌∷◌, ◌≡◌, ◌<◌, length, Option, Some, None, Result, Ok, Err, refl}
+use Rattle.std.proofs.Common.{sym, subst, arith}
 use Rattle.std.proofs.lemmas.Bool.Decides.{nat_tests}
 use Rattle.mix_word.specs.Uses.{unit_count}
-use Rattle.mix_word.specs.declared.operation.Operation.{Operation}
 use Rattle.mix_machine.specs.World.{WorldState, IsWorld, unit_at}
 use Rattle.mix_machine.specs.Decode.{decode_at, arguments_at}
 use Rattle.mix_machine.specs.Effects.{effects}
 use Rattle.mix_machine.specs.Order.{applies, order, first_fault, operation_or_nop}
 use Rattle.mix_machine.specs.Do.{does, plan_of, state_after, step_plan}
 use Rattle.mix_machine.specs.UnitAction.{transfer_end}
-use Rattle.mix_machine.specs.Write.{Write, set, grow, print, write_all, written, set_value, each, from_block, from_cell, words_out, place_after, input_writes, replace_writes, append_writes, row_writes, output_writes, writes_in, writes_of}
+use Rattle.mix_machine.specs.Write.{set, grow, print, write_all, each, from_block, from_cell, words_out, place_after, input_writes, replace_writes, append_writes, row_writes, writes_in, writes_of}
 use Rattle.mix_machine.specs.Transfers.{made_by, transfer_by}
 use Rattle.mix_machine.specs.units.UnitKind.{block_length, has_medium}
 use Rattle.mix_machine.specs.units.Row.{row_of}

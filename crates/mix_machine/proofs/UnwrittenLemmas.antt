@@ -1,6 +1,6 @@
 -- A cell that is not among those that a change writes stays as it was.
-use Rattle.std.specs.Prelude.{ℕ, zero, suc, ◌+◌, ◌-◌, Bool, true, false, not, cond, nat_lt, List, [], ◌∷◌, ◌++◌, ◌≡◌, ◌≢◌, ◌<◌, ◌≤◌, length, Result, Ok, Err, None, refl}
-use Rattle.std.proofs.Common.{ap, sym, subst, ◌∙◌, arith}
+use Rattle.std.specs.Prelude.{ℕ, zero, suc, ◌+◌, ◌-◌, Bool, true, false, not, cond, nat_lt, List, [], ◌∷◌, ◌≡◌, ◌≢◌, ◌<◌, ◌≤◌, length, Result, Ok, Err, refl}
+use Rattle.std.proofs.Common.{subst, ◌∙◌, arith}
 use Rattle.std.proofs.lemmas.Bool.Decides.{nat_tests}
 use Rattle.std.proofs.lemmas.List.{get_or-set_other}
 use Rattle.mix_word.specs.Word.{WordValue, zero_word}
@@ -11,12 +11,10 @@ use Rattle.mix_machine.specs.Decode.{decode_at, arguments_at}
 use Rattle.mix_machine.specs.Effects.{effects}
 use Rattle.mix_machine.specs.Order.{applies, order, first_fault, operation_or_nop}
 use Rattle.mix_machine.specs.Do.{does, plan_of, state_after, step_plan}
-use Rattle.mix_machine.specs.Write.{set_value, Write, set, grow, print, written, write_all, copies, each, place_after, from_block, from_cell, input_writes, words_out, replace_writes, append_writes, row_writes, output_writes, control_writes, writes_in, writes_of}
-use Rattle.mix_machine.specs.Access.{cells_from, no_cells, has_cell, cells_written, access_of}
+use Rattle.mix_machine.specs.Write.{set_value, Write, set, grow, print, written, write_all, copies, each, place_after, from_block, from_cell, input_writes, replace_writes, append_writes, row_writes, control_writes, writes_in, writes_of}
+use Rattle.mix_machine.specs.Access.{cells_from, has_cell, cells_written, access_of}
 use Rattle.mix_machine.specs.units.UnitKind.{block_length, has_place, has_medium}
 use Rattle.mix_machine.proofs.AlteredLemmas.{Every, every-append}
-use Rattle.mix_machine.proofs.WriteLemmas.{write_all-append}
-use Rattle.mix_machine.specs.declared.access.Span.{Span}
 use Rattle.mix_machine.specs.declared.units.kind.UnitKind.{UnitKind}
 use Rattle.mix_machine.specs.declared.units.kind.UnitKind.TheVariants.{Tape, Disk, CardReader, CardPunch, Printer, Typewriter, PaperTape}
 use Rattle.mix_machine.specs.declared.plan.Transfer.{Transfer}

@@ -1,13 +1,12 @@
 -- The transfers under way, and which change conflicts with one. Until a transfer is over, a program must not use the
 -- cells of an IN, nor alter those of an OUT (1.3.1, "Input-output operators").
-use Rattle.std.specs.Prelude.{ℕ, zero, suc, ◌+◌, ◌≡◌, ◌≤◌, length, max, Bool, ◌&&◌, nat_lt, List, [], ◌∷◌, replicate, slice_set, Option, Some, None, Result, Ok, Err, if◌then◌else◌}
+use Rattle.std.specs.Prelude.{ℕ, ◌+◌, ◌≡◌, ◌≤◌, length, max, ◌&&◌, nat_lt, List, [], ◌∷◌, replicate, slice_set, Option, Some, None, if◌then◌else◌}
 use Rattle.std.specs.Option.{option_or}
 use Rattle.mix_word.specs.Uses.{unit_count}
 use Rattle.mix_machine.specs.World.{WorldState}
 use Rattle.mix_machine.specs.Decode.{arguments_at}
 use Rattle.mix_machine.specs.Effects.{effects}
 use Rattle.mix_machine.specs.UnitAction.{transfer_end}
-use Rattle.mix_machine.specs.Do.{does}
 use Rattle.mix_machine.specs.Access.{block_from, operation_at, access_of}
 use Rattle.mix_machine.specs.declared.plan.Transfer.{Transfer}
 use Rattle.mix_machine.specs.declared.plan.Writes.{Writes}
@@ -18,7 +17,6 @@ use Rattle.mix_machine.specs.declared.transfers.Direction.{Direction}
 use Rattle.mix_machine.specs.declared.transfers.Direction.TheVariants as way
 use Rattle.mix_machine.specs.declared.transfers.Pending.{Pending}
 use Rattle.mix_machine.specs.declared.transfers.Conflict.{Conflict}
-use Rattle.mix_machine.specs.declared.fault.MixFault.{MixFault}
 use Rattle.mix_machine.specs.declared.old.Change.{Change}
 use Rattle.mix_machine.specs.declared.old.Change.TheVariants.{Step, SetReg, SetCell, SetLoc, SetOver, SetCmp, Break, Clear}
 
