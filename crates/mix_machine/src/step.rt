@@ -26,7 +26,7 @@ use undo_core::{Kept, Refused};
 
 impl World {
     /// Does a step, or reports its first fault; out of memory is the answer to none that has a fault.
-    // (inlined wherever a step is done, with the operations that programs do most: a call has a frame, and its result passes through memory)
+    // (inlined where a step is done, so that its cell is read once there)
     #[tactic(auto, unfolding(crate::specs::Do::plan_of))]
     #[inline(always)]
     pub(crate) fn step(&mut self, kept: &mut Kept<Old>) -> Result<(), Refused<MixFault>>
@@ -42,7 +42,9 @@ impl World {
     }
 
     // A step of the instruction in a word, at a cell.
-    #[inline(always)]
+    // (one function, in which the operations that programs do most are inlined, each being called there alone. With them it is too long for the
+    // compiler to inline it where a step is done: it would drop the attribute from one of the functions in it, and call that with more arguments)
+    #[inline(never)]
     fn step_of_word(&mut self, word: Word, kept: &mut Kept<Old>) -> Result<(), Refused<MixFault>>
         requires cell { self.old.loc < 4000 }
         ensures { Carried (step_or_fault (decode_of (parts_of word).code (parts_of word).f) self.old (arguments_of self.old (parts_of word))) self.old self.new kept.old.items kept.new.items result }

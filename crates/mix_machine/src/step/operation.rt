@@ -42,7 +42,7 @@ impl World {
     }
 
     // A step of an operation. Each operation ends its step for itself, so that the compiler knows there what it writes.
-    #[inline(always)]
+    // (it is inlined since it is called once; `inline(always)` would be dropped, as it grows large)
     fn step_of_operation(
         &mut self,
         operation: Operation,
