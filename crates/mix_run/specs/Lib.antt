@@ -2,11 +2,13 @@ pub mod Bundle
 pub mod Check
 pub mod Fault
 pub mod Hearing
+pub mod Opening
 pub mod Output
 pub mod Person
 pub mod Print
 pub mod PrintOutput
 pub mod PrintSteps
+pub mod Reason
 pub mod Recall
 pub mod Refusal
 pub mod Talk

@@ -8,7 +8,9 @@ mod check;
 mod commands;
 mod fault;
 mod list;
+mod opener;
 mod print;
+mod reason;
 mod run;
 mod statuses;
 mod talk;
@@ -23,8 +25,10 @@ pub use mix_session::{
     AsmFault, AsmKind, Counted, DeckFault, DeckKind, Failed, In, Out, Refusal, Session, Told,
     back_and_forth_law,
 };
+pub use opener::Opener;
 pub use print::options::{PrintOptions, UnitSet};
 pub use print::{PrintAnswer, PrintTexts, RanTo, RunEnd, run_printed};
+pub use reason::Reason;
 pub use run::run_debug;
 pub use statuses::{DONE, NOT_DONE, SOURCE_REFUSED};
 pub use talk::{Streams, Talker, run_talk};

@@ -7,7 +7,7 @@ use Rattle.mix_run.specs.Check.{Named, Reported}
 use Rattle.mix_run.specs.declared.check.Reports.{Reports}
 use Rattle.mix_run.specs.declared.fault.ToolFault.{ToolFault}
 use Rattle.mix_tool.specs.Ending.{IsAmong, IsFileOf, Seen}
-use Rattle.mix_tool.specs.Opening.{Asks, Files, Missing, Opens, asked_of, missing_of, named, opened_text}
+use Rattle.mix_run.specs.Opening.{Asks, Files, Missing, Opens, asked_of, missing_of, named, opened_text}
 use Rattle.mix_tool.specs.Plan.{DoneAfter, FileNames, hears_client, in_order, named_of, names_of}
 use Rattle.mix_tool.proofs.OpeningLemmas.{named-first, named-later, opens-end, opens-then}
 

@@ -4,7 +4,7 @@ use Rattle.std.specs.Prelude.{OnOk}
 use Rattle.std.specs.Result.{MatchResult}
 use Rattle.mix_run.specs.Output.{IsStatus}
 use Rattle.mix_run.specs.declared.fault.ToolFault.{ToolFault}
-use Rattle.mix_tool.specs.Opening.{named}
+use Rattle.mix_run.specs.Opening.{named}
 use Rattle.mix_tool.specs.Ending.{IsAmong, status_of_run}
 
 pub either_told : {S E : Type 0} (r : Result S E) (P : List ℕ → Type 0) (bytes : S → List ℕ) (line other : List ℕ)

@@ -1,7 +1,7 @@
 -- Some names are opened, and then others.
 use Rattle.std.proofs.Common.{◌≡◌, ◌≢◌, ℕ, List, [], ◌∷◌, ◌++◌, Option, None, Some, Result, Ok, Err, refl, sym, ap, ◌∙◌, subst, append_assoc}
-use Rattle.mix_tool.specs.Opening.{Asks, Files, Gives, Missing, Opens, asked_of, missing_of, opened_text, then_asked, then_missing}
-use Rattle.mix_tool.specs.declared.reason.Reason.{Reason}
+use Rattle.mix_run.specs.Opening.{Asks, Files, Gives, Missing, Opens, asked_of, missing_of, opened_text, then_asked, then_missing}
+use Rattle.mix_run.specs.declared.reason.Reason.{Reason}
 
 -- one name that was opened
 opened-case : (name : List ℕ) (file : Result (List ℕ) Reason) (rest : Option (List ℕ)) (a b : Option (List (List ℕ))) → Gives file (Ok rest) → Asks a b (name ∷ [])

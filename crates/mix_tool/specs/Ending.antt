@@ -17,8 +17,8 @@ use Rattle.mix_machine.specs.units.Units.{UnitsState}
 use Rattle.mix_machine.specs.declared.units.deck_fault.DeckFault.{DeckFault}
 use Rattle.mix_run.specs.declared.fault.ToolFault.{ToolFault}
 use Rattle.mix_run.specs.declared.fault.ToolFault.TheVariants as faults
-use Rattle.mix_tool.specs.Reason.{reason_text}
-use Rattle.mix_tool.specs.declared.reason.Reason.{Reason}
+use Rattle.mix_run.specs.Reason.{reason_text}
+use Rattle.mix_run.specs.declared.reason.Reason.{Reason}
 
 -- the file that a fault is about: of a read that failed, the one that was read
 abbrev pub file_of_fault : ToolFault → Option (List ℕ) → Option (List ℕ)

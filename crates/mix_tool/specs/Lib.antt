@@ -1,5 +1,3 @@
 pub mod Ending
-pub mod Opening
 pub mod Plan
-pub mod Reason
 pub mod Shelf

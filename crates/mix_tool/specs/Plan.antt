@@ -14,7 +14,7 @@ use Rattle.mix_run.specs.declared.print.options.UnitSet.{UnitSet}
 use Rattle.mix_run.specs.declared.talk.Streams.{Streams}
 use Rattle.mix_run.specs.declared.talk.aside.Talker.{Talker}
 use Rattle.mix_tool.specs.Ending.{PrintRuns, Runs, Seen, TalkRuns, Tells, not_opened}
-use Rattle.mix_tool.specs.Opening.{Files, Missing, missing_of, named, opened_text, text_of}
+use Rattle.mix_run.specs.Opening.{Files, Missing, missing_of, named, opened_text, text_of}
 use Rattle.mix_tool.specs.declared.texts.Names.{Names}
 use Rattle.mix_tool.specs.declared.texts.Texts.{Texts}
 

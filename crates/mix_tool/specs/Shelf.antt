@@ -1,8 +1,8 @@
 -- Files in memory.
 use Rattle.std.specs.Prelude.{ℕ, List, [], ◌∷◌, Option, None, Some, Result, Ok, Err, if◌then◌else◌}
 use Rattle.std.specs.Str.{bytes_eq}
-use Rattle.mix_tool.specs.declared.reason.Reason.{Reason}
-use Rattle.mix_tool.specs.declared.reason.Reason.TheVariants as reason
+use Rattle.mix_run.specs.declared.reason.Reason.{Reason}
+use Rattle.mix_run.specs.declared.reason.Reason.TheVariants as reason
 use Rattle.mix_tool.specs.declared.shelf.Shelved.{Shelved}
 
 -- the text of the first file of a name

@@ -3,13 +3,12 @@
 ghost use Rattle.std.specs.Prelude.{◌≡◌, ◌≢◌, ◌<◌, ◌≤◌, ◌-◌, ◌^◌, ◌++◌, ◌∷◌, [], ℕ, List, None, Some, IfErr, IfOk, map, option_map, string_bytes};
 ghost use Rattle.mix_run.specs.Check.{Named, Reported, check_output};
 ghost use Rattle.mix_tool.specs.Ending.{IsFileOf, Runs};
-ghost use Rattle.mix_tool.specs.Opening.{Asks, Files, Opens, asked_of, missing_of, opened_text};
+ghost use Rattle.mix_run.specs.Opening.{Asks, Files, Opens, asked_of, missing_of, opened_text};
 ghost use Rattle.mix_tool.specs.Plan.{DoneAfter, named_of, seen};
 
 use crate::ending::{status, tell_not_opened};
-use crate::opener::Opener;
 use crate::texts::NotOpened;
-use mix_run::{Reports, Streams, ToolFault, no_reports, report_next, write_reports};
+use mix_run::{Opener, Reports, Streams, ToolFault, no_reports, report_next, write_reports};
 use mix_stream::{In, Out};
 use std::alloc::Global;
 

@@ -2,11 +2,10 @@
 
 ghost use Rattle.std.specs.Prelude.{◌≡◌, ◌<◌, ◌-◌, ◌^◌, ◌∷◌, ◌++◌, IfOk, OnOk, MatchResult, option_map, string_bytes};
 ghost use Rattle.mix_tool.specs.Ending.{IsAmong, Tells, TellsRun, Wrote, file_of_fault, memory_line, not_opened, report, status_of_end, status_of_print, status_of_run};
-ghost use Rattle.mix_tool.specs.Opening.{named};
+ghost use Rattle.mix_run.specs.Opening.{named};
 
-use crate::reason::Reason;
 use mix_cli::FAILED;
-use mix_run::{DONE, NOT_DONE, PrintAnswer, RanTo, RunEnd, SOURCE_REFUSED, ToolFault};
+use mix_run::{DONE, NOT_DONE, PrintAnswer, RanTo, Reason, RunEnd, SOURCE_REFUSED, ToolFault};
 use mix_stream::{Out, write_all};
 use std::alloc::{AllocError, Global};
 

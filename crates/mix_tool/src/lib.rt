@@ -5,19 +5,18 @@ mod asked;
 mod check;
 mod debug;
 mod ending;
-mod opener;
 mod plan;
-mod reason;
 pub mod shelf;
+mod system;
 mod texts;
 
 pub use mix_cli::{FAILED, LineFault, Plan, Printing, line_status, read_words};
 pub use mix_dap::serve;
 pub use mix_run::{
-    AsmFault, AsmKind, Counted, DeckFault, DeckKind, Failed, In, MixFault, Out, PrintAnswer,
-    PrintOptions, PrintTexts, RanTo, Refusal, RunEnd, Session, Streams, Talker, Told, ToolFault,
-    UnitSet, back_and_forth_law, run_bundle, run_debug, run_list, run_printed, run_talk,
+    AsmFault, AsmKind, Counted, DeckFault, DeckKind, Failed, In, MixFault, Opener, Out,
+    PrintAnswer, PrintOptions, PrintTexts, RanTo, Reason, Refusal, RunEnd, Session, Streams,
+    Talker, Told, ToolFault, UnitSet, back_and_forth_law, run_bundle, run_debug, run_list,
+    run_printed, run_talk,
 };
-pub use opener::{Opener, SystemFiles};
 pub use plan::run_plan;
-pub use reason::Reason;
+pub use system::SystemFiles;

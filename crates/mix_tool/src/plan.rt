@@ -5,18 +5,17 @@ ghost use Rattle.dap_stream.specs.declared.broken.Broken.{Broken};
 ghost use Rattle.dap_stream.specs.declared.broken.Broken.TheVariants as broken;
 ghost use Rattle.mix_dap.specs.Dialogue.{DialogueAs, TellsBroken};
 ghost use Rattle.mix_stream.specs.Stream.{CountsFailure};
-ghost use Rattle.mix_tool.specs.Opening.{Asks, Files, asked_of, missing_of};
+ghost use Rattle.mix_run.specs.Opening.{Asks, Files, asked_of, missing_of};
 ghost use Rattle.mix_tool.specs.Plan.{AreFresh, Given, HoldTexts, DoneAfter, IsDone, RunsOn, files_of, given_of, hears_client, in_order, is_quiet, reads_input, seen, sources_of};
 
 use crate::asked::{names_in, options_of};
 use crate::check::check_files;
 use crate::debug::debug_on;
 use crate::ending::{print_status, status, tell_not_opened, unread};
-use crate::opener::Opener;
 use crate::texts::{Texts, open_texts};
 use mix_cli::Plan;
 use mix_dap::{Library, serve_from};
-use mix_run::{Streams, run_bundle, run_list, run_printed};
+use mix_run::{Opener, Streams, run_bundle, run_list, run_printed};
 use mix_stream::{In, Out};
 use std::alloc::Global;
 

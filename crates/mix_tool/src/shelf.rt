@@ -1,14 +1,13 @@
-//! Files in memory, for tests: of each name its text, and a note of the names that were asked for.
+//! Files in memory, for tests: of each name its text, and notes of the names that were asked for, and of those of files that were to be created.
 
 ghost use Rattle.std.specs.Prelude.{◌≡◌, ◌++◌, ◌∷◌, [], None, OnOk, option_map, string_bytes, map};
-ghost use Rattle.mix_tool.specs.Opening.{Asks};
+ghost use Rattle.mix_run.specs.Opening.{Asks};
 ghost use Rattle.mix_tool.specs.Shelf.{text_in};
 
-use crate::opener::Opener;
-use crate::reason::Reason;
 use mix_dap::{Fault, Library};
 use mix_refused::Refused;
-use mix_stream::fake::Chunks;
+use mix_run::{Opener, Reason};
+use mix_stream::fake::{Chunks, Sink};
 use std::alloc::{AllocError, Global};
 
 /// All bytes in one call.
@@ -21,12 +20,13 @@ pub struct Shelved<'a> {
     pub text: &'a [u8],
 }
 
-/// Files in memory. The first of two files of a name is the one that is opened.
+/// Files in memory. The first of two files of a name is the one that is opened. One that is created takes 4,096 bytes, and is not kept.
 #[derive(Drop)]
 pub struct Shelf<'a> {
     alloc: Global,
     files: &'a [Shelved<'a>],
     asked: Option<Vec<String>>,
+    created: Option<Vec<String>>,
 }
 
 impl<'a> Shelf<'a> {
@@ -36,20 +36,32 @@ impl<'a> Shelf<'a> {
             alloc,
             files,
             asked: Some(Vec::new(alloc)),
+            created: Some(Vec::new(alloc)),
         }
     }
 
     /// The names that were asked for, in their order; none where memory was refused for a note of them.
     pub fn asked(&self) -> Option<&[String]> {
-        match &self.asked {
-            Some(names) => Some(names),
-            None => None,
-        }
+        known(&self.asked)
+    }
+
+    /// The names of the files that were to be created, in their order; none where memory was refused for a note of them.
+    pub fn created(&self) -> Option<&[String]> {
+        known(&self.created)
+    }
+}
+
+fn known(names: &Option<Vec<String>>) -> Option<&[String]> {
+    match names {
+        Some(names) => Some(names),
+        None => None,
     }
 }
 
 impl<'a> Opener for Shelf<'a> {
     type Reader = Chunks<'a>;
+
+    type Writer = Sink;
 
     ghost use Rattle.std.specs.Prelude.{Some, map, option_map, string_bytes};
     ghost use Rattle.mix_tool.specs.Shelf.{held_in};
@@ -58,12 +70,19 @@ impl<'a> Opener for Shelf<'a> {
 
     ghost holds = { λ s. Some (held_in s.files.now) };
 
+    ghost created = { λ s. option_map (λ names. map string_bytes names.items) s.created };
+
     fn open(&mut self, name: &str) -> Result<Chunks<'a>, Reason> {
         note(self.alloc, &mut self.asked, name);
         match text_in(self.files, name) {
             Some(text) => Ok(Chunks::of(text, ALL, 0)),
             None => Err(Reason::Missing),
         }
+    }
+
+    fn create(&mut self, name: &str) -> Result<Sink, Reason> {
+        note(self.alloc, &mut self.created, name);
+        Ok(Sink::of(ALL, 0))
     }
 }
 

@@ -2,12 +2,10 @@
 
 ghost use Rattle.std.specs.Prelude.{◌≡◌, ◌≢◌, ℕ, List, Option, None, Some, [], IfOk, IfErr, option_map};
 ghost use Rattle.std.specs.Option.{option_map_or};
-ghost use Rattle.mix_tool.specs.Opening.{Files, Opens, named, text_of};
+ghost use Rattle.mix_run.specs.Opening.{Files, Opens, named, text_of};
 ghost use Rattle.mix_tool.specs.Plan.{AreFresh, HoldTexts, given_of, in_order, names_in, rest_of};
 
-use crate::opener::Opener;
-use crate::reason::Reason;
-use mix_run::PrintTexts;
+use mix_run::{Opener, PrintTexts, Reason};
 use mix_stream::{Failed, In};
 
 /// A text that may be named: the reader of its file, and where it is not named no byte.

@@ -1,5 +1,5 @@
 -- A name that is opened or not is the only one, and its text is what is read.
-use Rattle.mix_tool.specs.Opening.{opened_text}
+use Rattle.mix_run.specs.Opening.{opened_text}
 use Rattle.mix_tool.proofs.OpeningLemmas.{missing-one, opened-one}
 use Rattle.mix_tool.proofs.check.report_file.Goals as goal
 

@@ -1,6 +1,6 @@
 use Rattle.std.proofs.Common.{◌≡◌, Some, length, map}
 use Rattle.std.specs.Prelude.{option_map, string_bytes}
-use Rattle.mix_tool.specs.Opening.{Files}
+use Rattle.mix_run.specs.Opening.{Files}
 use Rattle.mix_tool.proofs.CheckLemmas.{ReadSoFar, SoFar}
 use Rattle.mix_tool.proofs.check.report_files.Given as goal
 

@@ -1,6 +1,6 @@
 -- The files of a plan are opened, and then its sources; it is done as its run is.
 use Rattle.std.proofs.Common.{◌∙◌, Some, ap, refl, subst}
-use Rattle.mix_tool.specs.Opening.{Missing, missing_of}
+use Rattle.mix_run.specs.Opening.{Missing, missing_of}
 use Rattle.mix_tool.specs.Plan.{FileNames, HoldTexts, RunsOn, files_of, given_of, in_order, names_in, names_of, seen, sources_of}
 use Rattle.mix_tool.proofs.CheckLemmas.{client-unnamed, done-as, plan-missing, plan-opened}
 use Rattle.mix_tool.proofs.plan.run_plan.Goals as goal

@@ -1,6 +1,6 @@
 -- What opens files: which names it was asked for, and what their files hold, where that is known.
 use Rattle.std.specs.Prelude.{◌≡◌, ℕ, ⊤, List, [], ◌∷◌, ◌++◌, Option, None, Some, Result, Ok, Err}
-use Rattle.mix_tool.specs.declared.reason.Reason.{Reason}
+use Rattle.mix_run.specs.declared.reason.Reason.{Reason}
 
 -- what files hold: the text of each name, or why a name can't be opened
 abbrev pub Files : Type 0

@@ -1,36 +1,17 @@
-//! What opens files by their names.
+//! The files of a system.
 
-ghost use Rattle.std.specs.Prelude.{◌≡◌, ◌∷◌, [], ℕ, List, Option, None, Some, IfOk};
-ghost use Rattle.mix_tool.specs.Opening.{Asks, Files, Gives, rest_given};
-ghost use Rattle.mix_tool.specs.Reason.{path_of};
+ghost use Rattle.std.specs.Prelude.{◌≡◌, None};
+ghost use Rattle.mix_run.specs.Reason.{path_of};
 
-use crate::reason::Reason;
 use mix_dap::{Fault, FileLibrary, Library};
 use mix_refused::Refused;
-use mix_stream::{Counted, In};
+use mix_run::{Opener, Reason};
+use mix_stream::Counted;
 use std::alloc::Global;
 use std::fs::{self, OpenFile};
 use std::rt::Files;
 
-/// What opens files by their names.
-pub trait Opener {
-    type Reader: In + Drop;
-
-    // The names that were asked for so far, in their order, where they are known.
-    ghost asked: { Self → Option (List (List ℕ)) };
-
-    // The text of each file, or why it can't be opened, where that is known.
-    ghost holds: { Self → Option Files };
-
-    /// A reader of a file from its beginning, with no failure yet, or why the file can't be opened.
-    fn open(&mut self, name: &str) -> Result<Self::Reader, Reason>
-        ensures asked { Asks (asked self.old) (asked self.new) (name.now ∷ []) }
-        ensures given { (all : Files) → holds self.old ≡ Some all → Gives (all name.now) (rest_given Self.Reader.rest result) }
-        ensures fresh { IfOk result (λ r. Self.Reader.failed r ≡ 0) }
-        ensures same { holds self.new ≡ holds self.old };
-}
-
-/// The files of a system. What they hold is known only when they are read.
+/// The files of a system. What they hold is known only when they are read; what is written to them is not followed.
 pub struct SystemFiles<'f, F: Files> {
     files: &'f F,
 }
@@ -51,11 +32,15 @@ impl<'f, F: Files> SystemFiles<'f, F> {
 impl<F: Files> Opener for SystemFiles<'_, F> {
     type Reader = Counted<F::File>;
 
+    type Writer = Counted<F::File>;
+
     ghost use Rattle.std.specs.Prelude.{None};
 
     ghost asked = { λ _. None };
 
     ghost holds = { λ _. None };
+
+    ghost created = { λ _. None };
 
     fn open(&mut self, name: &str) -> Result<Counted<F::File>, Reason> {
         match fs::open(self.files, path_of(name)) {
@@ -66,6 +51,13 @@ impl<F: Files> Opener for SystemFiles<'_, F> {
                     Ok(Counted::of(file))
                 }
             }
+            Err(error) => Err(Reason::of(error.kind())),
+        }
+    }
+
+    fn create(&mut self, name: &str) -> Result<Counted<F::File>, Reason> {
+        match fs::create(self.files, name) {
+            Ok(file) => Ok(Counted::of(file)),
             Err(error) => Err(Reason::of(error.kind())),
         }
     }

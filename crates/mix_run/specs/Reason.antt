@@ -1,10 +1,10 @@
--- Where a name leads, and why a file can't be opened: the reason of an error, and what is told of it after the name of the file.
+-- Where a name leads, and why a file can't be opened, created or written: the reason of an error, and what is told of it after the name of the file.
 use Rattle.std.specs.Prelude.{ℕ, List, codes, if◌then◌else◌}
 use Rattle.std.specs.Str.{bytes_eq}
 use Rattle.std.specs.declared.io.ErrorKind.{ErrorKind}
 use Rattle.std.specs.declared.io.ErrorKind.TheVariants as kind
-use Rattle.mix_tool.specs.declared.reason.Reason.{Reason}
-use Rattle.mix_tool.specs.declared.reason.Reason.TheVariants as reason
+use Rattle.mix_run.specs.declared.reason.Reason.{Reason}
+use Rattle.mix_run.specs.declared.reason.Reason.TheVariants as reason
 
 abbrev pub reason_of : ErrorKind → Reason
 reason_of kind.NotFound = reason.Missing
@@ -13,6 +13,8 @@ reason_of kind.IsADirectory = reason.Folder
 reason_of kind.NotADirectory = reason.NoFolder
 reason_of kind.FilesystemLoop = reason.Loop
 reason_of kind.InvalidFilename = reason.LongName
+reason_of kind.StorageFull = reason.Full
+reason_of kind.ReadOnlyFilesystem = reason.ReadOnly
 reason_of _ = reason.Other
 
 -- in the words of the system, where it has some
@@ -23,6 +25,8 @@ reason_text reason.Folder = codes ": Is a directory"
 reason_text reason.NoFolder = codes ": Not a directory"
 reason_text reason.Loop = codes ": Too many levels of symbolic links"
 reason_text reason.LongName = codes ": File name too long"
+reason_text reason.Full = codes ": No space left on device"
+reason_text reason.ReadOnly = codes ": Read-only file system"
 reason_text reason.Other = codes ""
 
 -- `-` is standard input

@@ -1,11 +1,11 @@
-//! Why a file cannot be opened.
+//! Why a file cannot be opened, created or written.
 
 ghost use Rattle.std.specs.Prelude.{◌≡◌};
-ghost use Rattle.mix_tool.specs.Reason.{reason_of, reason_text};
+ghost use Rattle.mix_run.specs.Reason.{reason_of, reason_text};
 
 use std::io::ErrorKind;
 
-/// Why a file cannot be opened, as the system has it.
+/// Why a file cannot be opened, created or written, as the system has it.
 #[derive(Clone, Copy)]
 pub enum Reason {
     /// There is none of this name.
@@ -20,13 +20,17 @@ pub enum Reason {
     Loop,
     /// Its name is too long.
     LongName,
+    /// No room is left for it.
+    Full,
+    /// Its folder can only be read.
+    ReadOnly,
     /// Something else.
     Other,
 }
 
 impl Reason {
     /// The reason of an error of this kind.
-    pub(crate) fn of(kind: ErrorKind) -> Reason
+    pub fn of(kind: ErrorKind) -> Reason
         ensures { result ≡ reason_of kind }
     {
         match kind {
@@ -36,12 +40,14 @@ impl Reason {
             ErrorKind::NotADirectory => Reason::NoFolder,
             ErrorKind::FilesystemLoop => Reason::Loop,
             ErrorKind::InvalidFilename => Reason::LongName,
+            ErrorKind::StorageFull => Reason::Full,
+            ErrorKind::ReadOnlyFilesystem => Reason::ReadOnly,
             _ => Reason::Other,
         }
     }
 
     /// What is told after the name of the file: for another reason nothing.
-    pub(crate) fn text(self) -> &'static str
+    pub fn text(self) -> &'static str
         ensures { result.now ≡ reason_text self }
     {
         match self {
@@ -51,6 +57,8 @@ impl Reason {
             Reason::NoFolder => ": Not a directory",
             Reason::Loop => ": Too many levels of symbolic links",
             Reason::LongName => ": File name too long",
+            Reason::Full => ": No space left on device",
+            Reason::ReadOnly => ": Read-only file system",
             Reason::Other => "",
         }
     }
