@@ -1,17 +1,16 @@
-# Completion of mixrev's words in fish. tests/commands compares it with --help.
-complete -c mixrev -s h -l help -d 'Print help'
-complete -c mixrev -n __fish_use_subcommand -s V -l version -d 'Print version'
-complete -c mixrev -n __fish_use_subcommand -f -a run -d 'Runs a program to its halt and writes what it prints'
-complete -c mixrev -n __fish_use_subcommand -f -a debug -d 'Executes commands on the program of a source, forwards and backwards'
-complete -c mixrev -n __fish_use_subcommand -f -a list -d 'Writes the listing of a source'
-complete -c mixrev -n __fish_use_subcommand -f -a check -d 'Reports all faults of sources'
-complete -c mixrev -n __fish_use_subcommand -f -a dap -d 'Is the debug adapter of an editor'
-complete -c mixrev -n '__fish_seen_subcommand_from run' -l cards -r -F -d 'The cards of the reader, one a line'
-complete -c mixrev -n '__fish_seen_subcommand_from run' -l typewriter -r -F -d 'The lines that the typewriter gives, one a line'
-complete -c mixrev -n '__fish_seen_subcommand_from run debug' -l devices -r -F -d 'The deck: what tapes, disks and cards hold'
-complete -c mixrev -n '__fish_seen_subcommand_from run' -l steps -x -d 'The most steps that are done'
-complete -c mixrev -n '__fish_seen_subcommand_from run' -l unit -x -a '17 18 19 20' -d 'Writes only the rows of this unit'
-complete -c mixrev -n '__fish_seen_subcommand_from run' -l trace -d 'Writes each step too, before what it prints'
-complete -c mixrev -n '__fish_seen_subcommand_from debug' -l echo -d 'Writes each command of SCRIPT before its reply'
-complete -c mixrev -n '__fish_seen_subcommand_from check' -l json -d 'Writes each fault as one JSON object a line'
-complete -c mixrev -n '__fish_seen_subcommand_from dap' -f
+# Completion of mixrev's words in fish: those of its --help.
+function __mixrev_words -a condition
+  mixrev $argv[2..] --help 2>/dev/null | sed -nE "
+    s/'/\\\\\\\\&/g
+    /^Commands:/,/^\$/s/^  ([a-z]+) +(.*)/-n __fish_use_subcommand -f -a \1 -d '\2'/p
+    s/^Usage:[^<]*\$/-n '$condition' -f/p
+    s/^ +-(.), --([a-z]+) +(.*)/-n '$condition' -s \1 -l \2 -d '\3'/p
+    s/^ +--([a-z]+) <N> +(.* ([0-9]+) to ([0-9]+).*)/-n '$condition' -l \1 -x -a '(seq \3 \4)' -d '\2'/p
+    s/^ +--([a-z]+) <N> +(.*)/-n '$condition' -l \1 -x -d '\2'/p
+    s/^ +--([a-z]+) <FILE> +(.*)/-n '$condition' -l \1 -r -F -d '\2'/p
+    s/^ +--([a-z]+) +(.*)/-n '$condition' -l \1 -d '\2'/p" | sed 's/^/complete -c mixrev /'
+end
+__mixrev_words __fish_use_subcommand | source
+for command in (__mixrev_words __fish_use_subcommand | string match -rg -- '-a ([a-z]+) ')
+  __mixrev_words "__fish_seen_subcommand_from $command" $command | source
+end

@@ -1,21 +1,22 @@
 #compdef mixrev
-# Completion of mixrev's words in zsh. tests/commands compares it with --help.
-local devices='--devices=[what tapes, disks and cards hold]:deck:_files' source='1:source:_files'
-if ((CURRENT == 2)); then
-  _arguments '(- *)'{-h,--help}'[writes help]' '(- *)'{-V,--version}'[writes the version]' \
-    '1:command:((run\:"runs a program to its halt" debug\:"executes commands, forwards and backwards" list\:"writes the listing" check\:"reports all faults of sources" dap\:"is the debug adapter of an editor"))'
-  return
+# Completion of mixrev's words in zsh: those of its --help.
+local -a specs commands
+if ((CURRENT > 2)); then
+  shift words
+  ((CURRENT -= 1))
+  commands=($words[1])
 fi
-shift words
-((CURRENT -= 1))
-case $words[1] in
-  run)
-    _arguments '(- *)'{-h,--help}'[writes help]' '--cards=[the cards of the reader]:cards:_files' \
-      '--typewriter=[the lines that the typewriter gives]:lines:_files' $devices '--steps=[the most steps]:number:' \
-      '*--unit=[writes only the rows of this unit]:unit:(17 18 19 20)' '--trace[writes each step too, before what it prints]' $source
-    ;;
-  debug) _arguments '(- *)'{-h,--help}'[writes help]' $devices '--echo[writes each command before its reply]' $source '2:script:_files' ;;
-  list) _arguments '(- *)'{-h,--help}'[writes help]' $source ;;
-  check) _arguments '(- *)'{-h,--help}'[writes help]' '--json[writes each fault as one JSON object a line]' '*:source:_files' ;;
-  dap) _arguments '(- *)'{-h,--help}'[writes help]' ;;
-esac
+specs=(${(f)"$(mixrev $commands --help 2>/dev/null | sed -nE '
+  s/^Usage:.*<SOURCE>.*/*:file:_files/p
+  /^Options:/,$!d
+  s/[][\\]/\\&/g
+  s/^ +(-.), (--[a-z]+) +(.*)/(- *)\1[\3]\n(- *)\2[\3]/p
+  s/^ +(--unit) <N> +(.* ([0-9]+) to ([0-9]+).*)/*\1=[\2]:number:({\3..\4})/p
+  s/^ +(--[a-z]+) <N> +(.*)/\1=[\2]:number:/p
+  s/^ +(--[a-z]+) <FILE> +(.*)/\1=[\2]:file:_files/p
+  s/^ +(--[a-z]+) +(.*)/\1[\2]/p')"})
+if ((! $#commands)); then
+  commands=(${(f)"$(mixrev --help | sed -nE '/^Commands:/,/^$/s/^  ([a-z]+) +(.*)/\1\\:"\2"/p')"})
+  specs+=("1:command:(($commands))")
+fi
+_arguments $specs
