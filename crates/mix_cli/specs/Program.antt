@@ -31,6 +31,9 @@ cards_option = option_named (codes "cards")
 abbrev pub typewriter_option : Rule
 typewriter_option = option_named (codes "typewriter")
 
+abbrev pub keep_option : Rule
+keep_option = option_named (codes "keep")
+
 -- `--steps N`, a number from 1 on
 abbrev pub steps_option : Rule
 steps_option = record (option_named (codes "steps")) { parser = Some (Unsigned 1 max_steps) }
@@ -73,7 +76,7 @@ abbrev pub limited_run : App
 limited_run = with_rule (with_rule run_inputs steps_option) unit_option
 
 abbrev pub run_app : App
-run_app = with_rule limited_run (flag_named (codes "trace"))
+run_app = with_rule (with_rule limited_run (flag_named (codes "trace"))) keep_option
 
 abbrev pub dap_app : App
 dap_app = new_app (codes "dap")

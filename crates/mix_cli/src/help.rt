@@ -34,6 +34,7 @@ The program runs to its halt, and what it prints is written at once: the rows of
 and the paper tape in the order in which they are printed, without the blanks at their ends, and a page mark as a form feed.
 If a step meets a fault, or the steps are used up, one line on standard error says where. It cannot go back.
 With --trace the line of each step, with what it altered, comes before what it prints.
+With --keep the tapes and disks are there for the next program: it reads that file with --devices.
 A bundle may take the place of a source: its deck is taken, unless --devices names another, and its script is left out.
 
 Example:

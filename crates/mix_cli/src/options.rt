@@ -2,7 +2,7 @@
 
 ghost use Rattle.std.specs.Prelude.{◌≡◌, false};
 ghost use Rattle.clap.specs.Words.{rule_of};
-ghost use Rattle.mix_cli.specs.Program.{cards_option, devices_option, flag_named, option_named, steps_option, typewriter_option, unit_option};
+ghost use Rattle.mix_cli.specs.Program.{cards_option, devices_option, flag_named, keep_option, option_named, steps_option, typewriter_option, unit_option};
 
 use clap::builder::ValueParser;
 use clap::{Arg, ArgAction};
@@ -66,6 +66,18 @@ pub(crate) fn typewriter_option<'a>(alloc: Global) -> Arg<'a>
         "typewriter",
         "FILE",
         "The lines that the typewriter gives, one a line, instead of those of the deck",
+    )
+}
+
+pub(crate) fn keep_option<'a>(alloc: Global) -> Arg<'a>
+    ensures rule { rule_of result ≡ keep_option }
+    ensures local { result.global ≡ false }
+{
+    option_named(
+        alloc,
+        "keep",
+        "FILE",
+        "Writes what tapes, disks and cards hold at the end, as a deck for another run",
     )
 }
 

@@ -9,7 +9,8 @@ use crate::help::{
     MORE_ON_RUN, SOURCE, VERSION,
 };
 use crate::options::{
-    cards_option, devices_option, flag_named, steps_option, typewriter_option, unit_option,
+    cards_option, devices_option, flag_named, keep_option, steps_option, typewriter_option,
+    unit_option,
 };
 use clap::{Arg, ArgAction, Command};
 use std::alloc::{AllocError, Global};
@@ -109,7 +110,8 @@ fn run_command<'a>(alloc: Global) -> Result<Command<'a>, AllocError>
             alloc,
             "trace",
             "Writes each step too, as the command trace does, before what it prints",
-        ))
+        ))?
+        .arg(keep_option(alloc))
 }
 
 fn dap_command<'a>(alloc: Global) -> Command<'a>

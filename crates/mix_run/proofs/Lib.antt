@@ -1,5 +1,6 @@
 mod CheckLemmas
 mod CutLemmas
+mod KeepLemmas
 mod PersonLemmas
 mod PrintLemmas
 mod PrintOutputLemmas

@@ -1,7 +1,7 @@
 -- What a run answers is the outcome: its parts, one after the other.
-use Rattle.std.proofs.Common.{◌≡◌, ◌<◌, ◌≤◌, ℕ, Bool, true, false, List, Option, Result, Ok, Err, refl, sym, ap, ◌∙◌, length, ltb, take, arith}
+use Rattle.std.proofs.Common.{◌≡◌, ◌<◌, ◌≤◌, ◌++◌, ℕ, Bool, true, false, List, Option, Result, Ok, Err, OnOk, refl, sym, ap, ◌∙◌, length, ltb, take, arith}
 use Rattle.std.proofs.lemmas.Bool.{lt-ltb, ltb-false, ltb-true}
-use Rattle.std.proofs.lemmas.List.{length-take-le, take-take, take_all}
+use Rattle.std.proofs.lemmas.List.{append-nil, length-take-le, take-take, take_all}
 use Rattle.mixal_asm.specs.Assembly.{assembly}
 use Rattle.mixal_asm.specs.Program.{ProgramValue}
 use Rattle.mixal_asm.specs.declared.fault.AsmFault.{AsmFault}
@@ -10,7 +10,7 @@ use Rattle.mix_machine.specs.units.deck.Deck.{text_of_unit}
 use Rattle.mix_machine.specs.declared.units.deck_fault.DeckFault.{DeckFault}
 use Rattle.mix_run.specs.declared.fault.ToolFault.{ToolFault}
 use Rattle.mix_run.specs.declared.fault.ToolFault.TheVariants as faults
-use Rattle.mix_run.specs.PrintOutput.{Prints, with_text, units_asked, outcome_of_run, parts_of, print_outcome, print_output}
+use Rattle.mix_run.specs.PrintOutput.{Prints, kept_of, with_text, units_asked, outcome_of_run, parts_of, print_outcome, print_output}
 use Rattle.mix_run.specs.UnitsRead.{GivesUnits, deck_given}
 use Rattle.mix_run.specs.declared.print.PrintAnswer.{PrintAnswer}
 use Rattle.mix_run.specs.declared.print.PrintAnswer.TheVariants.{Refused}
@@ -77,6 +77,12 @@ pub Prints-units : (options : PrintOptions) (program : ProgramValue) (given : Re
 unfolding print_outcome
 Prints-units options program given units done old new made met = rw made met
 
+pub kept-units : (options : PrintOptions) (program : ProgramValue) (given : Result UnitsState DeckFault) (units : UnitsState) (done : Result PrintAnswer ToolFault)
+    (old new : List ℕ) → given ≡ Ok units → OnOk done (new ≡ old ++ kept_of (outcome_of_run options program units))
+    → OnOk done (new ≡ old ++ kept_of (print_outcome options (Ok program) given))
+unfolding print_outcome
+kept-units options program given units done old new made kept = rw made kept
+
 -- the parts of a text that was read up to one byte more than a bundle may have
 pub parts-read : (text read : List ℕ) → read ≡ take 41943041 text
     → (assembly (parts_of read).source ≡ assembly (parts_of text).source) × ((parts_of read).deck ≡ (parts_of text).deck)
@@ -97,6 +103,14 @@ Prints-refused options text read source deck cards typewriter fault answer told 
     let here : assembly (parts_of text).source ≡ Err fault = sym (parts-read text read e).0 ∙ sym (ap assembly s) ∙ f in
     rw (here, is) (refl, Appends-nothing told)
 
+pub kept-refused : (options : PrintOptions) (text read source deck cards typewriter : List ℕ) (fault : AsmFault) (old : List ℕ) →
+    read ≡ take 41943041 text → source ≡ (parts_of read).source → assembly source ≡ Err fault
+    → old ≡ old ++ kept_of (print_output options text deck cards typewriter)
+unfolding print_output print_outcome
+kept-refused options text read source deck cards typewriter fault old e s f =
+    let here : assembly (parts_of text).source ≡ Err fault = sym (parts-read text read e).0 ∙ sym (ap assembly s) ∙ f in
+    rw here (sym (append-nil old))
+
 -- a source, with the deck of its bundle
 pub Prints-parts : (options : PrintOptions) (text read source own deck cards typewriter : List ℕ) (program : ProgramValue) (done : Result PrintAnswer ToolFault)
     (old new : Option (List ℕ)) → read ≡ take 41943041 text → source ≡ (parts_of read).source → own ≡ (parts_of read).deck → assembly source ≡ Ok program →
@@ -107,3 +121,13 @@ Prints-parts options text read source own deck cards typewriter program done old
     let here : assembly (parts_of text).source ≡ Ok program = sym (parts-read text read e).0 ∙ sym (ap assembly s) ∙ made in
     let deck-here : own ≡ (parts_of text).deck = o ∙ (parts-read text read e).1 in
     rw here (rw deck-here at met)
+
+pub kept-parts : (options : PrintOptions) (text read source own deck cards typewriter : List ℕ) (program : ProgramValue) (done : Result PrintAnswer ToolFault)
+    (old new : List ℕ) → read ≡ take 41943041 text → source ≡ (parts_of read).source → own ≡ (parts_of read).deck → assembly source ≡ Ok program →
+    OnOk done (new ≡ old ++ kept_of (print_outcome options (Ok program) (units_asked options (deck_given options.deck own deck) cards typewriter)))
+    → OnOk done (new ≡ old ++ kept_of (print_output options text deck cards typewriter))
+unfolding print_output
+kept-parts options text read source own deck cards typewriter program done old new e s o made kept =
+    let here : assembly (parts_of text).source ≡ Ok program = sym (parts-read text read e).0 ∙ sym (ap assembly s) ∙ made in
+    let deck-here : own ≡ (parts_of text).deck = o ∙ (parts-read text read e).1 in
+    rw here (rw deck-here at kept)

@@ -2,6 +2,7 @@ pub mod Bundle
 pub mod Check
 pub mod Fault
 pub mod Hearing
+pub mod Keep
 pub mod Opening
 pub mod Output
 pub mod Person

@@ -4,6 +4,7 @@ use Rattle.std.specs.Prelude.{ℕ, zero, suc, Bool, ◌+◌, ◌==◌, nat_lt, L
 use Rattle.mixal_asm.specs.PassOne.{SourceValue, Line, OfLiteral, OfName}
 use Rattle.mixal_asm.specs.Program.{ProgramValue}
 use Rattle.mixal_asm.specs.Source.{source_at}
+use Rattle.mix_word.specs.Word.{WordValue}
 use Rattle.mix_machine.specs.Do.{does, is_halt_next}
 use Rattle.mix_machine.specs.World.{WorldState, unit_at}
 use Rattle.mix_machine.specs.units.Row.{RowState}
@@ -26,9 +27,13 @@ after_blanks (byte ∷ rest) = if byte == 32 then after_blanks rest else byte �
 abbrev pub without_last_blanks : List ℕ → List ℕ
 without_last_blanks text = reverse (after_blanks (reverse text))
 
--- a row in characters, without the blanks at its end, and a line feed; a page mark is a form feed alone
+-- words in characters, without the blanks at their end, and a line feed
+abbrev pub printed_line : List WordValue → List ℕ
+printed_line words = without_last_blanks (characters_text words) ++ 10 ∷ []
+
+-- a row; a page mark is a form feed alone
 abbrev pub printed_row : RowState → List ℕ
-printed_row (Some words) = without_last_blanks (characters_text words) ++ 10 ∷ []
+printed_row (Some words) = printed_line words
 printed_row None = 12 ∷ []
 
 -- the rows of a unit after the first ones, if it is asked for

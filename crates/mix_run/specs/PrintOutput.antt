@@ -1,4 +1,4 @@
--- What `run` writes and answers: a function of the source or bundle, the deck, the cards, the lines for the typewriter, and what is asked for.
+-- What `run` writes, answers and keeps: a function of the source or bundle, the deck, the cards, the lines for the typewriter, and what is asked for.
 use Rattle.std.specs.Prelude.{◌≡◌, ℕ, Bool, Option, List, [], Result, Ok, Err, length, nat_lt, if◌then◌else◌}
 use Rattle.std.specs.Io.KnownBytes.{Appends, Keeps}
 use Rattle.mixal_asm.specs.Assembly.{assembly}
@@ -13,6 +13,7 @@ use Rattle.mix_run.specs.declared.fault.ToolFault.TheVariants as faults
 use Rattle.mix_stream.specs.Stream.{AppendsFront}
 use Rattle.mix_run.specs.Bundle.{Cut, cut_of}
 use Rattle.mix_run.specs.Output.{max_bundle_bytes}
+use Rattle.mix_run.specs.Keep.{kept_if}
 use Rattle.mix_run.specs.Print.{Run, printed, line_at}
 use Rattle.mix_run.specs.UnitsRead.{deck_given}
 use Rattle.mix_run.specs.declared.print.PrintAnswer.{PrintAnswer}
@@ -20,9 +21,9 @@ use Rattle.mix_run.specs.declared.print.PrintAnswer.TheVariants.{Ran, Refused}
 use Rattle.mix_run.specs.declared.print.RanTo.{RanTo}
 use Rattle.mix_run.specs.declared.print.options.PrintOptions.{PrintOptions}
 
--- how `run` ends: with these bytes and this answer, or, with no byte written, for its deck or a text of a unit
+-- how `run` ends: with these bytes, this answer and this deck, or, with no byte written, for its deck or a text of a unit
 pub data PrintOutcome : Type 0 where
-  Answered : List ℕ → PrintAnswer → PrintOutcome
+  Answered : List ℕ → PrintAnswer → List ℕ → PrintOutcome
   UnitsRefused : DeckFault → PrintOutcome
 
 -- the lines of a text, if there is one, for a unit of those that were read before
@@ -50,11 +51,11 @@ ran_to program run = record { end = run.end; loc = run.world.loc; clock = run.wo
 unfoldable pub outcome_of_run : PrintOptions → ProgramValue → UnitsState → PrintOutcome
 outcome_of_run options program units =
     let run = printed options 1 options.steps (loaded program.words program.start units) in
-    Answered run.bytes (Ran (ran_to program run))
+    Answered run.bytes (Ran (ran_to program run)) (kept_if options.keep run.world)
 
 -- an assembled source, with its units
 unfoldable pub print_outcome : PrintOptions → Result ProgramValue AsmFault → Result UnitsState DeckFault → PrintOutcome
-print_outcome options (Err fault) units = Answered [] (Refused fault)
+print_outcome options (Err fault) units = Answered [] (Refused fault) []
 print_outcome options (Ok program) (Err fault) = UnitsRefused fault
 print_outcome options (Ok program) (Ok units) = outcome_of_run options program units
 
@@ -70,13 +71,18 @@ print_output options text deck cards typewriter =
 
 -- the bytes that an outcome writes
 abbrev pub bytes_of : PrintOutcome → List ℕ
-bytes_of (Answered bytes answer) = bytes
+bytes_of (Answered bytes answer kept) = bytes
 bytes_of (UnitsRefused fault) = []
+
+-- the deck of what the units hold at the end
+abbrev pub kept_of : PrintOutcome → List ℕ
+kept_of (Answered bytes answer kept) = kept
+kept_of (UnitsRefused fault) = []
 
 -- What a call answers and writes is the outcome. Where memory is refused, or a write fails, a beginning of its bytes has been written;
 -- where a read fails, none.
 abbrev pub Prints : PrintOutcome → Result PrintAnswer ToolFault → Option (List ℕ) → Option (List ℕ) → Type 0
-Prints outcome (Ok answer) old new = (outcome ≡ Answered (bytes_of outcome) answer) × Appends old new (bytes_of outcome)
+Prints outcome (Ok answer) old new = (outcome ≡ Answered (bytes_of outcome) answer (kept_of outcome)) × Appends old new (bytes_of outcome)
 Prints outcome (Err (faults.Deck fault)) old new = (outcome ≡ UnitsRefused fault) × Keeps old new
 Prints outcome (Err faults.Long) old new = ⊥
 Prints outcome (Err faults.Memory) old new = AppendsFront old new (bytes_of outcome)

@@ -7,6 +7,7 @@ mod bundle;
 mod check;
 mod commands;
 mod fault;
+mod keep;
 mod list;
 mod opener;
 mod print;

@@ -1,19 +1,20 @@
 //! A program run to its end, and what it prints.
-ghost use Rattle.std.specs.Prelude.{◌≡◌, ◌≢◌, ◌⊎◌, ◌<◌, ◌≤◌, ◌+◌, ◌-◌, ◌^◌, ℕ, List, Some, Ok, Err, IfErr, IfOk, drop, false, true};
-ghost use Rattle.std.specs.Io.KnownBytes.{Keeps};
+ghost use Rattle.std.specs.Prelude.{◌≡◌, ◌≢◌, ◌⊎◌, ◌<◌, ◌≤◌, ◌+◌, ◌++◌, ◌-◌, ◌^◌, ℕ, List, Some, Ok, Err, IfErr, IfOk, OnOk, drop, false, true};
+ghost use Rattle.std.specs.Io.KnownBytes.{Appends, Keeps};
 ghost use Rattle.mixal_asm.specs.Assembly.{assembly};
 ghost use Rattle.mixal_asm.specs.declared.fault.AsmFault.{AsmFault};
 ghost use Rattle.mix_machine.specs.units.deck.Deck.{deck_of, max_deck_bytes};
 ghost use Rattle.mix_machine.specs.declared.units.deck_fault.DeckFault.{DeckFault};
 ghost use Rattle.mix_run.specs.Fault.{IsMemoryOrWrite};
-ghost use Rattle.mix_stream.specs.Stream.{ConsumesAtMost, CountsFailure};
+ghost use Rattle.mix_stream.specs.Stream.{AppendsFront, ConsumesAtMost, CountsFailure};
 ghost use Rattle.mix_run.specs.Output.{max_bundle_bytes};
-ghost use Rattle.mix_run.specs.Print.{line_at};
+ghost use Rattle.mix_run.specs.Keep.{kept_if};
+ghost use Rattle.mix_run.specs.Print.{line_at, printed};
 ghost use Rattle.mix_run.specs.UnitsRead.{deck_given};
-ghost use Rattle.mix_run.specs.PrintOutput.{Prints, outcome_of_run, parts_of, print_outcome, print_output, units_asked, with_cards};
+ghost use Rattle.mix_run.specs.PrintOutput.{Prints, kept_of, outcome_of_run, parts_of, print_outcome, print_output, units_asked, with_cards};
 
 pub(crate) mod options;
-mod row;
+pub(crate) mod row;
 mod steps;
 mod texts;
 mod trace;
@@ -21,6 +22,7 @@ mod trace;
 use crate::beside::tell_report;
 use crate::bundle::{MAX_BUNDLE_BYTES, parts_of};
 use crate::fault::ToolFault;
+use crate::keep::keep_units;
 use crate::print::options::PrintOptions;
 use crate::print::steps::print_steps;
 use crate::print::texts::units_with_texts;
@@ -61,6 +63,27 @@ fn line_at(program: &Program<'_>, loc: u16) -> Option<u32>
     }
 }
 
+// Steps, and then the deck of what the units hold.
+fn print_and_keep<W: Out>(
+    alloc: Global,
+    world: &mut World,
+    options: PrintOptions,
+    kept: &mut Vec<u8>,
+    out: &mut W,
+) -> Result<RunEnd, ToolFault>
+    requires { W.failed out.old < 2 ^ 64 - 1 }
+    ensures printed { let run = printed options 1 options.steps world.old in
+        IfOk result (λ end. (end ≡ run.end) × (world.new ≡ run.world) × Appends (W.told out.old) (W.told out.new) run.bytes) }
+    ensures kept { OnOk result (kept.new.items ≡ kept.old.items ++ kept_if options.keep (printed options 1 options.steps world.old).world) }
+    ensures begun { AppendsFront (W.told out.old) (W.told out.new) (printed options 1 options.steps world.old).bytes }
+    ensures write { CountsFailure (result ≡ Err ToolFault.Write) (W.failed out.old) (W.failed out.new) }
+    ensures only { IfErr result IsMemoryOrWrite }
+{
+    let end = print_steps(alloc, world, options, out)?;
+    keep_units(alloc, world, options.keep, kept)?;
+    Ok(end)
+}
+
 // A program, run on the machine that it is loaded into.
 #[tactic(auto, unfolding(crate::specs::PrintOutput::outcome_of_run))]
 fn print_loaded<W: Out>(
@@ -68,16 +91,18 @@ fn print_loaded<W: Out>(
     program: &Program<'_>,
     units: Units,
     options: PrintOptions,
+    kept: &mut Vec<u8>,
     out: &mut W,
 ) -> Result<PrintAnswer, ToolFault>
     requires { W.failed out.old < 2 ^ 64 - 1 }
     ensures output { Prints (outcome_of_run options program.now units) result (W.told out.old) (W.told out.new) }
+    ensures kept { OnOk result (kept.new.items ≡ kept.old.items ++ kept_of (outcome_of_run options program.now units)) }
     ensures write { CountsFailure (result ≡ Err ToolFault.Write) (W.failed out.old) (W.failed out.new) }
     ensures only { IfErr result IsMemoryOrWrite }
     ensures ran { (f : AsmFault) → result ≢ Ok (PrintAnswer.Refused f) }
 {
     let mut world = World::load(alloc, program.words(), program.start(), units)?;
-    let end = print_steps(alloc, &mut world, options, out)?;
+    let end = print_and_keep(alloc, &mut world, options, kept, out)?;
     let (loc, clock) = (world.loc(), world.clock());
     let line = line_at(program, loc);
     Ok(PrintAnswer::Ran(RanTo {
@@ -95,6 +120,7 @@ fn print_program<S, D: In, C: In, T: In, W: Out>(
     own: &[u8],
     texts: &mut PrintTexts<S, D, C, T>,
     options: PrintOptions,
+    kept: &mut Vec<u8>,
     out: &mut W,
 ) -> Result<PrintAnswer, ToolFault>
     requires deck_count { D.failed texts.old.deck < 2 ^ 64 - 1 }
@@ -103,6 +129,8 @@ fn print_program<S, D: In, C: In, T: In, W: Out>(
     requires out_count { W.failed out.old < 2 ^ 64 - 1 }
     ensures output { (d c t : List ℕ) → D.rest texts.old.deck ≡ Some d → C.rest texts.old.cards ≡ Some c → T.rest texts.old.typewriter ≡ Some t
         → Prints (print_outcome options (Ok program.now) (units_asked options (deck_given options.deck own.now d) c t)) result (W.told out.old) (W.told out.new) }
+    ensures kept { (d c t : List ℕ) → D.rest texts.old.deck ≡ Some d → C.rest texts.old.cards ≡ Some c → T.rest texts.old.typewriter ≡ Some t
+        → OnOk result (kept.new.items ≡ kept.old.items ++ kept_of (print_outcome options (Ok program.now) (units_asked options (deck_given options.deck own.now d) c t))) }
     ensures source { texts.new.source ≡ texts.old.source }
     ensures read { CountsFailure (result ≡ Err ToolFault.Read) (D.failed texts.old.deck + C.failed texts.old.cards + T.failed texts.old.typewriter)
         (D.failed texts.new.deck + C.failed texts.new.cards + T.failed texts.new.typewriter) }
@@ -133,15 +161,15 @@ fn print_program<S, D: In, C: In, T: In, W: Out>(
 {
     let (deck, cards, typewriter) = (&mut texts.deck, &mut texts.cards, &mut texts.typewriter);
     let units = units_with_texts(alloc, own, deck, cards, typewriter, options)?;
-    print_loaded(alloc, program, units, options, out)
+    print_loaded(alloc, program, units, options, kept, out)
 }
 
 /// Assembles a source, or that of a bundle, and takes the deck of the bundle, or reads one if `options.deck` is true, which then is in the place of
 /// that; if `options.cards` is true it reads a text of cards, which are in the place of those that the deck gives to unit 16, and if
 /// `options.typewriter` is true a text of lines, which replace those that it gives to unit 19. Then it runs the loaded machine (1.3.1, 1.3.2) up to a halt, a fault, or `options.steps` steps, and writes what it prints: each row of the
 /// units in `options.units` as soon as its step is done, without the blanks at its end and with a line feed, a page mark as a form feed alone. If
-/// `options.trace` is true, the line of each step is written before what it prints, as the command `trace` has it. It keeps
-/// nothing of the steps, so it takes no more memory for many steps than for few. Where the source is refused, its first fault is the answer, nothing is
+/// `options.trace` is true, the line of each step is written before what it prints, as the command `trace` has it. If `options.keep` is true, the deck
+/// of what the units hold at the end is appended to `kept`. It keeps nothing of the steps, so it takes no more memory for many steps than for few. Where the source is refused, its first fault is the answer, nothing is
 /// written, and on the error output all are told, with their lines and marks. A script of the bundle is not executed. At most 41,943,041 bytes of the
 /// source or bundle are read, and 33,554,433 of each other text, all of them before the first byte is written; the deck is read after the
 /// source, the cards after the deck, and the lines for the typewriter after the cards. After a refusal or a read that failed nothing else is read.
@@ -152,6 +180,7 @@ pub fn run_printed<S: In, D: In, C: In, T: In, W: Out, E: Out>(
     name: &str,
     texts: &mut PrintTexts<S, D, C, T>,
     options: PrintOptions,
+    kept: &mut Vec<u8>,
     out: &mut W,
     errors: &mut E,
 ) -> Result<PrintAnswer, ToolFault>
@@ -164,6 +193,10 @@ pub fn run_printed<S: In, D: In, C: In, T: In, W: Out, E: Out>(
     // What is printed is what the loaded machine prints, run to its end, and the answer says where it came to.
     ensures output { (b d c t : List ℕ) → S.rest texts.old.source ≡ Some b → D.rest texts.old.deck ≡ Some d → C.rest texts.old.cards ≡ Some c
         → T.rest texts.old.typewriter ≡ Some t → Prints (print_output options b d c t) result (W.told out.old) (W.told out.new) }
+
+    // What is kept is the deck of what its units hold then.
+    ensures kept { (b d c t : List ℕ) → S.rest texts.old.source ≡ Some b → D.rest texts.old.deck ≡ Some d → C.rest texts.old.cards ≡ Some c
+        → T.rest texts.old.typewriter ≡ Some t → OnOk result (kept.new.items ≡ kept.old.items ++ kept_of (print_output options b d c t)) }
 
     // A read or a write has failed exactly where that is answered.
     ensures read { CountsFailure (result ≡ Err ToolFault.Read)
@@ -225,7 +258,7 @@ pub fn run_printed<S: In, D: In, C: In, T: In, W: Out, E: Out>(
         }
         Ok(program) => {
             tell_report(alloc, name, parts.source, errors);
-            print_program(alloc, &program, parts.deck, texts, options, out)
+            print_program(alloc, &program, parts.deck, texts, options, kept, out)
         }
     }
 }

@@ -1,5 +1,5 @@
 -- How the program ends: its status, and what stands on its error output.
-use Rattle.std.specs.Prelude.{◌≡◌, ◌⊎◌, ◌+◌, ℕ, Option, None, Some, List, [], ◌∷◌, ◌++◌, Result, Ok, Err, codes}
+use Rattle.std.specs.Prelude.{◌≡◌, ◌⊎◌, ◌+◌, ℕ, zero, suc, Option, None, Some, List, [], ◌∷◌, ◌++◌, Result, Ok, Err, codes}
 use Rattle.std.specs.Io.KnownBytes.{Appends, Keeps}
 use Rattle.mix_stream.specs.Stream.{AppendsFront}
 use Rattle.mix_run.specs.Fault.{tool_fault_text}
@@ -17,6 +17,7 @@ use Rattle.mix_machine.specs.units.Units.{UnitsState}
 use Rattle.mix_machine.specs.declared.units.deck_fault.DeckFault.{DeckFault}
 use Rattle.mix_run.specs.declared.fault.ToolFault.{ToolFault}
 use Rattle.mix_run.specs.declared.fault.ToolFault.TheVariants as faults
+use Rattle.mix_run.specs.Opening.{Asks}
 use Rattle.mix_run.specs.Reason.{reason_text}
 use Rattle.mix_run.specs.declared.reason.Reason.{Reason}
 
@@ -50,6 +51,10 @@ IsFileOf names (Some name) = IsAmong names name
 -- `mixrev: T4 not opened: NAME: No such file or directory`
 abbrev pub not_opened : List ℕ → Reason → List ℕ
 not_opened name reason = codes "mixrev: T4 not opened: " ++ (name ++ (reason_text reason ++ 10 ∷ []))
+
+-- `mixrev: T3 write failed: NAME`
+abbrev pub not_written : List ℕ → List ℕ
+not_written name = codes "mixrev: " ++ (tool_fault_text faults.Write ++ (codes ": " ++ (name ++ 10 ∷ [])))
 
 -- the status of a run: 2 where the tool itself failed
 abbrev pub status_of_run : Result ℕ ToolFault → ℕ
@@ -108,7 +113,27 @@ abbrev pub status_of_print : Result PrintAnswer ToolFault → ℕ
 status_of_print (Ok answer) = status_of_answer answer
 status_of_print (Err fault) = 2
 
--- a run was made: what it printed and answered is the outcome, and its status is answered
-abbrev pub PrintRuns : PrintOutcome → ℕ → Seen → Seen → Type 0
-PrintRuns outcome status before after =
-    (run : Result PrintAnswer ToolFault) × Prints outcome run before.out after.out × (status ≡ status_of_print run)
+-- the file that is created after a run: the one that is named for what its units hold, if the run has come to its end
+abbrev pub created_after : Option (List ℕ) → Result PrintAnswer ToolFault → List (List ℕ)
+created_after None run = []
+created_after (Some name) (Ok (answers.Ran ran)) = name ∷ []
+created_after (Some name) (Ok (answers.Refused fault)) = []
+created_after (Some name) (Err fault) = []
+
+-- the status is that of the run, or 2 if a file that is created for it is not written
+abbrev pub EndsWith : List (List ℕ) → ℕ → ℕ → Type 0
+EndsWith [] status answered = answered ≡ status
+EndsWith (name ∷ names) status answered = (answered ≡ status) ⊎ (answered ≡ 2)
+
+-- a run was made: what it printed and answered is the outcome, its status is answered, and what its units hold is kept in a file, if one is named
+abbrev pub PrintRuns : PrintOutcome → Option (List ℕ) → ℕ → Seen → Seen → Type 0
+PrintRuns outcome keep status before after =
+    (run : Result PrintAnswer ToolFault) × Prints outcome run before.out after.out × EndsWith (created_after keep run) (status_of_print run) status
+
+-- the files that a run creates, by its status: the one that is named for what its units hold, where the run has come to its end
+abbrev pub Creates : Option (List ℕ) → ℕ → Option (List (List ℕ)) → Option (List (List ℕ)) → Type 0
+Creates None status old new = Asks old new []
+Creates (Some name) zero old new = Asks old new (name ∷ [])
+Creates (Some name) (suc zero) old new = Asks old new []
+Creates (Some name) (suc (suc zero)) old new = Asks old new [] ⊎ Asks old new (name ∷ [])
+Creates (Some name) (suc (suc (suc status))) old new = Asks old new (name ∷ [])

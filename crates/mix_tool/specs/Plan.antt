@@ -32,7 +32,7 @@ names_of (plan.List source) = record { source = Some (string_bytes source); deck
 names_of (plan.Check sources json) = record { source = None; deck = None; cards = None; typewriter = None; script = None }
 names_of (plan.Debug source script devices echo) =
     record { source = Some (string_bytes source); deck = option_map string_bytes devices; cards = None; typewriter = None; script = option_map string_bytes script }
-names_of (plan.Run source cards typewriter devices steps printing trace) =
+names_of (plan.Run source cards typewriter devices steps printing trace keep) =
     record {
       source = Some (string_bytes source);
       deck = option_map string_bytes devices;
@@ -52,7 +52,7 @@ sources_of plan.Bundle = []
 sources_of (plan.List source) = []
 sources_of (plan.Check sources json) = map string_bytes sources.items
 sources_of (plan.Debug source script devices echo) = []
-sources_of (plan.Run source cards typewriter devices steps printing trace) = []
+sources_of (plan.Run source cards typewriter devices steps printing trace keep) = []
 sources_of plan.Dap = []
 
 -- all files of a plan, in the order in which they are opened
@@ -114,9 +114,17 @@ abbrev pub units_of : Printing → UnitSet
 units_of printing =
     record { card_punch = printing.punch; printer = printing.printer; typewriter = printing.typewriter; paper_tape = printing.tape }
 
-abbrev pub options_of : {Name : Type 0} → Option Name → Option Name → Option Name → ℕ → Printing → Bool → PrintOptions
-options_of devices cards typewriter steps printing trace =
-    record { steps = steps; units = units_of printing; deck = is_some devices; cards = is_some cards; typewriter = is_some typewriter; trace = trace }
+abbrev pub options_of : {Name : Type 0} → Option Name → Option Name → Option Name → ℕ → Printing → Bool → Option Name → PrintOptions
+options_of devices cards typewriter steps printing trace keep =
+    record {
+      steps = steps;
+      units = units_of printing;
+      deck = is_some devices;
+      cards = is_some cards;
+      typewriter = is_some typewriter;
+      trace = trace;
+      keep = is_some keep;
+    }
 
 -- what is seen of some streams
 abbrev pub seen : {R W E : Type 0} → (R → Option (List ℕ)) → (W → Option (List ℕ)) → (E → Option (List ℕ)) → (E → ℕ) → Streams R W E → Seen
@@ -146,8 +154,9 @@ RunsOn all (plan.Check sources json) given talker status before after =
 RunsOn all (plan.Debug source script devices echo) given talker status before after =
     DebugsOn (names_of_session (string_bytes source) (option_map string_bytes devices) (option_map string_bytes script)) echo script given talker status before
     after
-RunsOn all (plan.Run source cards typewriter devices steps printing trace) given talker status before after =
-    PrintRuns (print_output (options_of devices cards typewriter steps printing trace) given.source given.deck given.cards given.typewriter) status before after
+RunsOn all (plan.Run source cards typewriter devices steps printing trace keep) given talker status before after =
+    PrintRuns (print_output (options_of devices cards typewriter steps printing trace keep) given.source given.deck given.cards given.typewriter)
+    (option_map string_bytes keep) status before after
 RunsOn all plan.Dap given talker status before after = status ≤ 2
 
 -- the first file that can't be opened is told and why, and the status is 2; if there is none, the run is made
@@ -168,7 +177,7 @@ reads_input plan.Bundle = true
 reads_input (plan.List source) = false
 reads_input (plan.Check sources json) = false
 reads_input (plan.Debug source script devices echo) = is_talk script
-reads_input (plan.Run source cards typewriter devices steps printing trace) = false
+reads_input (plan.Run source cards typewriter devices steps printing trace keep) = false
 reads_input plan.Dap = false
 
 -- whether a plan hears a client: the debug adapter does
@@ -177,7 +186,7 @@ hears_client plan.Bundle = false
 hears_client (plan.List source) = false
 hears_client (plan.Check sources json) = false
 hears_client (plan.Debug source script devices echo) = false
-hears_client (plan.Run source cards typewriter devices steps printing trace) = false
+hears_client (plan.Run source cards typewriter devices steps printing trace keep) = false
 hears_client plan.Dap = true
 
 -- whether nothing is told on the error output but a fault of the tool: of a talk and of a run other things are
@@ -186,5 +195,14 @@ is_quiet plan.Bundle = true
 is_quiet (plan.List source) = true
 is_quiet (plan.Check sources json) = true
 is_quiet (plan.Debug source script devices echo) = not (is_talk script)
-is_quiet (plan.Run source cards typewriter devices steps printing trace) = false
+is_quiet (plan.Run source cards typewriter devices steps printing trace keep) = false
 is_quiet plan.Dap = true
+
+-- what a run is told to keep what its units hold in: a file or nothing; no other plan is a run
+abbrev pub keep_of : Plan → Option (Option (List ℕ))
+keep_of plan.Bundle = None
+keep_of (plan.List source) = None
+keep_of (plan.Check sources json) = None
+keep_of (plan.Debug source script devices echo) = None
+keep_of (plan.Run source cards typewriter devices steps printing trace keep) = Some (option_map string_bytes keep)
+keep_of plan.Dap = None

@@ -62,8 +62,9 @@ pub(crate) fn options_of(
     steps: u64,
     printing: Printing,
     trace: bool,
+    keep: &Option<String>,
 ) -> PrintOptions
-    ensures { result ≡ options_of devices.now cards.now typewriter.now steps printing trace }
+    ensures { result ≡ options_of devices.now cards.now typewriter.now steps printing trace keep.now }
 {
     PrintOptions {
         steps,
@@ -77,5 +78,6 @@ pub(crate) fn options_of(
         cards: cards.is_some(),
         typewriter: typewriter.is_some(),
         trace,
+        keep: keep.is_some(),
     }
 }

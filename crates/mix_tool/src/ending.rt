@@ -1,7 +1,7 @@
 //! How a run ends: its status, and what is told on the error output.
 
 ghost use Rattle.std.specs.Prelude.{◌≡◌, ◌<◌, ◌-◌, ◌^◌, ◌∷◌, ◌++◌, IfOk, OnOk, MatchResult, option_map, string_bytes};
-ghost use Rattle.mix_tool.specs.Ending.{IsAmong, Tells, TellsRun, Wrote, file_of_fault, memory_line, not_opened, report, status_of_end, status_of_print, status_of_run};
+ghost use Rattle.mix_tool.specs.Ending.{IsAmong, Tells, TellsRun, Wrote, file_of_fault, memory_line, not_opened, not_written, report, status_of_end, status_of_print, status_of_run};
 ghost use Rattle.mix_run.specs.Opening.{named};
 
 use mix_cli::FAILED;
@@ -58,11 +58,23 @@ pub(crate) fn unread<'n>(
     }
 }
 
-fn not_opened_line(alloc: Global, name: &str, reason: Reason) -> Result<String, AllocError>
+pub(crate) fn not_opened_line(
+    alloc: Global,
+    name: &str,
+    reason: Reason,
+) -> Result<String, AllocError>
     ensures { IfOk result (λ s. string_bytes s ≡ not_opened name.now reason) }
 {
     let reason = reason.text();
     let text = format!(in alloc; "mixrev: T4 not opened: {name}{reason}\n")?;
+    Ok(text)
+}
+
+pub(crate) fn not_written_line(alloc: Global, name: &str) -> Result<String, AllocError>
+    ensures { IfOk result (λ s. string_bytes s ≡ not_written name.now) }
+{
+    let fault = ToolFault::Write;
+    let text = format!(in alloc; "mixrev: {fault}: {name}\n")?;
     Ok(text)
 }
 
@@ -125,8 +137,8 @@ pub(crate) fn status<E: Out>(
     }
 }
 
-// A line is told beside what a run writes, or that memory is refused for it; where a write there has failed, nothing more is.
-fn tell_beside<E: Out>(line: Result<String, AllocError>, errors: &mut E) {
+/// A line is told beside what a run writes, or that memory is refused for it; where a write there has failed, nothing more is.
+pub(crate) fn tell_beside<E: Out>(line: Result<String, AllocError>, errors: &mut E) {
     if errors.failures() == 0 {
         tell(line, errors);
     }

@@ -5,6 +5,7 @@ mod asked;
 mod check;
 mod debug;
 mod ending;
+mod keep;
 mod plan;
 pub mod shelf;
 mod system;

@@ -1,5 +1,5 @@
-//! A kind of rows: a plan on files in memory. A row ends with its status, what it wrote, what it told on the error output, and the names of the
-//! files that it asked for, in their order.
+//! A kind of rows: a plan on files in memory. A row ends with its status, what it wrote, what it told on the error output, the names of the
+//! files that it asked for, in their order, and those of the files that it created, if there are any.
 use crate::reader::{bytes, number};
 use mix_stream::Counted;
 use mix_stream::fake::{Chunks, Sink};
@@ -55,6 +55,9 @@ fn done(alloc: Global, plan: &Plan, shelf: &mut Shelf<'_>, input: &[u8]) -> Opti
     for name in shelf.asked()? {
         write!(told, " {name}").ok()?;
     }
+    for name in shelf.created()? {
+        write!(told, ", created {name}").ok()?;
+    }
     Some(told)
 }
 
@@ -79,6 +82,7 @@ fn plan_of(alloc: Global, line: &str) -> Option<Plan> {
             typewriter: named(alloc, words.next().unwrap_or("-"))?,
             printing: PRINTING,
             trace: words.next() == Some("trace"),
+            keep: named(alloc, words.next().unwrap_or("-"))?,
         }),
         _ => None,
     }

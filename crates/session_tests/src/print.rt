@@ -18,7 +18,8 @@ const PRINTER: UnitSet = UnitSet {
     paper_tape: false,
 };
 
-/// Runs a source and a deck for so many steps at most, which are traced if the word `trace` follows, with the rows of some units, with cards where a
+/// Runs a source and a deck for so many steps at most, which are traced if the word `trace` follows, and whose units are kept as a deck, which is told
+/// first, if the word `keep` does, with the rows of some units, with cards where a
 /// field gives them, and with lines for the typewriter where another does, which has `-` before it where there are no cards; the readers and the writer
 /// take all bytes, one, or seven at a call.
 pub fn printed(alloc: Global, fields: &[&str]) -> Option<String> {
@@ -44,10 +45,8 @@ fn printed_by(alloc: Global, fields: &[&str], size: usize) -> Option<String> {
         [cards, typewriter] => (Some(*cards), Some(*typewriter)),
         _ => return None,
     };
-    let (steps, trace) = match steps.strip_suffix(" trace") {
-        Some(steps) => (steps, true),
-        None => (*steps, false),
-    };
+    let (steps, trace) = asked(*steps, " trace");
+    let (steps, keep) = asked(steps, " keep");
     let cards_text = bytes(alloc, cards.unwrap_or(""))?;
     let typewriter_text = bytes(alloc, typewriter.unwrap_or(""))?;
     let options = PrintOptions {
@@ -57,6 +56,7 @@ fn printed_by(alloc: Global, fields: &[&str], size: usize) -> Option<String> {
         cards: cards.is_some(),
         typewriter: typewriter.is_some(),
         trace,
+        keep,
     };
     let mut out = Sink::of(size, 0);
     let mut texts = PrintTexts {
@@ -66,11 +66,33 @@ fn printed_by(alloc: Global, fields: &[&str], size: usize) -> Option<String> {
         typewriter: Chunks::of(&typewriter_text, size, 0),
     };
     let mut errors = Sink::of(ALL, 0);
-    let answer = run_printed(alloc, "f", &mut texts, options, &mut out, &mut errors);
+    let mut kept = Vec::new(alloc);
+    let answer = run_printed(
+        alloc,
+        "f",
+        &mut texts,
+        options,
+        &mut kept,
+        &mut out,
+        &mut errors,
+    );
     let text = String::from_utf8_lossy(alloc, out.bytes()).ok()?;
-    let mut told = format!(in alloc; "{text:?}, ").ok()?;
+    let mut told = if keep {
+        let deck = String::from_utf8_lossy(alloc, &kept).ok()?;
+        format!(in alloc; "{deck:?}, {text:?}, ").ok()?
+    } else {
+        format!(in alloc; "{text:?}, ").ok()?
+    };
     push_answer(&mut told, answer)?;
     Some(told)
+}
+
+// A field without a word at its end, and whether it has it.
+fn asked<'a>(field: &'a str, word: &str) -> (&'a str, bool) {
+    match field.strip_suffix(word) {
+        Some(front) => (front, true),
+        None => (field, false),
+    }
 }
 
 fn units_of(field: &str) -> Option<UnitSet> {

@@ -4,7 +4,7 @@ ghost use Rattle.std.specs.Io.KnownBytes.{Appends};
 ghost use Rattle.mix_stream.specs.Stream.{AppendsFront, CountsFailure};
 ghost use Rattle.mix_session.specs.ShowUnit.{letters_text, characters_text};
 ghost use Rattle.mix_run.specs.Fault.{IsMemoryOrWrite};
-ghost use Rattle.mix_run.specs.Print.{after_blanks, without_last_blanks, printed_row};
+ghost use Rattle.mix_run.specs.Print.{after_blanks, without_last_blanks, printed_line, printed_row};
 
 use crate::fault::ToolFault;
 use mix_machine::{Row, Word};
@@ -35,13 +35,18 @@ fn row_text(alloc: Global, row: &Row) -> Result<Vec<u8>, Memory>
 {
     match row.words() {
         None => Ok(Vec::from_slice(alloc, &[FORM_FEED])?),
-        Some(words) => {
-            let characters = characters_of(alloc, words)?;
-            let mut text = Vec::from_slice(alloc, without_last_blanks(&characters))?;
-            text.push(b'\n')?;
-            Ok(text)
-        }
+        Some(words) => line_text(alloc, words),
     }
+}
+
+/// Words in characters, without the blanks at their end, and a line feed.
+pub(crate) fn line_text(alloc: Global, words: &[Word]) -> Result<Vec<u8>, Memory>
+    ensures { IfOk result (λ text. text.items ≡ printed_line words.now) }
+{
+    let characters = characters_of(alloc, words)?;
+    let mut text = Vec::from_slice(alloc, without_last_blanks(&characters))?;
+    text.push(b'\n')?;
+    Ok(text)
 }
 
 // A text without the blanks at its end.

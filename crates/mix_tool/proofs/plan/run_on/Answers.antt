@@ -1,6 +1,9 @@
 -- The run of a plan is that of its texts; a client is served.
-use Rattle.std.proofs.Common.{None, inl, refl}
+use Rattle.std.proofs.Common.{None, ap, inl, refl, sym, ◌∙◌}
+use Rattle.mix_tool.specs.Ending.{status_of_print}
+use Rattle.mix_tool.specs.Plan.{keep_of}
 use Rattle.mix_tool.proofs.CheckLemmas.{asks-nothing}
+use Rattle.mix_tool.proofs.EndingLemmas.{creates_asked, print_range}
 use Rattle.mix_tool.proofs.plan.run_on.Goals as goal
 
 pub returns-in-Bundle-clause-done : goal.returns-in-Bundle-clause-done
@@ -20,14 +23,26 @@ returns-in-List-clause-done g c all given e holds =
     )
 
 pub returns-in-Run-clause-opened : goal.returns-in-Run-clause-opened
-returns-in-Run-clause-opened g c all e = rw c.in-Run.is (asks-nothing _)
+returns-in-Run-clause-opened g c all e = rw (c.in-Run.is, c.keep_deck.ensures.asked) (asks-nothing _)
 
 pub returns-in-Run-clause-done : goal.returns-in-Run-clause-done
 returns-in-Run-clause-done g c all given e holds =
     let texts = c.of_run-texts.ensures in
     let prints = c.run_printed-outcome.ensures.output given.source given.deck given.cards given.typewriter
     (rw texts holds.source) (rw texts holds.deck) (rw texts holds.cards) (rw texts holds.typewriter) in
-    rw c.in-Run.is (c.run_printed-outcome.result, rw c.options_of-options.ensures at prints, c.print_status.ensures)
+    rw c.in-Run.is (c.run_printed-outcome.result, rw c.options_of-options.ensures at prints, rw c.print_status-status.ensures at c.keep_deck.ensures.status)
+
+pub returns-in-Run-clause-created : goal.returns-in-Run-clause-created
+returns-in-Run-clause-created g c keep e =
+    creates_asked _ keep _ _ _ _ _ (sym (ap keep_of c.in-Run.is) ∙ e) c.print_status-status.ensures c.keep_deck.ensures.status c.keep_deck.ensures.created
+
+pub returns-in-Run-clause-range : goal.returns-in-Run-clause-range
+returns-in-Run-clause-range g c = c.keep_deck.ensures.range (print_range _ _ c.print_status-status.ensures)
+
+pub returns-in-Run-clause-written : goal.returns-in-Run-clause-written
+returns-in-Run-clause-written g c well =
+    let same = (c.keep_deck.ensures.well well).0 in
+    c.run_printed-outcome.ensures.write.1 (λ failed. well (same ∙ c.print_status-status.ensures ∙ ap status_of_print failed))
 
 pub returns-in-Dap-clause-served : goal.returns-in-Dap-clause-served
 returns-in-Dap-clause-served g c hears = c.serve_from.ensures.done

@@ -3,6 +3,7 @@ use Rattle.std.proofs.Common.{◌∙◌, Some, ap, refl, subst}
 use Rattle.mix_run.specs.Opening.{Missing, missing_of}
 use Rattle.mix_tool.specs.Plan.{FileNames, HoldTexts, RunsOn, files_of, given_of, in_order, names_in, names_of, seen, sources_of}
 use Rattle.mix_tool.proofs.CheckLemmas.{client-unnamed, done-as, plan-missing, plan-opened}
+use Rattle.mix_tool.proofs.EndingLemmas.{creates_none}
 use Rattle.mix_tool.proofs.plan.run_plan.Goals as goal
 
 pub returns-in-Ok-clause-opened : goal.returns-in-Ok-clause-opened
@@ -51,3 +52,9 @@ returns-in-Ok-clause-broken g c = c.run_on.ensures.broken
 
 pub returns-in-Err-clause-broken : goal.returns-in-Err-clause-broken
 returns-in-Err-clause-broken g c hears = absurd (c.in-Err.ensures.named (ap in_order c.names_in.ensures ∙ client-unnamed c.args.plan.now hears))
+
+pub returns-in-Ok-clause-created : goal.returns-in-Ok-clause-created
+returns-in-Ok-clause-created g c keep e = rw c.open_texts.ensures.nothing_created at (c.run_on.ensures.created keep e)
+
+pub returns-in-Err-clause-created : goal.returns-in-Err-clause-created
+returns-in-Err-clause-created g c keep e = creates_none keep _ _ _ c.tell_not_opened.ensures.status c.open_texts.ensures.nothing_created
