@@ -3,7 +3,9 @@ use Rattle.std.proofs.Common.{◌≡◌, inl, inr, ℕ, ◌+◌, ◌-◌, ◌≤
 use Rattle.std.specs.Io.KnownBytes.{prepend_known}
 use Rattle.std.specs.Prelude.{IfNone, IfSome, IsErr, is_some}
 use Rattle.serde_json.specs.Data.{Data}
+use Rattle.dap_message.specs.Message.{waits}
 use Rattle.dap_message.specs.Told.{Answers, response_to}
+use Rattle.dap_message.specs.declared.outbox.Outbox.{Outbox}
 use Rattle.dap_message.specs.declared.request.Request.{Request}
 use Rattle.dap_frame.specs.Frame.{first_frame, partial}
 use Rattle.dap_stream.specs.BrokenOff.{BrokenOff}
@@ -17,13 +19,19 @@ use Rattle.dap_stream.specs.declared.serves.Turn.TheVariants as turn
 use Rattle.dap_stream.specs.declared.talk.Talked.{Talked}
 use Rattle.dap_stream.specs.declared.talk.Talked.TheVariants as talked
 use Rattle.dap_stream.proofs.Talking.{talks-none, talks-then}
-use Rattle.mix_dap.specs.Dialogue.{BreaksOff, DialogueAs, EndsAs, GoesAs, Halts, HeardAll, PartAs, Stage, StageSteps, debugs, done, waiting}
+use Rattle.mix_dap.specs.Answer.{launch_shown}
+use Rattle.mix_dap.specs.Capabilities.{unknown_client}
+use Rattle.mix_dap.specs.Dialogue.{BeginsAs, BreaksOff, DialogueAs, EndsAs, GoesAs, Halts, HeardAll, PartAs, Stage, StageSteps, debugs, done, waiting}
 use Rattle.mix_dap.specs.Launched.{launched_of}
+use Rattle.mix_dap.specs.Events.{AddsAnswer}
+use Rattle.mix_dap.specs.Prints.{launch_events}
+use Rattle.mix_dap.specs.Replies.{answer_message}
 use Rattle.mix_dap.specs.Served.{AdapterServes, AdapterWorks, AdapterRests, turn_of}
 use Rattle.mix_dap.specs.Told.{outcome_of_launch}
 use Rattle.mix_dap.specs.declared.adapter.Adapter.{Adapter}
 use Rattle.mix_dap.specs.declared.adapter.Flow.{Flow}
 use Rattle.mix_dap.specs.declared.adapter.Flow.TheVariants as flow
+use Rattle.mix_dap.specs.declared.capabilities.Client.{Client}
 use Rattle.mix_dap.specs.declared.launch.Texts.{Texts}
 use Rattle.mix_stream.specs.Stream.{CountsFailure}
 use Rattle.mix_dap.proofs.TalkLemmas.{talks-as}
@@ -110,8 +118,8 @@ debug-broken broken.Memory s t old new told now waits (inr is) = inr (debug-off 
 -- ---- after a part of a dialogue
 
 end-then : (stage : Stage) (count more : ℕ) (left new : Option (List ℕ)) → EndsAs stage more left new → EndsAs stage (count + more) left new
-end-then waiting count more left new (inl is) = inl is
-end-then waiting count more left new (inr is) = inr (omega (arith, is.0), is.1)
+end-then (waiting k) count more left new (inl is) = inl is
+end-then (waiting k) count more left new (inr is) = inr (omega (arith, is.0), is.1)
 end-then (debugs a) count more left new (inl is) = inl is
 end-then (debugs a) count more left new (inr is) = inr (omega (arith, is.0), is.1)
 end-then done count more left new is = is
@@ -157,17 +165,17 @@ goes-then (Err broken.Memory) s m count a b c told mid now part (inr is) = inr (
 -- ---- parts, one after the other
 
 -- what was read and not heard stands before what is left of the input
-pub dialogue-then : (result : Result Unit Broken) (launches : ℕ) (bytes : List ℕ) (a b left told mid now : Option (List ℕ))
-    → (count : ℕ) × (launches ≤ count) × Talks StageSteps waiting waiting count a b told mid
-    → HeardAll result bytes → GoesAs waiting result b (prepend_known bytes left) mid now → DialogueAs result a left told now
-dialogue-then result launches bytes a b left told mid now talks all is =
-    (bytes, all, goes-then result waiting waiting talks.0 a b (prepend_known bytes left) told mid now talks.2 is)
+pub dialogue-then : (result : Result Unit Broken) (k : Client) (launches : ℕ) (bytes : List ℕ) (a b left told mid now : Option (List ℕ))
+    → (count : ℕ) × (launches ≤ count) × Talks StageSteps (waiting unknown_client) (waiting k) count a b told mid
+    → HeardAll result bytes → GoesAs (waiting k) result b (prepend_known bytes left) mid now → DialogueAs result a left told now
+dialogue-then result k launches bytes a b left told mid now talks all is =
+    (bytes, all, goes-then result (waiting unknown_client) (waiting k) talks.0 a b (prepend_known bytes left) told mid now talks.2 is)
 
 -- the same where it was broken off
-pub dialogue-broken : (why : Broken) (launches : ℕ) (bytes : List ℕ) (a b left told mid now : Option (List ℕ))
-    → (count : ℕ) × (launches ≤ count) × Talks StageSteps waiting waiting count a b told mid
-    → HeardAll (Err why) bytes → PartAs (Err why) b (prepend_known bytes left) mid now → DialogueAs (Err why) a left told now
-dialogue-broken why launches bytes a b left told mid now talks all is = dialogue-then (Err why) launches bytes a b left told mid now talks all is
+pub dialogue-broken : (why : Broken) (k next : Client) (launches : ℕ) (bytes : List ℕ) (a b left told mid now : Option (List ℕ))
+    → (count : ℕ) × (launches ≤ count) × Talks StageSteps (waiting unknown_client) (waiting k) count a b told mid
+    → HeardAll (Err why) bytes → PartAs k (Err why) next b (prepend_known bytes left) mid now → DialogueAs (Err why) a left told now
+dialogue-broken why k next launches bytes a b left told mid now talks all is = dialogue-then (Err why) k launches bytes a b left told mid now talks all is
 
 -- what is whole of the bytes that are kept
 pub heard-all : (why : Broken) (bytes : List ℕ) → ((why ≡ broken.Read) → first_frame bytes ≡ partial) → HeardAll (Err why) bytes
@@ -182,64 +190,72 @@ heard-none None = refl
 heard-none (Some text) = refl
 
 -- nothing was heard yet
-pub talks-begin : (bytes : List ℕ) (left told : Option (List ℕ)) → bytes ≡ []
-    → (count : ℕ) × (0 ≤ count) × Talks StageSteps waiting waiting count left (prepend_known bytes left) told told
-talks-begin bytes left told none = (
+pub talks-begin : (k : Client) (bytes : List ℕ) (left told : Option (List ℕ)) → k ≡ unknown_client → bytes ≡ []
+    → (count : ℕ) × (0 ≤ count) × Talks StageSteps (waiting unknown_client) (waiting k) count left (prepend_known bytes left) told told
+talks-begin k bytes left told unknown none = (
   0,
   omega arith,
-  subst (λ b. Talks StageSteps waiting waiting 0 left (prepend_known b left) told told) (sym none)
-      (subst (λ m. Talks StageSteps waiting waiting 0 left m told told) (sym (heard-none left)) (talks-none StageSteps waiting left told)),
+  subst (λ c. Talks StageSteps (waiting unknown_client) (waiting c) 0 left (prepend_known bytes left) told told) (sym unknown)
+      (subst (λ b. Talks StageSteps (waiting unknown_client) (waiting unknown_client) 0 left (prepend_known b left) told told) (sym none)
+      (subst (λ m. Talks StageSteps (waiting unknown_client) (waiting unknown_client) 0 left m told told) (sym (heard-none left))
+      (talks-none StageSteps (waiting unknown_client) left told))),
 )
 
 -- a launch more that was refused
-pub refused-more : (launches : ℕ) (a b c told mid now : Option (List ℕ))
-    → (count : ℕ) × (launches ≤ count) × Talks StageSteps waiting waiting count a b told mid
-    → PartAs (Ok false) b c mid now → (count : ℕ) × (launches + 1 ≤ count) × Talks StageSteps waiting waiting count a c told now
-refused-more launches a b c told mid now talks more = (
+pub refused-more : (k next : Client) (launches : ℕ) (a b c told mid now : Option (List ℕ))
+    → (count : ℕ) × (launches ≤ count) × Talks StageSteps (waiting unknown_client) (waiting k) count a b told mid
+    → PartAs k (Ok false) next b c mid now
+    → (count : ℕ) × (launches + 1 ≤ count) × Talks StageSteps (waiting unknown_client) (waiting next) count a c told now
+refused-more k next launches a b c told mid now talks more = (
   talks.0 + more.0,
   omega (arith, talks.1, more.1),
-  talks-then StageSteps waiting waiting waiting talks.0 more.0 a b c told mid now talks.2 more.2,
+  talks-then StageSteps (waiting unknown_client) (waiting k) (waiting next) talks.0 more.0 a b c told mid now talks.2 more.2,
 )
 
 -- as many as are counted
-pub counted : (launches : ℕ) (bytes : List ℕ) (old left told now : Option (List ℕ))
-    → (count : ℕ) × (launches ≤ count) × Talks StageSteps waiting waiting count old (prepend_known bytes left) told now → 2 ^ 64 - 1 ≤ launches
+pub counted : (k : Client) (launches : ℕ) (bytes : List ℕ) (old left told now : Option (List ℕ))
+    → (count : ℕ) × (launches ≤ count) × Talks StageSteps (waiting unknown_client) (waiting k) count old (prepend_known bytes left) told now
+    → 2 ^ 64 - 1 ≤ launches
     → DialogueAs (Ok tt) old left told now
-counted launches bytes old left told now talks all =
-    (bytes, tt, (waiting, talks.0, prepend_known bytes left, talks.2, inr (omega (arith, talks.1, all), refl)))
+counted k launches bytes old left told now talks all =
+    (bytes, tt, (waiting k, talks.0, prepend_known bytes left, talks.2, inr (omega (arith, talks.1, all), refl)))
 
 -- ---- what answers a launch
 
 -- a launch that is refused
-pub launch-refused : {B : Type 0} (busy : B → Bool) (texts : B → Option Texts) (end : Talked) (request : Request) (s t : B) (launched : Texts) (opened : Option Adapter)
-    (old new told mid now : Option (List ℕ)) (waits answer : List Data) → end ≡ talked.Left request → had busy texts end s t old new told mid waits
-    → texts t ≡ Some launched → opened ≡ None → IfNone opened (IsErr (launched_of launched))
-    → Answers (response_to request (outcome_of_launch (launched_of launched))) waits answer → SendsAll answer mid now
-    → PartAs (Ok false) old new told now
-launch-refused busy texts end request s t launched opened old new told mid now waits answer left is kept none refused answers sends =
+pub launch-refused : {B : Type 0} (busy : B → Bool) (texts : B → Option Texts) (client : B → Client) (end : Talked) (request : Request) (s t : B) (launched : Texts)
+    (opened : Option Adapter) (old new told mid now : Option (List ℕ)) (a b : Outbox) → end ≡ talked.Left request
+    → had busy texts client end s t old new told mid (waits a) → texts t ≡ Some launched → opened ≡ None → IfNone opened (IsErr (launched_of launched))
+    → Answers (response_to request (outcome_of_launch (launched_of launched))) (waits a) (waits b)
+    → AddsAnswer (answer_message request (launch_shown (launched_of launched))) (launch_events (launched_of launched)) a b
+    → SendsAll (waits b) mid now → PartAs (client s) (Ok false) (client t) old new told now
+launch-refused busy texts client end request s t launched opened old new told mid now a b left is kept none refused answers prints sends =
     let why = subst (λ o. IfNone o (IsErr (launched_of launched))) none refused in
-    launched-then busy texts end request s t launched waiting old new told mid now waits answer left is kept answers (λ opens. inr (launched, why, opens)) sends
+    launched-then busy texts client end request s t launched (waiting (client t)) old new told mid now a b left is kept answers prints
+    (λ from same opens. (same, inr (launched, why, opens))) sends
 
 -- a launch that is done, and what comes after it
-pub launch-done : {B : Type 0} (busy : B → Bool) (texts : B → Option Texts) (end : Talked) (request : Request) (s t : B) (launched : Texts) (opened : Option Adapter) (a : Adapter)
-    (result : Result Unit Broken) (old new rest told mid now last : Option (List ℕ)) (waits answer : List Data) → end ≡ talked.Left request
-    → had busy texts end s t old new told mid waits → texts t ≡ Some launched → opened ≡ Some a → IfSome opened (λ b. launched_of launched ≡ Ok b.session)
-    → IfSome opened (λ b. is_some b.way ≡ false) → Answers (response_to request (outcome_of_launch (launched_of launched))) waits answer
-    → SendsAll answer mid now → GoesAs (debugs a) result new rest now last → GoesAs waiting result old rest told last
-launch-done busy texts end request s t launched opened a result old new rest told mid now last waits answer left is kept some session rests answers sends goes =
-    let loads = subst (λ o. IfSome o (λ b. launched_of launched ≡ Ok b.session)) some session in
-    let idle = subst (λ o. IfSome o (λ b. is_some b.way ≡ false)) some rests in
-    let talks = launched-then busy texts end request s t launched (debugs a) old new told mid now waits answer left is kept answers
-    (λ opens. (launched, loads, idle, opens)) sends in
-    goes-then result waiting (debugs a) talks.0 old new rest told now last talks.2 goes
+pub launch-done : {B : Type 0} (busy : B → Bool) (texts : B → Option Texts) (client : B → Client) (end : Talked) (request : Request) (s t : B) (launched : Texts)
+    (opened : Option Adapter) (o : Adapter) (result : Result Unit Broken) (old new rest told mid now last : Option (List ℕ)) (a b : Outbox) → end ≡ talked.Left request
+    → had busy texts client end s t old new told mid (waits a) → texts t ≡ Some launched → opened ≡ Some o
+    → IfSome opened (λ p. BeginsAs p launched (client t)) → Answers (response_to request (outcome_of_launch (launched_of launched))) (waits a) (waits b)
+    → AddsAnswer (answer_message request (launch_shown (launched_of launched))) (launch_events (launched_of launched)) a b
+    → SendsAll (waits b) mid now → GoesAs (debugs o) result new rest now last → GoesAs (waiting (client s)) result old rest told last
+launch-done busy texts client end request s t launched opened o result old new rest told mid now last a b left is kept some begins answers prints sends goes =
+    let first = subst (λ p. IfSome p (λ q. BeginsAs q launched (client t))) some begins in
+    let talks = launched-then busy texts client end request s t launched (debugs o) old new told mid now a b left is kept answers prints
+    (λ from same opens. (launched, subst (λ k. BeginsAs o launched k) same first, opens)) sends in
+    goes-then result (waiting (client s)) (debugs o) talks.0 old new rest told now last talks.2 goes
 
 -- ---- how a part ended
 
-pub part-over : (b : Bool) (old new told now : Option (List ℕ)) → b ≡ true → PartAs (Ok b) old new told now → GoesAs waiting (Ok tt) old new told now
-part-over b old new told now is part = subst (λ o. PartAs (Ok o) old new told now) is part
+pub part-over : (k next : Client) (b : Bool) (old new told now : Option (List ℕ)) → b ≡ true → PartAs k (Ok b) next old new told now
+    → GoesAs (waiting k) (Ok tt) old new told now
+part-over k next b old new told now is part = subst (λ o. PartAs k (Ok o) next old new told now) is part
 
-pub part-refused : (b : Bool) (old new told now : Option (List ℕ)) → b ≡ false → PartAs (Ok b) old new told now → PartAs (Ok false) old new told now
-part-refused b old new told now is part = subst (λ o. PartAs (Ok o) old new told now) is part
+pub part-refused : (k next : Client) (b : Bool) (old new told now : Option (List ℕ)) → b ≡ false → PartAs k (Ok b) next old new told now
+    → PartAs k (Ok false) next old new told now
+part-refused k next b old new told now is part = subst (λ o. PartAs k (Ok o) next old new told now) is part
 
 pub counts-why : (why which : Broken) (old new : ℕ) → CountsFailure (◌≡◌ {A = Result Unit Broken} (Err why) (Err which)) old new → CountsFailure (why ≡ which) old new
 counts-why why which old new is =

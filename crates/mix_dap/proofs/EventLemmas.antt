@@ -1,14 +1,15 @@
 -- Events, and an answer before them, one after the other.
-use Rattle.std.proofs.Common.{◌≡◌, ◌<◌, ◌≤◌, ℕ, zero, suc, ◌+◌, List, [], ◌∷◌, ◌++◌, None, Result, Ok, drop, length, slice_index_or, refl, ap, sym, subst, ◌∙◌, arith}
+use Rattle.std.proofs.Common.{◌≡◌, ◌<◌, ◌≤◌, ℕ, zero, suc, ◌+◌, List, [], ◌∷◌, ◌++◌, None, Result, Ok, Err, drop, length, slice_index_or, refl, ap, sym, subst, ◌∙◌, arith}
 use Rattle.std.proofs.lemmas.List.{append_assoc, append-nil}
 use Rattle.std.specs.Prelude.{map, codes}
 use Rattle.serde_json.specs.Data.{Data}
 use Rattle.mix_machine.specs.World.{WorldState}
 use Rattle.mix_machine.specs.units.Row.{RowState}
-use Rattle.dap_message.specs.Message.{next_seq, waits, event_message, output_message, reply_message, Adds}
+use Rattle.dap_message.specs.Message.{next_seq, waits, event_message, output_message, refusal_message, reply_message, Adds}
 use Rattle.dap_message.specs.declared.outbox.Outbox.{Outbox}
 use Rattle.dap_message.specs.declared.request.Request.{Request}
-use Rattle.mix_dap.specs.Events.{Event, AddsAnswer, AddsEvents, all_areas, event_messages, last_seq, out_of_date}
+use Rattle.mix_dap.specs.Events.{Event, AddsAnswer, AddsEvents, Sends, all_areas, event_messages, last_seq, out_of_date}
+use Rattle.mix_dap.specs.Fault.{fault_number, fault_text, fault_place}
 use Rattle.mix_dap.specs.Output.{output, outputs, row_output}
 use Rattle.mix_dap.specs.Replies.{answer_message}
 use Rattle.mix_dap.specs.declared.fault.Fault.{Fault}
@@ -115,6 +116,20 @@ rows-all rows at all old new so_far none =
     let same : all ≡ so_far.0 = so_far.2 ∙ ap (λ l. so_far.0 ++ l) (rows-none rows at none) ∙ append-nil so_far.0 in
     subst (λ l. AddsEvents l old new) (sym same) so_far.1
 
+-- ---- outboxes in which none waits
+
+pub sends-all : (adds : Outbox → Outbox → Type 0) (old new : Outbox) → waits old ≡ [] → adds old new → Sends (waits new) adds
+sends-all adds old new none is = record { old = old; new = new; none = none; all = refl; added = is }
+
+-- ---- refusals
+
+-- a refusal alone
+pub answer-refused : (shown : Result Data Fault) (r : Request) (why : Fault) (old mid new : Outbox) → shown ≡ Err why → mid ≡ old
+    → Adds mid new (λ seq. refusal_message seq r (fault_number why) (fault_text why) (fault_place why)) → AddsAnswer (answer_message r shown) [] old new
+answer-refused shown r why old mid new is same adds = record { told = rw is (rw (sym same) adds.0); seq = rw (sym same) adds.1 }
+
+pub ruleset sending = (sends-all)
+
 pub ruleset events = (adds-none, adds-output, date-told, adds-then)
 
-pub ruleset answering = (answer-alone, answer-with, answer-then, answer-then-two)
+pub ruleset answering = (answer-alone, answer-with, answer-then, answer-then-two, answer-refused)

@@ -1,12 +1,14 @@
 mod BeforeLemmas
 mod DialogueLemmas
 mod LaunchLemmas
+mod AsksLemmas
 mod TalkLemmas
 pub mod AskedLemmas
 pub mod CellsLemmas
 pub mod CountsLemmas
 pub mod EntryLemmas
 pub mod EventLemmas
+pub mod FlowLemmas
 pub mod LayoutLemmas
 pub mod LegLemmas
 pub mod ListLemmas

@@ -11,7 +11,7 @@ use Rattle.mix_dap.specs.Fault.{fault_number, fault_text, fault_place}
 use Rattle.mix_word.specs.Word.{WordValue}
 use Rattle.mix_session.specs.Timeline.{Timeline}
 use Rattle.mix_dap.specs.Written.{Written, bytes_written, count_written, written_body}
-use Rattle.mix_dap.specs.Replies.{Replies, BeginsWith, EndsWith, answer_message}
+use Rattle.mix_dap.specs.Replies.{Replies, EndsWith, answer_message}
 use Rattle.mix_dap.specs.declared.fault.Fault.{Fault}
 
 appended : (xs ys : List Data) → are_events xs ≡ true → are_events ys ≡ true → are_events (xs ++ ys) ≡ true
@@ -45,16 +45,6 @@ pub replies-then-two : (message : ℕ → Data) (old mid later new : Outbox) →
     → Events (waits later) (waits new) → Replies message old new
 replies-then-two message old mid later new before first second =
     replies-then message old later new (replies-then message old mid later before first) second
-
--- where no message was waiting
-pub begins-with : (message : ℕ → Data) (old new : Outbox) (messages : List Data) → waits old ≡ [] → waits new ≡ messages → Replies message old new
-    → BeginsWith message messages
-begins-with message old new messages none all replies = record {
-  seq = next_seq old.seq;
-  more = replies.more;
-  told = sym all ∙ replies.told ∙ ap (λ told. told ++ message (next_seq old.seq) ∷ replies.more) none;
-  events = replies.events;
-}
 
 pub ends-added : (name : List ℕ) (body shown : Data) (mid new : Outbox) → body ≡ shown → Adds mid new (λ seq. event_message seq name body)
     → EndsWith (λ seq. event_message seq name shown) (waits new)

@@ -1,11 +1,12 @@
 -- What a piece of a run tells: that it goes on, why it has ended, or that memory was refused for it.
 use Rattle.std.proofs.Common.{◌≡◌, ◌⊎◌, inl, inr, ℕ, List, Option, None, true, false}
 use Rattle.serde_json.specs.Data.{Data}
+use Rattle.mix_machine.specs.declared.fault.MixFault.{MixFault}
 use Rattle.mix_session.specs.Timeline.{Timeline}
 use Rattle.mix_session.specs.declared.reply.End.{End}
 use Rattle.mix_dap.specs.Points.{PointsState}
 use Rattle.mix_dap.specs.Replies.{EndsWith}
-use Rattle.mix_dap.specs.Runs.{PieceBroken, PieceDone, is_limit, way_on}
+use Rattle.mix_dap.specs.Runs.{PieceBroken, PieceDone, fault_on, is_limit, way_on}
 use Rattle.mix_dap.specs.Stays.{PieceTells, BrokenTells, word_at}
 use Rattle.mix_dap.specs.Stopped.{out_of_memory, stopped_message, why_of}
 use Rattle.mix_dap.specs.declared.adapter.Way.{Way}
@@ -25,9 +26,10 @@ pub piece-breaks : (way : Way) (points : PointsState) (t : Timeline) (now : Poin
 piece-breaks way points t now new told piece tells = inr (record { piece = piece; tells = tells })
 
 -- what it leaves
-pub done-goes : (way : Way) (points : PointsState) (t : Timeline) (now : PointsState) (new : Timeline) (end : End) (goes : Option Way)
-    → PieceDone way points t end now new → goes ≡ way_on way end
-    → ((end : End) × PieceDone way points t end now new × (goes ≡ way_on way end)) ⊎ (PieceBroken way points t now new × (goes ≡ None))
-done-goes way points t now new end goes piece is = inl (end, piece, is)
+pub done-goes : (way : Way) (points : PointsState) (known : Option MixFault) (t : Timeline) (now : PointsState) (left : Option MixFault) (new : Timeline) (end : End)
+    (goes : Option Way) → PieceDone way points t end now new → goes ≡ way_on way end → left ≡ fault_on end known
+    → ((end : End) × PieceDone way points t end now new × (goes ≡ way_on way end) × (left ≡ fault_on end known))
+    ⊎ (PieceBroken way points t now new × (goes ≡ None) × (left ≡ None))
+done-goes way points known t now left new end goes piece is same = inl (end, piece, is, same)
 
 pub ruleset running = (piece-goes, piece-stops, piece-breaks, done-goes)

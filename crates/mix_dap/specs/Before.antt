@@ -1,5 +1,5 @@
 -- How a request is answered before a program is launched.
-use Rattle.std.specs.Prelude.{◌≡◌, ℕ, List, Option, None, Some, Result, Ok, Err}
+use Rattle.std.specs.Prelude.{◌≡◌, ℕ, List, [], ◌∷◌, Option, None, Some, Result, Ok, Err}
 use Rattle.serde_json.specs.Data.{Data, null}
 use Rattle.dap_message.specs.Told.{Outcome, done, response_to, Answers}
 use Rattle.dap_message.specs.declared.command.Command.{Command}
@@ -7,8 +7,9 @@ use Rattle.dap_message.specs.declared.outbox.Outbox.{Outbox}
 use Rattle.dap_message.specs.declared.request.Request.{Request}
 use Rattle.mix_dap.specs.Capabilities.{capabilities, client_of}
 use Rattle.mix_dap.specs.Check.{checked}
+use Rattle.mix_dap.specs.Events.{AddsAnswer, Event, terminated}
 use Rattle.mix_dap.specs.Kind.{kind_of}
-use Rattle.mix_dap.specs.Replies.{Replies, answer_message}
+use Rattle.mix_dap.specs.Replies.{answer_message}
 use Rattle.mix_dap.specs.Texts.{Known, AreTexts, RefusesTexts}
 use Rattle.mix_dap.specs.Told.{refused_for, outcome_for}
 use Rattle.mix_dap.specs.declared.fault.Fault.{Fault}
@@ -72,19 +73,34 @@ answer_before kind.Cancel r = Some (Err fault.NotLaunched)
 answer_before kind.Write r = Some (Err fault.NotLaunched)
 answer_before (kind.Act act) r = Some (Err fault.NotLaunched)
 
+-- and what is told after its answer
+abbrev pub events_before : Kind → List Event
+events_before kind.Initialize = []
+events_before kind.Terminate = terminated ∷ []
+events_before kind.Disconnect = []
+events_before kind.Launch = []
+events_before (kind.Look look) = []
+events_before kind.Check = []
+events_before (kind.Points target) = []
+events_before kind.Pause = []
+events_before kind.Restart = []
+events_before kind.Cancel = []
+events_before kind.Write = []
+events_before (kind.Act act) = []
+
 -- a launch is refused, since a text can't be had, or it waits with its texts, of which a library knows this
 abbrev pub LaunchShows : (List ℕ → Known) → Asked → Request → Outbox → Outbox → Type 0
-LaunchShows knows asked.Answered r old new = (why : Fault) × RefusesTexts r why × Replies (answer_message r (Err why)) old new
+LaunchShows knows asked.Answered r old new = (why : Fault) × RefusesTexts knows r why × AddsAnswer (answer_message r (Err why)) [] old new
 LaunchShows knows asked.Over r old new = ⊥
 LaunchShows knows (asked.Launch texts) r old new = AreTexts knows r texts × (new ≡ old)
 
-abbrev pub ShowsBefore : (List ℕ → Known) → Option (Result Data Fault) → Asked → Request → Outbox → Outbox → Type 0
-ShowsBefore knows None asked r old new = LaunchShows knows asked r old new
-ShowsBefore knows (Some shown) asked r old new = Replies (answer_message r shown) old new
+abbrev pub ShowsBefore : (List ℕ → Known) → Option (Result Data Fault) → List Event → Asked → Request → Outbox → Outbox → Type 0
+ShowsBefore knows None events asked r old new = LaunchShows knows asked r old new
+ShowsBefore knows (Some shown) events asked r old new = AddsAnswer (answer_message r shown) events old new
 
 abbrev pub AskedShows : (List ℕ → Known) → Option Command → Asked → Request → Outbox → Outbox → Type 0
-AskedShows knows None asked r old new = Replies (answer_message r (Err fault.NoSuchRequest)) old new
-AskedShows knows (Some command) asked r old new = ShowsBefore knows (answer_before (kind_of command) r) asked r old new
+AskedShows knows None asked r old new = AddsAnswer (answer_message r (Err fault.NoSuchRequest)) [] old new
+AskedShows knows (Some command) asked r old new = ShowsBefore knows (answer_before (kind_of command) r) (events_before (kind_of command)) asked r old new
 
 -- what the client is known to be like: what it says when it begins
 abbrev pub kind_client : Kind → Request → Client → Client

@@ -16,12 +16,21 @@ use Rattle.dap_stream.specs.Talk.{Talks}
 use Rattle.dap_stream.specs.declared.broken.Broken.{Broken}
 use Rattle.dap_stream.specs.declared.broken.Broken.TheVariants as broken
 use Rattle.dap_stream.specs.declared.hear.Heard.TheVariants as heard
-use Rattle.mix_dap.specs.Before.{Asks}
+use Rattle.mix_dap.specs.Answer.{HasTexts, launch_shown}
+use Rattle.mix_dap.specs.Before.{AskedShows, Asks, client_after}
+use Rattle.mix_dap.specs.Capabilities.{unknown_client}
+use Rattle.mix_dap.specs.Events.{AddsAnswer, Sends}
 use Rattle.mix_dap.specs.Launched.{launched_of}
+use Rattle.mix_dap.specs.Output.{none_told}
+use Rattle.mix_dap.specs.Prints.{launch_events}
+use Rattle.mix_dap.specs.Replies.{answer_message}
 use Rattle.mix_dap.specs.Served.{AdapterServes, AdapterWorks, AdapterRests}
+use Rattle.mix_dap.specs.Texts.{AreTexts, Known}
 use Rattle.mix_dap.specs.Told.{outcome_of_launch}
 use Rattle.mix_dap.specs.declared.adapter.Adapter.{Adapter}
+use Rattle.mix_dap.specs.declared.capabilities.Client.{Client}
 use Rattle.mix_dap.specs.declared.launch.Texts.{Texts}
+use Rattle.mix_dap.specs.declared.waiting.Asked.{Asked}
 use Rattle.mix_dap.specs.declared.waiting.Asked.TheVariants as asked
 
 -- the line that tells what ended a dialogue, or that memory was refused for it
@@ -31,29 +40,43 @@ line_of text = codes "mixrev: " ++ text ++ codes "\n"
 abbrev pub TellsBroken : Broken → Option (List ℕ) → Option (List ℕ) → Type 0
 TellsBroken why old new = Appends old new (line_of (broken_text why)) ⊎ Appends old new (line_of (broken_text broken.Memory))
 
--- where a dialogue is: a launch is waited for, a program is debugged, or the client is done
+-- where a dialogue is: a launch of such a client is waited for, a program is debugged, or the client is done
 pub data Stage : Type 0 where
-  waiting : Stage
+  waiting : Client → Stage
   debugs : Adapter → Stage
   done : Stage
 
--- a launch that was asked for, with these texts, is answered
-abbrev pub Opens : Request → Texts → List Data → Type 0
-Opens request texts told =
-    Asks (asked.Launch texts) (command_of request) request [] [] × Answers (response_to request (outcome_of_launch (launched_of texts))) [] told
+-- a launch that was asked for, with these texts: those that it gives, and of files what was known of them
+abbrev pub Launches : Request → Texts → Type 0
+Launches request texts = Asks (asked.Launch texts) (command_of request) request [] [] × (knows : List ℕ → Known) × AreTexts knows request texts
 
--- a request before a program is launched, and what is waited for after it
-abbrev pub BeforeSteps : Request → List Data → Stage → Type 0
-BeforeSteps request told waiting =
-    Asks asked.Answered (command_of request) request [] told ⊎ ((texts : Texts) × IsErr (launched_of texts) × Opens request texts told)
-BeforeSteps request told (debugs a) = (texts : Texts) × (launched_of texts ≡ Ok a.session) × (is_some a.way ≡ false) × Opens request texts told
-BeforeSteps request told done = Asks asked.Over (command_of request) request [] told
+-- it is answered, and what belongs to its answer is told
+abbrev pub Opens : Request → Texts → List Data → Type 0
+Opens request texts told = Launches request texts × Answers (response_to request (outcome_of_launch (launched_of texts))) [] told
+    × Sends told (λ old new. AddsAnswer (answer_message request (launch_shown (launched_of texts))) (launch_events (launched_of texts)) old new)
+
+-- another request is answered
+abbrev pub Replied : Asked → Request → List Data → Type 0
+Replied asked request told = Asks asked (command_of request) request [] told
+    × (knows : List ℕ → Known) × Sends told (λ old new. AskedShows knows (command_of request) asked request old new)
+
+-- an adapter is as it begins, for these texts and this client: it does not run, and nothing is told of its rows
+abbrev pub BeginsAs : Adapter → Texts → Client → Type 0
+BeginsAs a texts client =
+    (launched_of texts ≡ Ok a.session) × (is_some a.way ≡ false) × HasTexts a texts × (a.client ≡ client) × (a.printed ≡ none_told)
+
+-- a request of a client before a program is launched, and what is waited for after it
+abbrev pub BeforeSteps : Client → Request → List Data → Stage → Type 0
+BeforeSteps client request told (waiting next) = (next ≡ client_after (command_of request) request client)
+    × (Replied asked.Answered request told ⊎ ((texts : Texts) × IsErr (launched_of texts) × Opens request texts told))
+BeforeSteps client request told (debugs a) = (texts : Texts) × BeginsAs a texts (client_after (command_of request) request client) × Opens request texts told
+BeforeSteps client request told done = Replied asked.Over request told
 
 -- one exchange of a dialogue
 abbrev pub StageSteps : Stage → Option Data → List Data → Stage → Type 0
-StageSteps waiting None told next = IsUnclear told × (next ≡ waiting)
-StageSteps waiting (Some message) told next = (request : Request) × IsRequest request message × BeforeSteps request told next
-StageSteps (debugs a) frame told waiting = ⊥
+StageSteps (waiting client) None told next = IsUnclear told × (next ≡ waiting client)
+StageSteps (waiting client) (Some message) told next = (request : Request) × IsRequest request message × BeforeSteps client request told next
+StageSteps (debugs a) frame told (waiting client) = ⊥
 StageSteps (debugs a) frame told (debugs b) = Steps AdapterServes (λ c. is_some c.way) AdapterWorks AdapterRests (going a) frame told (going b)
 StageSteps (debugs a) frame told done =
     (b : Adapter) × Steps AdapterServes (λ c. is_some c.way) AdapterWorks AdapterRests (going a) frame told (over b)
@@ -61,14 +84,14 @@ StageSteps done frame told next = ⊥
 
 -- the client is done, or its input is at its end, or it had as many exchanges as are counted
 abbrev pub EndsAs : Stage → ℕ → Option (List ℕ) → Option (List ℕ) → Type 0
-EndsAs waiting count left new = HearsAs (Ok heard.End) left new ⊎ ((2 ^ 64 - 1 ≤ count) × (new ≡ left))
+EndsAs (waiting client) count left new = HearsAs (Ok heard.End) left new ⊎ ((2 ^ 64 - 1 ≤ count) × (new ≡ left))
 EndsAs (debugs a) count left new = HearsAs (Ok heard.End) left new ⊎ ((2 ^ 64 - 1 ≤ count) × (new ≡ left))
 EndsAs done count left new = new ≡ left
 
 -- what is told for a frame up to where its exchange is broken off: nothing yet; its answer; or of a launched program its answer, and what the first pieces of
 -- its run tell
 abbrev pub StageBegins : Stage → Option Data → List Data → Type 0
-StageBegins waiting frame told = (told ≡ []) ⊎ ((next : Stage) × StageSteps waiting frame told next)
+StageBegins (waiting client) frame told = (told ≡ []) ⊎ ((next : Stage) × StageSteps (waiting client) frame told next)
 StageBegins (debugs a) frame told = Begins AdapterServes (λ c. is_some c.way) AdapterWorks AdapterRests a frame told
 StageBegins done frame told = ⊥
 
@@ -107,11 +130,12 @@ GoesAs from (Err broken.Read) old new told now = Halts broken.Read from old new 
 GoesAs from (Err broken.Write) old new told now = BreaksOff from old new told now
 GoesAs from (Err broken.Memory) old new told now = Halts broken.Memory from old new told now ⊎ BreaksOff from old new told now
 
--- A part of it, from where a launch is waited for, came to this result: the dialogue is over, or a launch was refused and another is waited for.
-abbrev pub PartAs : Result Bool Broken → Option (List ℕ) → Option (List ℕ) → Option (List ℕ) → Option (List ℕ) → Type 0
-PartAs (Ok true) old new told now = GoesAs waiting (Ok tt) old new told now
-PartAs (Ok false) old new told now = (count : ℕ) × (1 ≤ count) × Talks StageSteps waiting waiting count old new told now
-PartAs (Err why) old new told now = GoesAs waiting (Err why) old new told now
+-- A part of it, from where a launch of a client is waited for, came to this result: the dialogue is over, or a launch was refused and another is waited for.
+abbrev pub PartAs : Client → Result Bool Broken → Client → Option (List ℕ) → Option (List ℕ) → Option (List ℕ) → Option (List ℕ) → Type 0
+PartAs client (Ok true) next old new told now = GoesAs (waiting client) (Ok tt) old new told now
+PartAs client (Ok false) next old new told now =
+    (count : ℕ) × (1 ≤ count) × Talks StageSteps (waiting client) (waiting next) count old new told now
+PartAs client (Err why) next old new told now = GoesAs (waiting client) (Err why) old new told now
 
 -- where a read failed, no frame is whole of what was read and not heard
 abbrev pub HeardAll : Result Unit Broken → List ℕ → Type 0
@@ -122,7 +146,7 @@ HeardAll (Err broken.Memory) kept = Unit {0}
 HeardAll (Err broken.Cut) kept = Unit {0}
 HeardAll (Err broken.TooLong) kept = Unit {0}
 
--- A whole dialogue: it begins where a launch is waited for, with the input as it is, and of the input what is left at its end was not read, or read and
+-- A whole dialogue: it begins where a launch of a client is waited for that has said nothing, with the input as it is, and of the input what is left at its end was not read, or read and
 -- not heard.
 abbrev pub DialogueAs : Result Unit Broken → Option (List ℕ) → Option (List ℕ) → Option (List ℕ) → Option (List ℕ) → Type 0
-DialogueAs result old new told now = (kept : List ℕ) × HeardAll result kept × GoesAs waiting result old (prepend_known kept new) told now
+DialogueAs result old new told now = (kept : List ℕ) × HeardAll result kept × GoesAs (waiting unknown_client) result old (prepend_known kept new) told now

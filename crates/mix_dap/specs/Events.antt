@@ -33,9 +33,21 @@ pub record AddsAnswer (message : ℕ → Data) (events : List Event) (old new : 
   pub told : waits new ≡ waits old ++ message (next_seq old.seq) ∷ event_messages (next_seq old.seq) events
   pub seq : new.seq ≡ last_seq (next_seq old.seq) events
 
+-- these messages are those that come to an outbox in which none waits
+pub record Sends (messages : List Data) (adds : Outbox → Outbox → Type 0) : Type 0 where
+  pub old : Outbox
+  pub new : Outbox
+  pub none : waits old ≡ []
+  pub all : waits new ≡ messages
+  pub added : adds old new
+
 -- the program stopped, for this reason
 abbrev pub stopped : Why → Event
 stopped why = record { name = codes "stopped"; body = stopped_body why }
+
+-- a program was launched, and the client may set its breakpoints
+abbrev pub initialized : Event
+initialized = record { name = codes "initialized"; body = null }
 
 -- the program ended
 abbrev pub terminated : Event

@@ -21,13 +21,6 @@ pub record Replies (message : ℕ → Data) (old new : Outbox) : Type 0 where
   pub told : waits new ≡ waits old ++ message (next_seq old.seq) ∷ more
   pub events : are_events more ≡ true
 
--- the first of these messages is this one, and the others are events
-pub record BeginsWith (message : ℕ → Data) (messages : List Data) : Type 0 where
-  pub seq : ℕ
-  pub more : List Data
-  pub told : messages ≡ message seq ∷ more
-  pub events : are_events more ≡ true
-
 -- the last of these messages is this one
 pub record EndsWith (message : ℕ → Data) (messages : List Data) : Type 0 where
   pub before : List Data

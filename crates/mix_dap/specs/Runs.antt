@@ -2,6 +2,7 @@
 -- of its own.
 use Rattle.std.specs.Prelude.{◌≡◌, ◌⊎◌, ◌-◌, ℕ, zero, suc, Bool, true, false, List, Option, None, Some, if◌then◌else◌}
 use Rattle.mix_machine.specs.World.{WorldState}
+use Rattle.mix_machine.specs.declared.fault.MixFault.{MixFault}
 use Rattle.mix_session.specs.Command.{Effect, after, effect_of_run, Begun}
 use Rattle.mix_session.specs.Stops.{StopsState}
 use Rattle.mix_session.specs.Timeline.{Timeline, world_of}
@@ -11,7 +12,7 @@ use Rattle.mix_session.specs.declared.command.stops.Way.TheVariants as session
 use Rattle.mix_session.specs.declared.reply.End.{End}
 use Rattle.mix_session.specs.declared.reply.End.TheVariants as ends
 use Rattle.mix_dap.specs.Points.{PointsState, passes, stop_cells, with_arrivals}
-use Rattle.mix_dap.specs.Stopped.{end_of}
+use Rattle.mix_dap.specs.Stopped.{end_of, fault_at}
 use Rattle.mix_dap.specs.declared.adapter.Way.{Way}
 use Rattle.mix_dap.specs.declared.adapter.Way.TheVariants as way
 
@@ -132,9 +133,14 @@ is_limit (ends.Fault fault) = false
 abbrev pub way_on : Way → End → Option Way
 way_on way end = if is_limit end then Some way else None
 
+-- the fault that is known then: the one that has ended the run, if one has
+abbrev pub fault_on : End → Option MixFault → Option MixFault
+fault_on end known = if is_limit end then known else fault_at end
+
 -- What the next piece leaves, and whether the program still runs, the same way: the piece is done, and it runs on if nothing but its number of changes has
 -- ended it; or, for want of memory, a stage of it stands, and the program runs no more. Of a program that does not run nothing is done.
-abbrev pub Advances : Option Way → PointsState → Timeline → PointsState → Timeline → Option Way → Type 0
-Advances None points t now new goes = (now ≡ points) × (new ≡ t) × (goes ≡ None)
-Advances (Some way) points t now new goes =
-    ((end : End) × PieceDone way points t end now new × (goes ≡ way_on way end)) ⊎ (PieceBroken way points t now new × (goes ≡ None))
+abbrev pub Advances : Option Way → PointsState → Option MixFault → Timeline → PointsState → Option MixFault → Timeline → Option Way → Type 0
+Advances None points known t now left new goes = (now ≡ points) × (left ≡ known) × (new ≡ t) × (goes ≡ None)
+Advances (Some way) points known t now left new goes =
+    ((end : End) × PieceDone way points t end now new × (goes ≡ way_on way end) × (left ≡ fault_on end known))
+    ⊎ (PieceBroken way points t now new × (goes ≡ None) × (left ≡ None))

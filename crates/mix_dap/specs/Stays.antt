@@ -9,7 +9,7 @@ use Rattle.mix_session.specs.declared.reply.End.{End}
 use Rattle.mix_word.specs.declared.register.Reg.TheVariants as reg
 use Rattle.dap_message.specs.declared.command.Command.{Command}
 use Rattle.dap_message.specs.declared.request.Request.{Request}
-use Rattle.mix_dap.specs.Deed.{deed_of, effect_of_deed}
+use Rattle.mix_dap.specs.Deed.{deed_of, effect_of_deed, is_console_of}
 use Rattle.mix_dap.specs.Kind.{kind_of}
 use Rattle.mix_dap.specs.Points.{PointsState, reason_at, points_after}
 use Rattle.mix_dap.specs.Replies.{EndsWith}
@@ -79,6 +79,43 @@ points_of kind.Disconnect r a = a.points
 points_of kind.Write r a = a.points
 points_of (kind.Act act) r a = a.points
 
+-- the fault that is known after an expression: a line of the console may move the machine, and then none is
+abbrev pub fault_unless : Bool → Option MixFault → Option MixFault
+fault_unless true known = None
+fault_unless false known = known
+
+-- the fault that the last run or step has ended with, if one has, after an act that the session answered so
+abbrev pub fault_of_act : Act → Request → Answer → Option MixFault → Option MixFault
+fault_of_act act.Step r answer known = fault_at (end_of answer)
+fault_of_act act.StepBack r answer known = fault_at (end_of answer)
+fault_of_act act.Continue r answer known = None
+fault_of_act act.StepOut r answer known = None
+fault_of_act act.ReverseContinue r answer known = None
+fault_of_act act.Begin r answer known = None
+fault_of_act act.Goto r answer known = known
+fault_of_act act.SetVariable r answer known = known
+fault_of_act act.SetExpression r answer known = known
+fault_of_act act.Evaluate r answer known = fault_unless (is_console_of r) known
+
+abbrev pub fault_of_deed : Act → Request → Result Deed Fault → Adapter → Option MixFault
+fault_of_deed act r (Err why) a = a.fault
+fault_of_deed act r (Ok deed) a = fault_of_act act r (effect_of_deed deed a.session.timeline).answer a.fault
+
+-- the same after any request that was answered
+abbrev pub fault_after : Kind → Request → Adapter → Option MixFault
+fault_after kind.Initialize r a = a.fault
+fault_after (kind.Look look) r a = a.fault
+fault_after kind.Check r a = a.fault
+fault_after (kind.Points target) r a = a.fault
+fault_after kind.Pause r a = a.fault
+fault_after kind.Terminate r a = a.fault
+fault_after kind.Restart r a = None
+fault_after kind.Cancel r a = a.fault
+fault_after kind.Launch r a = a.fault
+fault_after kind.Disconnect r a = a.fault
+fault_after kind.Write r a = a.fault
+fault_after (kind.Act act) r a = fault_of_deed act r (deed_of act r a.session) a
+
 -- why the program stops at a beginning, if it does
 abbrev pub BeginTells : Bool → List Data → Type 0
 BeginTells true new = EndsWith (stopped_message (only (codes "entry"))) new
@@ -122,10 +159,11 @@ KindTells (kind.Act act) r a new told = DeedTells act (deed_of act r a.session) 
 
 -- what a request leaves beside the session: a refusal nothing new
 abbrev pub KindGoes : Kind → Request → Adapter → Adapter → List Data → Type 0
-KindGoes kind r a b told = (b.way ≡ way_after kind a b.session.timeline) × (b.points ≡ points_of kind r a) × KindTells kind r a b.session.timeline told
+KindGoes kind r a b told = (b.way ≡ way_after kind a b.session.timeline) × (b.points ≡ points_of kind r a) × (b.fault ≡ fault_after kind r a)
+    × KindTells kind r a b.session.timeline told
 
 abbrev pub GoesOn : Flow → Option Command → Request → Adapter → Adapter → List Data → Type 0
-GoesOn (flow.Refused why) asked r a b told = (b.way ≡ a.way) × (b.points ≡ a.points)
+GoesOn (flow.Refused why) asked r a b told = (b.way ≡ a.way) × (b.points ≡ a.points) × (b.fault ≡ a.fault)
 GoesOn flow.On None r a b told = ⊥
 GoesOn flow.On (Some command) r a b told = KindGoes (kind_of command) r a b told
 GoesOn flow.Over None r a b told = ⊥

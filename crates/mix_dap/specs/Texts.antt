@@ -64,6 +64,15 @@ pub record AreTexts (knows : List ℕ → Known) (r : Request) (texts : Texts) :
   pub name : string_bytes texts.name ≡ unwrap_or (text_of r (codes "program")) (codes "program.mixal")
   pub stops : texts.stops ≡ flag_of r (codes "stopOnEntry")
 
--- why they can't be had: no source is asked for, or a file that is named can't be read
-abbrev pub RefusesTexts : Request → Fault → Type 0
-RefusesTexts r why = ((has_source r ≡ false) × (why ≡ fault.BadArgument)) ⊎ ((has_source r ≡ true) × IsFileFault why)
+-- why a text can't be had: it is not given, and that of its name can't be
+abbrev pub RefusesText : (List ℕ → Known) → Option (List ℕ) → Option (List ℕ) → Fault → Type 0
+RefusesText knows (Some given) named why = ⊥
+RefusesText knows None (Some name) why = IsKnownFault (knows name) why
+RefusesText knows None None why = ⊥
+
+-- why they can't be had: no source is asked for, or one of them can't be
+abbrev pub RefusesTexts : (List ℕ → Known) → Request → Fault → Type 0
+RefusesTexts knows r why = ((has_source r ≡ false) × (why ≡ fault.BadArgument)) ⊎ ((has_source r ≡ true)
+    × (RefusesText knows (text_of r (codes "sourceText")) (text_of r (codes "program")) why
+    ⊎ (RefusesText knows (text_of r (codes "devicesText")) (text_of r (codes "devices")) why
+    ⊎ RefusesText knows (text_of r (codes "cardsText")) (text_of r (codes "cards")) why)))

@@ -2,7 +2,9 @@
 
 ghost use Rattle.std.specs.Prelude.{◌≡◌, ◌⊎◌, IfErr, IfOk, IfNone, IfSome, IsErr, OnOk, Ok, is_some, true, false};
 ghost use Rattle.mix_dap.specs.Answer.{HasTexts, launch_shown, answer_to};
+ghost use Rattle.mix_dap.specs.Events.{AddsAnswer};
 ghost use Rattle.mix_dap.specs.Output.{none_told};
+ghost use Rattle.mix_dap.specs.Prints.{flow_events, flow_printed, launch_events};
 ghost use Rattle.mix_dap.specs.Replies.{Replies, answer_message};
 ghost use Rattle.dap_message.specs.Message.{waits};
 ghost use Rattle.dap_message.specs.Request.{command_of};
@@ -22,6 +24,7 @@ mod stop;
 mod tell;
 
 use crate::capabilities::Client;
+use crate::event::tell_event;
 use crate::fault::{Fault, refuse};
 use crate::kind::Kind;
 use crate::launch::{Texts, session_of};
@@ -109,7 +112,7 @@ fn flow_of(kind: Kind) -> Flow
 impl<'s> Adapter<'s> {
     /// Launches a program, and answers the request that asked for it: the machine is that of the texts, with no change, and it does not run yet. No
     /// adapter exactly where one of the texts is refused.
-    #[tactic(auto, using(dap_message::proofs::Telling::telling, crate::proofs::RepliesLemmas::replying))]
+    #[tactic(auto, using(dap_message::proofs::Telling::telling, crate::proofs::RepliesLemmas::replying, crate::proofs::EventLemmas::answering))]
     pub fn open(
         alloc: Global,
         waiting: &Waiting,
@@ -124,6 +127,7 @@ impl<'s> Adapter<'s> {
         ensures client { IfOk result (λ o. IfSome o (λ a. a.client ≡ waiting.now.client)) }
         ensures printed { IfOk result (λ o. IfSome o (λ a. a.printed ≡ none_told)) }
         ensures shows { OnOk result (Replies (answer_message request.now (launch_shown (launched_of texts.now))) out.old out.new) }
+        ensures prints { OnOk result (AddsAnswer (answer_message request.now (launch_shown (launched_of texts.now))) (launch_events (launched_of texts.now)) out.old out.new) }
         ensures answers { OnOk result (Answers (response_to request.now (outcome_of_launch (launched_of texts.now))) (waits out.old) (waits out.new)) }
     {
         let session = match session_of(alloc, texts) {
@@ -135,7 +139,7 @@ impl<'s> Adapter<'s> {
             Err(Refused::Memory) => return Err(Memory),
         };
         out.reply(request, nothing())?;
-        out.event("initialized", nothing())?;
+        tell_event("initialized", out)?;
         Ok(Some(Adapter {
             alloc,
             session,
@@ -166,7 +170,7 @@ impl<'s> Adapter<'s> {
     /// Answers a request. What it does to the timeline of the session is what the session's own request does that it stands for; a request that is
     /// refused changes nothing, nor does one that only looks. One that moves or changes the machine is refused while the program runs, and else exactly
     /// where it asks for nothing that is there, or the session refuses it. Out of memory, nothing is done, or a stage of that effect stands.
-    #[tactic(auto, using(crate::proofs::RepliesLemmas::replying))]
+    #[tactic(auto, using(crate::proofs::RepliesLemmas::replying, crate::proofs::EventLemmas::answering, crate::proofs::FlowLemmas::flows))]
     pub fn receive(&mut self, request: &Request, out: &mut Outbox) -> Result<Flow, Memory>
         ensures program { self.new.session.program ≡ self.old.session.program }
         ensures first { self.new.session.timeline.first ≡ self.old.session.timeline.first }
@@ -177,6 +181,9 @@ impl<'s> Adapter<'s> {
         ensures shows { OnOk result (Replies (answer_message request.now (answer_to (command_of request.now) request.now self.old)) out.old out.new) }
         ensures keeps { (self.new.name ≡ self.old.name) × (self.new.client ≡ self.old.client) × (self.new.stops ≡ self.old.stops) }
         ensures goes { IfOk result (λ flow. GoesOn flow (command_of request.now) request.now self.old self.new (waits out.new)) }
+        ensures prints { IfOk result (λ flow. AddsAnswer (answer_message request.now (answer_to (command_of request.now) request.now self.old))
+            (flow_events flow (command_of request.now) request.now self.old self.new.session.timeline) out.old out.new) }
+        ensures printed { IfOk result (λ flow. self.new.printed ≡ flow_printed flow (command_of request.now) request.now self.old.printed self.new.session.timeline) }
     {
         match request.command() {
             None => self.refuse(request, Fault::NoSuchRequest, out),

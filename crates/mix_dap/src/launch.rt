@@ -8,7 +8,7 @@ ghost use Rattle.serde_json.specs.Data.{null};
 ghost use Rattle.mix_dap.specs.Answer.{launch_shown};
 ghost use Rattle.mix_dap.specs.Launched.{launched_of};
 ghost use Rattle.mix_dap.specs.declared.fault.Fault.TheVariants.{NotOpened};
-ghost use Rattle.mix_dap.specs.Texts.{Known, Gives, IsText, AreCards, AreTexts, RefusesTexts, IsFileFault};
+ghost use Rattle.mix_dap.specs.Texts.{Known, Gives, IsText, AreCards, AreTexts, RefusesText, RefusesTexts};
 ghost use Rattle.mixal_asm.specs.Assembly.{assembly};
 
 use crate::fault::Fault;
@@ -99,7 +99,7 @@ pub(crate) fn texts_of<L: Library>(
     request: &Request,
 ) -> Result<Texts, Refused<Fault>>
     ensures texts { IfOk result (λ texts. AreTexts (L.knows library.now) request.now texts) }
-    ensures refused { IfFault result (λ why. RefusesTexts request.now why) }
+    ensures refused { IfFault result (λ why. RefusesTexts (L.knows library.now) request.now why) }
 {
     let program = request.text("program");
     let given = request.text("sourceText");
@@ -130,7 +130,7 @@ fn cards_of<L: Library>(
     name: Option<&str>,
 ) -> Result<Option<Vec<u8>>, Refused<Fault>>
     ensures cards { IfOk result (λ cards. AreCards (L.knows library.now) (option_map (λ t. t.now) given.entry) (option_map (λ t. t.now) name.entry) (option_map (λ c. c.items) cards)) }
-    ensures refused { IfFault result (λ why. IsFileFault why) }
+    ensures refused { IfFault result (λ why. RefusesText (L.knows library.now) (option_map (λ t. t.now) given.entry) (option_map (λ t. t.now) name.entry) why) }
 {
     if given.is_none() && name.is_none() {
         return Ok(None);
@@ -147,7 +147,7 @@ fn text_of<L: Library>(
     most: usize,
 ) -> Result<Vec<u8>, Refused<Fault>>
     ensures text { IfOk result (λ text. IsText (L.knows library.now) most (option_map (λ t. t.now) given.entry) (option_map (λ t. t.now) name.entry) text.items) }
-    ensures refused { IfFault result (λ why. IsFileFault why) }
+    ensures refused { IfFault result (λ why. RefusesText (L.knows library.now) (option_map (λ t. t.now) given.entry) (option_map (λ t. t.now) name.entry) why) }
 {
     match (given, name) {
         (Some(text), _) => Ok(Vec::from_slice(alloc, text.as_bytes())?),

@@ -7,6 +7,7 @@ mod capabilities;
 mod completions;
 mod deed;
 mod disassembly;
+mod event;
 mod fault;
 mod kind;
 mod launch;

@@ -1,6 +1,8 @@
 //! What answers the client of a dialogue: before a program is launched, and after that.
+#![tactic(auto, using(crate::proofs::EventLemmas::sending))]
 
 ghost use Rattle.std.specs.Prelude.{◌≡◌, [], false, is_some, None};
+ghost use Rattle.mix_dap.specs.Capabilities.{unknown_client};
 ghost use Rattle.mix_dap.specs.Served.{AdapterServes, AdapterWorks, AdapterRests, WaitingServes};
 
 use crate::adapter::{Adapter, Flow};
@@ -32,7 +34,8 @@ impl<L: Library> Drop for Before<'_, L> {
 impl<'l, L: Library> Before<'l, L> {
     /// No request was heard yet.
     pub(crate) fn new(alloc: Global, library: &'l L) -> Before<'l, L>
-        ensures { result.texts ≡ None }
+        ensures texts { result.texts ≡ None }
+        ensures client { result.waiting.client ≡ unknown_client }
     {
         Before {
             library,
@@ -43,7 +46,7 @@ impl<'l, L: Library> Before<'l, L> {
 }
 
 impl<L: Library> Serves for Before<'_, L> {
-    ghost serves = { λ b request told next c. WaitingServes request told next c.texts };
+    ghost serves = { λ b request told next c. WaitingServes b.waiting.client request told next c.texts c.waiting.client };
 
     // There is no work before a launch, nor while one waits.
     ghost busy = { λ b. is_some b.texts };

@@ -1,6 +1,6 @@
 //! The adapter over a stream: requests are heard and answered until the client is done.
 
-ghost use Rattle.std.specs.Prelude.{◌≡◌, ◌≢◌, ◌<◌, ◌≤◌, ◌-◌, ◌^◌, false, is_some, [], Ok, Err, IfNone, IfOk, IfSome, IsErr, OnOk};
+ghost use Rattle.std.specs.Prelude.{◌≡◌, ◌≢◌, ◌<◌, ◌≤◌, ◌-◌, ◌^◌, false, [], Ok, Err, IfNone, IfOk, IfSome, IsErr, OnOk};
 ghost use Rattle.mix_stream.specs.Stream.{CountsFailure};
 ghost use Rattle.dap_message.specs.Message.{waits};
 ghost use Rattle.dap_message.specs.Told.{response_to, Answers};
@@ -8,8 +8,12 @@ ghost use Rattle.dap_frame.specs.Frame.{first_frame, partial};
 ghost use Rattle.dap_stream.specs.Hearing.{kept, unheard};
 ghost use Rattle.dap_stream.specs.declared.broken.Broken.{Broken};
 ghost use Rattle.dap_stream.specs.declared.broken.Broken.TheVariants as broken;
-ghost use Rattle.mix_dap.specs.Dialogue.{DialogueAs, PartAs, TellsBroken};
+ghost use Rattle.mix_dap.specs.Answer.{launch_shown};
+ghost use Rattle.mix_dap.specs.Dialogue.{BeginsAs, DialogueAs, PartAs, TellsBroken};
+ghost use Rattle.mix_dap.specs.Events.{AddsAnswer};
 ghost use Rattle.mix_dap.specs.Launched.{launched_of};
+ghost use Rattle.mix_dap.specs.Prints.{launch_events};
+ghost use Rattle.mix_dap.specs.Replies.{answer_message};
 ghost use Rattle.mix_dap.specs.Told.{outcome_of_launch};
 
 use crate::adapter::Adapter;
@@ -122,7 +126,7 @@ fn launch<L: Library, R: In, W: Out>(
     requires none { waits talk.old.outbox ≡ [] }
     requires read { R.failed input.old < 2 ^ 64 - 1 }
     requires written { W.failed out.old < 2 ^ 64 - 1 }
-    ensures part { PartAs result (unheard talk.old.ear (R.rest input.old)) (unheard talk.new.ear (R.rest input.new)) (W.told out.old) (W.told out.new) }
+    ensures part { PartAs before.old.waiting.client result before.new.waiting.client (unheard talk.old.ear (R.rest input.old)) (unheard talk.new.ear (R.rest input.new)) (W.told out.old) (W.told out.new) }
     ensures none { result ≡ Ok false → waits talk.new.outbox ≡ [] }
     ensures partial { result ≡ Err broken.Read → first_frame (kept talk.new.ear) ≡ partial }
     ensures read { CountsFailure (result ≡ Err broken.Read) (R.failed input.old) (R.failed input.new) }
@@ -155,9 +159,9 @@ fn opened<'s>(
     request: &Request,
     out: &mut Outbox,
 ) -> Result<Option<Adapter<'s>>, Memory>
-    ensures opened { IfOk result (λ o. IfSome o (λ a. launched_of texts.now ≡ Ok a.session)) }
+    ensures begins { IfOk result (λ o. IfSome o (λ a. BeginsAs a texts.now waiting.now.client)) }
     ensures refused { IfOk result (λ o. IfNone o (IsErr (launched_of texts.now))) }
-    ensures rests { IfOk result (λ o. IfSome o (λ a. is_some a.way ≡ false)) }
+    ensures prints { OnOk result (AddsAnswer (answer_message request.now (launch_shown (launched_of texts.now))) (launch_events (launched_of texts.now)) out.old out.new) }
     ensures answers { OnOk result (Answers (response_to request.now (outcome_of_launch (launched_of texts.now))) (waits out.old) (waits out.new)) }
 {
     Adapter::open(alloc, waiting, texts, request, out)

@@ -1,16 +1,18 @@
 //! Before a program is launched.
 
-ghost use Rattle.std.specs.Prelude.{◌≡◌, IfOk, OnOk};
+ghost use Rattle.std.specs.Prelude.{◌≡◌, [], IfOk, OnOk};
 ghost use Rattle.dap_message.specs.Message.{waits};
 ghost use Rattle.dap_message.specs.Request.{command_of};
 ghost use Rattle.dap_message.specs.Told.{response_to, Answers};
 ghost use Rattle.mix_dap.specs.Before.{Asks, LaunchTells, LaunchShows, AskedShows, client_after};
 ghost use Rattle.mix_dap.specs.Capabilities.{unknown_client};
 ghost use Rattle.mix_dap.specs.Check.{checked};
-ghost use Rattle.mix_dap.specs.Replies.{Replies, answer_message};
+ghost use Rattle.mix_dap.specs.Events.{AddsAnswer};
+ghost use Rattle.mix_dap.specs.Replies.{answer_message};
 ghost use Rattle.mix_dap.specs.Told.{outcome_for};
 
 use crate::capabilities::{Client, capabilities};
+use crate::event::tell_event;
 use crate::fault::{Fault, refuse};
 use crate::kind::Kind;
 use crate::launch::{Library, Texts, texts_of};
@@ -51,7 +53,7 @@ impl Waiting {
     }
 
     /// Answers a request, but for one to launch a program, whose texts are read.
-    #[tactic(auto, using(dap_message::proofs::Telling::telling, crate::proofs::RepliesLemmas::replying))]
+    #[tactic(auto, using(dap_message::proofs::Telling::telling, crate::proofs::EventLemmas::answering))]
     pub fn receive<L: Library>(
         &mut self,
         library: &L,
@@ -83,7 +85,7 @@ impl Waiting {
             }
             Kind::Terminate => {
                 out.reply(request, nothing())?;
-                out.event("terminated", nothing())?;
+                tell_event("terminated", out)?;
                 Ok(Asked::Answered)
             }
             Kind::Look(_)
@@ -99,7 +101,7 @@ impl Waiting {
         }
     }
 
-    #[tactic(auto, using(crate::proofs::RepliesLemmas::replying))]
+    #[tactic(auto, using(crate::proofs::EventLemmas::answering))]
     fn launch<L: Library>(
         &self,
         library: &L,
@@ -119,9 +121,9 @@ impl Waiting {
         }
     }
 
-    #[tactic(auto, using(crate::proofs::RepliesLemmas::replying))]
+    #[tactic(auto, using(crate::proofs::EventLemmas::answering))]
     fn check(&self, request: &Request, out: &mut Outbox) -> Result<(), Memory>
-        ensures told { OnOk result (Replies (answer_message request.now (checked request.now)) out.old out.new) }
+        ensures told { OnOk result (AddsAnswer (answer_message request.now (checked request.now)) [] out.old out.new) }
         ensures answers { OnOk result (Answers (response_to request.now (outcome_for (checked request.now))) (waits out.old) (waits out.new)) }
     {
         match tell_check(self.alloc, request, out) {

@@ -17,7 +17,7 @@ ghost use Rattle.mix_dap.specs.Leaves.{Does, Leaves, unless_refused};
 ghost use Rattle.mix_dap.specs.Output.{all_told, outputs};
 ghost use Rattle.mix_dap.specs.Prints.{act_events, act_printed, deed_events};
 ghost use Rattle.mix_dap.specs.Replies.{Replies, Tells, answer_message};
-ghost use Rattle.mix_dap.specs.Stays.{Keeps, ActTells, BeginTells, DeedTells, way_begun, way_of_act, word_at};
+ghost use Rattle.mix_dap.specs.Stays.{Keeps, ActTells, BeginTells, DeedTells, fault_of_act, fault_of_deed, way_begun, way_of_act, word_at};
 ghost use Rattle.mix_dap.specs.Written.{Writes, write_asked, write_shown};
 
 use crate::adapter::Adapter;
@@ -45,7 +45,8 @@ impl Adapter<'_> {
         ensures answers { OnOk result (Answers (response_to request.now done) (waits out.old) (waits out.new)) }
         ensures shows { Tells (deed_body act (deed_of act request.now self.old.session) request.now self.old.session) request.now out.old out.new result }
         ensures way { OnOk result (self.new.way ≡ way_of_act act self.old.stops self.new.session.timeline) }
-        ensures waits { IfFault result (λ _. self.new.way ≡ self.old.way) }
+        ensures waits { IfFault result (λ _. (self.new.way ≡ self.old.way) × (self.new.fault ≡ self.old.fault)) }
+        ensures fault { OnOk result (self.new.fault ≡ fault_of_deed act request.now (deed_of act request.now self.old.session) self.old) }
         ensures tells { OnOk result (DeedTells act (deed_of act request.now self.old.session) self.old self.new.session.timeline (waits out.new)) }
         ensures prints { OnOk result (AddsAnswer (answer_message request.now (deed_body act (deed_of act request.now self.old.session) request.now self.old.session))
             (deed_events act request.now (deed_of act request.now self.old.session) self.old self.new.session.timeline) out.old out.new) }
@@ -73,7 +74,8 @@ impl Adapter<'_> {
         ensures answers { OnOk result (Answers (response_to request.now done) (waits out.old) (waits out.new)) }
         ensures shows { Tells (done_body act (effect_of_deed deed self.old.session.timeline) request.now self.old.session) request.now out.old out.new result }
         ensures way { OnOk result (self.new.way ≡ way_of_act act self.old.stops self.new.session.timeline) }
-        ensures waits { IfFault result (λ _. self.new.way ≡ self.old.way) }
+        ensures waits { IfFault result (λ _. (self.new.way ≡ self.old.way) × (self.new.fault ≡ self.old.fault)) }
+        ensures fault { OnOk result (self.new.fault ≡ fault_of_act act request.now (effect_of_deed deed self.old.session.timeline).answer self.old.fault) }
         ensures tells { OnOk result (ActTells act (effect_of_deed deed self.old.session.timeline).answer (word_at self.old.points self.new.session.timeline) self.old.stops (waits out.new)) }
         ensures prints { OnOk result (AddsAnswer (answer_message request.now (done_body act (effect_of_deed deed self.old.session.timeline) request.now self.old.session))
             (act_events act request.now (effect_of_deed deed self.old.session.timeline).answer (word_at self.old.points self.new.session.timeline) self.old.printed self.old.client self.old.stops (world_of self.new.session.timeline)) out.old out.new) }
@@ -93,6 +95,7 @@ impl Adapter<'_> {
         ensures first { self.new.session.timeline.first ≡ self.old.session.timeline.first }
         ensures does { Does (effect_of_deed deed self.old.session.timeline) self.old.session.timeline self.new.session.timeline result }
         ensures way { self.new.way ≡ self.old.way }
+        ensures fault { self.new.fault ≡ self.old.fault }
         ensures printed { self.new.printed ≡ self.old.printed }
         ensures answer { IfOk result (λ answer. answer ≡ (effect_of_deed deed self.old.session.timeline).answer) }
     {
@@ -111,6 +114,7 @@ impl Adapter<'_> {
         ensures first { self.new.session.timeline.first ≡ self.old.session.timeline.first }
         ensures does { Does (effect_of_run ways.Again no_stops self.old.session.timeline 1) self.old.session.timeline self.new.session.timeline result }
         ensures way { self.new.way ≡ self.old.way }
+        ensures fault { self.new.fault ≡ self.old.fault }
         ensures printed { self.new.printed ≡ self.old.printed }
         ensures answer { IfOk result (λ answer. answer ≡ (effect_of_run ways.Again no_stops self.old.session.timeline 1).answer) }
     {
@@ -132,6 +136,7 @@ impl Adapter<'_> {
         ensures first { self.new.session.timeline.first ≡ self.old.session.timeline.first }
         ensures does { Does (effect_of self.old.session.timeline request) self.old.session.timeline self.new.session.timeline result }
         ensures way { self.new.way ≡ self.old.way }
+        ensures fault { self.new.fault ≡ self.old.fault }
         ensures printed { self.new.printed ≡ self.old.printed }
         ensures answer { IfOk result (λ answer. answer ≡ (effect_of self.old.session.timeline request).answer) }
     {
@@ -151,12 +156,12 @@ impl Adapter<'_> {
         ensures answers { OnOk result (Answers (response_to request.now done) (waits out.old) (waits out.new)) }
         ensures shows { OnOk result (Replies (answer_message request.now (Ok null)) out.old out.new) }
         ensures way { OnOk result (self.new.way ≡ way_begun self.old.stops) }
+        ensures fault { OnOk result (self.new.fault ≡ None) }
         ensures tells { OnOk result (BeginTells self.old.stops (waits out.new)) }
         ensures prints { OnOk result (AddsAnswer (answer_message request.now (Ok null)) (outputs self.old.printed (world_of self.new.session.timeline) ++ beginning self.old.stops) out.old out.new) }
         ensures printed { OnOk result (self.new.printed ≡ all_told (world_of self.new.session.timeline)) }
     {
         self.way = None;
-        self.fault = None;
         match self.session.execute(mix_session::Request::BackAll) {
             Ok(_) => self.tell_beginning(request, out),
             Err(Memory) => Err(Memory),
@@ -177,6 +182,7 @@ impl Adapter<'_> {
         ensures answers { OnOk result (Answers (response_to request.now done) (waits out.old) (waits out.new)) }
         ensures shows { Tells (write_shown self.old.session request.now) request.now out.old out.new result }
         ensures way { self.new.way ≡ self.old.way }
+        ensures fault { self.new.fault ≡ self.old.fault }
         ensures invalid { OnOk result (AddsAnswer (answer_message request.now (write_shown self.old.session request.now)) (invalidated self.old.client) out.old out.new) }
         ensures printed { self.new.printed ≡ self.old.printed }
     {

@@ -2,13 +2,15 @@
 
 ghost use Rattle.std.specs.Prelude.{◌≡◌, ◌⊎◌, IfOk, OnOk, is_some};
 ghost use Rattle.mix_dap.specs.Answer.{answer_of};
-ghost use Rattle.mix_dap.specs.Replies.{Tells};
+ghost use Rattle.mix_dap.specs.Events.{AddsAnswer};
+ghost use Rattle.mix_dap.specs.Prints.{kind_events, kind_printed};
+ghost use Rattle.mix_dap.specs.Replies.{Tells, answer_message};
 ghost use Rattle.mix_refused.specs.Refused.{IfFault, IfMemory};
 ghost use Rattle.dap_message.specs.Message.{waits};
 ghost use Rattle.dap_message.specs.Told.{response_to, done, Answers};
 ghost use Rattle.mix_dap.specs.Leaves.{KindAnswered, KindRefused, KindBegun};
 ghost use Rattle.mix_dap.specs.Kind.{kind_of};
-ghost use Rattle.mix_dap.specs.Stays.{KindTells, points_of, way_after};
+ghost use Rattle.mix_dap.specs.Stays.{KindTells, fault_after, points_of, way_after};
 
 use crate::adapter::Adapter;
 use crate::capabilities::capabilities;
@@ -21,7 +23,7 @@ use mix_refused::Refused;
 
 impl Adapter<'_> {
     // What a request asks for, by what it is about.
-    #[tactic(auto, using(dap_message::proofs::Telling::telling, crate::proofs::RepliesLemmas::replying))]
+    #[tactic(auto, using(dap_message::proofs::Telling::telling, crate::proofs::RepliesLemmas::replying, crate::proofs::EventLemmas::answering))]
     pub(crate) fn answer(
         &mut self,
         command: Command,
@@ -40,8 +42,13 @@ impl Adapter<'_> {
         ensures keeps { (self.new.name ≡ self.old.name) × (self.new.client ≡ self.old.client) × (self.new.stops ≡ self.old.stops) }
         ensures way { OnOk result (self.new.way ≡ way_after (kind_of command) self.old self.new.session.timeline) }
         ensures points { OnOk result (self.new.points ≡ points_of (kind_of command) request.now self.old) }
-        ensures waits { IfFault result (λ _. (self.new.way ≡ self.old.way) × (self.new.points ≡ self.old.points)) }
+        ensures fault { OnOk result (self.new.fault ≡ fault_after (kind_of command) request.now self.old) }
+        ensures waits { IfFault result (λ _. (self.new.way ≡ self.old.way) × (self.new.points ≡ self.old.points) × (self.new.fault ≡ self.old.fault)) }
         ensures tells { OnOk result (KindTells (kind_of command) request.now self.old self.new.session.timeline (waits out.new)) }
+        ensures prints { OnOk result (AddsAnswer (answer_message request.now (answer_of (kind_of command) request.now self.old))
+            (kind_events (kind_of command) request.now self.old self.new.session.timeline) out.old out.new) }
+        ensures printed { OnOk result (self.new.printed ≡ kind_printed (kind_of command) request.now self.old.printed self.new.session.timeline) }
+        ensures unprinted { IfFault result (λ _. self.new.printed ≡ self.old.printed) }
     {
         match Kind::of(command) {
             Kind::Initialize => {

@@ -16,8 +16,8 @@ ghost use Rattle.mix_dap.specs.Stopped.{reason_of, text_of, terminated_message, 
 
 use crate::adapter::ends::is_limit;
 use crate::adapter::piece::run_piece;
-use crate::adapter::stop::terminated;
 use crate::adapter::{Adapter, Way};
+use crate::event::tell_event;
 use crate::list::nothing;
 use dap_message::{Outbox, Request};
 use mix_refused::Memory;
@@ -43,9 +43,11 @@ impl Adapter<'_> {
         ensures way { OnOk result (self.new.way ≡ way_begun self.old.stops) }
         ensures tells { OnOk result (BeginTells self.old.stops (waits out.new)) }
         ensures events { OnOk result (Events (waits out.old) (waits out.new)) }
+        ensures fault { self.new.fault ≡ None }
         ensures prints { OnOk result (AddsEvents (beginning self.old.stops) out.old out.new) }
         ensures printed { self.new.printed ≡ self.old.printed }
     {
+        self.fault = None;
         if self.stops {
             self.stopped("entry", None, out)?;
             Ok(())
@@ -61,7 +63,7 @@ impl Adapter<'_> {
         ensures keeps { KeepsSaid self.old self.new }
         ensures program { self.new.session.program ≡ self.old.session.program }
         ensures first { self.new.session.timeline.first ≡ self.old.session.timeline.first }
-        ensures runs { Advances self.old.way self.old.points self.old.session.timeline self.new.points self.new.session.timeline self.new.way }
+        ensures runs { Advances self.old.way self.old.points self.old.fault self.old.session.timeline self.new.points self.new.fault self.new.session.timeline self.new.way }
         ensures tells { OnOk result (AdvanceTells self.old.way self.old.points self.old.session.timeline self.new.points self.new.session.timeline (waits out.old) (waits out.new)) }
         ensures events { OnOk result (Events (waits out.old) (waits out.new)) }
         ensures prints { OnOk result (AdvancePrints self.old.way self.old.points self.old.printed self.old.session.timeline self.new.points self.new.session.timeline out.old out.new) }
@@ -80,7 +82,7 @@ impl Adapter<'_> {
         ensures keeps { KeepsSaid self.old self.new }
         ensures program { self.new.session.program ≡ self.old.session.program }
         ensures first { self.new.session.timeline.first ≡ self.old.session.timeline.first }
-        ensures runs { Advances (Some way) self.old.points self.old.session.timeline self.new.points self.new.session.timeline self.new.way }
+        ensures runs { Advances (Some way) self.old.points self.old.fault self.old.session.timeline self.new.points self.new.fault self.new.session.timeline self.new.way }
         ensures tells { OnOk result (AdvanceTells (Some way) self.old.points self.old.session.timeline self.new.points self.new.session.timeline (waits out.old) (waits out.new)) }
         ensures events { OnOk result (Events (waits out.old) (waits out.new)) }
         ensures prints { OnOk result (AdvancePrints (Some way) self.old.points self.old.printed self.old.session.timeline self.new.points self.new.session.timeline out.old out.new) }
@@ -108,6 +110,7 @@ impl Adapter<'_> {
         ensures keeps { Keeps self.old self.new }
         ensures session { self.new.session ≡ self.old.session }
         ensures pauses { is_some self.new.way ≡ false }
+        ensures fault { self.new.fault ≡ self.old.fault }
         ensures tells { OnOk result (RestTells self.old.way (waits out.old) (waits out.new)) }
         ensures events { OnOk result (Events (waits out.old) (waits out.new)) }
         ensures prints { OnOk result (AddsEvents (rested self.old.way) out.old out.new) }
@@ -125,6 +128,7 @@ impl Adapter<'_> {
         ensures keeps { Keeps self.old self.new }
         ensures session { self.new.session ≡ self.old.session }
         ensures way { self.new.way ≡ None }
+        ensures fault { self.new.fault ≡ self.old.fault }
         ensures answers { OnOk result (Answers (response_to request.now done) (waits out.old) (waits out.new)) }
         ensures shows { OnOk result (Replies (answer_message request.now (Ok null)) out.old out.new) }
         ensures tells { OnOk result (EndsWith (stopped_message (only (codes "pause"))) (waits out.new)) }
@@ -142,6 +146,7 @@ impl Adapter<'_> {
         ensures keeps { Keeps self.old self.new }
         ensures session { self.new.session ≡ self.old.session }
         ensures way { self.new.way ≡ None }
+        ensures fault { self.new.fault ≡ self.old.fault }
         ensures answers { OnOk result (Answers (response_to request.now done) (waits out.old) (waits out.new)) }
         ensures shows { OnOk result (Replies (answer_message request.now (Ok null)) out.old out.new) }
         ensures tells { OnOk result (EndsWith terminated_message (waits out.new)) }
@@ -150,7 +155,7 @@ impl Adapter<'_> {
     {
         self.way = None;
         out.reply(request, nothing())?;
-        terminated(out)?;
+        tell_event("terminated", out)?;
         Ok(())
     }
 }

@@ -1,4 +1,4 @@
-//! What is told when the program stops or ends, or when what the client shows is out of date.
+//! What is told when the program stops, or when what the client shows is out of date.
 #![tactic(auto, using(dap_message::proofs::Telling::telling, crate::proofs::RepliesLemmas::replying, crate::proofs::EventLemmas::events))]
 
 ghost use Rattle.std.specs.Prelude.{◌≡◌, [], ◌∷◌, ◌++◌, IfOk, OnOk, None};
@@ -7,15 +7,14 @@ ghost use Rattle.serde_json.specs.View.{view};
 ghost use Rattle.dap_message.specs.Message.{waits};
 ghost use Rattle.dap_message.specs.Told.{Events};
 ghost use Rattle.mix_session.specs.Timeline.{world_of};
-ghost use Rattle.mix_dap.specs.Events.{AddsEvents, all_areas, invalidated, out_of_date, stopped, terminated};
+ghost use Rattle.mix_dap.specs.Events.{AddsEvents, all_areas, invalidated, out_of_date, stopped};
 ghost use Rattle.mix_dap.specs.Output.{all_told, outputs};
 ghost use Rattle.mix_dap.specs.Replies.{EndsWith};
 ghost use Rattle.mix_dap.specs.Stays.{Keeps, word_at};
-ghost use Rattle.mix_dap.specs.Stopped.{reason_of, terminated_message, fault_at, out_of_memory, stopped_message, why_of};
+ghost use Rattle.mix_dap.specs.Stopped.{reason_of, fault_at, out_of_memory, stopped_message, why_of};
 
 use crate::adapter::Adapter;
 use crate::adapter::ends::{fault_at, put_text, text_of};
-use crate::list::nothing;
 use crate::look::THREAD;
 use dap_message::{Fields, Outbox};
 use mix_refused::Memory;
@@ -29,7 +28,7 @@ impl Adapter<'_> {
         ensures keeps { Keeps self.old self.new }
         ensures session { self.new.session ≡ self.old.session }
         ensures rests { self.new.way ≡ None }
-        ensures fault { OnOk result (self.new.fault ≡ fault_at end) }
+        ensures fault { self.new.fault ≡ fault_at end }
         ensures tells { OnOk result (EndsWith (stopped_message (why_of (word_at self.old.points self.old.session.timeline) end)) (waits out.new)) }
         ensures events { OnOk result (Events (waits out.old) (waits out.new)) }
         ensures prints { OnOk result (AddsEvents (outputs self.old.printed (world_of self.old.session.timeline)
@@ -73,6 +72,7 @@ impl Adapter<'_> {
         ensures keeps { Keeps self.old self.new }
         ensures session { self.new.session ≡ self.old.session }
         ensures rests { self.new.way ≡ None }
+        ensures fault { self.new.fault ≡ None }
         ensures tells { OnOk result (EndsWith (stopped_message out_of_memory) (waits out.new)) }
         ensures events { OnOk result (Events (waits out.old) (waits out.new)) }
         ensures prints { OnOk result (AddsEvents (outputs self.old.printed (world_of self.old.session.timeline) ++ stopped out_of_memory ∷ []) out.old out.new) }
@@ -136,15 +136,4 @@ fn all_areas(alloc: Global) -> Result<Value, Memory>
     let mut body = Fields::new(alloc);
     body.list("areas", areas)?;
     Ok(body.done())
-}
-
-// The program has ended.
-pub(crate) fn terminated(out: &mut Outbox) -> Result<(), Memory>
-    ensures told { OnOk result (EndsWith terminated_message (waits out.new)) }
-    ensures events { OnOk result (Events (waits out.old) (waits out.new)) }
-    ensures prints { OnOk result (AddsEvents (terminated ∷ []) out.old out.new) }
-{
-    let body = nothing();
-    out.event("terminated", body)?;
-    Ok(())
 }

@@ -13,8 +13,8 @@ ghost use Rattle.mix_dap.specs.Events.{AddsAnswer, beginning, invalidated, stopp
 ghost use Rattle.mix_dap.specs.Output.{all_told, outputs};
 ghost use Rattle.mix_dap.specs.Prints.{act_events, act_printed};
 ghost use Rattle.mix_dap.specs.Replies.{EndsWith, Replies, answer_message};
-ghost use Rattle.mix_dap.specs.Stays.{Keeps, ActTells, BeginTells, way_begun, way_of_act, word_at};
-ghost use Rattle.mix_dap.specs.Stopped.{end_of, stopped_message, why_of};
+ghost use Rattle.mix_dap.specs.Stays.{Keeps, ActTells, BeginTells, fault_of_act, way_begun, way_of_act, word_at};
+ghost use Rattle.mix_dap.specs.Stopped.{end_of, fault_at, stopped_message, why_of};
 ghost use Rattle.mix_dap.specs.Value.{value_asked, worth_asked};
 ghost use Rattle.mix_dap.specs.Fault.{fault_number, fault_text, fault_place};
 ghost use Rattle.mix_dap.specs.Told.{refused_for};
@@ -46,6 +46,7 @@ impl Adapter<'_> {
         ensures answers { OnOk result (Answers (response_to request.now done) (waits out.old) (waits out.new)) }
         ensures shows { OnOk result (Replies (answer_message request.now (Ok (act_body act answer request.now self.old.session))) out.old out.new) }
         ensures way { OnOk result (self.new.way ≡ way_of_act act self.old.stops self.new.session.timeline) }
+        ensures fault { OnOk result (self.new.fault ≡ fault_of_act act request.now answer self.old.fault) }
         ensures tells { OnOk result (ActTells act answer (word_at self.old.points self.old.session.timeline) self.old.stops (waits out.new)) }
         ensures prints { OnOk result (AddsAnswer (answer_message request.now (Ok (act_body act answer request.now self.old.session)))
             (act_events act request.now answer (word_at self.old.points self.old.session.timeline) self.old.printed self.old.client self.old.stops (world_of self.old.session.timeline)) out.old out.new) }
@@ -98,6 +99,7 @@ impl Adapter<'_> {
         ensures answers { OnOk result (Answers (response_to request.now done) (waits out.old) (waits out.new)) }
         ensures shows { OnOk result (Replies (answer_message request.now (Ok null)) out.old out.new) }
         ensures way { OnOk result (self.new.way ≡ None) }
+        ensures fault { OnOk result (self.new.fault ≡ fault_at end) }
         ensures tells { OnOk result (EndsWith (stopped_message (why_of (word_at self.old.points self.old.session.timeline) end)) (waits out.new)) }
         ensures prints { OnOk result (AddsAnswer (answer_message request.now (Ok null)) (outputs self.old.printed (world_of self.old.session.timeline)
             ++ stopped (why_of (word_at self.old.points self.old.session.timeline) end) ∷ []) out.old out.new) }
@@ -134,6 +136,7 @@ impl Adapter<'_> {
         ensures answers { OnOk result (Answers (response_to request.now done) (waits out.old) (waits out.new)) }
         ensures shows { OnOk result (Replies (answer_message request.now (Ok (result_body (utf8_lossy (text_of answer self.old.session.program self.old.session.timeline))))) out.old out.new) }
         ensures way { self.new.way ≡ self.old.way }
+        ensures fault { self.new.fault ≡ None }
         ensures prints { OnOk result (AddsAnswer (answer_message request.now (Ok (result_body (utf8_lossy (text_of answer self.old.session.program self.old.session.timeline)))))
             (outputs self.old.printed (world_of self.old.session.timeline) ++ invalidated self.old.client) out.old out.new) }
         ensures printed { OnOk result (self.new.printed ≡ all_told (world_of self.old.session.timeline)) }
@@ -196,6 +199,7 @@ impl Adapter<'_> {
         ensures answers { OnOk result (Answers (response_to request.now done) (waits out.old) (waits out.new)) }
         ensures shows { OnOk result (Replies (answer_message request.now (Ok null)) out.old out.new) }
         ensures way { OnOk result (self.new.way ≡ way_begun self.old.stops) }
+        ensures fault { OnOk result (self.new.fault ≡ None) }
         ensures tells { OnOk result (BeginTells self.old.stops (waits out.new)) }
         ensures prints { OnOk result (AddsAnswer (answer_message request.now (Ok null)) (outputs self.old.printed (world_of self.old.session.timeline) ++ beginning self.old.stops) out.old out.new) }
         ensures printed { OnOk result (self.new.printed ≡ all_told (world_of self.old.session.timeline)) }

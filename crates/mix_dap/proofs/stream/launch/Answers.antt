@@ -10,50 +10,50 @@ use Rattle.mix_dap.proofs.stream.launch.Goals as goal
 pub returns-in_err-with-clause-part : goal.returns-in_err-with-clause-part
 returns-in_err-with-clause-part g c =
     let p = err_from_is_err_and c.from_residual.result c.from_residual.ensures.1 in
-    rw (p.1, p.2) (before-broken _ _ _ c.args.before.now c.with.new.served _ _ _ _ _ c.in_err-with.ensures.talked)
+    rw (p.1, p.2) (before-broken _ _ _ _ c.args.before.now c.with.new.served _ _ _ _ _ c.in_err-with.ensures.talked)
 
 pub returns-in-Done-clause-part : goal.returns-in-Done-clause-part
-returns-in-Done-clause-part g c = before-done _ _ _ c.args.before.now c.with.new.served _ _ _ _ _ c.in-Done.is c.in_ok-with.ensures.talked
+returns-in-Done-clause-part g c = before-done _ _ _ _ c.args.before.now c.with.new.served _ _ _ _ _ c.in-Done.is c.in_ok-with.ensures.talked
 
 pub unreachable-requires : goal.unreachable-requires
 unreachable-requires g c =
-    texts-left _ _ _ c.in-Left.request c.args.before.now c.with.new.served _ _ _ _ _ c.take.result c.in-Left.is c.in_ok-with.ensures.talked c.take.ensures.value
+    texts-left _ _ _ _ c.in-Left.request c.args.before.now c.with.new.served _ _ _ _ _ c.take.result c.in-Left.is c.in_ok-with.ensures.talked c.take.ensures.value
     c.in-None.is
 
 pub returns-in_err-opened-in-Some-clause-part : goal.returns-in_err-opened-in-Some-clause-part
 returns-in_err-opened-in-Some-clause-part g c =
     let p = err_from_is_err_and c.from_residual-in_err-opened-in-Some.result c.from_residual-in_err-opened-in-Some.ensures.1 in
     rw (p.1, p.2)
-    (inr (launch-unsent _ _ _ c.in-Left.request c.args.before.now c.with.new.served _ _ _ _ _ c.in-Left.is c.in_ok-with.ensures.talked))
+    (inr (launch-unsent _ _ _ _ c.in-Left.request c.args.before.now c.with.new.served _ _ _ _ _ c.in-Left.is c.in_ok-with.ensures.talked))
 
 pub returns-in_err-send-in-Some-clause-part : goal.returns-in_err-send-in-Some-clause-part
 returns-in_err-send-in-Some-clause-part g c =
     let p = err_from_is_err_and c.from_residual-in_err-send-in-Some.result c.from_residual-in_err-send-in-Some.ensures.1 in
     rw (p.1, p.2)
-    (launch-broken _ _ _ c.in-Left.request c.args.before.now c.with.new.served c.in-Some.texts c.in_ok-opened-in-Some.opened _ _ _ _ _ _ _ _ c.in-Left.is
-    c.in_ok-with.ensures.talked (sym c.take.ensures.value ∙ c.in-Some.is) c.in_ok-opened-in-Some.ensures.refused c.in_ok-opened-in-Some.ensures.opened
-    c.in_ok-opened-in-Some.ensures.rests c.in_ok-opened-in-Some.ensures.answers c.in_err-send-in-Some.ensures.begun c.in_err-send-in-Some.ensures.only)
+    (launch-broken _ _ _ _ c.in-Left.request c.args.before.now c.with.new.served c.in-Some.texts c.in_ok-opened-in-Some.opened _ _ _ _ _ _ _ _ c.in-Left.is
+    c.in_ok-with.ensures.talked (sym c.take.ensures.value ∙ c.in-Some.is) c.in_ok-opened-in-Some.ensures.refused c.in_ok-opened-in-Some.ensures.begins
+    c.in_ok-opened-in-Some.ensures.answers c.in_ok-opened-in-Some.ensures.prints c.in_err-send-in-Some.ensures.begun c.in_err-send-in-Some.ensures.only)
 
 pub returns-in-None-opened-clause-part : goal.returns-in-None-opened-clause-part
 returns-in-None-opened-clause-part g c =
-    launch-refused _ _ _ c.in-Left.request c.args.before.now c.with.new.served c.in-Some.texts c.in_ok-opened-in-Some.opened _ _ _ _ _ _ _ c.in-Left.is
+    launch-refused _ _ _ _ c.in-Left.request c.args.before.now c.with.new.served c.in-Some.texts c.in_ok-opened-in-Some.opened _ _ _ _ _ _ _ c.in-Left.is
     c.in_ok-with.ensures.talked (sym c.take.ensures.value ∙ c.in-Some.is) c.in-None-opened.is c.in_ok-opened-in-Some.ensures.refused c.in_ok-opened-in-Some.ensures.answers
-    c.in_ok-send-in-Some.ensures.sent
+    c.in_ok-opened-in-Some.ensures.prints c.in_ok-send-in-Some.ensures.sent
 
 pub returns-in_err-with-in-Some-opened-clause-part : goal.returns-in_err-with-in-Some-opened-clause-part
 returns-in_err-with-in-Some-opened-clause-part g c =
     let p = err_from_is_err_and c.from_residual-in_err-with-in-Some-opened.result c.from_residual-in_err-with-in-Some-opened.ensures.1 in
     rw (p.1, p.2)
-    (launch-done _ _ _ c.in-Left.request c.args.before.now c.with.new.served c.in-Some.texts c.in_ok-opened-in-Some.opened c.in-Some-opened.adapter (Err _) _ _ _ _ _ _ _ _ _ c.in-Left.is
-    c.in_ok-with.ensures.talked (sym c.take.ensures.value ∙ c.in-Some.is) c.in-Some-opened.is c.in_ok-opened-in-Some.ensures.opened c.in_ok-opened-in-Some.ensures.rests
-    c.in_ok-opened-in-Some.ensures.answers c.in_ok-send-in-Some.ensures.sent
+    (launch-done _ _ _ _ c.in-Left.request c.args.before.now c.with.new.served c.in-Some.texts c.in_ok-opened-in-Some.opened c.in-Some-opened.adapter (Err _) _ _ _ _ _ _ _ _ _ c.in-Left.is
+    c.in_ok-with.ensures.talked (sym c.take.ensures.value ∙ c.in-Some.is) c.in-Some-opened.is c.in_ok-opened-in-Some.ensures.begins
+    c.in_ok-opened-in-Some.ensures.answers c.in_ok-opened-in-Some.ensures.prints c.in_ok-send-in-Some.ensures.sent
     (debug-broken _ c.in-Some-opened.adapter c.with-in-Some-opened.new.served _ _ _ _ _ c.in_err-with-in-Some-opened.ensures.talked))
 
 pub returns-clause-part : goal.returns-clause-part
 returns-clause-part g c =
-    launch-done _ _ _ c.in-Left.request c.args.before.now c.with.new.served c.in-Some.texts c.in_ok-opened-in-Some.opened c.in-Some-opened.adapter (Ok tt) _ _ _ _ _ _ _ _ _ c.in-Left.is
-    c.in_ok-with.ensures.talked (sym c.take.ensures.value ∙ c.in-Some.is) c.in-Some-opened.is c.in_ok-opened-in-Some.ensures.opened c.in_ok-opened-in-Some.ensures.rests
-    c.in_ok-opened-in-Some.ensures.answers c.in_ok-send-in-Some.ensures.sent
+    launch-done _ _ _ _ c.in-Left.request c.args.before.now c.with.new.served c.in-Some.texts c.in_ok-opened-in-Some.opened c.in-Some-opened.adapter (Ok tt) _ _ _ _ _ _ _ _ _ c.in-Left.is
+    c.in_ok-with.ensures.talked (sym c.take.ensures.value ∙ c.in-Some.is) c.in-Some-opened.is c.in_ok-opened-in-Some.ensures.begins
+    c.in_ok-opened-in-Some.ensures.answers c.in_ok-opened-in-Some.ensures.prints c.in_ok-send-in-Some.ensures.sent
     (debug-done _ c.in-Some-opened.adapter c.with-in-Some-opened.new.served _ _ _ _ _ c.in_ok-with-in-Some-opened.ensures.talked)
 
 pub returns-in_err-send-in-Some-clause-written : goal.returns-in_err-send-in-Some-clause-written
