@@ -18,7 +18,10 @@ use Rattle.mix_run.specs.declared.fault.ToolFault.{ToolFault}
 use Rattle.mix_run.specs.declared.fault.ToolFault.TheVariants as faults
 use Rattle.mix_stream.specs.Stream.{AppendsFront}
 use Rattle.mix_run.specs.Output.{replies}
+use Rattle.mix_run.specs.Bundle.{OriginValue, bundle_of}
+use Rattle.mix_run.specs.Opening.{Saved, noted, noted_one}
 use Rattle.mix_run.specs.Recall.{RecallState, meant, meant_by, nothing, recalled}
+use Rattle.mix_run.specs.Saves.{saves, saves_by, saves_of}
 use Rattle.mix_run.specs.Talk.{AnswersRead, Talks, after_lines, answers, asked, is_over, is_end, is_quit, is_too_long, is_whole, max_line_bytes, recalled_all}
 use Rattle.mix_run.specs.Hearing.{Hears}
 use Rattle.mix_run.specs.Person.{kind_of, person_line}
@@ -252,6 +255,69 @@ asked-over s talker r (line ∷ rest) ys over =
     go true over first = refl
     go false over first = ap (λ l. said ++ l) (first over)
 
+-- ---- what lines save
+
+noted-then : (so_far : Option (List Saved)) (xs ys : List Saved) → noted (noted so_far xs) ys ≡ noted so_far (xs ++ ys)
+noted-then so_far [] ys = refl
+noted-then so_far (file ∷ files) ys = noted-then (noted_one so_far file) files ys
+
+-- what is saved by the lines that follow some lines, after which the talk goes on
+saves-append : (o : OriginValue) (s : SessionState) (talker : Talker) (r : RecallState) (xs ys : List (List ℕ)) → is_over talker xs ≡ false
+    → saves o s talker r (xs ++ ys) ≡ saves o s talker r xs ++ saves o (after_lines s (asked s talker r xs)) talker (recalled_all s talker r xs) ys
+saves-append o s talker r [] ys still = refl
+saves-append o s talker r (line ∷ rest) ys still =
+    go (is_quit talker line) still (saves-append o (after_lines s (meant s talker r line)) talker (recalled s talker r line) rest ys)
+  where
+    said : List (List ℕ)
+    said = meant s talker r line
+
+    next : SessionState
+    next = after_lines s said
+
+    later : RecallState
+    later = recalled s talker r line
+
+    more : List (List ℕ)
+    more = asked next talker later rest
+
+    one : List Saved
+    one = saves_of o talker r line
+
+    here : List Saved
+    here = saves o next talker later rest
+
+    go : (q : Bool) → (q || is_over talker rest) ≡ false
+        → (is_over talker rest ≡ false → saves o next talker later (rest ++ ys)
+        ≡ here ++ saves o (after_lines next more) talker (recalled_all next talker later rest) ys)
+        → cond q [] (one ++ saves o next talker later (rest ++ ys))
+        ≡ cond q [] (one ++ here) ++ saves o (after_lines s (cond q [] (said ++ more))) talker (cond q r (recalled_all next talker later rest)) ys
+    go true still first = absurd (true≢false still)
+    go false still first =
+        ap (λ l. one ++ l) (first still)
+        ∙ sym (append_assoc one here (saves o (after_lines next more) talker (recalled_all next talker later rest) ys))
+        ∙ ap (λ t. (one ++ here) ++ saves o t talker (recalled_all next talker later rest) ys) (sym (after-append s said more))
+
+saves-over : (o : OriginValue) (s : SessionState) (talker : Talker) (r : RecallState) (xs ys : List (List ℕ)) → is_over talker xs ≡ true
+    → saves o s talker r (xs ++ ys) ≡ saves o s talker r xs
+saves-over o s talker r [] ys over = absurd (true≢false (sym over))
+saves-over o s talker r (line ∷ rest) ys over =
+    go (is_quit talker line) over (saves-over o (after_lines s (meant s talker r line)) talker (recalled s talker r line) rest ys)
+  where
+    next : SessionState
+    next = after_lines s (meant s talker r line)
+
+    later : RecallState
+    later = recalled s talker r line
+
+    one : List Saved
+    one = saves_of o talker r line
+
+    go : (q : Bool) → (q || is_over talker rest) ≡ true
+        → (is_over talker rest ≡ true → saves o next talker later (rest ++ ys) ≡ saves o next talker later rest)
+        → cond q [] (one ++ saves o next talker later (rest ++ ys)) ≡ cond q [] (one ++ saves o next talker later rest)
+    go true over first = refl
+    go false over first = ap (λ l. one ++ l) (first over)
+
 -- ---- parts of a talk
 
 -- the session and what is recalled after some whole lines
@@ -272,6 +338,10 @@ module _ (s : SessionState) (talker : Talker) (r : RecallState) where
   recalled-lines front rest whole still =
       ap (recalled_all s talker r) (lines-append front rest whole) ∙ recalled-append s talker r (lines front) (lines rest) still
 
+  saves-lines : (o : OriginValue) (front rest : List ℕ) → is_whole front ≡ true → is_over talker (lines front) ≡ false
+      → saves o s talker r (lines (front ++ rest)) ≡ saves o s talker r (lines front) ++ saves o (session_after front) talker (recall_after front) (lines rest)
+  saves-lines o front rest whole still = ap (saves o s talker r) (lines-append front rest whole) ∙ saves-append o s talker r (lines front) (lines rest) still
+
   -- the replies to whole lines are a beginning of those to a text that begins with them
   front-said : (front rest : List ℕ) → is_whole front ≡ true
       → (more : List ℕ) × ((answers s talker r (lines (front ++ rest))).bytes ≡ (answers s talker r (lines front)).bytes ++ more)
@@ -291,10 +361,11 @@ module _ (s : SessionState) (talker : Talker) (r : RecallState) where
       )
 
 -- what was heard before, and what was heard then
-pub Hears-then : (s mid now : SessionState) (talker : Talker) (r between last : RecallState) (bytes left part later : List ℕ) (told more : Told) (ends : Bool)
-    (a b c : Option (List ℕ)) → Hears s talker r bytes left mid between told false a b → Hears mid talker between (left ++ part) later now last more ends b c
-    → Hears s talker r (bytes ++ part) later now last (told_of_both told more) ends a c
-Hears-then s mid now talker r between last bytes left part later told more ends a b c h k =
+pub Hears-then : {o : OriginValue} {d e f : Option (List Saved)} (s mid now : SessionState) (talker : Talker) (r between last : RecallState) (bytes left part later : List ℕ) (told more : Told) (ends : Bool)
+    (a b c : Option (List ℕ)) → Hears o s talker r bytes left mid between told false d e a b
+    → Hears o mid talker between (left ++ part) later now last more ends e f b c
+    → Hears o s talker r (bytes ++ part) later now last (told_of_both told more) ends d f a c
+Hears-then {o} {d} {e} {f} s mid now talker r between last bytes left part later told more ends a b c h k =
     let xs = asked s talker r (lines h.front) in
     let ys = asked (session_after s talker r h.front) talker (recall_after s talker r h.front) (lines k.front) in
     let same : asked mid talker between (lines k.front) ≡ ys = ap₂ (λ t u. asked t talker u (lines k.front)) h.session h.recall in
@@ -315,11 +386,15 @@ Hears-then s mid now talker r between last bytes left part later told more ends 
       written = Appends-same a c _ _ (sym (ap (λ l. (replies s l).bytes) both ∙ bytes-append s xs ys))
           (Appends-then a b c (replies s xs).bytes (replies (after_lines s xs) ys).bytes h.written
           (Appends-same b c _ _ (ap₂ (λ t l. (replies t l).bytes) h.session same) k.written));
+      saved = k.saved ∙ ap₂ (λ t u. noted e (saves o t talker u (lines k.front))) h.session h.recall
+          ∙ ap (λ t. noted t (saves o (session_after s talker r h.front) talker (recall_after s talker r h.front) (lines k.front))) h.saved
+          ∙ noted-then d (saves o s talker r (lines h.front)) (saves o (session_after s talker r h.front) talker (recall_after s talker r h.front) (lines k.front))
+          ∙ ap (noted d) (sym (saves-lines s talker r o h.front k.front h.whole (sym h.over)));
     }
 
 -- nothing was heard yet
-pub Hears-nothing : (s : SessionState) (talker : Talker) (r last : RecallState) (left : List ℕ) (told : Told) (a : Option (List ℕ)) → last ≡ r → left ≡ []
-    → told ≡ (replies s []).told → Hears s talker r [] left s last told false a a
+pub Hears-nothing : {o : OriginValue} {d : Option (List Saved)} (s : SessionState) (talker : Talker) (r last : RecallState) (left : List ℕ) (told : Told) (a : Option (List ℕ)) → last ≡ r → left ≡ []
+    → told ≡ (replies s []).told → Hears o s talker r [] left s last told false d d a a
 unfolding lines
 Hears-nothing s talker r last left told a same none is = record {
   front = [];
@@ -331,6 +406,7 @@ Hears-nothing s talker r last left told a same none is = record {
   told = is;
   over = refl;
   written = Appends-nothing a;
+  saved = refl;
 }
 
 -- ---- one line of a text
@@ -349,10 +425,27 @@ quit-meant line_kind.Watch typed e = absurd (true≢false (sym e))
 quit-meant line_kind.Delete typed e = absurd (true≢false (sym e))
 quit-meant line_kind.Display typed e = absurd (true≢false (sym e))
 quit-meant line_kind.Undisplay typed e = absurd (true≢false (sym e))
+quit-meant line_kind.Save typed e = absurd (true≢false (sym e))
 
 quit-said : (s : SessionState) (talker : Talker) (r : RecallState) (line : List ℕ) → is_quit talker line ≡ true → meant s talker r line ≡ []
 quit-said s talkers.Program r line e = absurd (true≢false (sym e))
 quit-said s talkers.Person r line e = quit-meant (kind_of (words line)) (person_line r.again r.watch line) e
+
+-- nor does it save anything
+quit-unsaved : (kind : Line) (bundle : List ℕ) (said : List (List ℕ)) → is_end kind ≡ true → saves_by kind bundle said ≡ []
+quit-unsaved line_kind.Quit bundle said e = refl
+quit-unsaved line_kind.Command bundle said e = absurd (true≢false (sym e))
+quit-unsaved line_kind.Help bundle said e = absurd (true≢false (sym e))
+quit-unsaved line_kind.Listing bundle said e = absurd (true≢false (sym e))
+quit-unsaved line_kind.Watch bundle said e = absurd (true≢false (sym e))
+quit-unsaved line_kind.Delete bundle said e = absurd (true≢false (sym e))
+quit-unsaved line_kind.Display bundle said e = absurd (true≢false (sym e))
+quit-unsaved line_kind.Undisplay bundle said e = absurd (true≢false (sym e))
+quit-unsaved line_kind.Save bundle said e = absurd (true≢false (sym e))
+
+quit-saves : (o : OriginValue) (talker : Talker) (r : RecallState) (line : List ℕ) → is_quit talker line ≡ true → saves_of o talker r line ≡ []
+quit-saves o talkers.Program r line e = refl
+quit-saves o talkers.Person r line e = quit-unsaved (kind_of (words line)) (bundle_of o r.done) (words line) e
 
 module _ (s : SessionState) (talker : Talker) (r : RecallState) (line : List ℕ) (all more : List (List ℕ)) (e : all ≡ line ∷ more) where
   abbrev said-one : List (List ℕ)
@@ -389,6 +482,15 @@ module _ (s : SessionState) (talker : Talker) (r : RecallState) (line : List ℕ
       AppendsFront-after a b c so_far.0 (replies s said-one).bytes one-front.0 whole so_far.1 reply
       (so_far.2 ∙ ap (λ bytes. so_far.0 ++ bytes) one-front.1)
 
+  saves-none : (o : OriginValue) → is_quit talker line ≡ true → saves o s talker r all ≡ []
+  saves-none o quit = ap (saves o s talker r) e ∙ rw quit refl
+
+  -- after the line that ends the talk, nothing more is saved
+  pub saved-end : (o : OriginValue) (p q whole : Option (List Saved)) → is_quit talker line ≡ true → noted p (saves o s talker r all) ≡ whole
+      → q ≡ noted p (saves_of o talker r line) → q ≡ whole
+  saved-end o p q whole quit before here =
+      here ∙ ap (noted p) (quit-saves o talker r line quit) ∙ sym (ap (noted p) (saves-none o quit)) ∙ before
+
   -- one line more was answered
   module _ (next : SessionState) (later : RecallState) (quit : is_quit talker line ≡ false) (changed : next ≡ after_lines s said-one)
       (recalls : later ≡ recalled s talker r line) where
@@ -417,6 +519,14 @@ module _ (s : SessionState) (talker : Talker) (r : RecallState) (line : List ℕ
         ∙ ap (λ t. told_of_both t (answers next talker later more).told) (sym here) in
         both-assoc so_far one (answers next talker later more).told ∙ ap (told_of_both so_far) (sym left) ∙ before
 
+    pub saved-one : (o : OriginValue) (p q whole : Option (List Saved)) → noted p (saves o s talker r all) ≡ whole
+        → q ≡ noted p (saves_of o talker r line) → noted q (saves o next talker later more) ≡ whole
+    saved-one o p q whole before here =
+        let one = saves_of o talker r line in
+        let left : saves o s talker r all ≡ one ++ saves o next talker later more =
+        ap (saves o s talker r) e ∙ rw quit (ap₂ (λ t u. one ++ saves o t talker u more) (sym changed) (sym recalls)) in
+        ap (λ t. noted t (saves o next talker later more)) here ∙ noted-then p one (saves o next talker later more) ∙ ap (noted p) (sym left) ∙ before
+
     pub after-one : after_lines s (asked s talker r all) ≡ after_lines next (asked next talker later more)
     after-one =
         ap (after_lines s) asked-next ∙ after-append s said-one (asked next talker later more)
@@ -444,6 +554,12 @@ module _ (s : SessionState) (talker : Talker) (r : RecallState) (rest : List ℕ
   pub all-done : after_lines s (asked s talker r (lines rest)) ≡ s
   all-done = ap (after_lines s) nothing-left
 
+  nothing-saved : (o : OriginValue) → saves o s talker r (lines rest) ≡ []
+  nothing-saved o = rw (none, lines-nil) refl
+
+  pub all-saved : (o : OriginValue) (q whole : Option (List Saved)) → noted q (saves o s talker r (lines rest)) ≡ whole → q ≡ whole
+  all-saved o q whole before = sym (ap (noted q) (nothing-saved o)) ∙ before
+
   pub all-recalled : recalled_all s talker r (lines rest) ≡ r
   all-recalled = rw (none, lines-nil) refl
 
@@ -469,12 +585,12 @@ module _ (left part front rest : List ℕ) (parts : part ≡ front ++ rest) wher
   joined-whole some whole = whole-onto left front some whole
 
 -- the whole lines among some bytes are answered
-pub Hears-lines : (s : SessionState) (talker : Talker) (r : RecallState) (bytes text left given : List ℕ) (now : SessionState) (last : RecallState) (said : Told)
+pub Hears-lines : {o : OriginValue} {d f : Option (List Saved)} (s : SessionState) (talker : Talker) (r : RecallState) (bytes text left given : List ℕ) (now : SessionState) (last : RecallState) (said : Told)
     (ends : Bool) (a b : Option (List ℕ)) → bytes ≡ text ++ left → is_whole text ≡ true → list_any is_line_feed left ≡ false → given ≡ text
     → now ≡ after_lines s (asked s talker r (lines given)) → last ≡ recalled_all s talker r (lines given) → ends ≡ is_over talker (lines given)
     → (said ≡ (answers s talker r (lines given)).told) × Appends a b (answers s talker r (lines given)).bytes
-    → Hears s talker r bytes left now last said ends a b
-Hears-lines s talker r bytes text left given now last said ends a b parts whole part is session recall over replied = record {
+    → f ≡ noted d (saves o s talker r (lines given)) → Hears o s talker r bytes left now last said ends d f a b
+Hears-lines s talker r bytes text left given now last said ends a b parts whole part is session recall over replied kept = record {
   front = given;
   parts = parts ∙ ap (λ t. t ++ left) (sym is);
   whole = ap is_whole is ∙ whole;
@@ -484,6 +600,7 @@ Hears-lines s talker r bytes text left given now last said ends a b parts whole 
   told = replied.0;
   over = over;
   written = replied.1;
+  saved = kept;
 }
 
 pub some-from_length : (xs : List ℕ) → false ≡ eqb (length xs) 0 → 0 < length xs
@@ -528,8 +645,8 @@ Talks-begun s talker t faults.Read left old new only begun = absurd only
 Talks-begun s talker t (faults.Deck fault) left old new only begun = absurd only
 Talks-begun s talker t faults.Long left old new only begun = absurd only
 
-module _ (s mid : SessionState) (talker : Talker) (between : RecallState) (bytes left : List ℕ) (told : Told) (a b : Option (List ℕ))
-    (h : Hears s talker nothing bytes left mid between told false a b) where
+module _ {o : OriginValue} {d e : Option (List Saved)} (s mid : SessionState) (talker : Talker) (between : RecallState) (bytes left : List ℕ) (told : Told)
+    (a b : Option (List ℕ)) (h : Hears o s talker nothing bytes left mid between told false d e a b) where
   abbrev said-before : List ℕ
   said-before = (answers s talker nothing (lines h.front)).bytes
 
@@ -556,18 +673,27 @@ module _ (s mid : SessionState) (talker : Talker) (between : RecallState) (bytes
       ap (λ l. (replies s l).told) (asked-step rest) ∙ told-append s xs ys ∙ ap (λ t. told_of_both (replies s xs).told (replies t ys).told) (sym h.session)
       ∙ ap (λ t. told_of_both t (replies mid ys).told) (sym h.told)
 
+  saves-step : (rest : List ℕ) → noted d (saves o s talker nothing (lines (bytes ++ rest))) ≡ noted e (saves o mid talker between (lines (left ++ rest)))
+  saves-step rest =
+      let xs = saves o s talker nothing (lines h.front) in
+      let ys = saves o (session_after s talker nothing h.front) talker (recall_after s talker nothing h.front) (lines (left ++ rest)) in
+      ap (λ t. noted d (saves o s talker nothing (lines t))) (text-step rest)
+      ∙ ap (noted d) (saves-lines s talker nothing o h.front (left ++ rest) h.whole (sym h.over))
+      ∙ sym (noted-then d xs ys) ∙ ap (λ t. noted t ys) (sym h.saved)
+      ∙ ap₂ (λ t u. noted e (saves o t talker u (lines (left ++ rest)))) (sym h.session) (sym h.recall)
+
   -- the last line, which has no line feed, at the end of the text
-  module _ (t text : List ℕ) (e : t ≡ bytes ++ []) (is : text ≡ left) (c : Option (List ℕ)) where
+  module _ (t text : List ℕ) (here : t ≡ bytes ++ []) (is : text ≡ left) (c : Option (List ℕ)) where
     last-text : left ++ [] ≡ text
     last-text = append-nil left ∙ sym is
 
     last-bytes : (answers s talker nothing (lines t)).bytes ≡ (answers s talker nothing (lines h.front)).bytes ++ (answers mid talker between (lines text)).bytes
     last-bytes =
-        ap (λ l. (answers s talker nothing (lines l)).bytes) e ∙ bytes-step []
+        ap (λ l. (answers s talker nothing (lines l)).bytes) here ∙ bytes-step []
         ∙ ap (λ l. (answers s talker nothing (lines h.front)).bytes ++ (answers mid talker between (lines l)).bytes) last-text
 
     last-told : (answers s talker nothing (lines t)).told ≡ told_of_both told (answers mid talker between (lines text)).told
-    last-told = ap (λ l. (answers s talker nothing (lines l)).told) e ∙ told-step [] ∙ ap (λ l. told_of_both told (answers mid talker between (lines l)).told) last-text
+    last-told = ap (λ l. (answers s talker nothing (lines l)).told) here ∙ told-step [] ∙ ap (λ l. told_of_both told (answers mid talker between (lines l)).told) last-text
 
     pub end-said : (more all : Told) → all ≡ told_of_both told more
         → (more ≡ (answers mid talker between (lines text)).told) × Appends b c (answers mid talker between (lines text)).bytes
@@ -577,6 +703,11 @@ module _ (s mid : SessionState) (talker : Talker) (between : RecallState) (bytes
       Appends-same a c _ _ (sym last-bytes) (Appends-then a b c said-before (answers mid talker between (lines text)).bytes h.written replied.1),
     )
 
+    pub end-saved : (f : Option (List Saved)) → f ≡ noted e (saves o mid talker between (lines text)) → f ≡ noted d (saves o s talker nothing (lines t))
+    end-saved f is_saved =
+        is_saved ∙ sym (ap (λ l. noted e (saves o mid talker between (lines l))) last-text) ∙ sym (saves-step [])
+        ∙ sym (ap (λ l. noted d (saves o s talker nothing (lines l))) here)
+
     pub end-begun : AppendsFront b c (answers mid talker between (lines text)).bytes → AppendsFront a c (answers s talker nothing (lines t)).bytes
     end-begun begun =
         let ys = (answers mid talker between (lines text)).bytes in
@@ -584,19 +715,19 @@ module _ (s mid : SessionState) (talker : Talker) (between : RecallState) (bytes
 
   pub more-begun : (t part rest text more : List ℕ) (c : Option (List ℕ)) → t ≡ (bytes ++ part) ++ rest → left ++ part ≡ text ++ more → is_whole text ≡ true
       → AppendsFront b c (answers mid talker between (lines text)).bytes → AppendsFront a c (answers s talker nothing (lines t)).bytes
-  more-begun t part rest text more c e parts is_text begun =
+  more-begun t part rest text more c here parts is_text begun =
       let later = more ++ rest in
       let front = front-said mid talker between text later is_text in
       let same : left ++ (part ++ rest) ≡ text ++ later =
       sym (append_assoc left part rest) ∙ ap (λ l. l ++ rest) parts ∙ append_assoc text more rest in
       let whole : (answers s talker nothing (lines t)).bytes ≡ said-before ++ ((answers mid talker between (lines text)).bytes ++ front.0) =
-      ap (λ l. (answers s talker nothing (lines l)).bytes) (e ∙ append_assoc bytes part rest) ∙ bytes-step (part ++ rest)
+      ap (λ l. (answers s talker nothing (lines l)).bytes) (here ∙ append_assoc bytes part rest) ∙ bytes-step (part ++ rest)
       ∙ ap (λ l. said-before ++ (answers mid talker between (lines l)).bytes) same ∙ ap (λ l. said-before ++ l) front.1 in
       AppendsFront-after a b c said-before (answers mid talker between (lines text)).bytes front.0 (answers s talker nothing (lines t)).bytes h.written begun whole
 
 -- a part of a line that is longer than a line may be
-pub too-long : (s now : SessionState) (talker : Talker) (last : RecallState) (bytes left : List ℕ) (told : Told) (ends : Bool) (a b : Option (List ℕ))
-    → Hears s talker nothing bytes left now last told ends a b → max_line_bytes + 2 < length left → (t rest : List ℕ) → t ≡ bytes ++ rest
+pub too-long : {o : OriginValue} {d f : Option (List Saved)} (s now : SessionState) (talker : Talker) (last : RecallState) (bytes left : List ℕ) (told : Told) (ends : Bool) (a b : Option (List ℕ))
+    → Hears o s talker nothing bytes left now last told ends d f a b → max_line_bytes + 2 < length left → (t rest : List ℕ) → t ≡ bytes ++ rest
     → list_any is_too_long (lines t) ≡ true
 too-long s now talker last bytes left told ends a b h over t rest e =
     let same : t ≡ h.front ++ (left ++ rest) = e ∙ ap (λ l. l ++ rest) h.parts ∙ append_assoc h.front left rest in
@@ -606,16 +737,16 @@ too-long s now talker last bytes left told ends a b h over t rest e =
     ∙ ap (λ v. list_any is_too_long (lines h.front) || v) (long-first left rest h.part over) ∙ or-true (list_any is_too_long (lines h.front))
 
 -- and the text has more bytes than a line may have
-pub long-text : (s now : SessionState) (talker : Talker) (last : RecallState) (bytes left : List ℕ) (told : Told) (ends : Bool) (a b : Option (List ℕ))
-    → Hears s talker nothing bytes left now last told ends a b → max_line_bytes + 2 < length left → (t rest : List ℕ) → t ≡ bytes ++ rest
+pub long-text : {o : OriginValue} {d f : Option (List Saved)} (s now : SessionState) (talker : Talker) (last : RecallState) (bytes left : List ℕ) (told : Told) (ends : Bool) (a b : Option (List ℕ))
+    → Hears o s talker nothing bytes left now last told ends d f a b → max_line_bytes + 2 < length left → (t rest : List ℕ) → t ≡ bytes ++ rest
     → max_line_bytes < length t
 long-text s now talker last bytes left told ends a b h over t rest e =
     let same : t ≡ h.front ++ (left ++ rest) = e ∙ ap (λ l. l ++ rest) h.parts ∙ append_assoc h.front left rest in
     rw (same, length-append, length-append) (omega (arith, over))
 
 -- a line ended the talk
-pub ended : (s now : SessionState) (talker : Talker) (last : RecallState) (bytes left : List ℕ) (told all : Told) (ends : Bool) (a b : Option (List ℕ))
-    → Hears s talker nothing bytes left now last told ends a b → ends ≡ true → all ≡ told
+pub ended : {o : OriginValue} {d f : Option (List Saved)} (s now : SessionState) (talker : Talker) (last : RecallState) (bytes left : List ℕ) (told all : Told) (ends : Bool) (a b : Option (List ℕ))
+    → Hears o s talker nothing bytes left now last told ends d f a b → ends ≡ true → all ≡ told
     → (t rest : List ℕ) → t ≡ bytes ++ rest → (all ≡ (answers s talker nothing (lines t)).told) × Appends a b (answers s talker nothing (lines t)).bytes
 ended s now talker last bytes left told all ends a b h over is t rest e =
     let same : asked s talker nothing (lines t) ≡ asked s talker nothing (lines h.front) =
@@ -623,15 +754,26 @@ ended s now talker last bytes left told all ends a b h over is t rest e =
     ∙ ap (asked s talker nothing) (lines-append h.front (left ++ rest) h.whole) ∙ asked-over s talker nothing (lines h.front) (lines (left ++ rest)) (sym h.over ∙ over) in
     (is ∙ h.told ∙ sym (ap (λ l. (replies s l).told) same), Appends-same a b _ _ (sym (ap (λ l. (replies s l).bytes) same)) h.written)
 
+-- and nothing more is saved
+pub ended-saved : {o : OriginValue} {d f : Option (List Saved)} (s now : SessionState) (talker : Talker) (last : RecallState) (bytes left : List ℕ) (told : Told)
+    (ends : Bool) (a b : Option (List ℕ)) → Hears o s talker nothing bytes left now last told ends d f a b → ends ≡ true
+    → (t rest : List ℕ) → t ≡ bytes ++ rest → f ≡ noted d (saves o s talker nothing (lines t))
+ended-saved {o} {d} s now talker last bytes left told ends a b h over t rest e =
+    let same : saves o s talker nothing (lines t) ≡ saves o s talker nothing (lines h.front) =
+    ap (λ l. saves o s talker nothing (lines l)) (e ∙ ap (λ l. l ++ rest) h.parts ∙ append_assoc h.front left rest)
+    ∙ ap (saves o s talker nothing) (lines-append h.front (left ++ rest) h.whole)
+    ∙ saves-over o s talker nothing (lines h.front) (lines (left ++ rest)) (sym h.over ∙ over) in
+    h.saved ∙ ap (noted d) (sym same)
+
 -- no more is read
-pub unread : (s now : SessionState) (talker : Talker) (last : RecallState) (bytes left : List ℕ) (told : Told) (ends : Bool) (a b new : Option (List ℕ))
-    → Hears s talker nothing bytes left now last told ends a b → (t rest : List ℕ) → new ≡ Some rest → t ≡ bytes ++ rest → AnswersRead s talker t new a b
+pub unread : {o : OriginValue} {d f : Option (List Saved)} (s now : SessionState) (talker : Talker) (last : RecallState) (bytes left : List ℕ) (told : Told) (ends : Bool) (a b new : Option (List ℕ))
+    → Hears o s talker nothing bytes left now last told ends d f a b → (t rest : List ℕ) → new ≡ Some rest → t ≡ bytes ++ rest → AnswersRead s talker t new a b
 unread s now talker last bytes left told ends a b new h t rest is e =
     (h.front, left, rest, is, e ∙ ap (λ l. l ++ rest) h.parts ∙ append_assoc h.front left rest, h.whole, h.part, h.written)
 
 -- the talk goes on
-pub Hears-on : (s now : SessionState) (talker : Talker) (last : RecallState) (bytes left : List ℕ) (told all : Told) (ends : Bool) (a b : Option (List ℕ))
-    → Hears s talker nothing bytes left now last told ends a b → ends ≡ false → all ≡ told → Hears s talker nothing bytes left now last all false a b
+pub Hears-on : {o : OriginValue} {d f : Option (List Saved)} (s now : SessionState) (talker : Talker) (last : RecallState) (bytes left : List ℕ) (told all : Told) (ends : Bool) (a b : Option (List ℕ))
+    → Hears o s talker nothing bytes left now last told ends d f a b → ends ≡ false → all ≡ told → Hears o s talker nothing bytes left now last all false d f a b
 Hears-on s now talker last bytes left told all ends a b h on is = record {
   front = h.front;
   parts = h.parts;
@@ -642,4 +784,5 @@ Hears-on s now talker last bytes left told all ends a b h on is = record {
   told = is ∙ h.told;
   over = sym on ∙ h.over;
   written = h.written;
+  saved = h.saved;
 }

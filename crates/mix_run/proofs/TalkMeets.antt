@@ -24,7 +24,12 @@ use Rattle.mix_run.specs.UnitsRead.{GivesUnits}
 use Rattle.mix_run.specs.declared.talk.aside.Talker.{Talker}
 use Rattle.mix_run.specs.declared.talk.aside.Talker.TheVariants.{Program}
 use Rattle.mix_run.proofs.RunLemmas.{Keeps-same, Meets-unread}
-use Rattle.mix_run.proofs.Truncation.{assembly-take}
+use Rattle.std.specs.Prelude.{OnOk}
+use Rattle.mix_run.specs.Bundle.{OriginValue, origin_of}
+use Rattle.mix_run.specs.Opening.{Saved, noted}
+use Rattle.mix_run.specs.Saves.{saves}
+use Rattle.mix_machine.specs.units.deck.Deck.{deck_of}
+use Rattle.mix_run.proofs.Truncation.{assembly-take, assembly-whole, deck-whole}
 use Rattle.mix_run.proofs.Written.{Appends-nothing}
 
 -- no line was read yet
@@ -62,7 +67,7 @@ counts-after P a b c d old new e f counts = (
 )
 
 -- the source is what was read of it
-source-is : (s read : List ℕ) (program : Result ProgramValue AsmFault) → read ≡ take 1048577 s → assembly read ≡ program → assembly s ≡ program
+pub source-is : (s read : List ℕ) (program : Result ProgramValue AsmFault) → read ≡ take 1048577 s → assembly read ≡ program → assembly s ≡ program
 source-is s read program e is = sym (assembly-take s) ∙ sym (ap assembly e) ∙ is
 
 pub TalksWith-source : (s read : List ℕ) (program : Result ProgramValue AsmFault) (units : Result UnitsState DeckFault) (talker : Talker) (t : List ℕ)
@@ -81,6 +86,30 @@ pub TalksWith-units : (p : ProgramValue) (units : Result UnitsState DeckFault) (
     (result : Result ℕ ToolFault) (left old new : Option (List ℕ)) → units ≡ Ok some → TalksWith (Ok p) (Ok some) talker t result left old new
     → TalksWith (Ok p) units talker t result left old new
 TalksWith-units p units some talker t result left old new e talks = subst (λ u. TalksWith (Ok p) u talker t result left old new) (sym e) talks
+
+-- what holds of the source and the deck that were read holds of those that were given
+holds-as : (s d read text : List ℕ) (p q : ProgramValue) (u v : UnitsState) (P : OriginValue → SessionState → Type 0) → read ≡ take 1048577 s
+    → text ≡ take 33554433 d → assembly read ≡ Ok q → deck_of d ≡ Ok v → assembly s ≡ Ok p → deck_of d ≡ Ok u → P (origin_of read text) (opened q v)
+    → P (origin_of s d) (opened p u)
+holds-as s d read text p q u v P whole_read whole_text made_read made_units made units there =
+    let source : read ≡ s = whole_read ∙ assembly-whole s p made in
+    let deck : text ≡ d = whole_text ∙ deck-whole d u units in
+    let twice = sym (source-is s read (Ok q) whole_read made_read) ∙ made in
+    let also = sym made_units ∙ units in
+    let same : q ≡ p = cc in
+    let same_units : v ≡ u = cc in
+    subst (λ x. P (origin_of s x) (opened p u)) deck
+    (subst (λ x. P (origin_of x text) (opened p u)) source
+    (subst (λ x. P (origin_of read text) (opened x u)) same
+    (subst (λ x. P (origin_of read text) (opened q x)) same_units there)))
+
+pub saved-as : (result : Result ℕ ToolFault) (s d read text : List ℕ) (p q : ProgramValue) (u v : UnitsState) (talker : Talker) (all : List (List ℕ))
+    (old new : Option (List Saved)) → read ≡ take 1048577 s → text ≡ take 33554433 d → assembly read ≡ Ok q → deck_of d ≡ Ok v → assembly s ≡ Ok p
+    → deck_of d ≡ Ok u → OnOk result (new ≡ noted old (saves (origin_of read text) (opened q v) talker nothing all))
+    → OnOk result (new ≡ noted old (saves (origin_of s d) (opened p u) talker nothing all))
+saved-as result s d read text p q u v talker all old new whole_read whole_text made_read made_units made units there =
+    holds-as s d read text p q u v (λ origin session. OnOk result (new ≡ noted old (saves origin session talker nothing all))) whole_read whole_text made_read
+    made_units made units there
 
 -- ---- as a script
 

@@ -1,5 +1,5 @@
 -- What is refused for its length alone shows in its first bytes, one more than it may have.
-use Rattle.std.proofs.Common.{◌≡◌, ℕ, suc, ◌<◌, ◌≤◌, Bool, true, false, cond, ltb, List, length, take, Ok, Err, refl, ap, ◌∙◌, arith}
+use Rattle.std.proofs.Common.{◌≡◌, ℕ, suc, ◌<◌, ◌≤◌, Bool, true, false, cond, ltb, List, length, take, Result, Ok, Err, refl, ap, ◌∙◌, arith}
 use Rattle.std.proofs.lemmas.Bool.{lt-ltb, ltb-true, ltb-false}
 use Rattle.std.proofs.lemmas.List.{take_all, length-take-le}
 use Rattle.mixal_asm.specs.Assembly.{assembly, program_from}
@@ -48,5 +48,20 @@ deck-taken deck read units fault e taken refused = let same : deck_of read ≡ d
 pub source-taken : (source read : List ℕ) (program : ProgramValue) (fault : AsmFault) → read ≡ take 1048577 source → assembly read ≡ Ok program
     → assembly source ≡ Err fault → ⊥
 source-taken source read program fault e taken refused = let same : assembly read ≡ assembly source = ap assembly e ∙ assembly-take source in cc
+
+-- what is not refused for its length is all that is read of it
+whole-by : {A E : Type 0} (limit : ℕ) (refused : E) (read : Result A E) (bytes : List ℕ) (x : A) (v : Bool) → ltb limit (length bytes) ≡ v
+    → cond v (Err refused) read ≡ Ok x → take (suc limit) bytes ≡ bytes
+whole-by limit refused read bytes x true h e = absurd cc
+whole-by limit refused read bytes x false h e =
+    let few : length bytes ≤ limit = ltb-false limit (length bytes) h in take_all (suc limit) bytes (omega arith)
+
+pub assembly-whole : (source : List ℕ) (program : ProgramValue) → assembly source ≡ Ok program → take 1048577 source ≡ source
+unfolding assembly
+assembly-whole source program e = whole-by 1048576 _ _ source program (ltb 1048576 (length source)) refl e
+
+pub deck-whole : (deck : List ℕ) (units : UnitsState) → deck_of deck ≡ Ok units → take 33554433 deck ≡ deck
+unfolding deck_of
+deck-whole deck units e = whole-by 33554432 _ _ deck units (ltb 33554432 (length deck)) refl e
 
 pub ruleset truncations = (deck_of-take, assembly-take)

@@ -6,11 +6,14 @@ use Rattle.mix_lines.specs.Lines.{is_line_feed, lines}
 use Rattle.mix_session.specs.Session.{SessionState}
 use Rattle.mix_session.specs.declared.reply.Told.{Told}
 use Rattle.mix_run.specs.Talk.{after_lines, answers, asked, is_over, is_whole, recalled_all}
+use Rattle.mix_run.specs.Bundle.{OriginValue}
+use Rattle.mix_run.specs.Opening.{Saved, noted}
 use Rattle.mix_run.specs.Recall.{RecallState}
+use Rattle.mix_run.specs.Saves.{saves}
 use Rattle.mix_run.specs.declared.talk.aside.Talker.{Talker}
 
 -- some bytes were heard: the whole lines among them are answered, and what is left is part of a line
-pub record Hears (s : SessionState) (talker : Talker) (r : RecallState) (bytes left : List ℕ) (now : SessionState) (later : RecallState) (said : Told) (ends : Bool) (old new : Option (List ℕ)) : Type 0 where
+pub record Hears (origin : OriginValue) (s : SessionState) (talker : Talker) (r : RecallState) (bytes left : List ℕ) (now : SessionState) (later : RecallState) (said : Told) (ends : Bool) (before kept : Option (List Saved)) (old new : Option (List ℕ)) : Type 0 where
   pub front : List ℕ
   pub parts : bytes ≡ front ++ left
   pub whole : is_whole front ≡ true
@@ -20,3 +23,4 @@ pub record Hears (s : SessionState) (talker : Talker) (r : RecallState) (bytes l
   pub told : said ≡ (answers s talker r (lines front)).told
   pub over : ends ≡ is_over talker (lines front)
   pub written : Appends old new (answers s talker r (lines front)).bytes
+  pub saved : kept ≡ noted before (saves origin s talker r (lines front))

@@ -12,5 +12,6 @@ pub mod PrintSteps
 pub mod Reason
 pub mod Recall
 pub mod Refusal
+pub mod Saves
 pub mod Talk
 pub mod UnitsRead

@@ -6,6 +6,20 @@ use Rattle.mix_run.specs.declared.reason.Reason.{Reason}
 abbrev pub Files : Type 0
 Files = List ℕ → Result (List ℕ) Reason
 
+-- a file that was to be saved: its name and its text
+abbrev pub Saved : Type 0
+Saved = List ℕ × List ℕ
+
+-- one more, where those so far are known
+abbrev pub noted_one : Option (List Saved) → Saved → Option (List Saved)
+noted_one None file = None
+noted_one (Some so_far) file = Some (so_far ++ file ∷ [])
+
+-- some more
+abbrev pub noted : Option (List Saved) → List Saved → Option (List Saved)
+noted so_far [] = so_far
+noted so_far (file ∷ files) = noted (noted_one so_far file) files
+
 -- a name that can't be opened, and why
 abbrev pub Missing : Type 0
 Missing = List ℕ × Reason

@@ -15,19 +15,21 @@ use Rattle.mix_run.specs.declared.talk.person.Line.{Line}
 use Rattle.mix_run.specs.declared.talk.person.Line.TheVariants as line_kind
 
 -- the line of a script that a blank line stands for: the last one that took steps, or changes back; an empty one before that. And what is watched, from
--- its `until` on, and how many conditions that are; empty, where nothing is. And the lines of a script that show what is displayed after each stop
+-- its `until` on, and how many conditions that are; empty, where nothing is. And the lines of a script that show what is displayed after each stop. And
+-- the script of what was done: the lines that may have changed the machine
 pub record RecallState : Type 0 where
   pub again : List ℕ
   pub watch : List ℕ
   pub watched : ℕ
   pub displays : List ℕ
+  pub done : List ℕ
 
 -- nothing yet
 abbrev pub nothing : RecallState
-nothing = record { again = []; watch = []; watched = 0; displays = [] }
+nothing = record { again = []; watch = []; watched = 0; displays = []; done = [] }
 
 -- what a request leads to: a stop after steps, or after changes that were taken back, which a blank line repeats; one after other changes that were done;
--- another stop; or none
+-- another stop; a change without a stop; or nothing
 abbrev pub after_request : Request → After
 after_request (ask.Step n) = after.Stepped
 after_request (ask.Back n) = after.Repeated
@@ -42,7 +44,7 @@ after_request ask.ForthAll = after.Done
 after_request (ask.ForthUntil conditions) = after.Stop
 after_request (ask.Goto n) = after.Stop
 after_request ask.Nothing = after.Nothing
-after_request (ask.Change change) = after.Nothing
+after_request (ask.Change change) = after.Changed
 after_request (ask.Show topic) = after.Nothing
 
 -- the same of a line, whose words may be refused
@@ -50,12 +52,17 @@ abbrev pub after_read : Result Request Refusal → After
 after_read (Ok request) = after_request request
 after_read (Err refusal) = after.Refused
 
+-- the script of what was done, and one line more
+abbrev pub with_done : List ℕ → RecallState → RecallState
+with_done typed r = record r { done = r.done ++ (typed ++ 10 ∷ []) }
+
 -- what is recalled when a line of a script was executed
 abbrev pub recalled_after : After → List ℕ → RecallState → RecallState
-recalled_after after.Stepped typed r = record r { again = typed }
-recalled_after after.Repeated typed r = record r { again = typed }
-recalled_after after.Done typed r = r
-recalled_after after.Stop typed r = r
+recalled_after after.Stepped typed r = record (with_done typed r) { again = typed }
+recalled_after after.Repeated typed r = record (with_done typed r) { again = typed }
+recalled_after after.Done typed r = with_done typed r
+recalled_after after.Stop typed r = with_done typed r
+recalled_after after.Changed typed r = with_done typed r
 recalled_after after.Nothing typed r = r
 recalled_after after.Refused typed r = r
 
@@ -92,14 +99,15 @@ recalled_by s line_kind.Watch typed r = recalled_watch (request_in s typed) type
 recalled_by s line_kind.Delete typed r = record r { watch = []; watched = 0 }
 recalled_by s line_kind.Display typed r = recalled_display (request_in s typed) typed r
 recalled_by s line_kind.Undisplay typed r = record r { displays = [] }
+recalled_by s line_kind.Save typed r = r
 recalled_by s line_kind.Quit typed r = r
 
 abbrev pub recalled : SessionState → Talker → RecallState → List ℕ → RecallState
 recalled s Program r line = r
 recalled s Person r line = recalled_by s (kind_of (words line)) (person_line r.again r.watch line) r
 
--- the lines of a script that a line stands for: a program's stands for itself; help is no command, nor is a listing of the source, what is watched or
--- displayed, or the end of a talk
+-- the lines of a script that a line stands for: a program's stands for itself; help is no command, nor is a listing of the source, what is watched,
+-- displayed or saved, or the end of a talk
 abbrev pub meant_by : Line → List ℕ → List (List ℕ)
 meant_by line_kind.Command typed = typed ∷ []
 meant_by line_kind.Help typed = []
@@ -108,6 +116,7 @@ meant_by line_kind.Watch typed = []
 meant_by line_kind.Delete typed = []
 meant_by line_kind.Display typed = []
 meant_by line_kind.Undisplay typed = []
+meant_by line_kind.Save typed = []
 meant_by line_kind.Quit typed = []
 
 abbrev pub meant : SessionState → Talker → RecallState → List ℕ → List (List ℕ)

@@ -39,6 +39,7 @@ is_end line_kind.Watch = false
 is_end line_kind.Delete = false
 is_end line_kind.Display = false
 is_end line_kind.Undisplay = false
+is_end line_kind.Save = false
 
 abbrev pub is_quit : Talker → List ℕ → Bool
 is_quit Program line = false

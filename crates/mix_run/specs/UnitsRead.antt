@@ -4,6 +4,7 @@ use Rattle.mix_machine.specs.units.Units.{UnitsState}
 use Rattle.mix_machine.specs.declared.units.deck_fault.DeckFault.{DeckFault}
 use Rattle.mix_run.specs.declared.fault.ToolFault.{ToolFault}
 use Rattle.mix_run.specs.declared.fault.ToolFault.TheVariants as faults
+use Rattle.mix_run.specs.declared.units.Deck.{Deck}
 
 -- what the reading of units may answer: the units, their fault, or that memory is refused or a read failed
 abbrev pub GivesUnits : Result UnitsState DeckFault → Result UnitsState ToolFault → Type 0
@@ -13,6 +14,11 @@ GivesUnits expected (Err faults.Memory) = ⊤
 GivesUnits expected (Err faults.Read) = ⊤
 GivesUnits expected (Err faults.Write) = ⊥
 GivesUnits expected (Err faults.Long) = ⊥
+
+-- the units of a deck that was read
+abbrev pub units_in : Result Deck ToolFault → Result UnitsState ToolFault
+units_in (Ok deck) = Ok deck.units
+units_in (Err fault) = Err fault
 
 -- a deck that is given is in the place of the one that a bundle has
 abbrev pub deck_given : Bool → List ℕ → List ℕ → List ℕ

@@ -1,8 +1,8 @@
 //! A bundle: its parts, and their run.
 
-ghost use Rattle.std.specs.Prelude.{◌≡◌, ◌≢◌, ◌<◌, ◌+◌, ◌-◌, ◌^◌, ℕ, List, Some, Err, IfOk, false};
+ghost use Rattle.std.specs.Prelude.{◌≡◌, ◌≢◌, ◌<◌, ◌+◌, ◌-◌, ◌^◌, ◌++◌, ◌∷◌, ℕ, List, Some, Err, IfOk, OnOk, false, codes, length, slice_get};
 ghost use Rattle.std.specs.Io.KnownBytes.{Keeps};
-ghost use Rattle.mix_run.specs.Bundle.{after_marker, before_marker, cut_of};
+ghost use Rattle.mix_run.specs.Bundle.{after_marker, before_marker, bundle_of, cut_of, ended, is_end_byte, marked, origin_of};
 ghost use Rattle.mix_run.specs.PrintOutput.{parts_of};
 ghost use Rattle.mix_run.specs.Output.{Meets, IsStatus, output, bundle_output, max_bundle_bytes};
 ghost use Rattle.mix_stream.specs.Stream.{ConsumesAtMost, CountsFailure};
@@ -12,10 +12,11 @@ use crate::run::open_and_execute;
 use crate::statuses::refuse_source;
 use crate::units::units_of;
 use mix_lines::{line_text, split_whole_line};
-use mix_refused::Refused;
+use mix_refused::{Memory, Refused};
 use mix_stream::{In, Out, read_up_to};
 use mixal_asm::assemble;
 use std::alloc::Global;
+use std::marker::Model;
 
 /// The most bytes that a bundle may have.
 pub(crate) const MAX_BUNDLE_BYTES: usize = 41_943_040;
@@ -30,6 +31,81 @@ pub(crate) struct BundleParts<'a> {
     pub source: &'a [u8],
     pub deck: &'a [u8],
     pub script: &'a [u8],
+}
+
+/// What a talk is about: the source of its program, and the deck of its devices.
+#[derive(Drop)]
+pub(crate) struct Origin<'a> {
+    source: &'a [u8],
+    deck: &'a [u8],
+}
+
+impl<'a> Model for Origin<'a> {
+    ghost use Rattle.mix_run.specs.Bundle.{OriginValue};
+
+    ghost Value = { OriginValue };
+
+    ghost view = { λ o. record { source = o.source.now; deck = o.deck.now } };
+}
+
+impl<'a> Origin<'a> {
+    /// A source, of a bundle the one in it, and a deck.
+    pub(crate) fn of(source: &'a [u8], deck: &'a [u8]) -> Origin<'a>
+        ensures { result ≡ origin_of source.now deck.now }
+    {
+        Origin {
+            source: cut(source).source,
+            deck,
+        }
+    }
+}
+
+// Whether a text is empty, or ends with a line feed.
+fn is_ended(text: &[u8]) -> bool
+    ensures { result ≡ is_end_byte (slice_get text.now (length text.now - 1)) }
+{
+    match text.last() {
+        None => true,
+        Some(byte) => *byte == b'\n',
+    }
+}
+
+// Appends a text, and a line feed if its last line has none.
+fn put_ended(text: &mut Vec<u8>, part: &[u8]) -> Result<(), Memory>
+    ensures { OnOk result (text.new.items ≡ text.old.items ++ ended part.now) }
+{
+    text.extend_from_slice(part)?;
+    if is_ended(part) {
+        return Ok(());
+    }
+    text.extend_from_slice(b"\n")?;
+    Ok(())
+}
+
+// Appends a part after its marker, unless it is empty.
+fn put_marked(text: &mut Vec<u8>, marker: &[u8], part: &[u8]) -> Result<(), Memory>
+    ensures { OnOk result (text.new.items ≡ text.old.items ++ marked marker.now part.now) }
+{
+    match part.split_first() {
+        None => Ok(()),
+        Some(_) => {
+            text.extend_from_slice(marker)?;
+            text.extend_from_slice(b"\n")?;
+            put_ended(text, part)
+        }
+    }
+}
+
+/// The bundle of a source, a deck and a script.
+#[tactic(auto, unfolding(crate::specs::Bundle::bundle_of))]
+pub(crate) fn bundle_of(alloc: Global, origin: &Origin, script: &[u8]) -> Result<Vec<u8>, Memory>
+    ensures { IfOk result (λ text. text.items ≡ bundle_of origin.now script.now) }
+{
+    let mut text = Vec::new(alloc);
+    put_ended(&mut text, origin.source)?;
+    put_marked(&mut text, DEVICES, origin.deck)?;
+    put_marked(&mut text, SCRIPT, script)?;
+    Ok(text)
 }
 
 /// Cuts a bundle at its first line `%SCRIPT`, and what stands before it at its first line `%DEVICES`.

@@ -1,12 +1,21 @@
 //! What opens files by their names, and creates them.
 
 ghost use Rattle.std.specs.Prelude.{◌≡◌, ◌∷◌, [], ℕ, List, Option, Some, IfOk};
-ghost use Rattle.mix_run.specs.Opening.{Asks, Files, Gives, rest_given};
+ghost use Rattle.mix_run.specs.Opening.{Asks, Files, Gives, Saved, noted, rest_given};
 
 use crate::reason::Reason;
 use mix_stream::{In, Out};
 
-/// What opens files by their names, and creates them.
+/// Why a text is not saved in a file.
+#[derive(Clone, Copy)]
+pub enum Unsaved {
+    /// The file can't be created.
+    NotOpened(Reason),
+    /// The text, or a part of it, can't be written.
+    NotWritten(Reason),
+}
+
+/// What opens files by their names, creates them, and saves texts in them.
 pub trait Opener {
     type Reader: In + Drop;
 
@@ -21,13 +30,17 @@ pub trait Opener {
     // The names of the files that were to be created so far, in their order, where they are known.
     ghost created: { Self → Option (List (List ℕ)) };
 
+    // The texts that were to be saved so far, in their order, each with the name of its file, where they are known.
+    ghost saved: { Self → Option (List Saved) };
+
     /// A reader of a file from its beginning, with no failure yet, or why the file can't be opened.
     fn open(&mut self, name: &str) -> Result<Self::Reader, Reason>
         ensures asked { Asks (asked self.old) (asked self.new) (name.now ∷ []) }
         ensures given { (all : Files) → holds self.old ≡ Some all → Gives (all name.now) (rest_given Self.Reader.rest result) }
         ensures fresh { IfOk result (λ r. Self.Reader.failed r ≡ 0) }
         ensures same { holds self.new ≡ holds self.old }
-        ensures nothing_created { created self.new ≡ created self.old };
+        ensures nothing_created { created self.new ≡ created self.old }
+        ensures nothing_saved { saved self.new ≡ saved self.old };
 
     /// A writer of a file, which is empty at first, with no failure yet, or why the file can't be created. A file of this name that is there already
     /// loses what it holds.
@@ -35,6 +48,14 @@ pub trait Opener {
         ensures created { Asks (created self.old) (created self.new) (name.now ∷ []) }
         ensures empty { (all : List (List ℕ)) → created self.old ≡ Some all → IfOk result (λ w. Self.Writer.told w ≡ Some []) }
         ensures fresh { IfOk result (λ w. Self.Writer.failed w ≡ 0) }
+        ensures same { holds self.new ≡ holds self.old }
+        ensures nothing_asked { asked self.new ≡ asked self.old }
+        ensures nothing_saved { saved self.new ≡ saved self.old };
+
+    /// Saves a text in a file of this name, or says why not. A file that is there already loses what it holds; if the text can't be written, the file
+    /// may hold a part of it.
+    fn save(&mut self, name: &[u8], text: &[u8]) -> Result<(), Unsaved>
+        ensures saved { saved self.new ≡ noted (saved self.old) ((name.now, text.now) ∷ []) }
         ensures same { holds self.new ≡ holds self.old }
         ensures nothing_asked { asked self.new ≡ asked self.old };
 }

@@ -1,14 +1,21 @@
 //! A talk with the program of a source: each line is a command, which is done and answered before the next is read.
 
-ghost use Rattle.std.specs.Prelude.{◌≡◌, ◌≢◌, ◌⊎◌, ◌<◌, ◌≤◌, ◌+◌, ◌-◌, ◌^◌, ℕ, List, Some, Ok, Err, IfErr, IfOk, drop, false, length, true};
+ghost use Rattle.std.specs.Prelude.{◌≡◌, ◌≢◌, ◌⊎◌, ◌<◌, ◌≤◌, ◌+◌, ◌-◌, ◌^◌, ℕ, List, Some, Ok, Err, IfErr, IfOk, OnOk, drop, false, length, true};
 ghost use Rattle.mixal_asm.specs.declared.fault.AsmFault.{AsmFault};
 ghost use Rattle.mix_machine.specs.declared.units.deck_fault.DeckFault.{DeckFault};
 ghost use Rattle.mixal_asm.specs.Assembly.{assembly, max_source_bytes};
 ghost use Rattle.mix_machine.specs.units.deck.Deck.{deck_of, max_deck_bytes};
 ghost use Rattle.mix_run.specs.Fault.{IsMemoryOrWrite};
 ghost use Rattle.mix_run.specs.Output.{IsStatus, Meets, max_script_bytes, output, refusal_of};
+ghost use Rattle.mix_run.specs.Bundle.{origin_of};
+ghost use Rattle.mix_run.specs.Opening.{noted};
+ghost use Rattle.mix_run.specs.Recall.{nothing};
+ghost use Rattle.mix_run.specs.Saves.{saves};
 ghost use Rattle.mix_run.specs.Talk.{TalksWith, is_too_long};
 ghost use Rattle.mix_lines.specs.Lines.{lines};
+ghost use Rattle.mix_machine.specs.units.Units.{UnitsState};
+ghost use Rattle.mix_session.specs.Session.{opened};
+ghost use Rattle.mixal_asm.specs.Program.{ProgramValue};
 ghost use Rattle.std.specs.List.{list_any};
 ghost use Rattle.mix_stream.specs.Stream.{ConsumesAtMost, CountsFailure};
 
@@ -20,14 +27,17 @@ mod help;
 mod listing;
 mod person;
 mod recall;
+mod save;
 mod shown;
 
+use crate::bundle::Origin;
 use crate::fault::ToolFault;
+use crate::opener::Opener;
 use crate::statuses::{refuse_source, status, tell_refusal};
 use crate::talk::aside::greet;
 use crate::talk::heard::talk;
 use crate::talk::recall::Recall;
-use crate::units::read_units;
+use crate::units::{Deck, read_deck};
 pub use aside::Talker;
 use mix_machine::Units;
 use mix_refused::{Memory, Refused};
@@ -47,18 +57,19 @@ pub struct Streams<R, W, E> {
 }
 
 // A talk on the machine that a program loads, with its units.
-fn talk_with<R: In, W: Out, E: Out>(
+fn talk_with<O: Opener, R: In, W: Out, E: Out>(
     alloc: Global,
     name: &str,
     source: &[u8],
     program: Program,
-    units: Units,
+    deck: Deck,
+    files: &mut O,
     streams: &mut Streams<R, W, E>,
 ) -> Result<u8, ToolFault>
     requires input_count { R.failed streams.old.input < 2 ^ 64 - 1 }
     requires out_count { W.failed streams.old.out < 2 ^ 64 - 1 }
     ensures talks { (t : List ℕ) → R.rest streams.old.input ≡ Some t
-        → TalksWith (Ok program.entry) (Ok units) streams.old.talker t result (R.rest streams.new.input) (W.told streams.old.out) (W.told streams.new.out) }
+        → TalksWith (Ok program.entry) (Ok deck.units) streams.old.talker t result (R.rest streams.new.input) (W.told streams.old.out) (W.told streams.new.out) }
     ensures long { result ≡ Err ToolFault.Long → (t : List ℕ) → R.rest streams.old.input ≡ Some t → max_script_bytes < length t }
     ensures long_line { result ≡ Err ToolFault.Long → (t : List ℕ) → R.rest streams.old.input ≡ Some t → length t < 2 ^ 64 - 1
         → list_any is_too_long (lines t) ≡ true }
@@ -69,7 +80,12 @@ fn talk_with<R: In, W: Out, E: Out>(
     ensures reads { R.failed streams.old.input ≤ R.failed streams.new.input }
     ensures quiet { streams.old.talker ≡ Talker.Program → streams.new.errors ≡ streams.old.errors }
     ensures ends { IfOk result IsStatus }
+    ensures saved { (t : List ℕ) → R.rest streams.old.input ≡ Some t
+        → OnOk result (O.saved files.new ≡ noted (O.saved files.old) (saves (origin_of source.now deck.text.items) (opened program.entry deck.units) streams.old.talker nothing (lines t))) }
+    ensures unasked { O.asked files.new ≡ O.asked files.old }
+    ensures untouched { streams.old.talker ≡ Talker.Program → files.new ≡ files.old }
 {
+    let Deck { text, units } = deck;
     let mut session = match Session::open(alloc, program, units) {
         Ok(session) => session,
         Err(Memory) => return Err(ToolFault::Memory),
@@ -86,6 +102,8 @@ fn talk_with<R: In, W: Out, E: Out>(
         &mut session,
         talker,
         Recall::new(alloc, source),
+        &Origin::of(source, &text),
+        files,
         input,
         out,
         errors,
@@ -115,11 +133,12 @@ fn refuse_and_tell<R, W: Out, E: Out>(
 }
 
 // A talk with the program of a source that is still to be read.
-fn talk_of_source<S: In, D: In, R: In, W: Out, E: Out>(
+fn talk_of_source<O: Opener, S: In, D: In, R: In, W: Out, E: Out>(
     alloc: Global,
     name: &str,
     source: &mut S,
     deck: &mut D,
+    files: &mut O,
     streams: &mut Streams<R, W, E>,
 ) -> Result<u8, ToolFault>
     requires source_count { S.failed source.old < 2 ^ 64 - 1 }
@@ -150,35 +169,42 @@ fn talk_of_source<S: In, D: In, R: In, W: Out, E: Out>(
     ensures input_in_turn { (d : List ℕ) → D.rest deck.old ≡ Some d
         → (streams.new.input ≡ streams.old.input) ⊎ (D.rest deck.new ≡ Some (drop (max_deck_bytes + 1) d)) }
     ensures ends { IfOk result IsStatus }
+    ensures saved { (s d t : List ℕ) (p : ProgramValue) (u : UnitsState) → S.rest source.old ≡ Some s → D.rest deck.old ≡ Some d → R.rest streams.old.input ≡ Some t
+        → assembly s ≡ Ok p → deck_of d ≡ Ok u
+        → OnOk result (O.saved files.new ≡ noted (O.saved files.old) (saves (origin_of s d) (opened p u) streams.old.talker nothing (lines t))) }
+    ensures unsaved { result ≡ Ok 1 → files.new ≡ files.old }
+    ensures unasked { O.asked files.new ≡ O.asked files.old }
+    ensures untouched { streams.old.talker ≡ Talker.Program → files.new ≡ files.old }
 {
     let text = read_up_to(alloc, source, MAX_SOURCE_BYTES + 1)?;
     match assemble(alloc, &text) {
         Err(Refused::Memory) => Err(ToolFault::Memory),
         Err(Refused::Fault(fault)) => refuse_and_tell(alloc, name, &text, fault, streams),
         Ok(program) => {
-            let units = match read_units(alloc, deck) {
-                Ok(units) => units,
+            let deck = match read_deck(alloc, deck) {
+                Ok(deck) => deck,
                 Err(fault) => return Err(fault),
             };
-            talk_with(alloc, name, &text, program, units, streams)
+            talk_with(alloc, name, &text, program, deck, files, streams)
         }
     }
 }
 
 /// Assembles a source, reads a deck, and talks with the loaded machine: each line of the input is a command, as a line of a script is, which is done
-/// and answered before the next is read. A person is told the warnings of the source on the error output, greeted and prompted there, and has `help` and
-/// `quit` beside the commands. The status is 0 where each command was accepted, 3 where one was refused, and 1 where the source is refused: then its first fault is written, and
+/// and answered before the next is read. A person is told the warnings of the source on the error output, greeted and prompted there, and has `help`,
+/// `save` and `quit` beside the commands. The status is 0 where each command was accepted, 3 where one was refused, and 1 where the source is refused: then its first fault is written, and
 /// all of them are told on the error output, with their lines and marks. At most 1,048,577 bytes of the source are read and 33,554,433 of the
 /// deck, before the first line is read; the deck is read after the source. After a refusal or a read that failed nothing else is read.
 ///
 /// It fails with T1 where memory is refused, with T2 or T3 where a read or a write fails, with T5 where the deck is refused, and with T6 where a line
 /// is over 1,048,576 bytes. After T2 and T6 the replies to the lines before it have been written, after T1 and T3 a beginning of them.
 #[tactic(auto, unfolding(crate::specs::Output::output))]
-pub fn run_talk<S: In, D: In, R: In, W: Out, E: Out>(
+pub fn run_talk<O: Opener, S: In, D: In, R: In, W: Out, E: Out>(
     alloc: Global,
     name: &str,
     source: &mut S,
     deck: &mut D,
+    files: &mut O,
     streams: &mut Streams<R, W, E>,
 ) -> Result<u8, ToolFault>
     requires source_count { S.failed source.old < 2 ^ 64 - 1 }
@@ -230,6 +256,14 @@ pub fn run_talk<S: In, D: In, R: In, W: Out, E: Out>(
     ensures input_in_turn { (d : List ℕ) → D.rest deck.old ≡ Some d
         → (streams.new.input ≡ streams.old.input) ⊎ (D.rest deck.new ≡ Some (drop (max_deck_bytes + 1) d)) }
     ensures ends { IfOk result IsStatus }
+
+    // What a person saves is each time the bundle of what was done so far, under the name that is said; a program saves nothing.
+    ensures saved { (s d t : List ℕ) (p : ProgramValue) (u : UnitsState) → S.rest source.old ≡ Some s → D.rest deck.old ≡ Some d → R.rest streams.old.input ≡ Some t
+        → assembly s ≡ Ok p → deck_of d ≡ Ok u
+        → OnOk result (O.saved files.new ≡ noted (O.saved files.old) (saves (origin_of s d) (opened p u) streams.old.talker nothing (lines t))) }
+    ensures unsaved { result ≡ Ok 1 → files.new ≡ files.old }
+    ensures unasked { O.asked files.new ≡ O.asked files.old }
+    ensures untouched { streams.old.talker ≡ Talker.Program → files.new ≡ files.old }
 {
-    talk_of_source(alloc, name, source, deck, streams)
+    talk_of_source(alloc, name, source, deck, files, streams)
 }

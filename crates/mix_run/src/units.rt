@@ -1,9 +1,9 @@
 //! The units that a run begins with: those of a deck, and the lines of texts for the card reader and the typewriter.
-ghost use Rattle.std.specs.Prelude.{◌≡◌, ◌≢◌, ◌<◌, ◌+◌, ◌-◌, ◌^◌, ℕ, List, Some, Ok, Err, IfErr, IfOk, drop, false, true};
+ghost use Rattle.std.specs.Prelude.{◌≡◌, ◌≢◌, ◌<◌, ◌+◌, ◌-◌, ◌^◌, ℕ, List, Some, Ok, Err, IfErr, IfOk, drop, false, take, true};
 ghost use Rattle.mix_machine.specs.units.deck.Deck.{deck_of, cards_of, typewriter_of, max_deck_bytes};
 ghost use Rattle.mix_stream.specs.Stream.{ConsumesAtMost, CountsFailure};
 ghost use Rattle.mix_run.specs.Output.{IsDeckRefusal};
-ghost use Rattle.mix_run.specs.UnitsRead.{GivesUnits, deck_given};
+ghost use Rattle.mix_run.specs.UnitsRead.{GivesUnits, deck_given, units_in};
 
 use crate::fault::ToolFault;
 use mix_machine::{MAX_DECK_BYTES, Units};
@@ -23,6 +23,30 @@ pub(crate) fn units_of(alloc: Global, deck: &[u8]) -> Result<Units, ToolFault>
     }
 }
 
+/// A deck that was read: its text, and the units that it fills.
+#[derive(Drop)]
+pub(crate) struct Deck {
+    pub text: Vec<u8>,
+    pub units: Units,
+}
+
+/// A deck that is read up to one byte more than it may have.
+pub(crate) fn read_deck<D: In>(alloc: Global, deck: &mut D) -> Result<Deck, ToolFault>
+    requires { D.failed deck.old < 2 ^ 64 - 1 }
+    ensures units { (d : List ℕ) → D.rest deck.old ≡ Some d → GivesUnits (deck_of d) (units_in result) }
+    ensures text { (d : List ℕ) → D.rest deck.old ≡ Some d → IfOk result (λ k. k.text.items ≡ take (max_deck_bytes + 1) d) }
+    ensures whole { (d : List ℕ) → D.rest deck.old ≡ Some d → IfOk result (λ _. D.rest deck.new ≡ Some (drop (max_deck_bytes + 1) d)) }
+    ensures read { CountsFailure (result ≡ Err ToolFault.Read) (D.failed deck.old) (D.failed deck.new) }
+    ensures deck { ConsumesAtMost (D.rest deck.old) (D.rest deck.new) (max_deck_bytes + 1) }
+    ensures only { result ≢ Err ToolFault.Write }
+{
+    let text = read_up_to(alloc, deck, MAX_DECK_BYTES + 1)?;
+    match units_of(alloc, &text) {
+        Ok(units) => Ok(Deck { text, units }),
+        Err(fault) => Err(fault),
+    }
+}
+
 /// The units of a deck that is read up to one byte more than it may have.
 pub(crate) fn read_units<D: In>(alloc: Global, deck: &mut D) -> Result<Units, ToolFault>
     requires { D.failed deck.old < 2 ^ 64 - 1 }
@@ -32,8 +56,10 @@ pub(crate) fn read_units<D: In>(alloc: Global, deck: &mut D) -> Result<Units, To
     ensures deck { ConsumesAtMost (D.rest deck.old) (D.rest deck.new) (max_deck_bytes + 1) }
     ensures only { result ≢ Err ToolFault.Write }
 {
-    let text = read_up_to(alloc, deck, MAX_DECK_BYTES + 1)?;
-    units_of(alloc, &text)
+    match read_deck(alloc, deck) {
+        Ok(deck) => Ok(deck.units),
+        Err(fault) => Err(fault),
+    }
 }
 
 /// The units of a deck that is read if it is given, and otherwise of a text.

@@ -5,27 +5,29 @@ ghost use Rattle.mix_tool.specs.Plan.{AreFresh, DebugsOn, Given, HoldTexts, is_t
 
 use crate::ending::{status, status_beside, unread};
 use crate::texts::Texts;
-use mix_run::{Streams, run_debug, run_talk};
+use mix_run::{Opener, Streams, run_debug, run_talk};
 use mix_stream::{In, Out};
 use std::alloc::Global;
 
 /// A session by a script, or without one by the lines of the input.
-pub(crate) fn debug_on<'n, F: In + Drop, R: In, W: Out, E: Out>(
+pub(crate) fn debug_on<'n, O: Opener, R: In, W: Out, E: Out>(
+    files: &mut O,
     alloc: Global,
     name: &'n str,
     devices: &'n Option<String>,
     script: &'n Option<String>,
     echo: bool,
-    texts: Texts<F>,
+    texts: Texts<O::Reader>,
     streams: &mut Streams<R, W, E>,
 ) -> u8
-    requires fresh { AreFresh F.failed texts }
+    requires fresh { AreFresh O.Reader.failed texts }
     requires input_count { R.failed streams.old.input < 2 ^ 64 - 1 }
     requires out_count { W.failed streams.old.out < 2 ^ 64 - 1 }
     requires errors_count { E.failed streams.old.errors < 2 ^ 64 - 1 }
-    ensures runs { (given : Given) → HoldTexts F.rest texts given
+    ensures runs { (given : Given) → HoldTexts O.Reader.rest texts given
         → DebugsOn (names_of_session name.now (option_map string_bytes devices.now) (option_map string_bytes script.now)) echo script.now given streams.old.talker result (seen R.rest W.told E.told E.failed streams.old) (seen R.rest W.told E.told E.failed streams.new) }
     ensures input { is_talk script.now ≡ false → streams.new.input ≡ streams.old.input }
+    ensures unasked { O.asked files.new ≡ O.asked files.old }
     ensures range { result ≤ 3 }
     ensures written { result ≢ 2 → W.failed streams.new.out ≡ W.failed streams.old.out }
     ensures quiet { is_talk script.now ≡ false → result ≢ 2 → streams.new.errors ≡ streams.old.errors }
@@ -54,7 +56,7 @@ pub(crate) fn debug_on<'n, F: In + Drop, R: In, W: Out, E: Out>(
             status(alloc, outcome, Some(file), &mut streams.errors)
         }
         None => {
-            let outcome = run_talk(alloc, name, &mut source, &mut deck, streams);
+            let outcome = run_talk(alloc, name, &mut source, &mut deck, files, streams);
             let failures = (deck.failures(), 0);
             let file = if source.failures() > 0 || failures.0 > 0 {
                 Some(unread(name, devices.as_deref(), None, failures))

@@ -16,7 +16,7 @@ pub use mix_dap::serve;
 pub use mix_run::{
     AsmFault, AsmKind, Counted, DeckFault, DeckKind, Failed, In, MixFault, Opener, Out,
     PrintAnswer, PrintOptions, PrintTexts, RanTo, Reason, Refusal, RunEnd, Session, Streams,
-    Talker, Told, ToolFault, UnitSet, back_and_forth_law, run_bundle, run_debug, run_list,
+    Talker, Told, ToolFault, UnitSet, Unsaved, back_and_forth_law, run_bundle, run_debug, run_list,
     run_printed, run_talk,
 };
 pub use plan::run_plan;

@@ -71,7 +71,7 @@ fn run_on<O: Opener + Library, C: In, R: In, W: Out, E: Out>(
             script,
             devices,
             echo,
-        } => debug_on(alloc, source, devices, script, *echo, texts, streams),
+        } => debug_on(files, alloc, source, devices, script, *echo, texts, streams),
         Plan::Run {
             source,
             cards,

@@ -6,7 +6,7 @@ ghost use Rattle.mix_tool.specs.Shelf.{text_in};
 
 use mix_dap::{Fault, Library};
 use mix_refused::Refused;
-use mix_run::{Opener, Reason};
+use mix_run::{Opener, Reason, Unsaved};
 use mix_stream::fake::{Chunks, Sink};
 use std::alloc::{AllocError, Global};
 
@@ -63,7 +63,7 @@ impl<'a> Opener for Shelf<'a> {
 
     type Writer = Sink;
 
-    ghost use Rattle.std.specs.Prelude.{Some, map, option_map, string_bytes};
+    ghost use Rattle.std.specs.Prelude.{None, Some, map, option_map, string_bytes};
     ghost use Rattle.mix_tool.specs.Shelf.{held_in};
 
     ghost asked = { λ s. option_map (λ names. map string_bytes names.items) s.asked };
@@ -71,6 +71,9 @@ impl<'a> Opener for Shelf<'a> {
     ghost holds = { λ s. Some (held_in s.files.now) };
 
     ghost created = { λ s. option_map (λ names. map string_bytes names.items) s.created };
+
+    // What is saved is not kept.
+    ghost saved = { λ _. None };
 
     fn open(&mut self, name: &str) -> Result<Chunks<'a>, Reason> {
         note(self.alloc, &mut self.asked, name);
@@ -83,6 +86,10 @@ impl<'a> Opener for Shelf<'a> {
     fn create(&mut self, name: &str) -> Result<Sink, Reason> {
         note(self.alloc, &mut self.created, name);
         Ok(Sink::of(ALL, 0))
+    }
+
+    fn save(&mut self, _name: &[u8], _text: &[u8]) -> Result<(), Unsaved> {
+        Ok(())
     }
 }
 

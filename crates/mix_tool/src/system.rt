@@ -5,10 +5,11 @@ ghost use Rattle.mix_run.specs.Reason.{path_of};
 
 use mix_dap::{Fault, FileLibrary, Library};
 use mix_refused::Refused;
-use mix_run::{Opener, Reason};
+use mix_run::{Opener, Reason, Unsaved};
 use mix_stream::Counted;
 use std::alloc::Global;
 use std::fs::{self, OpenFile};
+use std::io::Write;
 use std::rt::Files;
 
 /// The files of a system. What they hold is known only when they are read; what is written to them is not followed.
@@ -42,6 +43,8 @@ impl<F: Files> Opener for SystemFiles<'_, F> {
 
     ghost created = { λ _. None };
 
+    ghost saved = { λ _. None };
+
     fn open(&mut self, name: &str) -> Result<Counted<F::File>, Reason> {
         match fs::open(self.files, path_of(name)) {
             Ok(file) => {
@@ -60,6 +63,24 @@ impl<F: Files> Opener for SystemFiles<'_, F> {
             Ok(file) => Ok(Counted::of(file)),
             Err(error) => Err(Reason::of(error.kind())),
         }
+    }
+
+    fn save(&mut self, name: &[u8], text: &[u8]) -> Result<(), Unsaved> {
+        match str::from_utf8(name) {
+            Err(_) => Err(Unsaved::NotOpened(Reason::Other)),
+            Ok(name) => match fs::create(self.files, name) {
+                Ok(mut file) => write_file(&mut file, text),
+                Err(error) => Err(Unsaved::NotOpened(Reason::of(error.kind()))),
+            },
+        }
+    }
+}
+
+// Writes a whole text.
+fn write_file<F: Write>(file: &mut F, text: &[u8]) -> Result<(), Unsaved> {
+    match file.write_all(text) {
+        Ok(()) => Ok(()),
+        Err(error) => Err(Unsaved::NotWritten(Reason::of(error.kind()))),
     }
 }
 

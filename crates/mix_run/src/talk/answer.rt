@@ -3,25 +3,31 @@
 ghost use Rattle.std.specs.Prelude.{◌≡◌, ◌<◌, ◌-◌, ◌^◌, ◌↔◌, None, Err, IfErr, IfOk, IfSome, OnOk, true};
 ghost use Rattle.std.specs.Io.KnownBytes.{Appends};
 ghost use Rattle.mix_run.specs.Fault.{IsMemoryOrWrite};
+ghost use Rattle.mix_run.specs.Opening.{noted};
 ghost use Rattle.mix_run.specs.Output.{replies};
 ghost use Rattle.mix_run.specs.Recall.{meant, recalled};
+ghost use Rattle.mix_run.specs.Saves.{saves_of};
 ghost use Rattle.mix_run.specs.Talk.{after_lines, is_quit};
 ghost use Rattle.mix_stream.specs.Stream.{AppendsFront, CountsFailure};
 
+use crate::bundle::Origin;
 use crate::commands::command;
 use crate::fault::ToolFault;
+use crate::opener::Opener;
 use crate::talk::aside::{Talker, after_reply, help, tell};
 use crate::talk::person::{Line, kind_of};
 use crate::talk::recall::Recall;
 use mix_session::{Session, Told};
 use mix_stream::Out;
 
-// A person's line: the command that it stands for is executed, and help is given. Whether the command was accepted; none where the line ends
-// the talk.
-fn answer_person<W: Out, E: Out>(
+// A person's line: the command that it stands for is executed, help is given, and what was done is saved. Whether the command was accepted; none where
+// the line ends the talk.
+fn answer_person<O: Opener, W: Out, E: Out>(
     session: &mut Session,
     recall: &mut Recall,
+    origin: &Origin,
     line: &[u8],
+    files: &mut O,
     out: &mut W,
     errors: &mut E,
 ) -> Result<Option<Told>, ToolFault>
@@ -31,6 +37,8 @@ fn answer_person<W: Out, E: Out>(
     ensures written { OnOk result (Appends (W.told out.old) (W.told out.new) (replies session.old (meant session.old Talker.Person recall.old line.now)).bytes) }
     ensures session { OnOk result (session.new ≡ after_lines session.old (meant session.old Talker.Person recall.old line.now)) }
     ensures recall { OnOk result (recall.new ≡ recalled session.old Talker.Person recall.old line.now) }
+    ensures saved { OnOk result (O.saved files.new ≡ noted (O.saved files.old) (saves_of origin.now Talker.Person recall.old line.now)) }
+    ensures unasked { O.asked files.new ≡ O.asked files.old }
     ensures begun { AppendsFront (W.told out.old) (W.told out.new) (replies session.old (meant session.old Talker.Person recall.old line.now)).bytes }
     ensures write { CountsFailure (result ≡ Err ToolFault.Write) (W.failed out.old) (W.failed out.new) }
     ensures only { IfErr result IsMemoryOrWrite }
@@ -62,6 +70,10 @@ fn answer_person<W: Out, E: Out>(
             recall.undisplay();
             Ok(Some(Told::Accepted))
         }
+        Line::Save => {
+            recall.save(origin, line, files, errors)?;
+            Ok(Some(Told::Accepted))
+        }
         Line::Command => {
             let after = after_reply(session, &typed);
             let told = command(session, &typed, out)?;
@@ -74,11 +86,13 @@ fn answer_person<W: Out, E: Out>(
 }
 
 /// One line: the commands that it stands for are executed, and a person is given help. Whether each was accepted; none where the line ends the talk.
-pub(crate) fn answer_line<W: Out, E: Out>(
+pub(crate) fn answer_line<O: Opener, W: Out, E: Out>(
     session: &mut Session,
     talker: Talker,
     recall: &mut Recall,
+    origin: &Origin,
     line: &[u8],
+    files: &mut O,
     out: &mut W,
     errors: &mut E,
 ) -> Result<Option<Told>, ToolFault>
@@ -88,16 +102,19 @@ pub(crate) fn answer_line<W: Out, E: Out>(
     ensures written { OnOk result (Appends (W.told out.old) (W.told out.new) (replies session.old (meant session.old talker recall.old line.now)).bytes) }
     ensures session { OnOk result (session.new ≡ after_lines session.old (meant session.old talker recall.old line.now)) }
     ensures recall { OnOk result (recall.new ≡ recalled session.old talker recall.old line.now) }
+    ensures saved { OnOk result (O.saved files.new ≡ noted (O.saved files.old) (saves_of origin.now talker recall.old line.now)) }
+    ensures unasked { O.asked files.new ≡ O.asked files.old }
     ensures begun { AppendsFront (W.told out.old) (W.told out.new) (replies session.old (meant session.old talker recall.old line.now)).bytes }
     ensures write { CountsFailure (result ≡ Err ToolFault.Write) (W.failed out.old) (W.failed out.new) }
     ensures only { IfErr result IsMemoryOrWrite }
     ensures quiet { talker ≡ Talker.Program → errors.new ≡ errors.old }
+    ensures untouched { talker ≡ Talker.Program → files.new ≡ files.old }
 {
     match talker {
         Talker::Program => {
             let told = command(session, line, out)?;
             Ok(Some(told))
         }
-        Talker::Person => answer_person(session, recall, line, out, errors),
+        Talker::Person => answer_person(session, recall, origin, line, files, out, errors),
     }
 }

@@ -89,11 +89,12 @@ pub(crate) fn help<E: Out>(line: &[u8], errors: &mut E) {
 }
 
 /// What follows the reply to a command: a stop, of which the reply itself shows the step, or none was done; one after steps or changes that were done,
-/// of which the last is shown; a stop after steps, or after changes taken back, which a blank line repeats; nothing; or the form, if its words are
-/// refused.
+/// of which the last is shown; a stop after steps, or after changes taken back, which a blank line repeats; nothing, after a change without a stop or
+/// after none; or the form, if its words are refused.
 #[derive(Clone, Copy)]
 pub(crate) enum After {
     Nothing,
+    Changed,
     Stop,
     Done,
     Stepped,
@@ -122,7 +123,8 @@ fn after_request(request: Request) -> After
         Request::Run(_) | Request::Forth(_) | Request::ForthAll => After::Done,
         Request::Trace(_) | Request::RunUntil(..) | Request::ForthUntil(_) | Request::Goto(_) =>
             After::Stop,
-        Request::Nothing | Request::Change(_) | Request::Show(_) => After::Nothing,
+        Request::Change(_) => After::Changed,
+        Request::Nothing | Request::Show(_) => After::Nothing,
     }
 }
 
@@ -136,7 +138,7 @@ pub(crate) fn tell<E: Out>(
     errors: &mut E,
 ) {
     match (after, told) {
-        (After::Nothing, _) => {}
+        (After::Nothing | After::Changed, _) => {}
         (After::Done | After::Stepped, Told::Accepted) => {
             tell_topic(session, Topic::Last(1), errors);
             tell_place(session, errors);

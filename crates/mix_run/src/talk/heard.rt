@@ -6,11 +6,15 @@ ghost use Rattle.std.specs.Io.KnownBytes.{Appends};
 ghost use Rattle.mix_lines.specs.Lines.{is_line_feed, lines};
 ghost use Rattle.mix_machine.specs.declared.units.deck_fault.DeckFault.{DeckFault};
 ghost use Rattle.mix_run.specs.Fault.{IsMemoryOrWrite};
+ghost use Rattle.mix_run.specs.Opening.{noted};
 ghost use Rattle.mix_run.specs.Recall.{nothing};
+ghost use Rattle.mix_run.specs.Saves.{saves};
 ghost use Rattle.mix_run.specs.Talk.{Talks, after_lines, answers, asked, is_over, is_quit, is_too_long, is_whole, max_line_bytes, recalled_all};
 ghost use Rattle.mix_stream.specs.Stream.{AppendsFront, CountsFailure};
 
+use crate::bundle::Origin;
 use crate::fault::ToolFault;
+use crate::opener::Opener;
 use crate::talk::answer::answer_line;
 use crate::talk::aside::{Talker, end_prompt, prompt};
 use crate::talk::recall::Recall;
@@ -32,11 +36,13 @@ pub(crate) struct Heard {
 }
 
 // The lines of a text, one after the other, up to the one that ends the talk.
-fn answer_lines<W: Out, E: Out>(
+fn answer_lines<O: Opener, W: Out, E: Out>(
     session: &mut Session,
     talker: Talker,
     recall: &mut Recall,
+    origin: &Origin,
     text: &[u8],
+    files: &mut O,
     out: &mut W,
     errors: &mut E,
 ) -> Result<Heard, ToolFault>
@@ -46,16 +52,19 @@ fn answer_lines<W: Out, E: Out>(
     ensures over { IfOk result (λ heard. heard.is_over ≡ is_over talker (lines text.now)) }
     ensures session { IfOk result (λ _. session.new ≡ after_lines session.old (asked session.old talker recall.old (lines text.now))) }
     ensures recall { IfOk result (λ _. recall.new ≡ recalled_all session.old talker recall.old (lines text.now)) }
+    ensures saved { OnOk result (O.saved files.new ≡ noted (O.saved files.old) (saves origin.now session.old talker recall.old (lines text.now))) }
+    ensures unasked { O.asked files.new ≡ O.asked files.old }
     ensures begun { AppendsFront (W.told out.old) (W.told out.new) (answers session.old talker recall.old (lines text.now)).bytes }
     ensures write { CountsFailure (result ≡ Err ToolFault.Write) (W.failed out.old) (W.failed out.new) }
     ensures only { IfErr result IsMemoryOrWrite }
     ensures quiet { talker ≡ Talker.Program → errors.new ≡ errors.old }
+    ensures untouched { talker ≡ Talker.Program → files.new ≡ files.old }
 {
     let mut told = Told::Accepted;
     let mut rest = text;
     while !rest.is_empty() {
         let (line, after) = split_line(rest);
-        match answer_line(session, talker, recall, line, out, errors)? {
+        match answer_line(session, talker, recall, origin, line, files, out, errors)? {
             None => {
                 return Ok(Heard {
                     told,
@@ -123,10 +132,12 @@ fn take_lines(alloc: Global, pending: &mut Vec<u8>, part: &[u8]) -> Result<Vec<u
 
 /// Executes the lines of an input as they come, up to its end or to the line that ends the talk. It fails with T1 where memory is refused,
 /// with T2 or T3 where a read or a write fails, and with T6 where a line has over 1,048,576 bytes.
-pub(crate) fn talk<R: In, W: Out, E: Out>(
+pub(crate) fn talk<O: Opener, R: In, W: Out, E: Out>(
     session: &mut Session,
     talker: Talker,
     mut recall: Recall,
+    origin: &Origin,
+    files: &mut O,
     input: &mut R,
     out: &mut W,
     errors: &mut E,
@@ -136,12 +147,16 @@ pub(crate) fn talk<R: In, W: Out, E: Out>(
     requires recall { recall ≡ nothing }
     ensures talks { (t : List ℕ) → R.rest input.old ≡ Some t
         → Talks session.old talker t result (R.rest input.new) (W.told out.old) (W.told out.new) }
+    ensures saved { (t : List ℕ) → R.rest input.old ≡ Some t
+        → OnOk result (O.saved files.new ≡ noted (O.saved files.old) (saves origin.now session.old talker nothing (lines t))) }
+    ensures unasked { O.asked files.new ≡ O.asked files.old }
     ensures long { result ≡ Err ToolFault.Long → (t : List ℕ) → R.rest input.old ≡ Some t → max_line_bytes < length t }
     ensures long_line { result ≡ Err ToolFault.Long → (t : List ℕ) → R.rest input.old ≡ Some t → length t < 2 ^ 64 - 1 → list_any is_too_long (lines t) ≡ true }
     ensures read { CountsFailure (result ≡ Err ToolFault.Read) (R.failed input.old) (R.failed input.new) }
     ensures deck { (f : DeckFault) → result ≢ Err (ToolFault.Deck f) }
     ensures write { CountsFailure (result ≡ Err ToolFault.Write) (W.failed out.old) (W.failed out.new) }
     ensures quiet { talker ≡ Talker.Program → errors.new ≡ errors.old }
+    ensures untouched { talker ≡ Talker.Program → files.new ≡ files.old }
 {
     let alloc = recall.allocator();
     let mut pending = Vec::new(alloc);
@@ -155,7 +170,16 @@ pub(crate) fn talk<R: In, W: Out, E: Out>(
         };
         if count == 0 {
             end_prompt(talker, errors);
-            match answer_lines(session, talker, &mut recall, &pending, out, errors) {
+            match answer_lines(
+                session,
+                talker,
+                &mut recall,
+                origin,
+                &pending,
+                files,
+                out,
+                errors,
+            ) {
                 Ok(heard) => return Ok(told.and(heard.told)),
                 Err(fault) => return Err(fault),
             }
@@ -164,7 +188,16 @@ pub(crate) fn talk<R: In, W: Out, E: Out>(
             Ok(text) => text,
             Err(Memory) => return Err(ToolFault::Memory),
         };
-        let heard = match answer_lines(session, talker, &mut recall, &text, out, errors) {
+        let heard = match answer_lines(
+            session,
+            talker,
+            &mut recall,
+            origin,
+            &text,
+            files,
+            out,
+            errors,
+        ) {
             Ok(heard) => heard,
             Err(fault) => return Err(fault),
         };

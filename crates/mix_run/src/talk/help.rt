@@ -11,6 +11,7 @@ back and forth alone take 1, run alone 1000000. Who wrote cell 100? run, then ba
 watch COND stops run, back and forth at that from now on; delete forgets all.
 print shows a register, cell E or a word W; list shows the source, where what comes next.
 display shows what print shows after each stop; undisplay ends that.
+save FILE saves what was done, as a bundle: mixrev < FILE does it again.
 help COMMAND explains one, as help back. A blank line repeats the last step or back.
 ";
 
@@ -108,6 +109,11 @@ display cell E   shows cell E, and display W a word, in the same way: as print d
 undisplay        nothing is displayed any more
 ";
 
+const SAVE: &str = "\
+save FILE        saves the source, the deck and what was done in FILE, as a bundle
+mixrev < FILE does the same again. A file that is there already is written over.
+";
+
 const LIST: &str = "list takes the number of a line, a symbol, or nothing\n";
 
 const UNTIL: &str = "\
@@ -161,7 +167,7 @@ fn form_elsewhere(word: Option<&[u8]>) -> &'static str {
 
 // Each word that there is help on: what it takes, as a refusal says it, and the help.
 #[rattlefmt::skip]
-static TOPICS: [(&str, &str, &str); 22] = [
+static TOPICS: [(&str, &str, &str); 23] = [
     ("step", "step takes a number, 1 to 1000000, or nothing\n", STEP),
     ("run", "run takes a number, 1 to 1000000, until COND, both or nothing\n", RUN),
     ("trace", "trace takes a number, 1 to 1000000, or nothing\n", TRACE),
@@ -183,6 +189,7 @@ static TOPICS: [(&str, &str, &str); 22] = [
     ("delete", "delete takes nothing: it forgets what is watched; clear E takes a breakpoint away\n", WATCH),
     ("display", "display takes a register, cell E or a word W, as print does\n", DISPLAY),
     ("undisplay", "undisplay takes nothing: nothing is displayed any more\n", DISPLAY),
+    ("save", "save takes the name of a file\n", SAVE),
     ("help", NO_COMMAND, ALL),
 ];
 

@@ -9,7 +9,7 @@ use mix_lines::Words;
 use mix_refused::Memory;
 use std::alloc::Global;
 
-/// What a person's line is: a command, a question for help, a listing of the source, what is watched or displayed, or the end of the talk.
+/// What a person's line is: a command, a question for help, a listing of the source, what is watched, displayed or saved, or the end of the talk.
 #[derive(Clone, Copy)]
 pub(crate) enum Line {
     Command,
@@ -19,6 +19,7 @@ pub(crate) enum Line {
     Delete,
     Display,
     Undisplay,
+    Save,
     Quit,
 }
 
@@ -50,6 +51,7 @@ pub(crate) enum PersonWord {
     Undisplay,
     Examine,
     Exit,
+    Save,
 }
 
 // In this order: of several that begin in the same way, the first one is meant.
@@ -62,6 +64,7 @@ fn all_words() -> &'static [PersonWord]
         PersonWord::Goto, PersonWord::Continue, PersonWord::Clear, PersonWord::Set, PersonWord::Show, PersonWord::Quit, PersonWord::Help,
         PersonWord::Question, PersonWord::Print, PersonWord::Listing, PersonWord::Where, PersonWord::Watch,
         PersonWord::Delete, PersonWord::Display, PersonWord::Until, PersonWord::Undisplay, PersonWord::Examine, PersonWord::Exit,
+        PersonWord::Save,
     ]
 }
 
@@ -95,6 +98,7 @@ impl PersonWord {
             PersonWord::Undisplay => "undisplay",
             PersonWord::Examine => "x",
             PersonWord::Exit => "exit",
+            PersonWord::Save => "save",
         }
     }
 
@@ -165,6 +169,7 @@ fn kind_of_word(word: Option<PersonWord>, words: &Words) -> Line
         Some(PersonWord::Delete) if words.is_end() => Line::Delete,
         Some(PersonWord::Display) => Line::Display,
         Some(PersonWord::Undisplay) if words.is_end() => Line::Undisplay,
+        Some(PersonWord::Save) => Line::Save,
         Some(PersonWord::Quit | PersonWord::Exit) if words.is_end() => Line::Quit,
         _ => Line::Command,
     }

@@ -2,14 +2,21 @@
 
 ghost use Rattle.std.specs.Prelude.{◌≡◌, ◌≤◌, ◌++◌, [], IfOk, OnOk};
 ghost use Rattle.mix_session.specs.Conditions.{most_conditions};
-ghost use Rattle.mix_run.specs.Recall.{nothing, recalled_after, recalled_display, recalled_watch, watched_after, watched_by, watched_more};
+ghost use Rattle.mix_run.specs.Recall.{nothing, recalled_after, recalled_display, recalled_watch, watched_after, watched_by, watched_more, with_done};
 ghost use Rattle.mix_session.specs.Session.{request_in};
-ghost use Rattle.mix_run.specs.Person.{condition_in, person_line, watched_in};
+ghost use Rattle.mix_lines.specs.Lines.{words};
+ghost use Rattle.mix_run.specs.Bundle.{bundle_of};
+ghost use Rattle.mix_run.specs.Opening.{noted};
+ghost use Rattle.mix_run.specs.Person.{condition_in, name_in, person_line, watched_in};
+ghost use Rattle.mix_run.specs.Saves.{saves_under};
 
+use crate::bundle::Origin;
+use crate::opener::Opener;
 use crate::talk::aside::{After, say, tell_shown};
 use crate::talk::help::form_of;
 use crate::talk::listing::list;
 use crate::talk::person::person_line;
+use crate::talk::save::save;
 use mix_refused::Memory;
 use mix_session::{Conditions, Request, Session};
 use mix_stream::Out;
@@ -17,7 +24,7 @@ use std::alloc::Global;
 use std::marker::Model;
 
 /// The line of a script that a blank line stands for: the last one that took steps, or changes back; an empty one before that. With it what is
-/// watched, the lines of a script that show what is displayed, and the source whose lines may be listed.
+/// watched, the lines of a script that show what is displayed, the script of what was done, and the source whose lines may be listed.
 #[derive(Drop)]
 pub(crate) struct Recall<'s> {
     alloc: Global,
@@ -26,6 +33,7 @@ pub(crate) struct Recall<'s> {
     watch: Vec<u8>,
     watched: usize,
     displays: Vec<u8>,
+    done: Vec<u8>,
 }
 
 const WATCHED: &str = "watch takes no more than eight conditions; delete forgets them\n";
@@ -67,7 +75,7 @@ impl<'s> Model for Recall<'s> {
 
     ghost Value = { RecallState };
 
-    ghost view = { λ r. record { again = r.again.items; watch = r.watch.items; watched = r.watched; displays = r.displays.items } };
+    ghost view = { λ r. record { again = r.again.items; watch = r.watch.items; watched = r.watched; displays = r.displays.items; done = r.done.items } };
 
     ghost use Rattle.std.specs.Prelude.{◌≤◌};
     ghost use Rattle.mix_session.specs.Conditions.{most_conditions};
@@ -86,6 +94,7 @@ impl<'s> Recall<'s> {
             watch: Vec::new(alloc),
             watched: 0,
             displays: Vec::new(alloc),
+            done: Vec::new(alloc),
         }
     }
 
@@ -193,11 +202,34 @@ impl<'s> Recall<'s> {
     /// After a stop a person is told what is displayed.
     pub(crate) fn tell_displays<E: Out>(&self, after: After, session: &Session, errors: &mut E) {
         match after {
-            After::Nothing | After::Refused => {}
+            After::Nothing | After::Changed | After::Refused => {}
             After::Stop | After::Done | After::Stepped | After::Repeated => {
                 tell_shown(session, &self.displays, errors)
             }
         }
+    }
+
+    // A line more of the script of what was done.
+    fn keep_done(&mut self, line: &[u8]) -> Result<(), Memory>
+        ensures { OnOk result (self.new ≡ with_done line.now self.old) }
+    {
+        self.done.extend_from_slice(line)?;
+        self.done.extend_from_slice(b"\n")?;
+        Ok(())
+    }
+
+    /// The bundle of what was done is saved in the file that a person's line names.
+    pub(crate) fn save<O: Opener, E: Out>(
+        &self,
+        origin: &Origin,
+        line: &[u8],
+        files: &mut O,
+        errors: &mut E,
+    ) -> Result<(), Memory>
+        ensures saved { OnOk result (O.saved files.new ≡ noted (O.saved files.old) (saves_under (bundle_of origin.now self.now.done) (name_in (words line.now)))) }
+        ensures unasked { O.asked files.new ≡ O.asked files.old }
+    {
+        save(self.alloc, origin, &self.done, line, files, errors)
     }
 
     /// A line of a script was executed, and this follows it.
@@ -205,10 +237,12 @@ impl<'s> Recall<'s> {
         ensures { OnOk result (self.new ≡ recalled_after after line.now self.old) }
     {
         match after {
-            After::Nothing | After::Stop | After::Done | After::Refused => {}
+            After::Nothing | After::Refused => {}
+            After::Changed | After::Stop | After::Done => self.keep_done(line)?,
             After::Stepped | After::Repeated => {
                 self.again.clear();
                 self.again.extend_from_slice(line)?;
+                self.keep_done(line)?;
             }
         }
         Ok(())

@@ -1,12 +1,13 @@
 -- What was read of the source and of the deck is all that the talk looks at.
-use Rattle.std.proofs.Common.{◌≡◌, ◌∙◌, Ok, Err, inl, inr, refl}
+use Rattle.std.proofs.Common.{◌≡◌, ◌∙◌, Ok, Err, ap, inl, inr, refl, sym}
+use Rattle.mix_lines.specs.Lines.{lines}
 use Rattle.std.proofs.lemmas.Result.{err_from_is_err_and}
 use Rattle.mix_run.specs.declared.fault.ToolFault.TheVariants.{Long}
 use Rattle.mix_refused.specs.declared.refused.Refused.TheVariants as reads
 use Rattle.mixal_asm.specs.Assembly.{assembly}
 use Rattle.mix_machine.specs.units.deck.Deck.{deck_of}
 use Rattle.mix_run.proofs.RunLemmas.{ConsumesAtMost-none}
-use Rattle.mix_run.proofs.TalkMeets.{TalksWith-no_units, TalksWith-refused, TalksWith-source, TalksWith-units, TalksWith-unread, counts-after, not-long}
+use Rattle.mix_run.proofs.TalkMeets.{TalksWith-no_units, TalksWith-refused, TalksWith-source, TalksWith-units, TalksWith-unread, counts-after, not-long, saved-as, source-is}
 use Rattle.mix_run.proofs.Truncation.{source-taken}
 use Rattle.mix_run.proofs.talk.talk_of_source.Goals as goal
 
@@ -48,11 +49,11 @@ returns-in-Err-clause-long_line g c e d t hd ht counted =
 pub returns-clause-talks : goal.returns-clause-talks
 returns-clause-talks g c s d t hs hd ht =
     TalksWith-source s _ (Ok c.in-Ok.program) (deck_of d) c.args.streams.now.talker t _ _ _ _ (c.deref.ensures.value ∙ (c.in_ok-text.ensures.whole s hs).0) c.in-Ok.ensures.ok
-    (TalksWith-units c.in-Ok.program (deck_of d) _ c.args.streams.now.talker t _ _ _ _ (c.in-Ok-read_units.ensures.units d hd) (c.talk_with.ensures.talks t ht))
+    (TalksWith-units c.in-Ok.program (deck_of d) _ c.args.streams.now.talker t _ _ _ _ (c.in-Ok-read_deck.ensures.units d hd) (c.talk_with.ensures.talks t ht))
 
 pub returns-clause-read : goal.returns-clause-read
 returns-clause-read g c =
-    counts-after _ _ _ _ _ _ _ (c.in_ok-text.ensures.failed.1 (λ e. e)) (c.in-Ok-read_units.ensures.read.1 (λ e. cc)) c.talk_with.ensures.read
+    counts-after _ _ _ _ _ _ _ (c.in_ok-text.ensures.failed.1 (λ e. e)) (c.in-Ok-read_deck.ensures.read.1 (λ e. cc)) c.talk_with.ensures.read
 
 pub returns-in-Err-clause-bad_source : goal.returns-in-Err-clause-bad_source
 returns-in-Err-clause-bad_source g c s f hs refused =
@@ -64,10 +65,21 @@ returns-clause-bad_source g c s f hs refused =
 
 pub returns-clause-bad_deck : goal.returns-clause-bad_deck
 returns-clause-bad_deck g c d f hd refused =
-    let made = c.in-Ok-read_units.ensures.units d hd in cc
+    let made = c.in-Ok-read_deck.ensures.units d hd in cc
 
 pub returns-in-Err-Fault-clause-input_in_turn : goal.returns-in-Err-Fault-clause-input_in_turn
 returns-in-Err-Fault-clause-input_in_turn g c d hd = inl c.refuse_and_tell.ensures.input
 
 pub returns-clause-input_in_turn : goal.returns-clause-input_in_turn
-returns-clause-input_in_turn g c d hd = inr (c.in-Ok-read_units.ensures.whole d hd)
+returns-clause-input_in_turn g c d hd = inr (c.in-Ok-read_deck.ensures.whole d hd)
+
+pub returns-in-Err-Fault-clause-saved : goal.returns-in-Err-Fault-clause-saved
+returns-in-Err-Fault-clause-saved g c s d t p u hs hd ht made units =
+    absurd (let refused = source-is s _ (Err c.in-Err-Fault.fault) (c.deref.ensures.value ∙ (c.in_ok-text.ensures.whole s hs).0)
+    (rw c.in-Err-Fault.field-0-is at c.in-Err-Fault.ensures.fault) in let both = sym refused ∙ made in cc)
+
+pub returns-clause-saved : goal.returns-clause-saved
+returns-clause-saved g c s d t p u hs hd ht made units =
+    let same = c.deref-in-Ok.ensures.value ∙ sym c.deref.ensures.value in
+    saved-as _ s d _ _ p c.in-Ok.program u _ c.args.streams.now.talker (lines t) _ _ (c.deref-in-Ok.ensures.value ∙ (c.in_ok-text.ensures.whole s hs).0)
+    (c.in-Ok-read_deck.ensures.text d hd) (ap assembly same ∙ c.in-Ok.ensures.ok) (c.in-Ok-read_deck.ensures.units d hd) made units (c.talk_with.ensures.saved t ht)

@@ -22,6 +22,9 @@ returns-in-List-clause-done g c all given e holds =
       c.status-in-List.ensures.told,
     )
 
+pub returns-in-Debug-clause-opened : goal.returns-in-Debug-clause-opened
+returns-in-Debug-clause-opened g c all e = rw (c.in-Debug.is, c.debug_on.ensures.unasked) (asks-nothing _)
+
 pub returns-in-Run-clause-opened : goal.returns-in-Run-clause-opened
 returns-in-Run-clause-opened g c all e = rw (c.in-Run.is, c.keep_deck.ensures.asked) (asks-nothing _)
 

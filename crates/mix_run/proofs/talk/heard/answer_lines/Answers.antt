@@ -1,7 +1,7 @@
 -- One line more: what has been written and what is left to write are the replies to all.
 use Rattle.std.proofs.Common.{sym, ◌∙◌}
 use Rattle.mix_run.proofs.RunLemmas.{nil-from_length}
-use Rattle.mix_run.proofs.TalkLemmas.{after-one, all-answered, all-done, all-recalled, all-reported, begun-one, never-over, not_so, over-one, recall-one, told-one, written-one}
+use Rattle.mix_run.proofs.TalkLemmas.{after-one, all-answered, all-done, all-recalled, all-reported, begun-one, never-over, not_so, over-one, recall-one, all-saved, saved-end, saved-one, told-one, written-one}
 use Rattle.mix_run.proofs.Written.{AppendsFront-all}
 use Rattle.mix_run.proofs.talk.heard.answer_lines.Goals as goal
 
@@ -32,6 +32,9 @@ loop-rest-preserved g c =
       recall = c.loop-rest.invariant.recall ∙ recall-one s talker r _ _ _ split _ _ goes_on answer.session answer.recall;
       failed = answer.write.1 (λ e. cc) ∙ c.loop-rest.invariant.failed;
       quiet = λ e. c.prompt.ensures e ∙ answer.quiet e ∙ c.loop-rest.invariant.quiet e;
+      saved = saved-one s talker r _ _ _ split _ _ goes_on answer.session answer.recall c.args.origin.now _ _ _ c.loop-rest.invariant.saved answer.saved;
+      unasked = answer.unasked ∙ c.loop-rest.invariant.unasked;
+      untouched = λ e. answer.untouched e ∙ c.loop-rest.invariant.untouched e;
     }
 
 pub returns-clause-replies : goal.returns-clause-replies
@@ -60,3 +63,14 @@ pub returns-clause-begun : goal.returns-clause-begun
 returns-clause-begun g c =
     let none = nil-from_length _ (sym c.loop-rest-test.false ∙ c.is_empty.ensures) in
     AppendsFront-all _ _ _ (all-answered c.loop-rest.session c.args.talker c.loop-rest.recall _ none _ _ _ c.loop-rest.invariant.written)
+
+pub returns-in-None-clause-saved : goal.returns-in-None-clause-saved
+returns-in-None-clause-saved g c =
+    let answer = c.in_ok-answer_line.ensures in
+    let quit = answer.quit.0 cc in
+    saved-end c.loop-rest.session c.args.talker c.loop-rest.recall _ _ _ c.split_line.ensures.lines c.args.origin.now _ _ _ quit c.loop-rest.invariant.saved answer.saved
+
+pub returns-clause-saved : goal.returns-clause-saved
+returns-clause-saved g c =
+    let none = nil-from_length _ (sym c.loop-rest-test.false ∙ c.is_empty.ensures) in
+    all-saved c.loop-rest.session c.args.talker c.loop-rest.recall _ none c.args.origin.now _ _ c.loop-rest.invariant.saved

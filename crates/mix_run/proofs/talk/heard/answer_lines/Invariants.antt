@@ -2,6 +2,8 @@ use Rattle.std.proofs.Common.{◌≡◌, ◌++◌, List, ℕ, length}
 use Rattle.std.specs.Io.KnownBytes.{Appends}
 use Rattle.mix_lines.specs.Lines.{lines}
 use Rattle.mix_session.specs.Reply.{told_of_both}
+use Rattle.mix_run.specs.Opening.{noted}
+use Rattle.mix_run.specs.Saves.{saves}
 use Rattle.mix_run.specs.Talk.{after_lines, answers, asked, is_over, recalled_all}
 use Rattle.mix_run.specs.declared.talk.aside.Talker.TheVariants.{Program}
 use Rattle.mix_run.proofs.talk.heard.answer_lines.Given as goal
@@ -19,6 +21,10 @@ invariant-loop-rest g l =
       recall : recalled_all l.fn.session l.talker l.fn.recall (lines l.text) ≡ recalled_all l.session l.talker l.recall (lines l.rest);
       failed : g.W.Out.failed l.out ≡ g.W.Out.failed l.fn.out;
       quiet : l.talker ≡ Program → l.errors ≡ l.fn.errors;
+      saved : noted (g.O.Opener.saved l.files) (saves l.origin l.session l.talker l.recall (lines l.rest))
+          ≡ noted (g.O.Opener.saved l.fn.files) (saves l.origin l.fn.session l.talker l.fn.recall (lines l.text));
+      unasked : g.O.Opener.asked l.files ≡ g.O.Opener.asked l.fn.files;
+      untouched : l.talker ≡ Program → l.files ≡ l.fn.files;
     }
 
 abbrev pub decreases-loop-rest : goal.decreases-loop-rest

@@ -1,5 +1,5 @@
 -- Some bytes more: the whole lines among them end the line that was begun.
-use Rattle.std.proofs.Common.{◌++◌, [], refl, sym, ◌∙◌}
+use Rattle.std.proofs.Common.{refl, sym, ◌∙◌}
 use Rattle.mix_run.proofs.RunLemmas.{nil-from_length}
 use Rattle.mix_run.proofs.TalkLemmas.{joined-parts, joined-whole, more-clear, more-parts, some-from_length}
 use Rattle.mix_run.proofs.talk.heard.take_lines.Goals as goal

@@ -1,8 +1,8 @@
 -- What is said of the parts that were read holds of the whole text.
-use Rattle.std.proofs.Common.{◌≡◌, ◌∙◌, ◌<◌, [], ◌++◌, length, take, ap, refl, sym, arith, rules}
+use Rattle.std.proofs.Common.{◌∙◌, ◌<◌, [], ◌++◌, length, take, ap, refl, sym, arith, rules}
 use Rattle.mix_run.specs.Talk.{is_whole}
 use Rattle.std.proofs.KnownBytes.{Consumes-nil, Consumes-trans}
-use Rattle.mix_run.proofs.TalkLemmas.{Hears-lines, Hears-nothing, Hears-on, Hears-then, Talks-begun, all-read, end-begun, end-said, ended, left-known, long-text, more-begun, read-more, too-long, unread}
+use Rattle.mix_run.proofs.TalkLemmas.{Hears-lines, Hears-nothing, Hears-on, Hears-then, Talks-begun, all-read, end-begun, end-said, end-saved, ended, ended-saved, left-known, long-text, more-begun, read-more, too-long, unread}
 use Rattle.mix_run.proofs.Written.{Appends-nothing}
 use Rattle.mix_run.proofs.talk.heard.talk.Goals as goal
 
@@ -12,6 +12,8 @@ loop-reads-init g c = record {
   read = refl;
   written = refl;
   quiet = c.prompt.ensures;
+  unasked = refl;
+  untouched = λ e. refl;
 }
 
 pub returns-in-Ok-answer_lines-clause-talks : goal.returns-in-Ok-answer_lines-clause-talks
@@ -66,7 +68,7 @@ returns-then-heard-clause-talks g c t e =
     let known = left-known _ _ t _ e (Consumes-trans _ _ _ _ _ so_far.1 c.in-Ok.ensures.bytes.0) in
     ended _ _ _ _ _ _ _ c.and-told.result _ _ _ (Hears-then _ _ _ _ _ _ _ _ _ _ _ _ _ _ _ _ _ so_far.3 (Hears-lines _ _ _ _ _ _ _ _ _ _ _ _ _ c.in-Ok-take_lines.ensures.parts c.in-Ok-take_lines.ensures.whole
     c.in-Ok-take_lines.ensures.rest c.deref-in-loop-reads.ensures.value c.in-Ok-answer_lines-2.ensures.session c.in-Ok-answer_lines-2.ensures.recall
-    c.in-Ok-answer_lines-2.ensures.over c.in-Ok-answer_lines-2.ensures.replies)) c.if-heard.true c.and-told.ensures
+    c.in-Ok-answer_lines-2.ensures.over c.in-Ok-answer_lines-2.ensures.replies c.in-Ok-answer_lines-2.ensures.saved)) c.if-heard.true c.and-told.ensures
     t known.0 known.2
 
 pub returns-then-len-gt-MAX_WHOLE_LINE_BYTES-clause-talks : goal.returns-then-len-gt-MAX_WHOLE_LINE_BYTES-clause-talks
@@ -75,7 +77,7 @@ returns-then-len-gt-MAX_WHOLE_LINE_BYTES-clause-talks g c t e =
     let known = left-known _ _ t _ e (Consumes-trans _ _ _ _ _ so_far.1 c.in-Ok.ensures.bytes.0) in
     unread _ _ _ _ _ _ _ _ _ _ _ (Hears-then _ _ _ _ _ _ _ _ _ _ _ _ _ _ _ _ _ so_far.3 (Hears-lines _ _ _ _ _ _ _ _ _ _ _ _ _ c.in-Ok-take_lines.ensures.parts c.in-Ok-take_lines.ensures.whole
     c.in-Ok-take_lines.ensures.rest c.deref-in-loop-reads.ensures.value c.in-Ok-answer_lines-2.ensures.session c.in-Ok-answer_lines-2.ensures.recall
-    c.in-Ok-answer_lines-2.ensures.over c.in-Ok-answer_lines-2.ensures.replies)) t known.0 known.1 known.2
+    c.in-Ok-answer_lines-2.ensures.over c.in-Ok-answer_lines-2.ensures.replies c.in-Ok-answer_lines-2.ensures.saved)) t known.0 known.1 known.2
 
 pub returns-then-len-gt-MAX_WHOLE_LINE_BYTES-clause-long : goal.returns-then-len-gt-MAX_WHOLE_LINE_BYTES-clause-long
 returns-then-len-gt-MAX_WHOLE_LINE_BYTES-clause-long g c long t e =
@@ -83,7 +85,7 @@ returns-then-len-gt-MAX_WHOLE_LINE_BYTES-clause-long g c long t e =
     let known = left-known _ _ t _ e (Consumes-trans _ _ _ _ _ so_far.1 c.in-Ok.ensures.bytes.0) in
     long-text _ _ _ _ _ _ _ _ _ _ (Hears-then _ _ _ _ _ _ _ _ _ _ _ _ _ _ _ _ _ so_far.3 (Hears-lines _ _ _ _ _ _ _ _ _ _ _ _ _ c.in-Ok-take_lines.ensures.parts c.in-Ok-take_lines.ensures.whole
     c.in-Ok-take_lines.ensures.rest c.deref-in-loop-reads.ensures.value c.in-Ok-answer_lines-2.ensures.session c.in-Ok-answer_lines-2.ensures.recall
-    c.in-Ok-answer_lines-2.ensures.over c.in-Ok-answer_lines-2.ensures.replies)) (search rules) t known.0 known.2
+    c.in-Ok-answer_lines-2.ensures.over c.in-Ok-answer_lines-2.ensures.replies c.in-Ok-answer_lines-2.ensures.saved)) (search rules) t known.0 known.2
 
 pub returns-then-len-gt-MAX_WHOLE_LINE_BYTES-clause-long_line : goal.returns-then-len-gt-MAX_WHOLE_LINE_BYTES-clause-long_line
 returns-then-len-gt-MAX_WHOLE_LINE_BYTES-clause-long_line g c long t e counted =
@@ -91,7 +93,7 @@ returns-then-len-gt-MAX_WHOLE_LINE_BYTES-clause-long_line g c long t e counted =
     let known = left-known _ _ t _ e (Consumes-trans _ _ _ _ _ so_far.1 c.in-Ok.ensures.bytes.0) in
     too-long _ _ _ _ _ _ _ _ _ _ (Hears-then _ _ _ _ _ _ _ _ _ _ _ _ _ _ _ _ _ so_far.3 (Hears-lines _ _ _ _ _ _ _ _ _ _ _ _ _ c.in-Ok-take_lines.ensures.parts c.in-Ok-take_lines.ensures.whole
     c.in-Ok-take_lines.ensures.rest c.deref-in-loop-reads.ensures.value c.in-Ok-answer_lines-2.ensures.session c.in-Ok-answer_lines-2.ensures.recall
-    c.in-Ok-answer_lines-2.ensures.over c.in-Ok-answer_lines-2.ensures.replies)) (search rules) t known.0 known.2
+    c.in-Ok-answer_lines-2.ensures.over c.in-Ok-answer_lines-2.ensures.replies c.in-Ok-answer_lines-2.ensures.saved)) (search rules) t known.0 known.2
 
 pub loop-reads-preserved : goal.loop-reads-preserved
 loop-reads-preserved g c =
@@ -103,9 +105,28 @@ loop-reads-preserved g c =
         read-more _ _ _ _ so_far.2 (omega (arith, c.if-count-eq0.false)) c.in-Ok.ensures.bound,
         Hears-on _ _ _ _ _ _ _ c.and-told.result _ _ _ (Hears-then _ _ _ _ _ _ _ _ _ _ _ _ _ _ _ _ _ so_far.3 (Hears-lines _ _ _ _ _ _ _ _ _ _ _ _ _ c.in-Ok-take_lines.ensures.parts c.in-Ok-take_lines.ensures.whole
             c.in-Ok-take_lines.ensures.rest c.deref-in-loop-reads.ensures.value c.in-Ok-answer_lines-2.ensures.session c.in-Ok-answer_lines-2.ensures.recall
-            c.in-Ok-answer_lines-2.ensures.over c.in-Ok-answer_lines-2.ensures.replies)) c.if-heard.false c.and-told.ensures,
+            c.in-Ok-answer_lines-2.ensures.over c.in-Ok-answer_lines-2.ensures.replies c.in-Ok-answer_lines-2.ensures.saved)) c.if-heard.false c.and-told.ensures,
       );
       read = c.in-Ok.ensures.ok ∙ c.loop-reads.invariant.read;
       written = c.in-Ok-answer_lines-2.ensures.write.1 (λ e. cc) ∙ c.loop-reads.invariant.written;
       quiet = λ e. c.in-Ok-answer_lines-2.ensures.quiet e ∙ c.loop-reads.invariant.quiet e;
+      unasked = c.in-Ok-answer_lines-2.ensures.unasked ∙ c.loop-reads.invariant.unasked;
+      untouched = λ e. c.in-Ok-answer_lines-2.ensures.untouched e ∙ c.loop-reads.invariant.untouched e;
     }
+
+pub returns-in-Ok-answer_lines-clause-saved : goal.returns-in-Ok-answer_lines-clause-saved
+returns-in-Ok-answer_lines-clause-saved g c t e =
+    let so_far = c.loop-reads.invariant.heard in
+    let none = c.if-count-eq0.true in
+    let some : 0 < length c.read.new.buf = search rules in
+    let all = all-read _ _ _ t _ _ e so_far.1 c.in-Ok.ensures.bytes.0 (ap (λ n. take n c.read.new.buf) none) (c.in-Ok.ensures.bytes.1 none some) in
+    end-saved c.args.session.now c.loop-reads.session c.args.talker c.loop-reads.recall so_far.0 c.loop-reads.pending.items c.loop-reads.told _ _ so_far.3
+    t c.deref.result.now all c.deref.ensures.value (g.W.Out.told c.answer_lines.new.out) _ c.in-Ok-answer_lines.ensures.saved
+
+pub returns-then-heard-clause-saved : goal.returns-then-heard-clause-saved
+returns-then-heard-clause-saved g c t e =
+    let so_far = c.loop-reads.invariant.heard in
+    let known = left-known _ _ t _ e (Consumes-trans _ _ _ _ _ so_far.1 c.in-Ok.ensures.bytes.0) in
+    ended-saved _ _ _ _ _ _ _ _ _ _ (Hears-then _ _ _ _ _ _ _ _ _ _ _ _ _ _ _ _ _ so_far.3 (Hears-lines _ _ _ _ _ _ _ _ _ _ _ _ _ c.in-Ok-take_lines.ensures.parts c.in-Ok-take_lines.ensures.whole
+    c.in-Ok-take_lines.ensures.rest c.deref-in-loop-reads.ensures.value c.in-Ok-answer_lines-2.ensures.session c.in-Ok-answer_lines-2.ensures.recall
+    c.in-Ok-answer_lines-2.ensures.over c.in-Ok-answer_lines-2.ensures.replies c.in-Ok-answer_lines-2.ensures.saved)) c.if-heard.true t known.0 known.2
