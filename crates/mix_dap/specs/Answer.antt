@@ -45,15 +45,15 @@ use Rattle.mix_dap.specs.declared.launch.Texts.{Texts}
 -- what is looked at
 abbrev pub shown_of : Look → Request → Adapter → Result Data Fault
 shown_of look.Threads r a = Ok threads
-shown_of look.Frames r a = Ok (stack_trace a.session a.name.short.now a.name.whole.now a.client.first r)
+shown_of look.Frames r a = Ok (stack_trace a.session (short_name (string_bytes a.name)) (string_bytes a.name) a.client.first r)
 shown_of look.Scopes r a = Ok scopes
 shown_of look.Variables r a = variables_of (world_of a.session.timeline) r
 shown_of look.Fault r a = exception_of a.fault
 shown_of look.Memory r a = memory_asked (world_of a.session.timeline) r
-shown_of look.Instructions r a = disassembly_asked a.session a.name.short.now a.name.whole.now a.client.first r
+shown_of look.Instructions r a = disassembly_asked a.session (short_name (string_bytes a.name)) (string_bytes a.name) a.client.first r
 shown_of look.Targets r a = targets_asked a.session a.client.first r
 shown_of look.Watch r a = watch_asked a.session r
-shown_of look.Locations r a = locations_asked a.session.program a.name.whole.now a.client.first r
+shown_of look.Locations r a = locations_asked a.session.program (string_bytes a.name) a.client.first r
 shown_of look.Completions r a = completions_asked a.session a.client.first_column r
 shown_of look.Program r a = Ok (program_shown a.session.program)
 shown_of look.Counts r a = Ok (counts_shown a.session)
@@ -110,7 +110,7 @@ abbrev pub answer_of : Kind → Request → Adapter → Result Data Fault
 answer_of kind.Initialize r a = Ok capabilities
 answer_of (kind.Look look) r a = shown_of look r a
 answer_of kind.Check r a = checked r
-answer_of (kind.Points target) r a = Ok (points_told target a.session a.name.whole.now a.client.first r)
+answer_of (kind.Points target) r a = Ok (points_told target a.session (string_bytes a.name) a.client.first r)
 answer_of kind.Pause r a = Ok null
 answer_of kind.Terminate r a = Ok null
 answer_of kind.Restart r a = Ok null
@@ -132,5 +132,4 @@ launch_shown (Err why) = Err why
 
 -- an adapter is as its launch asked: the names of its source, whether it stops at its beginning, no breakpoint, and no fault
 abbrev pub HasTexts : Adapter → Texts → Type 0
-HasTexts a texts = (a.name.whole.now ≡ string_bytes texts.name) × (a.name.short.now ≡ short_name (string_bytes texts.name)) × (a.stops ≡ texts.stops)
-    × (a.points ≡ no_points) × (a.fault ≡ None)
+HasTexts a texts = (string_bytes a.name ≡ string_bytes texts.name) × (a.stops ≡ texts.stops) × (a.points ≡ no_points) × (a.fault ≡ None)

@@ -1,5 +1,5 @@
 -- How an adapter goes on after a request: whether its program runs, what it stopped at, and what it tells of that.
-use Rattle.std.specs.Prelude.{◌≡◌, ◌⊎◌, ◌^◌, ℕ, List, codes, Bool, true, false, Option, None, Some, Result, Ok, Err, nat_lt, if◌then◌else◌}
+use Rattle.std.specs.Prelude.{◌≡◌, ◌⊎◌, ◌^◌, ℕ, List, codes, string_bytes, Bool, true, false, Option, None, Some, Result, Ok, Err, nat_lt, if◌then◌else◌}
 use Rattle.serde_json.specs.Data.{Data}
 use Rattle.mix_machine.specs.World.{register_of}
 use Rattle.mix_machine.specs.declared.fault.MixFault.{MixFault}
@@ -69,7 +69,7 @@ abbrev pub points_of : Kind → Request → Adapter → PointsState
 points_of kind.Initialize r a = a.points
 points_of (kind.Look look) r a = a.points
 points_of kind.Check r a = a.points
-points_of (kind.Points target) r a = points_after target a.session a.name.whole.now a.client.first r a.points
+points_of (kind.Points target) r a = points_after target a.session (string_bytes a.name) a.client.first r a.points
 points_of kind.Pause r a = a.points
 points_of kind.Terminate r a = a.points
 points_of kind.Restart r a = a.points

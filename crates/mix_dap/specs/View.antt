@@ -1,6 +1,6 @@
 -- What the views have in common: numbers as texts, words, and the parts of the machine by their names.
 use Rattle.std.specs.Prelude.{ℕ, List, ◌++◌, codes, decimal}
-use Rattle.serde_json.specs.Data.{Members, string, put}
+use Rattle.serde_json.specs.Data.{Data, Members, string, object, no_members, put}
 use Rattle.mix_word.specs.Word.{WordValue}
 use Rattle.mix_word.specs.Text.{word_text}
 use Rattle.mix_word.specs.Instruction.{number_text}
@@ -20,6 +20,10 @@ put_texts bytes number characters members =
 
 abbrev pub put_word : WordValue → Members → Members
 put_word word members = put_texts (word_text word) (number_text word) (letters_text word) members
+
+-- a word alone
+abbrev pub word_shown : WordValue → Data
+word_shown word = object (put_word word no_members)
 
 -- the name of a part of the machine, as after `until` in a command
 abbrev pub part_name : Altered → List ℕ

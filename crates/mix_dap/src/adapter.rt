@@ -29,7 +29,6 @@ use crate::fault::{Fault, refuse};
 use crate::kind::Kind;
 use crate::launch::{Texts, session_of};
 use crate::list::nothing;
-use crate::look::Name;
 use crate::points::Points;
 use crate::printed::Printed;
 use crate::waiting::Waiting;
@@ -60,10 +59,10 @@ pub(crate) enum Way {
 }
 
 /// A program that was launched, its machine, and what its client has asked for.
-pub struct Adapter<'s> {
+pub struct Adapter {
     alloc: Global,
-    session: Session<'s>,
-    name: Name<'s>,
+    session: Session,
+    name: String,
     client: Client,
     stops: bool,
     points: Points,
@@ -72,7 +71,7 @@ pub struct Adapter<'s> {
     fault: Option<MixFault>,
 }
 
-impl Drop for Adapter<'_> {
+impl Drop for Adapter {
     fn drop(self) {
         let Adapter {
             alloc: _,
@@ -109,28 +108,28 @@ fn flow_of(kind: Kind) -> Flow
     }
 }
 
-impl<'s> Adapter<'s> {
+impl Adapter {
     /// Launches a program, and answers the request that asked for it: the machine is that of the texts, with no change, and it does not run yet. No
     /// adapter exactly where one of the texts is refused.
     #[tactic(auto, using(dap_message::proofs::Telling::telling, crate::proofs::RepliesLemmas::replying, crate::proofs::EventLemmas::answering))]
     pub fn open(
         alloc: Global,
         waiting: &Waiting,
-        texts: &'s Texts,
+        texts: Texts,
         request: &Request,
         out: &mut Outbox,
-    ) -> Result<Option<Adapter<'s>>, Memory>
-        ensures opened { IfOk result (λ o. IfSome o (λ a. launched_of texts.now ≡ Ok a.session)) }
-        ensures refused { IfOk result (λ o. IfNone o (IsErr (launched_of texts.now))) }
+    ) -> Result<Option<Adapter>, Memory>
+        ensures opened { IfOk result (λ o. IfSome o (λ a. launched_of texts ≡ Ok a.session)) }
+        ensures refused { IfOk result (λ o. IfNone o (IsErr (launched_of texts))) }
         ensures rests { IfOk result (λ o. IfSome o (λ a. is_some a.way ≡ false)) }
-        ensures texts { IfOk result (λ o. IfSome o (λ a. HasTexts a texts.now)) }
+        ensures texts { IfOk result (λ o. IfSome o (λ a. HasTexts a texts)) }
         ensures client { IfOk result (λ o. IfSome o (λ a. a.client ≡ waiting.now.client)) }
         ensures printed { IfOk result (λ o. IfSome o (λ a. a.printed ≡ none_told)) }
-        ensures shows { OnOk result (Replies (answer_message request.now (launch_shown (launched_of texts.now))) out.old out.new) }
-        ensures prints { OnOk result (AddsAnswer (answer_message request.now (launch_shown (launched_of texts.now))) (launch_events (launched_of texts.now)) out.old out.new) }
-        ensures answers { OnOk result (Answers (response_to request.now (outcome_of_launch (launched_of texts.now))) (waits out.old) (waits out.new)) }
+        ensures shows { OnOk result (Replies (answer_message request.now (launch_shown (launched_of texts))) out.old out.new) }
+        ensures prints { OnOk result (AddsAnswer (answer_message request.now (launch_shown (launched_of texts))) (launch_events (launched_of texts)) out.old out.new) }
+        ensures answers { OnOk result (Answers (response_to request.now (outcome_of_launch (launched_of texts))) (waits out.old) (waits out.new)) }
     {
-        let session = match session_of(alloc, texts) {
+        let session = match session_of(alloc, &texts) {
             Ok(session) => session,
             Err(Refused::Fault(fault)) => {
                 refuse(alloc, request, fault, out)?;
@@ -143,7 +142,7 @@ impl<'s> Adapter<'s> {
         Ok(Some(Adapter {
             alloc,
             session,
-            name: Name::of(texts.name.as_str()),
+            name: texts.name,
             client: waiting.client(),
             stops: texts.stops,
             points: Points::new(alloc),
@@ -154,7 +153,7 @@ impl<'s> Adapter<'s> {
     }
 
     /// The session, for what it shows.
-    pub fn session(&self) -> &Session<'s>
+    pub fn session(&self) -> &Session
         ensures { result.now ≡ self.now.session }
     {
         &self.session

@@ -74,15 +74,15 @@ fn first_asked(request: &Request, cell: u64) -> Option<i64>
 
 // So many cells from one on as instructions.
 #[derive(Clone, Copy)]
-struct Instructions<'a, 's> {
-    session: &'a Session<'s>,
+struct Instructions<'a> {
+    session: &'a Session,
     name: Name<'a>,
     first: u64,
     from: i64,
     count: u16,
 }
 
-impl Numbered for Instructions<'_, '_> {
+impl Numbered for Instructions<'_> {
     ghost size = { λ cells. cells.count };
 
     ghost shown = { λ cells i. instruction_at cells.session.now cells.name.short.now cells.name.whole.now cells.first (nearest (cells.from +ℤ pos i)) ∷ [] };

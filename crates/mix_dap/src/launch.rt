@@ -158,7 +158,7 @@ fn text_of<L: Library>(
 
 /// The session of the texts of a launch.
 #[tactic(auto, unfolding(crate::specs::Launch::launched))]
-pub(crate) fn session_of<'s>(alloc: Global, texts: &'s Texts) -> Result<Session<'s>, Refused<Fault>>
+pub(crate) fn session_of(alloc: Global, texts: &Texts) -> Result<Session, Refused<Fault>>
     ensures ok { IfOk result (λ s. launched_of texts.now ≡ Ok s) }
     ensures fault { IfFault result (λ f. launched_of texts.now ≡ Err f) }
     ensures done { IfOk result (λ _. launch_shown (launched_of texts.now) ≡ Ok null) }
@@ -169,7 +169,7 @@ pub(crate) fn session_of<'s>(alloc: Global, texts: &'s Texts) -> Result<Session<
     Ok(Session::open(alloc, program, units)?)
 }
 
-fn program_of<'s>(alloc: Global, source: &'s [u8]) -> Result<Program<'s>, Refused<Fault>>
+fn program_of(alloc: Global, source: &[u8]) -> Result<Program, Refused<Fault>>
     ensures ok { IfOk result (λ p. or_source (assembly source.now) ≡ Ok p) }
     ensures fault { IfFault result (λ f. or_source (assembly source.now) ≡ Err f) }
 {

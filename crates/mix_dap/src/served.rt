@@ -79,7 +79,7 @@ impl<L: Library> Serves for Before<'_, L> {
     }
 }
 
-impl Serves for Adapter<'_> {
+impl Serves for Adapter {
     ghost serves = { AdapterServes };
 
     ghost busy = { λ a. is_some a.way };

@@ -137,7 +137,7 @@ fn launch<L: Library, R: In, W: Out>(
         Talked::Left(request) => match before.texts.take() {
             None => unreachable!(),
             Some(texts) => {
-                let opened = opened(alloc, &before.waiting, &texts, &request, &mut talk.outbox)?;
+                let opened = opened(alloc, &before.waiting, texts, &request, &mut talk.outbox)?;
                 send(alloc, &mut talk.outbox, out)?;
                 match opened {
                     None => Ok(false),
@@ -152,17 +152,17 @@ fn launch<L: Library, R: In, W: Out>(
 }
 
 // The program of a launch, with what a dialogue has to know of it.
-fn opened<'s>(
+fn opened(
     alloc: Global,
     waiting: &Waiting,
-    texts: &'s Texts,
+    texts: Texts,
     request: &Request,
     out: &mut Outbox,
-) -> Result<Option<Adapter<'s>>, Memory>
-    ensures begins { IfOk result (λ o. IfSome o (λ a. BeginsAs a texts.now waiting.now.client)) }
-    ensures refused { IfOk result (λ o. IfNone o (IsErr (launched_of texts.now))) }
-    ensures prints { OnOk result (AddsAnswer (answer_message request.now (launch_shown (launched_of texts.now))) (launch_events (launched_of texts.now)) out.old out.new) }
-    ensures answers { OnOk result (Answers (response_to request.now (outcome_of_launch (launched_of texts.now))) (waits out.old) (waits out.new)) }
+) -> Result<Option<Adapter>, Memory>
+    ensures begins { IfOk result (λ o. IfSome o (λ a. BeginsAs a texts waiting.now.client)) }
+    ensures refused { IfOk result (λ o. IfNone o (IsErr (launched_of texts))) }
+    ensures prints { OnOk result (AddsAnswer (answer_message request.now (launch_shown (launched_of texts))) (launch_events (launched_of texts)) out.old out.new) }
+    ensures answers { OnOk result (Answers (response_to request.now (outcome_of_launch (launched_of texts))) (waits out.old) (waits out.new)) }
 {
     Adapter::open(alloc, waiting, texts, request, out)
 }

@@ -2,9 +2,10 @@
 
 ghost use Rattle.std.specs.Prelude.{◌≡◌, IfOk, OnOk, codes, string_bytes};
 ghost use Rattle.serde_json.specs.Data.{put, string};
+ghost use Rattle.serde_json.specs.View.{view};
 ghost use Rattle.mix_word.specs.Instruction.{number_text};
 ghost use Rattle.dap_message.specs.Fields.{members_in};
-ghost use Rattle.mix_dap.specs.View.{put_digits, put_word, part_name};
+ghost use Rattle.mix_dap.specs.View.{put_digits, put_word, word_shown, part_name};
 
 mod asked;
 mod change;
@@ -23,6 +24,7 @@ use mix_refused::Memory;
 use mix_session::{Altered, Letters};
 use mix_word::Number;
 pub(crate) use program::program_view;
+use serde_json::Value;
 pub(crate) use state::state_view;
 use std::alloc::Global;
 pub(crate) use units::units_view;
@@ -45,6 +47,15 @@ fn put_word(alloc: Global, fields: &mut Fields, word: Word) -> Result<(), Memory
     let letters = Letters(word);
     let characters = format!(in alloc; "{letters}")?;
     fields.text("characters", characters.as_str())
+}
+
+// A word alone.
+fn word_shown(alloc: Global, word: Word) -> Result<Value, Memory>
+    ensures { IfOk result (λ v. view v ≡ word_shown word) }
+{
+    let mut fields = Fields::new(alloc);
+    put_word(alloc, &mut fields, word)?;
+    Ok(fields.done())
 }
 
 // The number of a word, with its sign: that of -0 too.

@@ -103,7 +103,7 @@ status_from (Err fault) = Err fault
 -- A talk with the program of a source and the units of a deck: where one of them is refused, that is answered.
 abbrev pub TalksWith : Result ProgramValue AsmFault → Result UnitsState DeckFault → Talker → List ℕ → Result ℕ ToolFault
     → Option (List ℕ) → Option (List ℕ) → Option (List ℕ) → Type 0
-TalksWith (Err fault) units talker text result left old new = Meets (refusal_of fault) result old new
-TalksWith (Ok program) (Err fault) talker text result left old new = Meets (DeckRefused fault) result old new
-TalksWith (Ok program) (Ok units) talker text result left old new =
-    (talk : Result Told ToolFault) × (result ≡ status_from talk) × Talks (opened program units) talker text talk left old new
+TalksWith all (Err fault) units talker text result left old new = Meets (refusal_of fault) result old new
+TalksWith all (Ok program) (Err fault) talker text result left old new = Meets (DeckRefused fault) result old new
+TalksWith all (Ok program) (Ok units) talker text result left old new =
+    (talk : Result Told ToolFault) × (result ≡ status_from talk) × Talks all (opened program units) talker text talk left old new

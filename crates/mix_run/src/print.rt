@@ -53,7 +53,7 @@ pub enum PrintAnswer {
 }
 
 // The line of the source that put the last word into the cell at a location.
-fn line_at(program: &Program<'_>, loc: u16) -> Option<u32>
+fn line_at(program: &Program, loc: u16) -> Option<u32>
     ensures { result ≡ line_at program.now loc }
 {
     let place = Place::of(loc)?;
@@ -88,7 +88,7 @@ fn print_and_keep<W: Out>(
 #[tactic(auto, unfolding(crate::specs::PrintOutput::outcome_of_run))]
 fn print_loaded<W: Out>(
     alloc: Global,
-    program: &Program<'_>,
+    program: &Program,
     units: Units,
     options: PrintOptions,
     kept: &mut Vec<u8>,
@@ -116,7 +116,7 @@ fn print_loaded<W: Out>(
 // The units of an assembled source, and then its run; the deck of its bundle is a text.
 fn print_program<S, D: In, C: In, T: In, W: Out>(
     alloc: Global,
-    program: &Program<'_>,
+    program: &Program,
     own: &[u8],
     texts: &mut PrintTexts<S, D, C, T>,
     options: PrintOptions,

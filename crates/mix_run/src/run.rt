@@ -57,7 +57,7 @@ pub(crate) fn open_and_execute<W: Out>(
     out: &mut W,
 ) -> Result<u8, ToolFault>
     requires { W.failed out.old < 2 ^ 64 - 1 }
-    ensures output { Meets (outcome_of_script echo (opened program.entry units) script.now) result (W.told out.old) (W.told out.new) }
+    ensures output { Meets (outcome_of_script echo (opened program units) script.now) result (W.told out.old) (W.told out.new) }
     ensures write { CountsFailure (result ≡ Err ToolFault.Write) (W.failed out.old) (W.failed out.new) }
     ensures unread { result ≢ Err ToolFault.Read }
     ensures status { result ≢ Ok 1 }
@@ -80,7 +80,7 @@ fn run_script<C: In, W: Out>(
     requires script_count { C.failed script.old < 2 ^ 64 - 1 }
     requires out_count { W.failed out.old < 2 ^ 64 - 1 }
     ensures output { (t : List ℕ) → C.rest script.old ≡ Some t
-        → Meets (outcome_of_script echo (opened program.entry units) t) result (W.told out.old) (W.told out.new) }
+        → Meets (outcome_of_script echo (opened program units) t) result (W.told out.old) (W.told out.new) }
     ensures read { CountsFailure (result ≡ Err ToolFault.Read) (C.failed script.old) (C.failed script.new) }
     ensures write { CountsFailure (result ≡ Err ToolFault.Write) (W.failed out.old) (W.failed out.new) }
     ensures unread { result ≡ Err ToolFault.Read → Keeps (W.told out.old) (W.told out.new) }
@@ -106,7 +106,7 @@ fn run_program<D: In, C: In, W: Out>(
     requires script_count { C.failed script.old < 2 ^ 64 - 1 }
     requires out_count { W.failed out.old < 2 ^ 64 - 1 }
     ensures output { (d t : List ℕ) → D.rest deck.old ≡ Some d → C.rest script.old ≡ Some t
-        → Meets (outcome_of echo (Ok program.entry) (deck_of d) t) result (W.told out.old) (W.told out.new) }
+        → Meets (outcome_of echo (Ok program) (deck_of d) t) result (W.told out.old) (W.told out.new) }
     ensures read { CountsFailure (result ≡ Err ToolFault.Read) (D.failed deck.old + C.failed script.old) (D.failed deck.new + C.failed script.new) }
     ensures reads { (D.failed deck.old ≤ D.failed deck.new) × (C.failed script.old ≤ C.failed script.new) }
     ensures write { CountsFailure (result ≡ Err ToolFault.Write) (W.failed out.old) (W.failed out.new) }

@@ -80,8 +80,8 @@ fn talk_with<O: Opener, R: In, W: Out, E: Out>(
     ensures reads { R.failed streams.old.input ≤ R.failed streams.new.input }
     ensures quiet { streams.old.talker ≡ Talker.Program → streams.new.errors ≡ streams.old.errors }
     ensures ends { IfOk result IsStatus }
-    ensures saved { (t : List ℕ) → R.rest streams.old.input ≡ Some t
-        → OnOk result (O.saved files.new ≡ noted (O.saved files.old) (saves (origin_of source.now deck.text.items) (opened program.entry deck.units) streams.old.talker nothing (lines t))) }
+    ensures saved { (all : Files) (t : List ℕ) → R.rest streams.old.input ≡ Some t → Knows (O.holds files.old) all streams.old.talker (lines t)
+        → OnOk result (O.saved files.new ≡ noted (O.saved files.old) (saves (origin_of source.now deck.text.items) (opened program deck.units) streams.old.talker nothing (heard all streams.old.talker (lines t)))) }
     ensures unasked { O.asked files.new ≡ O.asked files.old }
     ensures untouched { streams.old.talker ≡ Talker.Program → files.new ≡ files.old }
 {

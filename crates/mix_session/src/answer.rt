@@ -73,7 +73,7 @@ impl Answer {
 pub(crate) fn answer_text(
     alloc: Global,
     answer: Answer,
-    program: &Program<'_>,
+    program: &Program,
     journal: &Journal<World>,
 ) -> Result<Vec<u8>, Memory>
     ensures { IfOk result (λ text. text.items ≡ text_of answer program.now journal.now) }

@@ -10,7 +10,7 @@ use crate::session::Session;
 use mix_lines::Words;
 use mix_machine::{Change, Part};
 
-impl Session<'_> {
+impl Session {
     /// The condition that a text names, as after `until` in a script: `A`, `over`, `cell LIST+1`, `unit 18`, `loc LOOP`. It takes no memory.
     pub fn condition(&self, text: &[u8]) -> Result<Condition, Refusal>
         ensures { result ≡ condition_at self.now text.now }

@@ -25,7 +25,7 @@ pub struct Completion<'p> {
     pub words: Vec<&'p str>,
 }
 
-impl Session<'_> {
+impl Session {
     /// How a line of a script may go on that has come so far. Its last word, empty after a blank, may become what begins so, in capitals or small
     /// letters: a command, a keyword, or a symbol of the program where an expression or a W-value may begin. Only out of memory refuses it.
     #[tactic(auto, unfolding(crate::specs::Completion::completions))]
@@ -80,7 +80,7 @@ fn add_next<'p>(
     list: &mut Vec<&'p str>,
     front: &[u8],
     next: Next,
-    program: &'p Program<'_>,
+    program: &'p Program,
 ) -> Result<(), AllocError>
     ensures { OnOk result (map (λ w. w.now) list.new.items ≡ map (λ w. w.now) list.old.items ++ filter (begins_so front.now) (next_words program.now next)) }
 {
@@ -121,7 +121,7 @@ fn add_keywords<K: Keyword>(
 fn add_symbols<'p>(
     list: &mut Vec<&'p str>,
     front: &[u8],
-    program: &'p Program<'_>,
+    program: &'p Program,
 ) -> Result<(), AllocError>
     ensures { OnOk result (map (λ w. w.now) list.new.items ≡ map (λ w. w.now) list.old.items ++ filter (begins_so front.now) (symbol_names program.now)) }
 {

@@ -15,7 +15,7 @@ use mix_machine::{Change, World};
 use std::alloc::Global;
 use undo_core::Memory;
 
-impl Session<'_> {
+impl Session {
     /// The machine after the first so many of all changes, those done and those that stand ahead; after all of them where there are fewer. Only
     /// out of memory refuses it.
     pub fn world_at(&self, alloc: Global, number: usize) -> Result<World, Memory>

@@ -51,11 +51,7 @@ const MAX_STEPS: u64 = 1_000_000;
 /// Reads a line: its request, or what is wrong with its words. The asterisk is `here`, the
 /// location.
 #[tactic(auto, unfolding(crate::specs::Request::request_of))]
-pub(crate) fn read_request(
-    line: &[u8],
-    program: &Program<'_>,
-    here: Word,
-) -> Result<Request, Refusal>
+pub(crate) fn read_request(line: &[u8], program: &Program, here: Word) -> Result<Request, Refusal>
     ensures { result ≡ request_of program.now here line.now }
 {
     if is_comment(line) {
@@ -65,7 +61,7 @@ pub(crate) fn read_request(
 }
 
 #[tactic(auto, unfolding(crate::specs::Request::request_of_words))]
-fn read_words(words: &mut Words, program: &Program<'_>, here: Word) -> Result<Request, Refusal>
+fn read_words(words: &mut Words, program: &Program, here: Word) -> Result<Request, Refusal>
     ensures { result ≡ request_of_words program.now here words.old }
 {
     let Some(word) = words.next() else {
@@ -80,7 +76,7 @@ fn read_words(words: &mut Words, program: &Program<'_>, here: Word) -> Result<Re
 fn read_arguments(
     command: CommandWord,
     words: &mut Words,
-    program: &Program<'_>,
+    program: &Program,
     here: Word,
 ) -> Result<Request, Refusal>
     ensures { result ≡ request_after program.now here command words.old }
@@ -205,7 +201,7 @@ fn read_goto(words: &mut Words) -> Result<Request, Refusal>
 
 // The cell of a breakpoint, by an expression or by a line of the source.
 #[tactic(auto, unfolding(crate::specs::Request::break_place))]
-fn read_break(words: &mut Words, program: &Program<'_>, here: Word) -> Result<Place, Refusal>
+fn read_break(words: &mut Words, program: &Program, here: Word) -> Result<Place, Refusal>
     ensures { result ≡ break_place program.now here words.old }
 {
     let word = first_word(words)?;
@@ -219,7 +215,7 @@ fn read_break(words: &mut Words, program: &Program<'_>, here: Word) -> Result<Pl
 }
 
 // The cell of the first word that the lines from a number on emit.
-fn read_line_place(words: &mut Words, program: &Program<'_>) -> Result<Place, Refusal>
+fn read_line_place(words: &mut Words, program: &Program) -> Result<Place, Refusal>
     ensures { result ≡ line_place program.now words.old }
 {
     let number = from_one(number_in(one_word(words)?)?)?;

@@ -26,14 +26,14 @@ use std::marker::Model;
 use undo_core::{Changes, Journal, Memory, Refused};
 
 /// An assembled program, the machine that it was loaded into, and the changes of that machine.
-pub struct Session<'s> {
+pub struct Session {
     alloc: Global,
-    program: Program<'s>,
+    program: Program,
     journal: Journal<World>,
 }
 
 // Written out, so that the proof of what drops a session has one call to read, and not those of its fields.
-impl Drop for Session<'_> {
+impl Drop for Session {
     fn drop(self) {
         let Session {
             alloc: _,
@@ -43,7 +43,7 @@ impl Drop for Session<'_> {
     }
 }
 
-impl<'s> Model for Session<'s> {
+impl Model for Session {
     ghost use Rattle.mix_session.specs.Session.{SessionState};
 
     ghost Value = { SessionState };
@@ -51,11 +51,11 @@ impl<'s> Model for Session<'s> {
     ghost view = { λ s. record { program = s.program; timeline = s.journal } };
 }
 
-impl<'s> Session<'s> {
+impl Session {
     /// The machine that a program loads, with the units of a deck (1.3.1), no change done and none ahead. Only out of memory refuses it.
     #[tactic(auto, unfolding(crate::specs::Session::opened))]
-    pub fn open(alloc: Global, program: Program<'s>, units: Units) -> Result<Session<'s>, Memory>
-        ensures { IfOk result (λ s. s ≡ opened program.entry units) }
+    pub fn open(alloc: Global, program: Program, units: Units) -> Result<Session, Memory>
+        ensures { IfOk result (λ s. s ≡ opened program units) }
     {
         let world = World::load(alloc, program.words(), program.start(), units)?;
         Ok(Session {
@@ -66,7 +66,7 @@ impl<'s> Session<'s> {
     }
 
     /// The program that was loaded. It takes no memory.
-    pub fn program(&self) -> &Program<'s>
+    pub fn program(&self) -> &Program
         ensures { result.now ≡ self.now.program }
     {
         &self.program

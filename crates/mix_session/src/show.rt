@@ -43,7 +43,7 @@ use undo_core::{Journal, Memory};
 pub(crate) fn topic_lines(
     alloc: Global,
     topic: Topic,
-    program: &Program<'_>,
+    program: &Program,
     journal: &Journal<World>,
 ) -> Result<Vec<u8>, Memory>
     ensures { IfOk result (λ text. text.items ≡ topic_text topic program.now journal.now) }

@@ -6,8 +6,8 @@ use Rattle.mixal_asm.specs.PassOne as pass
 use Rattle.mixal_asm.specs.PassOne.{SourceValue, OfLiteral, OfName, RowValue}
 
 abbrev pub source_value : Source → SourceValue
-source_value (Line number text) = pass.Line number text.now
-source_value (Literal text) = OfLiteral text.now
+source_value (Line number text) = pass.Line number text.items
+source_value (Literal text) = OfLiteral text.items
 source_value (Name symbol) = OfName symbol
 
 abbrev pub row_value : Row → RowValue

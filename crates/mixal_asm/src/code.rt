@@ -45,18 +45,18 @@ impl<'s> Draft<'s> {
     }
 
     /// A remark: its row alone.
-    pub(crate) fn remark(&mut self, text: &'s [u8]) -> Result<(), Memory>
+    pub(crate) fn remark(&mut self, text: &[u8]) -> Result<(), Memory>
         requires { length self.old.rows < 20000 }
         ensures { OnOk result (self.new ≡ with_line self.old (number_after self.old) text.now Nothing) }
     {
         let number = self.number();
-        self.add_row(Source::Line(number, text), Shows::Nothing)
+        self.add_row(Source::Line(number, self.kept(text)?), Shows::Nothing)
     }
 
     /// A line by its OP. At END it answers the start of the program.
     pub(crate) fn code_line(
         &mut self,
-        text: &'s [u8],
+        text: &[u8],
         loc: &Option<Label>,
         op: Op,
         address: &'s [u8],

@@ -23,7 +23,7 @@ pub(crate) struct Draft<'s> {
     pub(crate) names: NameTable,
     pub(crate) words: WordList,
     pub(crate) literals: Vec<&'s [u8]>,
-    pub(crate) rows: Vec<Row<'s>>,
+    pub(crate) rows: Vec<Row>,
 }
 
 impl<'s> Model for Draft<'s> {
@@ -163,9 +163,16 @@ impl<'s> Draft<'s> {
         self.here = here;
     }
 
+    /// A text as a row keeps it.
+    pub(crate) fn kept(&self, text: &[u8]) -> Result<Vec<u8>, Memory>
+        ensures { IfOk result (λ kept. kept.items ≡ text.now) }
+    {
+        Ok(Vec::from_slice(*self.rows.allocator(), text)?)
+    }
+
     /// A row of the listing.
-    pub(crate) fn add_row(&mut self, source: Source<'s>, shows: Shows) -> Result<(), Memory>
-        ensures { OnOk result (self.new ≡ with_row self.old (source_value source.entry) shows) }
+    pub(crate) fn add_row(&mut self, source: Source, shows: Shows) -> Result<(), Memory>
+        ensures { OnOk result (self.new ≡ with_row self.old (source_value source) shows) }
     {
         self.rows.push(Row { source, shows })?;
         Ok(())

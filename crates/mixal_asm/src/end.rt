@@ -67,7 +67,7 @@ impl<'s> Draft<'s> {
     #[tactic(auto, unfolding(crate::specs::Assembly::end_line, crate::specs::Assembly::inserted))]
     pub(crate) fn end_line(
         &mut self,
-        text: &'s [u8],
+        text: &[u8],
         loc: &Option<Label>,
         address: &[u8],
     ) -> Result<Place, Refused<AsmKind>>
@@ -88,7 +88,7 @@ impl<'s> Draft<'s> {
     fn ended(
         &mut self,
         number: u32,
-        text: &'s [u8],
+        text: &[u8],
         loc: &Option<Label>,
         address: &[u8],
     ) -> Result<Place, Refused<AsmKind>>
@@ -102,7 +102,7 @@ impl<'s> Draft<'s> {
         let own = self.label(loc, self.here_word())?;
         let value = self.read_end(own, address)?;
         let start = start_of(value)?;
-        self.add_row(Source::Line(number, text), Shows::Start)?;
+        self.add_row(Source::Line(number, self.kept(text)?), Shows::Start)?;
         Ok(start)
     }
 
@@ -129,7 +129,7 @@ impl<'s> Draft<'s> {
     }
 
     /// The program of all lines.
-    pub(crate) fn into_program(self, alloc: Global, start: Place) -> Result<Program<'s>, Memory>
+    pub(crate) fn into_program(self, alloc: Global, start: Place) -> Result<Program, Memory>
         ensures { IfOk result (λ program. program ≡ program_at self.entry start) }
     {
         let words = self.words.placed(alloc)?;

@@ -7,5 +7,5 @@ use crate::program::Program;
 #[derive(Drop)]
 pub enum Fed<'s> {
     More(Assembler<'s>),
-    Done(Program<'s>),
+    Done(Program),
 }

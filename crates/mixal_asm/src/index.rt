@@ -32,11 +32,7 @@ pub(crate) struct Index {
 
 impl Index {
     /// The index of these words and rows.
-    pub(crate) fn of(
-        alloc: Global,
-        words: &[(Place, Word)],
-        rows: &[Row<'_>],
-    ) -> Result<Index, Memory>
+    pub(crate) fn of(alloc: Global, words: &[(Place, Word)], rows: &[Row]) -> Result<Index, Memory>
         ensures { IfOk result (λ index. IsIndexed words.now (map row_value rows.now) index) }
     {
         Ok(Index {
@@ -54,7 +50,7 @@ impl Index {
 fn last_rows(
     alloc: Global,
     words: &[(Place, Word)],
-    rows: &[Row<'_>],
+    rows: &[Row],
     places: usize,
 ) -> Result<Vec<usize>, AllocError>
     requires { 4000 ≤ places }
@@ -112,7 +108,7 @@ fn place_of(words: &[(Place, Word)], shows: Shows) -> Option<Place>
 fn cells_of(
     alloc: Global,
     words: &[(Place, Word)],
-    rows: &[Row<'_>],
+    rows: &[Row],
 ) -> Result<Vec<(u32, Place)>, Memory>
     ensures rising { IfOk result (λ cells. IsNonDecreasingBy (λ cell. cell.0) cells.items) }
     ensures first { IfOk result (λ cells. IsFirstFrom words.now (map row_value rows.now) cells.items) }
@@ -128,7 +124,7 @@ fn cells_of(
 }
 
 // A line of the source with the place of its word, if it emits one.
-fn cell_of(words: &[(Place, Word)], row: &Row<'_>) -> Option<(u32, Place)>
+fn cell_of(words: &[(Place, Word)], row: &Row) -> Option<(u32, Place)>
     ensures { result ≡ cell_of words.now (row_value row.now) }
 {
     match row.source {
@@ -177,7 +173,7 @@ fn place_at(cells: &[(u32, Place)], i: usize) -> Option<Place>
 // ---- by symbol
 
 // The symbols that lines of the source define.
-fn lines_of(alloc: Global, rows: &[Row<'_>]) -> Result<IndexMap<Symbol, u32>, Memory>
+fn lines_of(alloc: Global, rows: &[Row]) -> Result<IndexMap<Symbol, u32>, Memory>
     ensures { IfOk result (λ lines. HasDefinitions (map row_value rows.now) lines.entries) }
 {
     let mut lines = IndexMap::new(alloc);
@@ -205,7 +201,7 @@ pub(crate) fn note_line(
 }
 
 // The symbol that a line of the source defines, and the number of the line.
-fn definition_in(source: &Source<'_>) -> Option<(Symbol, u32)>
+fn definition_in(source: &Source) -> Option<(Symbol, u32)>
     ensures { result ≡ definition_in (source_value source.now) }
 {
     match source {

@@ -40,7 +40,7 @@ impl<'s> Draft<'s> {
         let count = self.word_count();
         let value = self.read_value(None, text)?;
         self.define(Key::Literal(j), self.here_word())?;
-        self.emit_shown(Source::Literal(text), count, value)
+        self.emit_shown(Source::Literal(self.kept(text)?), count, value)
     }
 
     // A symbol that no LOC defines, as a line NAME CON 0 at the location.

@@ -84,12 +84,12 @@ impl<'s> Draft<'s> {
     /// A complete word, of this number among the words, and the row of its line.
     pub(crate) fn emit_shown(
         &mut self,
-        source: Source<'s>,
+        source: Source,
         count: usize,
         word: Word,
     ) -> Result<(), Refused<AsmKind>>
-        ensures ok { OnOk result (shown_word (source_value source.entry) count (with_word self.old word None) ≡ Ok self.new) }
-        ensures fault { IfFault result (λ kind. shown_word (source_value source.entry) count (with_word self.old word None) ≡ Err kind) }
+        ensures ok { OnOk result (shown_word (source_value source) count (with_word self.old word None) ≡ Ok self.new) }
+        ensures fault { IfFault result (λ kind. shown_word (source_value source) count (with_word self.old word None) ≡ Err kind) }
         ensures names { OnOk result (self.new.names ≡ self.old.names) }
         ensures literals { OnOk result (self.new.literals ≡ self.old.literals) }
         ensures emitted { OnOk result (self.new.emitted ≡ self.old.emitted ++ record { place = self.old.here; word = word; awaits = None } ∷ []) }
@@ -102,15 +102,15 @@ impl<'s> Draft<'s> {
     // The same of an instruction by its A-part.
     fn instruction_shown(
         &mut self,
-        source: Source<'s>,
+        source: Source,
         count: usize,
         word: Word,
         a: APart<'s>,
     ) -> Result<(), Refused<AsmKind>>
         requires due { IsDue self.old.names (value_of_a_part a) }
         requires unplaced { HasNoLiteral self.old.names }
-        ensures ok { OnOk result (shown_word (source_value source.entry) count (with_instruction self.old word (value_of_a_part a.entry)) ≡ Ok self.new) }
-        ensures fault { IfFault result (λ kind. shown_word (source_value source.entry) count (with_instruction self.old word (value_of_a_part a.entry)) ≡ Err kind) }
+        ensures ok { OnOk result (shown_word (source_value source) count (with_instruction self.old word (value_of_a_part a.entry)) ≡ Ok self.new) }
+        ensures fault { IfFault result (λ kind. shown_word (source_value source) count (with_instruction self.old word (value_of_a_part a.entry)) ≡ Err kind) }
     {
         self.emit_instruction(word, a)?;
         self.add_row(source, Shows::Word(count))?;
@@ -121,7 +121,7 @@ impl<'s> Draft<'s> {
     #[tactic(auto, unfolding(crate::specs::PassOne::machine_line))]
     pub(crate) fn machine_line(
         &mut self,
-        text: &'s [u8],
+        text: &[u8],
         loc: &Option<Label>,
         code: u8,
         f: u8,
@@ -140,14 +140,19 @@ impl<'s> Draft<'s> {
         let own = self.label(loc, self.here_word())?;
         let operand = self.read_operand(own, Op::Machine { code, f }, address)?;
         let word = instruction_word(code, operand.index, operand.f);
-        self.instruction_shown(Source::Line(number, text), count, word, operand.a)
+        self.instruction_shown(
+            Source::Line(number, self.kept(text)?),
+            count,
+            word,
+            operand.a,
+        )
     }
 
     /// EQU: its LOC gets the W-value.
     #[tactic(auto, unfolding(crate::specs::PassOne::equ_line))]
     pub(crate) fn equ_line(
         &mut self,
-        text: &'s [u8],
+        text: &[u8],
         loc: &Option<Label>,
         address: &[u8],
     ) -> Result<(), Refused<AsmKind>>
@@ -159,7 +164,7 @@ impl<'s> Draft<'s> {
         let number = self.number();
         let value = self.read_value(None, address)?;
         self.label(loc, value)?;
-        self.add_row(Source::Line(number, text), Shows::Value(value))?;
+        self.add_row(Source::Line(number, self.kept(text)?), Shows::Value(value))?;
         Ok(())
     }
 
@@ -167,7 +172,7 @@ impl<'s> Draft<'s> {
     #[tactic(auto, unfolding(crate::specs::PassOne::orig_line))]
     pub(crate) fn orig_line(
         &mut self,
-        text: &'s [u8],
+        text: &[u8],
         loc: &Option<Label>,
         address: &[u8],
     ) -> Result<(), Refused<AsmKind>>
@@ -181,7 +186,7 @@ impl<'s> Draft<'s> {
         let value = self.read_value(own, address)?;
         let here = location_of(value)?;
         self.go_to(here);
-        self.add_row(Source::Line(number, text), Shows::Nothing)?;
+        self.add_row(Source::Line(number, self.kept(text)?), Shows::Nothing)?;
         Ok(())
     }
 
@@ -189,7 +194,7 @@ impl<'s> Draft<'s> {
     #[tactic(auto, unfolding(crate::specs::PassOne::con_line))]
     pub(crate) fn con_line(
         &mut self,
-        text: &'s [u8],
+        text: &[u8],
         loc: &Option<Label>,
         address: &[u8],
     ) -> Result<(), Refused<AsmKind>>
@@ -202,14 +207,14 @@ impl<'s> Draft<'s> {
         let count = self.word_count();
         let own = self.label(loc, self.here_word())?;
         let value = self.read_value(own, address)?;
-        self.emit_shown(Source::Line(number, text), count, value)
+        self.emit_shown(Source::Line(number, self.kept(text)?), count, value)
     }
 
     /// ALF: the word of five characters at the location.
     #[tactic(auto, unfolding(crate::specs::PassOne::alf_line))]
     pub(crate) fn alf_line(
         &mut self,
-        text: &'s [u8],
+        text: &[u8],
         loc: &Option<Label>,
         word: Word,
     ) -> Result<(), Refused<AsmKind>>
@@ -221,6 +226,6 @@ impl<'s> Draft<'s> {
         let number = self.number();
         let count = self.word_count();
         self.label(loc, self.here_word())?;
-        self.emit_shown(Source::Line(number, text), count, word)
+        self.emit_shown(Source::Line(number, self.kept(text)?), count, word)
     }
 }

@@ -20,7 +20,7 @@ use std::fmt;
 /// The places in which a symbol stands left.
 const SYMBOL_PLACES: usize = 10;
 
-impl<'s> Program<'s> {
+impl Program {
     /// Writes the listing (1.3.2). Out of memory, nothing is written; where a write fails, a beginning of the listing is
     /// written.
     pub fn write_listing<W: Out>(&self, alloc: Global, out: &mut W) -> Result<(), Refused<Failed>>
@@ -38,7 +38,7 @@ impl<'s> Program<'s> {
     }
 }
 
-impl Program<'_> {
+impl Program {
     /// The symbols with their values, as the listing ends with them (1.3.2). Only out of memory refuses them.
     pub fn symbols_text(&self, alloc: Global) -> Result<Vec<u8>, Memory>
         ensures { IfOk result (λ text. text.items ≡ symbols_text self.now.names) }
@@ -51,7 +51,7 @@ impl Program<'_> {
 
 // The whole listing.
 #[tactic(auto, unfolding(crate::specs::Listing::listing))]
-fn listing_of(alloc: Global, program: &Program<'_>) -> Result<Vec<u8>, Memory>
+fn listing_of(alloc: Global, program: &Program) -> Result<Vec<u8>, Memory>
     ensures { IfOk result (λ text. text.items ≡ listing program.now) }
 {
     let mut text = Vec::new(alloc);
@@ -70,7 +70,7 @@ fn add_symbols(alloc: Global, text: &mut Vec<u8>, names: &NameTable) -> Result<(
     Ok(())
 }
 
-fn add_rows(alloc: Global, text: &mut Vec<u8>, program: &Program<'_>) -> Result<(), Memory>
+fn add_rows(alloc: Global, text: &mut Vec<u8>, program: &Program) -> Result<(), Memory>
     ensures { OnOk result (text.new.items ≡ text.old.items ++ rows_text program.now program.now.rows) }
 {
     for row in program.rows.iter() {
@@ -80,12 +80,7 @@ fn add_rows(alloc: Global, text: &mut Vec<u8>, program: &Program<'_>) -> Result<
 }
 
 #[tactic(auto, unfolding(crate::specs::Listing::row_text))]
-fn add_row(
-    alloc: Global,
-    text: &mut Vec<u8>,
-    program: &Program<'_>,
-    row: &Row<'_>,
-) -> Result<(), Memory>
+fn add_row(alloc: Global, text: &mut Vec<u8>, program: &Program, row: &Row) -> Result<(), Memory>
     ensures { OnOk result (text.new.items ≡ text.old.items ++ row_text program.now (row_value row.now)) }
 {
     let shown = Shown(program, row.shows);
@@ -98,7 +93,7 @@ fn add_row(
 
 // The number and the text of a row.
 #[tactic(auto, unfolding(crate::specs::Listing::source_text))]
-fn add_source(alloc: Global, text: &mut Vec<u8>, source: &Source<'_>) -> Result<(), Memory>
+fn add_source(alloc: Global, text: &mut Vec<u8>, source: &Source) -> Result<(), Memory>
     ensures { OnOk result (text.new.items ≡ text.old.items ++ source_text (source_value source.now)) }
 {
     match source {
@@ -177,9 +172,9 @@ fn add_blanks(text: &mut Vec<u8>, count: usize) -> Result<(), Memory>
 
 /// The 22 places of a row: what it shows of its line.
 #[derive(Clone, Copy)]
-struct Shown<'p, 's>(&'p Program<'s>, Shows);
+struct Shown<'p>(&'p Program, Shows);
 
-impl fmt::Display for Shown<'_, '_> {
+impl fmt::Display for Shown<'_> {
     ghost output = { λ s. Some (shown_text s.0.now s.1) };
 
     #[tactic(auto, unfolding(crate::specs::Listing::shown_text))]

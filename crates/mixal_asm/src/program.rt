@@ -16,17 +16,17 @@ use mixal_text::{Names, Symbol};
 use std::marker::Model;
 
 /// An assembled source (1.3.2). Its names are the finished map: every LOC, the undefined symbols, and that of END.
-pub struct Program<'s> {
+pub struct Program {
     pub(crate) words: Vec<(Place, Word)>,
     pub(crate) start: Place,
     pub(crate) names: NameTable,
-    pub(crate) rows: Vec<Row<'s>>,
+    pub(crate) rows: Vec<Row>,
     pub(crate) patches: usize,
     pub(crate) index: Index,
 }
 
 // Written out, so that the proof of what drops a program has one call to read, and not those of its fields.
-impl Drop for Program<'_> {
+impl Drop for Program {
     fn drop(self) {
         let Program {
             words: _,
@@ -39,7 +39,7 @@ impl Drop for Program<'_> {
     }
 }
 
-impl<'s> Model for Program<'s> {
+impl Model for Program {
     ghost use Rattle.std.specs.Prelude.{map};
     ghost use Rattle.mixal_asm.specs.Program.{ProgramValue};
 
@@ -60,7 +60,7 @@ impl<'s> Model for Program<'s> {
     ghost invariant = { λ p. IsIndexed p.words.items (map row_value p.rows.items) p.index };
 }
 
-impl<'s> Program<'s> {
+impl Program {
     /// The words with their places, in the order of the lines: a later one at the same place wins (1.3.2). It takes no memory.
     pub fn words(&self) -> &[(Place, Word)]
         ensures { result.now ≡ self.now.words }
@@ -84,7 +84,7 @@ impl<'s> Program<'s> {
 
     /// Where the last word that was put at a place comes from (1.3.2): a line of the source, or one that was inserted before END;
     /// none where no word was put. It takes no memory.
-    pub fn source_at(&self, place: Place) -> Option<&Source<'s>>
+    pub fn source_at(&self, place: Place) -> Option<&Source>
         ensures { option_map (λ source. source_value source.now) result ≡ source_at self.now place }
     {
         let number = self.index.rows[usize::from(place.number())];
@@ -132,7 +132,7 @@ impl<'s> Program<'s> {
 }
 
 /// A symbol by the finished map; dB is the last dH of the source.
-impl<'s> Names for Program<'s> {
+impl Names for Program {
     ghost names = { λ p. names_at p.names p.names };
 
     fn value(&self, symbol: &Symbol) -> Option<Word> {

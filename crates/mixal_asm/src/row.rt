@@ -20,13 +20,13 @@ pub(crate) enum Shows {
 /// Where a row of the listing comes from (1.3.2): a line of the source by its number and its text, a literal as it stands between
 /// its equals signs, or an undefined symbol. The last two are lines that are inserted before END.
 #[derive(Drop)]
-pub enum Source<'s> {
-    Line(u32, &'s [u8]),
-    Literal(&'s [u8]),
+pub enum Source {
+    Line(u32, Vec<u8>),
+    Literal(Vec<u8>),
     Name(Symbol),
 }
 
-impl Source<'_> {
+impl Source {
     /// Whether it is the line of an instruction (1.3.2): a line of the source whose OP is a symbolic operation of MIX, and no
     /// pseudo-operation; no inserted line is one. It takes no memory.
     pub fn is_instruction(&self) -> bool
@@ -61,7 +61,7 @@ fn says_instruction(line: &Line<'_>) -> bool
 
 /// A row of the listing.
 #[derive(Drop)]
-pub(crate) struct Row<'s> {
-    pub source: Source<'s>,
+pub(crate) struct Row {
+    pub source: Source,
     pub shows: Shows,
 }

@@ -20,7 +20,7 @@ pub const MAX_SOURCE_BYTES: usize = 1_048_576;
 /// Assembles a source (1.3.2), up to END. Over 1,048,576 bytes are A16 at line 1, before all else; otherwise the first faulty
 /// line is reported, and where no line is END, A13 at the line after the last.
 #[tactic(auto, unfolding(crate::specs::Assembly::assembly))]
-pub fn assemble<'s>(alloc: Global, text: &'s [u8]) -> Result<Program<'s>, Refused<AsmFault>>
+pub fn assemble(alloc: Global, text: &[u8]) -> Result<Program, Refused<AsmFault>>
     ensures ok { IfOk result (λ program. assembly text.now ≡ Ok program) }
     ensures fault { IfFault result (λ fault. assembly text.now ≡ Err fault) }
 {

@@ -69,13 +69,13 @@ fn refusal_of(session: &mut Session, register: Reg, text: &str) -> Option<Option
     }
 }
 
-fn opened(alloc: Global, source: &[u8]) -> Option<Session<'_>> {
+fn opened(alloc: Global, source: &[u8]) -> Option<Session> {
     let program = assemble(alloc, source).ok()?;
     let units = Units::read(alloc, b"").ok()?;
     Session::open(alloc, program, units).ok()
 }
 
-fn push_state(told: &mut String, session: &Session<'_>) -> Option<()> {
+fn push_state(told: &mut String, session: &Session) -> Option<()> {
     let world = session.world();
     let (loc, a) = (world.loc(), world.register(Reg::A).number());
     let (done, ahead) = (session.changes().len(), session.ahead());

@@ -175,7 +175,7 @@ fn waiting(alloc: Global, source: &[u8]) -> Option<String> {
 }
 
 // Where the word of a place comes from: the number and the text of its line, or what was inserted.
-fn push_line(answer: &mut String, program: &Program<'_>, place: Place) -> Option<()> {
+fn push_line(answer: &mut String, program: &Program, place: Place) -> Option<()> {
     match program.source_at(place) {
         Some(Source::Line(number, text)) => {
             push_value(answer, *number)?;
@@ -194,7 +194,7 @@ fn push_line(answer: &mut String, program: &Program<'_>, place: Place) -> Option
     push(answer, ", ")
 }
 
-fn push_instruction(answer: &mut String, program: &Program<'_>, place: Place) -> Option<()> {
+fn push_instruction(answer: &mut String, program: &Program, place: Place) -> Option<()> {
     match program.source_at(place) {
         Some(source) if source.is_instruction() => push(answer, "yes, "),
         Some(_) => push(answer, "no, "),
@@ -209,14 +209,14 @@ fn push_word(answer: &mut String, word: Option<Word>) -> Option<()> {
     }
 }
 
-fn push_cell(answer: &mut String, program: &Program<'_>, line: u64) -> Option<()> {
+fn push_cell(answer: &mut String, program: &Program, line: u64) -> Option<()> {
     match program.cell_from(line) {
         Some(place) => push_value(answer, place.number()),
         None => push(answer, "none "),
     }
 }
 
-fn push_definition(answer: &mut String, program: &Program<'_>, symbol: &str) -> Option<()> {
+fn push_definition(answer: &mut String, program: &Program, symbol: &str) -> Option<()> {
     match program.line_of(&Symbol::of(symbol.as_bytes())?) {
         Some(line) => push_value(answer, line),
         None => push(answer, "none "),
@@ -224,7 +224,7 @@ fn push_definition(answer: &mut String, program: &Program<'_>, symbol: &str) -> 
 }
 
 // The value of a symbol, by both calls that give it.
-fn push_symbol(answer: &mut String, program: &Program<'_>, symbol: &Symbol) -> Option<()> {
+fn push_symbol(answer: &mut String, program: &Program, symbol: &Symbol) -> Option<()> {
     push_word(answer, program.symbol(symbol))?;
     if program.symbol(symbol) == program.value(symbol) {
         Some(())

@@ -62,7 +62,7 @@ pub fn full(alloc: Global, (count, places): (&str, &str)) -> Option<String> {
     Some(answer)
 }
 
-fn push_place(answer: &mut String, program: &Program<'_>, place: Place) -> Option<()> {
+fn push_place(answer: &mut String, program: &Program, place: Place) -> Option<()> {
     let number = place.number();
     write!(answer, ", {number} line ").ok()?;
     match program.source_at(place) {

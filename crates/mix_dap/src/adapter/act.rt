@@ -29,7 +29,7 @@ use dap_message::{Fields, Outbox, Request};
 use mix_refused::{Memory, Refused};
 use mix_session::{Answer, Stops};
 
-impl Adapter<'_> {
+impl Adapter {
     // What a request asks of the machine is read, done and told.
     pub(crate) fn act(
         &mut self,

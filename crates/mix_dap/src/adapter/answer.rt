@@ -21,7 +21,7 @@ use crate::view::tell_check;
 use dap_message::{Command, Outbox, Request};
 use mix_refused::Refused;
 
-impl Adapter<'_> {
+impl Adapter {
     // What a request asks for, by what it is about.
     #[tactic(auto, using(dap_message::proofs::Telling::telling, crate::proofs::RepliesLemmas::replying, crate::proofs::EventLemmas::answering))]
     pub(crate) fn answer(

@@ -22,7 +22,7 @@ use crate::list::nothing;
 use dap_message::{Outbox, Request};
 use mix_refused::Memory;
 
-impl Adapter<'_> {
+impl Adapter {
     // A run is begun; the pieces of it are done by `advance`.
     pub(crate) fn run(&mut self, way: Way)
         ensures keeps { Keeps self.old self.new }

@@ -1,6 +1,6 @@
 //! What only looks, and what sets breakpoints.
 
-ghost use Rattle.std.specs.Prelude.{◌≡◌, IfOk, OnOk, OnErr};
+ghost use Rattle.std.specs.Prelude.{◌≡◌, IfOk, OnOk, OnErr, string_bytes};
 ghost use Rattle.serde_json.specs.View.{view};
 ghost use Rattle.mix_dap.specs.Answer.{shown_of};
 ghost use Rattle.mix_dap.specs.List.{Shows};
@@ -13,7 +13,7 @@ use crate::disassembly::disassemble;
 use crate::fault::Fault;
 use crate::kind::{Look, Target};
 use crate::list::list_alone;
-use crate::look::{scopes, stack_trace, threads};
+use crate::look::{Name, scopes, stack_trace, threads};
 use crate::memory::read_memory;
 use crate::points::breakpoint_locations;
 use crate::set::goto_targets;
@@ -26,7 +26,7 @@ use mix_refused::{Memory, Refused};
 use serde_json::Value;
 use std::alloc::Global;
 
-impl Adapter<'_> {
+impl Adapter {
     // What changes nothing.
     pub(crate) fn show(&self, look: Look, request: &Request) -> Result<Value, Refused<Fault>>
         ensures { Shows (shown_of look request.now self.now) result }
@@ -34,7 +34,7 @@ impl Adapter<'_> {
         let alloc = self.alloc;
         let first = self.client.first;
         let session = &self.session;
-        let name = self.name;
+        let name = Name::of(self.name.as_str());
         match look {
             Look::Threads => Ok(threads(alloc)?),
             Look::Frames => Ok(stack_trace(alloc, session, name, first, request)?),
@@ -59,16 +59,16 @@ impl Adapter<'_> {
 
     // Breakpoints in place of those that stand; nothing else is altered. None is refused.
     pub(crate) fn set_points(&mut self, target: Target, request: &Request) -> Result<Value, Memory>
-        ensures stand { OnOk result (self.new ≡ record self.old { points = points_after target self.old.session self.old.name.whole.now self.old.client.first request.now self.old.points }) }
+        ensures stand { OnOk result (self.new ≡ record self.old { points = points_after target self.old.session (string_bytes self.old.name) self.old.client.first request.now self.old.points }) }
         ensures same { OnErr result (self.new ≡ self.old) }
-        ensures told { IfOk result (λ v. view v ≡ points_told target self.old.session self.old.name.whole.now self.old.client.first request.now) }
+        ensures told { IfOk result (λ v. view v ≡ points_told target self.old.session (string_bytes self.old.name) self.old.client.first request.now) }
     {
         let alloc = self.alloc;
         match target {
             Target::Lines => {
                 let first = self.client.first;
                 self.points
-                    .set_lines(alloc, &self.session, self.name.whole, first, request)
+                    .set_lines(alloc, &self.session, self.name.as_str(), first, request)
             }
             Target::Instructions => { self.points.set_instructions(alloc, &self.session, request) }
             Target::Data => self.points.set_data(alloc, &self.session, request),

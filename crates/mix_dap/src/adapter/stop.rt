@@ -22,7 +22,7 @@ use mix_session::End;
 use serde_json::Value;
 use std::alloc::Global;
 
-impl Adapter<'_> {
+impl Adapter {
     // Tells what was written and why the program stops.
     pub(crate) fn stop(&mut self, end: End, out: &mut Outbox) -> Result<(), Memory>
         ensures keeps { Keeps self.old self.new }

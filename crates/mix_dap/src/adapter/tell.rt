@@ -31,7 +31,7 @@ use mix_refused::Memory;
 use mix_session::{Answer, End};
 use serde_json::Value;
 
-impl Adapter<'_> {
+impl Adapter {
     // What an act has done.
     pub(crate) fn tell(
         &mut self,

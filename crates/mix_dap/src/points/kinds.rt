@@ -64,12 +64,12 @@ pub(crate) fn set_all<K: PointKind>(
 
 /// Those of lines of the program, which the client counts from this first one on.
 #[derive(Clone, Copy)]
-pub(crate) struct Lines<'a, 's> {
-    pub session: &'a Session<'s>,
+pub(crate) struct Lines<'a> {
+    pub session: &'a Session,
     pub first: u64,
 }
 
-impl PointKind for Lines<'_, '_> {
+impl PointKind for Lines<'_> {
     type Point = Breakpoint;
 
     ghost point = { λ kind. line_point kind.session.now kind.first };
@@ -107,11 +107,11 @@ fn line_asked(session: &Session, first: u64, entry: &Value) -> Result<(Breakpoin
 
 /// Those of instructions.
 #[derive(Clone, Copy)]
-pub(crate) struct Instructions<'a, 's> {
-    pub session: &'a Session<'s>,
+pub(crate) struct Instructions<'a> {
+    pub session: &'a Session,
 }
 
-impl PointKind for Instructions<'_, '_> {
+impl PointKind for Instructions<'_> {
     type Point = Breakpoint;
 
     ghost point = { λ kind. instruction_point kind.session.now };
@@ -152,11 +152,11 @@ fn instruction_cell(entry: &Value) -> Option<Place>
 
 /// Data breakpoints.
 #[derive(Clone, Copy)]
-pub(crate) struct Parts<'a, 's> {
-    pub session: &'a Session<'s>,
+pub(crate) struct Parts<'a> {
+    pub session: &'a Session,
 }
 
-impl PointKind for Parts<'_, '_> {
+impl PointKind for Parts<'_> {
     type Point = Condition;
 
     ghost point = { λ kind. data_point kind.session.now };

@@ -33,9 +33,9 @@ pub(crate) fn program_view(alloc: Global, program: &Program) -> Result<Value, Me
 
 /// The cells that words were assembled for.
 #[derive(Clone, Copy)]
-struct AssembledCells<'a, 's>(&'a Program<'s>);
+struct AssembledCells<'a>(&'a Program);
 
-impl Numbered for AssembledCells<'_, '_> {
+impl Numbered for AssembledCells<'_> {
     ghost size = { λ _. 4000 };
 
     ghost shown = { λ cells cell. row_shown cell (source_at cells.0.now cell) };

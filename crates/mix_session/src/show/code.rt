@@ -16,7 +16,7 @@ use std::alloc::{AllocError, Global};
 /// The lines of the cells from a first to a last one.
 pub(super) fn code_lines(
     alloc: Global,
-    program: &Program<'_>,
+    program: &Program,
     world: &World,
     first: Place,
     last: Place,
@@ -31,12 +31,12 @@ pub(super) fn code_lines(
 
 /// A program, and the machine whose cells are shown.
 #[derive(Clone, Copy)]
-pub(super) struct Code<'a, 's> {
-    pub program: &'a Program<'s>,
+pub(super) struct Code<'a> {
+    pub program: &'a Program,
     pub world: &'a World,
 }
 
-impl Lines for Code<'_, '_> {
+impl Lines for Code<'_> {
     ghost count = { λ _. 4000 };
 
     ghost line = { λ c. code_line c.program.now c.world.now };
@@ -53,7 +53,7 @@ impl Lines for Code<'_, '_> {
     }
 }
 
-impl Code<'_, '_> {
+impl Code<'_> {
     // The instruction of a cell, and the line that it comes from, if it comes from one.
     fn add_instruction(
         &self,
@@ -80,7 +80,7 @@ impl Code<'_, '_> {
         alloc: Global,
         text: &mut Vec<u8>,
         place: Place,
-        source: &Source<'_>,
+        source: &Source,
     ) -> Result<(), AllocError>
         ensures { OnOk result (text.new.items ≡ text.old.items ++ (codes "  " ++ line_text (is_overwritten self.now.program.now self.now.world.now place) (source_value source.now))) }
     {
@@ -105,7 +105,7 @@ fn add_line(
     alloc: Global,
     text: &mut Vec<u8>,
     overwritten: bool,
-    source: &Source<'_>,
+    source: &Source,
 ) -> Result<(), AllocError>
     ensures { OnOk result (text.new.items ≡ text.old.items ++ line_text overwritten (source_value source.now)) }
 {
@@ -116,7 +116,7 @@ fn add_line(
 }
 
 // The number of a line, which no inserted line has.
-fn add_number(alloc: Global, text: &mut Vec<u8>, source: &Source<'_>) -> Result<(), AllocError>
+fn add_number(alloc: Global, text: &mut Vec<u8>, source: &Source) -> Result<(), AllocError>
     ensures { OnOk result (text.new.items ≡ text.old.items ++ line_number (source_value source.now)) }
 {
     match source {
@@ -129,7 +129,7 @@ fn add_number(alloc: Global, text: &mut Vec<u8>, source: &Source<'_>) -> Result<
 }
 
 // The bytes of a line.
-fn add_bytes(text: &mut Vec<u8>, source: &Source<'_>) -> Result<(), AllocError>
+fn add_bytes(text: &mut Vec<u8>, source: &Source) -> Result<(), AllocError>
     ensures { OnOk result (text.new.items ≡ text.old.items ++ line_bytes (source_value source.now)) }
 {
     match source {

@@ -22,7 +22,7 @@ use undo_core::{Journal, Memory};
 #[tactic(auto, unfolding(crate::specs::Counts::counts_text))]
 pub(super) fn count_lines(
     alloc: Global,
-    program: &Program<'_>,
+    program: &Program,
     journal: &Journal<World>,
 ) -> Result<Vec<u8>, Memory>
     ensures { IfOk result (λ text. text.items ≡ counts_text program.now journal.now) }
@@ -43,12 +43,12 @@ pub(super) fn count_lines(
 
 /// A program with its machine, and the tallies of its cells.
 #[derive(Clone, Copy)]
-struct CountLines<'a, 's> {
-    code: Code<'a, 's>,
+struct CountLines<'a> {
+    code: Code<'a>,
     cells: &'a [Tally],
 }
 
-impl Lines for CountLines<'_, '_> {
+impl Lines for CountLines<'_> {
     ghost count = { λ _. 4000 };
 
     ghost line = { λ l p. count_line l.code.program.now l.code.world.now (tally_in l.cells.now p) p };
@@ -63,7 +63,7 @@ impl Lines for CountLines<'_, '_> {
     }
 }
 
-impl CountLines<'_, '_> {
+impl CountLines<'_> {
     // The line of a cell.
     #[tactic(auto, unfolding(crate::specs::Counts::tally_line))]
     fn add_tally_line(
@@ -96,7 +96,7 @@ impl CountLines<'_, '_> {
 }
 
 // Whether the line of a cell is an instruction's.
-fn is_code(program: &Program<'_>, place: Place) -> bool
+fn is_code(program: &Program, place: Place) -> bool
     ensures { result ≡ is_code (source_at program.now place) }
 {
     match program.source_at(place) {

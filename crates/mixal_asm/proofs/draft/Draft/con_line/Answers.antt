@@ -11,12 +11,12 @@ pub returns-clause-fault : goal.returns-clause-fault
 returns-clause-fault c =
     fault_of _ _ _
     (con_is _ _ _ _ _ _ _ _ c.here_word.ensures c.in_ok-own.ensures.ok c.in_ok-own.ensures.own c.read_value.ensures
-    ∙ rw (c.in_ok-value.was, c.number-number.ensures, c.word_count-count.ensures) refl)
+    ∙ rw (c.in_ok-value.was, c.number-number.ensures, c.word_count-count.ensures, c.in_ok-kept.ensures) refl)
     c.emit_shown.ensures.fault
 
 pub returns-clause-ok : goal.returns-clause-ok
 returns-clause-ok c =
     ok_of _ _ _ _
     (con_is _ _ _ _ _ _ _ _ c.here_word.ensures c.in_ok-own.ensures.ok c.in_ok-own.ensures.own c.read_value.ensures
-    ∙ rw (c.in_ok-value.was, c.number-number.ensures, c.word_count-count.ensures) refl)
+    ∙ rw (c.in_ok-value.was, c.number-number.ensures, c.word_count-count.ensures, c.in_ok-kept.ensures) refl)
     c.emit_shown.ensures.ok

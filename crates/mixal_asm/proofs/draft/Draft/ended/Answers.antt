@@ -17,4 +17,4 @@ returns-in_err-start-clause-fault c =
 pub returns-clause-ok : goal.returns-clause-ok
 returns-clause-ok c =
     ended_is _ _ _ _ _ _ _ _ _ (sym c.has_unmet.ensures ∙ c.if-has_unmet.false) c.here_word.ensures c.in_ok-own.ensures.ok c.in_ok-own.ensures.own c.read_end.ensures
-    ∙ rw (c.in_ok-value.was, ← c.start_of.ensures, c.in_ok-start.was, c.in_ok-add_row.ensures) refl
+    ∙ rw (c.in_ok-value.was, ← c.start_of.ensures, c.in_ok-start.was, c.in_ok-add_row.ensures, c.in_ok-kept.ensures) refl

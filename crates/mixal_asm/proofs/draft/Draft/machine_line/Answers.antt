@@ -14,12 +14,12 @@ pub returns-clause-fault : goal.returns-clause-fault
 returns-clause-fault c =
     fault_of _ _ _
     (machine_is _ _ _ _ _ _ _ _ _ _ c.here_word.ensures c.in_ok-own.ensures.ok c.in_ok-own.ensures.own c.in_ok-operand.ensures.operand
-    ∙ rw (c.number-number.ensures, c.word_count-count.ensures, c.instruction_word-word.ensures) refl)
+    ∙ rw (c.number-number.ensures, c.word_count-count.ensures, c.instruction_word-word.ensures, c.in_ok-kept.ensures) refl)
     c.instruction_shown.ensures.fault
 
 pub returns-clause-ok : goal.returns-clause-ok
 returns-clause-ok c =
     ok_of _ _ _ _
     (machine_is _ _ _ _ _ _ _ _ _ _ c.here_word.ensures c.in_ok-own.ensures.ok c.in_ok-own.ensures.own c.in_ok-operand.ensures.operand
-    ∙ rw (c.number-number.ensures, c.word_count-count.ensures, c.instruction_word-word.ensures) refl)
+    ∙ rw (c.number-number.ensures, c.word_count-count.ensures, c.instruction_word-word.ensures, c.in_ok-kept.ensures) refl)
     c.instruction_shown.ensures.ok

@@ -16,4 +16,4 @@ returns-in_err-here-clause-fault c =
 pub returns-clause-ok : goal.returns-clause-ok
 returns-clause-ok c =
     orig_is _ _ _ _ _ _ _ _ c.here_word.ensures c.in_ok-own.ensures.ok c.in_ok-own.ensures.own c.read_value.ensures
-    ∙ rw (c.in_ok-value.was, ← c.location_of.ensures.is, c.in_ok-here.was, c.in_ok-add_row.ensures, c.go_to.ensures, c.number-number.ensures) refl
+    ∙ rw (c.in_ok-value.was, ← c.location_of.ensures.is, c.in_ok-here.was, c.in_ok-add_row.ensures, c.go_to.ensures, c.number-number.ensures, c.in_ok-kept.ensures) refl
