@@ -11,11 +11,14 @@ pub mod EachLemmas
 pub mod Halting
 pub mod MarkLemmas
 pub mod PackLemmas
+pub mod PutLemmas
 pub mod RegisterLemmas
 pub mod RowLemmas
 pub mod SameFields
 pub mod SameUnit
+pub mod SizeLemmas
 pub mod StageLemmas
+pub mod StepLemmas
 pub mod TransferLemmas
 pub mod TransferTimes
 pub mod UnitLemmas

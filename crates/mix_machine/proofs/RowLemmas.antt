@@ -1,8 +1,8 @@
 -- A row of cells says the values of its cells, and putting its words back puts these back.
-use Rattle.std.proofs.Common.{ℕ, zero, suc, true, nat_lt, ◌≡◌, ◌+◌, ◌-◌, ◌*◌, ◌/◌, ◌%◌, ◌<◌, ◌≤◌, ◌∙◌, List, [], ◌∷◌, ◌++◌, length, length-append, append_assoc, take, drop, get_or, reverse, Some, IsSome, IsTrue, ap, sym, refl, arith}
+use Rattle.std.proofs.Common.{ℕ, zero, suc, true, nat_lt, ◌≡◌, ◌+◌, ◌-◌, ◌*◌, ◌/◌, ◌%◌, ◌<◌, ◌≤◌, ◌∙◌, List, [], ◌∷◌, ◌++◌, length, length-append, append_assoc, take, drop, get_or, reverse, Option, None, Some, IsSome, IsTrue, ap, subst, sym, refl, arith}
 use Rattle.std.specs.Option.{option_and_then}
 use Rattle.std.proofs.lemmas.Bool.Decides.{nat_tests}
-use Rattle.std.proofs.lemmas.List.{length-take-le, length-drop, length-map, reverse-append, take-append-drop, take_all, take_more, take_at, drop_at, map_push}
+use Rattle.std.proofs.lemmas.List.{drop-append-le, length-take-le, length-drop, length-map, reverse-append, take-append-drop, take_all, take_more, take_at, drop_at, map_push}
 use Rattle.undo_core.specs.Replay.{put_back}
 use Rattle.mix_word.specs.Word.{WordValue}
 use Rattle.mix_machine.specs.World.{WorldState}
@@ -11,15 +11,17 @@ use Rattle.mix_machine.specs.Cells.{cell_values, words_of, with_words, IsRow}
 use Rattle.mix_machine.specs.law.Restored.{Restored}
 use Rattle.mix_machine.specs.declared.old.Old.{Old}
 use Rattle.mix_machine.specs.declared.old.Old.TheVariants as old
+use Rattle.mix_machine.specs.declared.pack.anchor.Anchor.{Anchor}
 use Rattle.mix_machine.specs.declared.pack.kind.Kind.TheVariants as kind
 use Rattle.mix_machine.specs.Pack.{header_of, last_of, last_value, long_word, said, value_by}
 use Rattle.mix_machine.proofs.CopyLemmas.{length-cell_values}
-use Rattle.mix_machine.proofs.PackLemmas.{said-last, said-one, last-header, row-header, last-dropped, last-left, put-alone, fits-alone}
+use Rattle.mix_machine.proofs.PackLemmas.{said-last, row-header, put-alone}
+use Rattle.mix_machine.proofs.SizeLemmas.{last-header}
 
 -- the header of a row of one cell
-lone-header : (n place bits : ℕ) (us : List ℕ) → n % 4096 ≡ place → place < 4000 → n < 8192 →
-    value_by kind.Row n (bits ∷ us) ≡ Some (last_of (old.Cell place (long_word bits)) us)
-lone-header n place bits us is cell few =
+lone-header : (n place bits : ℕ) (a : Anchor) (us : List ℕ) → n % 4096 ≡ place → place < 4000 → n < 8192 →
+    value_by kind.Row n a (bits ∷ us) ≡ Some (last_of (old.Cell place (long_word bits)) a us)
+lone-header n place bits a us is cell few =
     let test : nat_lt place 4000 ≡ true = grind (arith, nat_tests) in
     let alone : nat_lt n 8192 ≡ true = grind (arith, nat_tests) in
     rw (is, test, alone) refl
@@ -31,19 +33,19 @@ values-last [] place w p e = let at : p ≡ place = omega arith in rw at refl
 values-last (v ∷ ws) place w p e = ap (λ (os : List Old). old.Cell place v ∷ os) (values-last ws (place + 1) w p (omega arith))
 
 -- what a row says
-said-row : (n place m : ℕ) (rest ws : List ℕ) → length ws ≡ n + 1 → place + n + 1 ≤ 4000 → m ≡ (n + 1) * 4096 + (place + n) →
-    said ((rest ++ ws) ++ header_of kind.Row m ∷ []) ≡ said rest ++ cell_values place (words_of ws)
-said-row zero place m rest [] len cells e = absurd (omega (arith, len))
-said-row zero place m rest (w ∷ []) len cells e =
+said-row : (n place m : ℕ) (a : Anchor) (rest ws : List ℕ) → length ws ≡ n + 1 → place + n + 1 ≤ 4000 → m ≡ (n + 1) * 4096 + (place + n) →
+    said a ((rest ++ ws) ++ header_of kind.Row m ∷ []) ≡ said a rest ++ cell_values place (words_of ws)
+said-row zero place m a rest [] len cells e = absurd (omega (arith, len))
+said-row zero place m a rest (w ∷ []) len cells e =
     let h = header_of kind.Row m in
     let at : m % 4096 ≡ place = omega (arith, e, cells) in
     let backwards : reverse ((rest ++ w ∷ []) ++ h ∷ []) ≡ h ∷ w ∷ reverse rest =
     reverse-append (rest ++ w ∷ []) (h ∷ []) ∙ ap (λ (us : List ℕ). h ∷ us) (reverse-append rest (w ∷ [])) in
-    said-last ((rest ++ w ∷ []) ++ h ∷ []) rest (old.Cell place (long_word w))
-    (ap last_value backwards ∙ last-header kind.Row m (w ∷ reverse rest)
-    ∙ lone-header m place w (reverse rest) at (omega (arith, cells)) (omega (arith, e, cells)))
-said-row zero place m rest (w ∷ x ∷ ws) len cells e = absurd (omega (arith, len))
-said-row (suc n) place m rest ws len cells e =
+    said-last ((rest ++ w ∷ []) ++ h ∷ []) rest a a (old.Cell place (long_word w))
+    (ap (last_value a) backwards ∙ last-header kind.Row m a (w ∷ reverse rest)
+    ∙ lone-header m place w a (reverse rest) at (omega (arith, cells)) (omega (arith, e, cells)))
+said-row zero place m a rest (w ∷ x ∷ ws) len cells e = absurd (omega (arith, len))
+said-row (suc n) place m a rest ws len cells e =
     let h = header_of kind.Row m in
     let front = take (n + 1) ws in
     let w = get_or ws (n + 1) 0 in
@@ -57,39 +59,39 @@ said-row (suc n) place m rest ws len cells e =
     let backwards : reverse ((rest ++ ws) ++ h ∷ []) ≡ h ∷ w ∷ reverse before =
     reverse-append (rest ++ ws) (h ∷ []) ∙ ap (λ (us : List ℕ). h ∷ reverse us) all ∙ ap (λ (us : List ℕ). h ∷ us) (reverse-append before (w ∷ [])) in
     let place_of : m % 4096 ≡ p = omega (arith, e, cells) in
-    let read = row-header m p w shorter (reverse before) place_of (omega (arith, cells)) (omega (arith, e)) refl in
+    let read = row-header m p w shorter a (reverse before) place_of (omega (arith, cells)) (omega (arith, e)) refl in
     let left : reverse (before ++ shorter ∷ []) ≡ shorter ∷ reverse before = reverse-append before (shorter ∷ []) in
-    let one : said ((rest ++ ws) ++ h ∷ []) ≡ said (before ++ shorter ∷ []) ++ value ∷ [] =
-    said-last ((rest ++ ws) ++ h ∷ []) (before ++ shorter ∷ []) value
-    (ap last_value backwards ∙ last-header kind.Row m (w ∷ reverse before) ∙ read ∙ ap (λ (us : List ℕ). Some (last_of value us)) (sym left)) in
-    let others = said-row n place (m - 4097) rest front fewer (omega (arith, cells)) (omega (arith, e)) in
+    let one : said a ((rest ++ ws) ++ h ∷ []) ≡ said a (before ++ shorter ∷ []) ++ value ∷ [] =
+    said-last ((rest ++ ws) ++ h ∷ []) (before ++ shorter ∷ []) a a value
+    (ap (last_value a) backwards ∙ last-header kind.Row m a (w ∷ reverse before) ∙ read ∙ ap (λ (us : List ℕ). Some (last_of value a us)) (sym left)) in
+    let others = said-row n place (m - 4097) a rest front fewer (omega (arith, cells)) (omega (arith, e)) in
     let many : p ≡ place + length (words_of front) = omega (arith, fewer, length-map front long_word) in
     let last : cell_values place (words_of ws) ≡ cell_values place (words_of front) ++ value ∷ [] =
     ap (λ (us : List ℕ). cell_values place (words_of us)) ends ∙ ap (cell_values place) (map_push long_word front w)
     ∙ values-last (words_of front) place (long_word w) p many in
-    one ∙ ap (λ (vs : List Old). vs ++ value ∷ []) others ∙ append_assoc (said rest) (cell_values place (words_of front)) (value ∷ [])
-    ∙ ap (λ (vs : List Old). said rest ++ vs) (sym last)
+    one ∙ ap (λ (vs : List Old). vs ++ value ∷ []) others ∙ append_assoc (said a rest) (cell_values place (words_of front)) (value ∷ [])
+    ∙ ap (λ (vs : List Old). said a rest ++ vs) (sym last)
 
 -- the same, of its first cell and the number of its cells
-row-says : (header place count : ℕ) (rest ws : List ℕ) → IsRow header place count → length ws ≡ count →
-    said ((rest ++ ws) ++ header ∷ []) ≡ said rest ++ cell_values place (words_of ws)
-row-says header place count rest ws row len =
+row-says : (header place count : ℕ) (a : Anchor) (rest ws : List ℕ) → IsRow header place count → length ws ≡ count →
+    said a ((rest ++ ws) ++ header ∷ []) ≡ said a rest ++ cell_values place (words_of ws)
+row-says header place count a rest ws row len =
     let some = row.some in
     let cells = row.cells in
     let m = count * 4096 + (place + count - 1) in
     let same : m ≡ (count - 1 + 1) * 4096 + (place + (count - 1)) = omega (arith, some) in
-    ap (λ h. said ((rest ++ ws) ++ h ∷ [])) row.is
-    ∙ said-row (count - 1) place m rest ws (omega (arith, some, len)) (omega (arith, some, cells)) same
+    ap (λ h. said a ((rest ++ ws) ++ h ∷ [])) row.is
+    ∙ said-row (count - 1) place m a rest ws (omega (arith, some, len)) (omega (arith, some, cells)) same
 
 -- units, after them those of words, and a header
-pub row-appended : (units now : List ℕ) (words : List WordValue) (header place count : ℕ) → IsRow header place count → length words ≡ count →
-    take (length units) now ≡ units → words_of (drop (length units) now) ≡ words → said (now ++ header ∷ []) ≡ said units ++ cell_values place words
-row-appended units now words header place count row len before after =
+pub row-appended : (units now : List ℕ) (words : List WordValue) (header place count : ℕ) (a : Anchor) → IsRow header place count → length words ≡ count →
+    take (length units) now ≡ units → words_of (drop (length units) now) ≡ words → said a (now ++ header ∷ []) ≡ said a units ++ cell_values place words
+row-appended units now words header place count a row len before after =
     let ws = drop (length units) now in
     let many : length ws ≡ count = omega (arith, len, ap length after, length-map ws long_word) in
     let joined : now ≡ units ++ ws = sym (take-append-drop (length units) now) ∙ ap (λ (us : List ℕ). us ++ ws) before in
-    ap (λ (us : List ℕ). said (us ++ header ∷ [])) joined ∙ row-says header place count units ws row many
-    ∙ ap (λ (vs : List WordValue). said units ++ cell_values place vs) after
+    ap (λ (us : List ℕ). said a (us ++ header ∷ [])) joined ∙ row-says header place count a units ws row many
+    ∙ ap (λ (vs : List WordValue). said a units ++ cell_values place vs) after
 
 -- the values of cells put back
 values-put : (ws : List WordValue) (place : ℕ) (w : WorldState) → place + length ws ≤ 4000 →
@@ -100,10 +102,10 @@ values-put (v ∷ ws) place w h =
     ap (option_and_then (λ (t : WorldState). put_value t (old.Cell place v))) (values-put ws (place + 1) w (omega (arith, h))) ∙ rw there refl
 
 -- the cells of a row put back
-pub row-restored : (header place count : ℕ) (units left : List ℕ) (w v : WorldState) → IsRow header place count → count ≤ length units →
+pub row-restored : (header place count : ℕ) (a : Anchor) (units left : List ℕ) (w v : WorldState) → IsRow header place count → count ≤ length units →
     left ≡ take (length units - count) units → v ≡ record w { cells = with_words w.cells place (words_of (drop (length units - count) units)) } →
-    Restored (said (units ++ header ∷ [])) (said left) w v count
-row-restored header place count units left w v row within is done =
+    Restored (said a (units ++ header ∷ [])) (said a left) w v count
+row-restored header place count a units left w v row within is done =
     let n = length units - count in
     let rest = take n units in
     let ws = drop n units in
@@ -113,53 +115,52 @@ row-restored header place count units left w v row within is done =
     let values = cell_values place (words_of ws) in
     let many : length values ≡ count = length-cell_values place (words_of ws) ∙ length-map ws long_word ∙ len in
     let words : length (words_of ws) ≡ count = length-map ws long_word ∙ len in
-    let all : said (units ++ header ∷ []) ≡ said rest ++ values =
-    ap (λ (us : List ℕ). said (us ++ header ∷ [])) (sym (take-append-drop n units)) ∙ row-says header place count rest ws row len in
-    let first : length (said rest) ≡ length (said (units ++ header ∷ [])) - count = omega (arith, many, ap length all, length-append (said rest) values) in
-    let last : drop (length (said (units ++ header ∷ [])) - count) (said (units ++ header ∷ [])) ≡ values =
-    ap (drop (length (said (units ++ header ∷ [])) - count)) all ∙ drop_at (said rest) values _ first in
+    let all : said a (units ++ header ∷ []) ≡ said a rest ++ values =
+    ap (λ (us : List ℕ). said a (us ++ header ∷ [])) (sym (take-append-drop n units)) ∙ row-says header place count a rest ws row len in
+    let first : length (said a rest) ≡ length (said a (units ++ header ∷ [])) - count = omega (arith, many, ap length all, length-append (said a rest) values) in
+    let last : drop (length (said a (units ++ header ∷ [])) - count) (said a (units ++ header ∷ [])) ≡ values =
+    ap (drop (length (said a (units ++ header ∷ [])) - count)) all ∙ drop_at (said a rest) values _ first in
     record {
       some = some;
       back = ap (λ (os : List Old). put_back put_value os w) last ∙ values-put (words_of ws) place w (omega (arith, cells, words)) ∙ ap Some (sym done);
-      cut = ap said is ∙ sym (ap (take (length (said (units ++ header ∷ [])) - count)) all ∙ take_at (said rest) values _ first);
+      cut = ap (said a) is ∙ sym (ap (take (length (said a (units ++ header ∷ [])) - count)) all ∙ take_at (said a rest) values _ first);
     }
 
--- one value put back
-pub one-restored : (all left : List Old) (value : Old) (w v : WorldState) → all ≡ left ++ value ∷ [] →
-    IsSome (put_back put_value (drop (length all - 1) all) w) → v ≡ set_value w value → Restored all left w v 1
-one-restored all left value w v is fits done = record {
-  some = omega arith;
-  back = put-alone w v (drop (length all - 1) all) value (last-dropped all left value is) fits done;
-  cut = sym (last-left all left value is);
-}
+-- the values that were put back first, of more
+some-of-append : (xs ys : List Old) (w : WorldState) → IsSome (put_back put_value (xs ++ ys) w) → IsSome (put_back put_value ys w)
+some-of-append [] ys w some = some
+some-of-append (x ∷ xs) ys w some = some-of-append xs ys w (some-before (λ (t : WorldState). put_value t x) (put_back put_value (xs ++ ys) w) some) where
+  some-before : (f : WorldState → Option WorldState) (t : Option WorldState) → IsSome (option_and_then f t) → IsSome t
+  some-before f None h = h
+  some-before f (Some t) h = refl
 
--- units that end in the headers of a location and of a clock
-pub moment-said : (units rest : List ℕ) (location clock : ℕ) → units ≡ (rest ++ location ∷ []) ++ clock ∷ [] → location % 16 ≡ 0 → location / 16 ≤ 4000 →
-    clock % 16 ≡ 1 → said units ≡ said rest ++ old.Loc (location / 16) ∷ old.Clock (clock / 16) ∷ []
-moment-said units rest location clock is first place second =
-    let low : location / 16 % 65536 ≡ location / 16 = omega (arith, place) in
-    let header : location ≡ header_of kind.Location (location / 16) = omega (arith, first) in
-    let time : clock ≡ header_of kind.Clock (clock / 16) = omega (arith, second) in
-    said-one (rest ++ location ∷ []) units kind.Clock (clock / 16) clock (old.Clock (clock / 16)) time is refl
-    ∙ ap (λ (vs : List Old). vs ++ old.Clock (clock / 16) ∷ [])
-    (said-one rest (rest ++ location ∷ []) kind.Location (location / 16) location (old.Loc (location / 16)) header refl (rw low refl))
-    ∙ append_assoc (said rest) (old.Loc (location / 16) ∷ []) (old.Clock (clock / 16) ∷ [])
-
--- the last of two values fits, which is put back first
-pub second-fits : (all left : List Old) (one two : Old) (w : WorldState) → all ≡ left ++ one ∷ two ∷ [] →
-    IsSome (put_back put_value (drop (length all - 1) all) w) → IsTrue (fits w two)
-second-fits all left one two w is some =
-    fits-alone w _ two (last-dropped all (left ++ one ∷ []) two (is ∙ sym (append_assoc left (one ∷ []) (two ∷ [])))) some
-
--- two values put back
-pub two-restored : (all left : List Old) (one two : Old) (w v : WorldState) → all ≡ left ++ one ∷ two ∷ [] → IsTrue (fits w two) →
-    IsTrue (fits (set_value w two) one) → v ≡ set_value (set_value w two) one → Restored all left w v 2
-two-restored all left one two w v is second first done =
-    let len : length left ≡ length all - 2 = omega (arith, ap length is, length-append left (one ∷ two ∷ [])) in
-    let last : drop (length all - 2) all ≡ one ∷ two ∷ [] = ap (drop (length all - 2)) is ∙ drop_at left (one ∷ two ∷ []) _ len in
-    let put : put_back put_value (one ∷ two ∷ []) w ≡ Some (set_value (set_value w two) one) = rw (second, first) refl in
+-- values put back, those of a header among them
+pub header-restored : (all left values : List Old) (most count : ℕ) (w v : WorldState) → all ≡ left ++ values → length values ≡ count → 0 < count →
+    put_back put_value values w ≡ Some v → Restored all left w v count
+header-restored all left values most count w v is many some done =
+    let len : length left ≡ length all - count = omega (arith, many, ap length is, length-append left values) in
     record {
-      some = omega arith;
-      back = ap (λ (os : List Old). put_back put_value os w) last ∙ put ∙ ap Some (sym done);
-      cut = sym (ap (take (length all - 2)) is ∙ take_at left (one ∷ two ∷ []) _ len);
+      some = some;
+      back = ap (λ (os : List Old). put_back put_value os w) (ap (drop (length all - count)) is ∙ drop_at left values _ len) ∙ done;
+      cut = sym (ap (take (length all - count)) is ∙ take_at left values _ len);
     }
+
+-- where the last values can be put back, those of the last header can
+pub header-fits : (all left values : List Old) (most : ℕ) (w : WorldState) → all ≡ left ++ values → length values ≤ most → most ≤ length all →
+    IsSome (put_back put_value (drop (length all - most) all) w) → IsSome (put_back put_value values w)
+header-fits all left values most w is few within fit =
+    let n = length all - most in
+    let len : n ≤ length left = omega (arith, few, within, ap length is, length-append left values) in
+    let ends : drop n all ≡ drop n left ++ values = ap (drop n) is ∙ drop-append-le n left values len in
+    some-of-append (drop n left) values w (subst IsSome (ap (λ (os : List Old). put_back put_value os w) ends) fit)
+
+-- one value alone
+pub last-fits : (all left : List Old) (value : Old) (most : ℕ) (w : WorldState) → all ≡ left ++ value ∷ [] → 0 < most → most ≤ length all →
+    IsSome (put_back put_value (drop (length all - most) all) w) → IsSome (put_back put_value (value ∷ []) w)
+last-fits all left value most w is more within fit = header-fits all left (value ∷ []) most w is (omega (arith, more)) within fit
+
+pub one-restored : (all left : List Old) (value : Old) (most : ℕ) (w v : WorldState) → all ≡ left ++ value ∷ [] → 0 < most → most ≤ length all →
+    IsSome (put_back put_value (drop (length all - most) all) w) → v ≡ set_value w value → Restored all left w v 1
+one-restored all left value most w v is more within fit done =
+    header-restored all left (value ∷ []) most 1 w v is refl (omega arith)
+    (put-alone w v (value ∷ []) value refl (last-fits all left value most w is more within fit) done)

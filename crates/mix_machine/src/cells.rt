@@ -3,7 +3,7 @@ ghost use Rattle.std.specs.Prelude.{◌≡◌, ◌+◌, ◌≤◌, length};
 ghost use Rattle.mix_machine.specs.Cells.{cell_values, with_copies, with_words, words_of};
 
 use crate::old::Old;
-use crate::pack::{append_row, long};
+use crate::pack::{Anchor, append_row, long};
 use mix_word::Word;
 use std::marker::Model;
 use undo_core::PackAll;
@@ -47,7 +47,7 @@ impl<'a> PackAll<Old> for Cells<'a> {
     }
 
     #[inline(always)]
-    fn pack_all(&self, units: &mut Vec<u32>) {
+    fn pack_all(&self, units: &mut Vec<u32>, _anchor: &mut Anchor) {
         append_row(self.place, self.words, units);
     }
 }

@@ -3,27 +3,42 @@ ghost use Rattle.std.specs.Prelude.{refl};
 ghost use Rattle.mix_machine.specs.Pack.{said};
 ghost use Rattle.mix_machine.specs.law.Packed.{said-fewer};
 
+mod anchor;
 mod appending;
+mod headers;
 mod kind;
-mod moment;
+mod last;
+mod moved;
 mod parts;
 mod reading;
 mod row;
+mod step;
 
 use crate::old::Old;
+pub use crate::pack::anchor::Anchor;
 pub(crate) use crate::pack::kind::Kind;
-pub(crate) use crate::pack::moment::{Moment, moment_of};
-pub(crate) use crate::pack::parts::{long, register, short, time};
+pub(crate) use crate::pack::moved::{Moved, MovedWith};
+pub(crate) use crate::pack::parts::{long, register, short};
 pub(crate) use crate::pack::reading::take_before;
 pub(crate) use crate::pack::row::{append_row, row_of};
+pub(crate) use crate::pack::step::{
+    before_jump, before_moment, before_short, short_register, wide_bits,
+};
 use undo_core::{Last, Pack};
 
 impl Pack for Old {
+    type Anchor = Anchor;
+
     ghost said = { said };
 
-    ghost said_none = { refl };
+    ghost said_none = { λ _. refl };
 
     ghost said_fewer = { said-fewer };
+
+    /// The machine at its beginning.
+    fn anchor() -> Anchor {
+        Anchor { loc: 0, clock: 0 }
+    }
 
     /// Appends the units of the value: one to three, of which the last one is its header.
     #[inline(always)]
@@ -33,19 +48,19 @@ impl Pack for Old {
 
     /// Takes the last value off, if there is one.
     #[inline(always)]
-    fn take(units: &mut Vec<u32>) -> Option<Old> {
+    fn take(units: &mut Vec<u32>, anchor: &mut Anchor) -> Option<Old> {
         let header = units.pop()?;
-        reading::take_before(header, units)
+        reading::take_before(header, units, anchor)
     }
 
     /// The last value of units, if there is one.
     #[inline(always)]
-    fn last(units: &[u32], more: Option<u32>) -> Option<Last<Old>> {
+    fn last(units: &[u32], more: Option<u32>, anchor: Anchor) -> Option<Last<Old, Anchor>> {
         match more {
-            Some(header) => reading::last_before(header, units),
+            Some(header) => reading::last_before(header, units, anchor),
             None => {
                 let (header, before) = units.split_last()?;
-                reading::last_before(*header, before)
+                reading::last_before(*header, before, anchor)
             }
         }
     }

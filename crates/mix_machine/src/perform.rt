@@ -24,11 +24,13 @@ impl World {
     {
         match plan {
             Plan::Value(value) => self.write(value, kept),
-            Plan::Step(writes, loc, clock) => {
-                self.write_in(writes, kept)?;
-                self.write_loc(loc, kept);
-                self.write_clock(clock, kept);
-            }
+            Plan::Step(writes, loc, clock) => match writes {
+                Writes::Register(r, word) => self.move_with(r, word, loc, clock, kept),
+                writes => {
+                    self.write_in(writes, kept)?;
+                    self.move_to(loc, clock, kept);
+                }
+            },
         }
         Ok(())
     }

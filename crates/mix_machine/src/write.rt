@@ -1,10 +1,11 @@
 //! One value of the state set, and the one that it replaces kept.
-ghost use Rattle.std.specs.Prelude.{◌≡◌, ◌∷◌, [], IsTrue};
+ghost use Rattle.std.specs.Prelude.{◌≡◌, ◌≤◌, ◌∷◌, [], IsTrue};
 ghost use Rattle.mix_machine.specs.Write.{set_value, value_at, fits, set};
 ghost use Rattle.mix_machine.specs.law.Wrote.{HasRoom, Wrote};
 ghost use Rattle.mix_machine.specs.law.Apart.{is_apart_value};
 
 use crate::old::Old;
+use crate::pack::{Anchor, Moved, MovedWith};
 use crate::time::Time;
 use crate::units::UnitNo;
 use crate::world::World;
@@ -70,26 +71,53 @@ impl World {
         self.cmp = cmp;
     }
 
-    /// Sets the location, and keeps the one before.
+    /// Sets the location and the clock, and keeps those before.
     #[inline(always)]
-    pub(crate) fn write_loc(&mut self, loc: u16, kept: &mut Kept<Old>)
-        requires fits { IsTrue (fits self.old (Old.Loc loc)) }
-        requires room { HasRoom kept.old (set (Old.Loc loc) ∷ []) }
-        ensures { Wrote (set (Old.Loc loc) ∷ []) self.old self.new kept.old kept.new }
+    pub(crate) fn move_to(&mut self, loc: u16, clock: u64, kept: &mut Kept<Old>)
+        requires loc { IsTrue (fits self.old (Old.Loc loc)) }
+        requires clock { IsTrue (fits self.old (Old.Clock clock)) }
+        requires room { HasRoom kept.old (set (Old.Loc loc) ∷ set (Old.Clock clock) ∷ []) }
+        ensures { Wrote (set (Old.Loc loc) ∷ set (Old.Clock clock) ∷ []) self.old self.new kept.old kept.new }
     {
-        kept.push_reserved(Old::Loc(self.loc));
+        kept.append_reserved(&Moved::of(self.anchor(), Anchor { loc, clock }));
         self.loc = loc;
+        self.clock = clock;
     }
 
-    /// Sets the clock, and keeps the time before.
+    /// Sets a register, the location and the clock, and keeps those before.
     #[inline(always)]
-    pub(crate) fn write_clock(&mut self, clock: u64, kept: &mut Kept<Old>)
-        requires fits { IsTrue (fits self.old (Old.Clock clock)) }
-        requires room { HasRoom kept.old (set (Old.Clock clock) ∷ []) }
-        ensures { Wrote (set (Old.Clock clock) ∷ []) self.old self.new kept.old kept.new }
+    pub(crate) fn move_with(
+        &mut self,
+        r: Reg,
+        word: Word,
+        loc: u16,
+        clock: u64,
+        kept: &mut Kept<Old>,
+    )
+        requires fits { IsTrue (fits self.old (Old.Reg r word)) }
+        requires loc { IsTrue (fits self.old (Old.Loc loc)) }
+        requires clock { IsTrue (fits self.old (Old.Clock clock)) }
+        requires room { HasRoom kept.old (set (Old.Reg r word) ∷ set (Old.Loc loc) ∷ set (Old.Clock clock) ∷ []) }
+        ensures { Wrote (set (Old.Reg r word) ∷ set (Old.Loc loc) ∷ set (Old.Clock clock) ∷ []) self.old self.new kept.old kept.new }
     {
-        kept.push_reserved(Old::Clock(Time::of(self.clock)));
+        let held = self.registers.get(r);
+        kept.append_reserved(&MovedWith::of(r, held, self.anchor(), Anchor { loc, clock }));
+        self.registers.set(r, word);
+        self.loc = loc;
         self.clock = clock;
+    }
+
+    // Where the machine stands, and when.
+    #[inline(always)]
+    fn anchor(&self) -> Anchor
+        ensures loc { result.loc ≡ self.now.loc }
+        ensures clock { result.clock ≡ self.now.clock }
+        ensures bound { result.loc ≤ 4000 }
+    {
+        Anchor {
+            loc: self.loc,
+            clock: self.clock,
+        }
     }
 
     /// Sets the time until which a unit is busy, and keeps the one before.

@@ -25,6 +25,15 @@ pub last-fits : {S O : Type 0} (put : S → O → Option S) (items rest : List O
     IsSome (put_back put items s) → IsSome (put s o)
 last-fits put items rest o s e some = some-of (put_back put rest) (put s o) (subst IsSome (put_back-of put items rest o s e) some)
 
+-- the same where the last values of a list can be put back
+pub last-of-fits : {S O : Type 0} (put : S → O → Option S) (xs rest : List O) (o : O) (n : ℕ) (s : S) → xs ≡ rest ++ o ∷ [] → 0 < n → n ≤ length xs →
+    IsSome (put_back put (drop (length xs - n) xs) s) → IsSome (put s o)
+last-of-fits put xs rest o n s is more within some =
+    let k = length xs - n in
+    let ends : drop k xs ≡ drop k rest ++ o ∷ [] =
+    ap (drop k) is ∙ drop-append-le k rest (o ∷ []) (omega (arith, more, within, ap length is, length-append rest (o ∷ []))) in
+    last-fits put (drop k xs) (drop k rest) o s ends some
+
 -- putting back the rest after it gives what putting back the whole list does
 pub last-put : {S O : Type 0} (put : S → O → Option S) (items rest : List O) (o : O) (s t : S) → items ≡ rest ++ o ∷ [] →
     put s o ≡ Some t → put_back put items s ≡ put_back put rest t

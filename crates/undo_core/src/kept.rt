@@ -12,6 +12,8 @@ use std::marker::{Model, PhantomData};
 #[derive(Drop)]
 pub struct Kept<O: Pack> {
     units: Vec<u32>,
+    // by which the units are read
+    anchor: O::Anchor,
     // how many values the units say
     count: usize,
     of: PhantomData<O>,
@@ -23,9 +25,9 @@ impl<O: Pack> Model for Kept<O> {
 
     ghost Value = { KeptList O };
 
-    ghost view = { λ k. record { items = O.said k.units.items; room = (vec_capacity k.units - vec_len k.units) / 3 } };
+    ghost view = { λ k. record { items = O.said k.anchor k.units.items; room = (vec_capacity k.units - vec_len k.units) / 3 } };
 
-    ghost invariant = { λ k. k.count ≡ length (O.said k.units.items) };
+    ghost invariant = { λ k. k.count ≡ length (O.said k.anchor k.units.items) };
 }
 
 impl<O: Pack> Kept<O> {
@@ -35,6 +37,7 @@ impl<O: Pack> Kept<O> {
     {
         Kept {
             units: Vec::new(alloc),
+            anchor: O::anchor(),
             count: 0,
             of: PhantomData,
         }
@@ -76,7 +79,7 @@ impl<O: Pack> Kept<O> {
         ensures items { self.new.items ≡ self.old.items ++ R.values values.now }
         ensures room { self.old.room ≤ self.new.room + length (R.values values.now) }
     {
-        values.pack_all(&mut self.units);
+        values.pack_all(&mut self.units, &mut self.anchor);
         self.count += values.count();
     }
 
@@ -100,7 +103,7 @@ impl<O: Pack> Kept<O> {
         }
         // (before, so that nothing stands between what is taken and what is done with it)
         self.count -= 1;
-        match O::take(&mut self.units) {
+        match O::take(&mut self.units, &mut self.anchor) {
             Some(value) => Some(value),
             None => unreachable!(),
         }
@@ -125,7 +128,7 @@ impl<O: Pack> Kept<O> {
     pub(crate) fn backwards(&self) -> Backwards<'_, O>
         ensures { result ≡ self.now.items }
     {
-        Backwards::of(&self.units)
+        Backwards::of(&self.units, self.anchor)
     }
 }
 
@@ -140,7 +143,7 @@ pub fn revert<S: Undo>(state: &mut S, kept: &mut Kept<S::Old>, count: usize)
 {
     let mut left = count;
     while left > 0 {
-        left -= state.restore_some(&mut kept.units, left);
+        left -= state.restore_some(&mut kept.units, &mut kept.anchor, left);
     }
     kept.count -= count;
 }

@@ -1,35 +1,46 @@
 //! Values that can be kept in units of 32 bits, one after the other.
 ghost use Rattle.std.specs.Prelude.{◌≡◌, ◌+◌, ◌*◌, ◌<◌, ◌≤◌, ℕ, ◌++◌, [], ◌∷◌, List, MatchOption, length, take, refl, vec_len, vec_capacity};
 ghost use Rattle.undo_core.specs.Pack.{unit_list};
-ghost use Rattle.std.proofs.Math.Nat.{le_refl};
+ghost use Rattle.std.proofs.Common.{arith};
 
-/// A value that takes at most three units of 32 bits. What units say is read from the last one backwards, whatever they are.
+/// A value that takes at most three units of 32 bits. What units say is read from the last one backwards, whatever they are, by an anchor:
+/// what is known of the state after their last value, of which units may say how it was before.
 pub trait Pack: Copy {
+    /// What is known of a state.
+    type Anchor: Copy;
+
     /// The values that units say.
-    ghost said: { List ℕ → List Self };
+    ghost said: { Self.Anchor → List ℕ → List Self };
 
     /// No units say nothing.
-    ghost said_none: { said [] ≡ [] };
+    ghost said_none: { (anchor : Self.Anchor) → said anchor [] ≡ [] };
 
-    /// Units say no more values than there are units.
-    ghost said_fewer: { (units : List ℕ) → length (said units) ≤ length units };
+    /// Units say no more than three values each.
+    ghost said_fewer: { (anchor : Self.Anchor) (units : List ℕ) → length (said anchor units) ≤ 3 * length units };
 
-    /// Appends the units of the value. There is room for three.
+    /// The anchor of no units.
+    fn anchor() -> Self::Anchor;
+
+    /// Appends the units of the value, which any anchor leaves as it is. There is room for three.
     fn pack(self, units: &mut Vec<u32>)
         requires { vec_len units.old + 3 ≤ vec_capacity units.old }
-        ensures said { said units.new.items ≡ said units.old.items ++ self ∷ [] }
+        ensures said { (anchor : Self.Anchor) → said anchor units.new.items ≡ said anchor units.old.items ++ self ∷ [] }
         ensures len { vec_len units.new ≤ vec_len units.old + 3 }
         ensures capacity { vec_capacity units.new ≡ vec_capacity units.old };
 
     /// Takes the last value off, if there is one.
-    fn take(units: &mut Vec<u32>) -> Option<Self>
-        ensures { MatchOption result (said units.old.items ≡ []) (λ value. said units.old.items ≡ said units.new.items ++ value ∷ []) };
+    fn take(units: &mut Vec<u32>, anchor: &mut Self::Anchor) -> Option<Self>
+        ensures { MatchOption result (said anchor.old units.old.items ≡ []) (λ value. said anchor.old units.old.items ≡ said anchor.new units.new.items ++ value ∷ []) };
 
     /// The last value in the units, if there is one. The top unit may be held apart, in `more`.
-    fn last(units: &[u32], more: Option<u32>) -> Option<Last<Self>>
-        ensures is { MatchOption result (said (units.now ++ unit_list more) ≡ [])
-            (λ last. said (units.now ++ unit_list more) ≡ said (take last.left units.now ++ unit_list last.more) ++ last.value ∷ []) }
-        ensures within { MatchOption result (said (units.now ++ unit_list more) ≡ []) (λ last. last.left ≤ length units.now) };
+    fn last(
+        units: &[u32],
+        more: Option<u32>,
+        anchor: Self::Anchor,
+    ) -> Option<Last<Self, Self::Anchor>>
+        ensures is { MatchOption result (said anchor (units.now ++ unit_list more) ≡ [])
+            (λ last. said anchor (units.now ++ unit_list more) ≡ said last.anchor (take last.left units.now ++ unit_list last.more) ++ last.value ∷ []) }
+        ensures within { MatchOption result (said anchor (units.now ++ unit_list more) ≡ []) (λ last. last.left ≤ length units.now) };
 }
 
 /// Values that are packed together, which may take fewer units than each of them by itself.
@@ -42,43 +53,49 @@ pub trait PackAll<O: Pack> {
         ensures { result ≡ length (values self.now) };
 
     /// Appends the units of the values. There is room for three for each.
-    fn pack_all(&self, units: &mut Vec<u32>)
+    fn pack_all(&self, units: &mut Vec<u32>, anchor: &mut O::Anchor)
         requires { vec_len units.old + 3 * length (values self.now) ≤ vec_capacity units.old }
-        ensures said { O.said units.new.items ≡ O.said units.old.items ++ values self.now }
+        ensures said { O.said anchor.new units.new.items ≡ O.said anchor.old units.old.items ++ values self.now }
         ensures len { vec_len units.new ≤ vec_len units.old + 3 * length (values self.now) }
         ensures capacity { vec_capacity units.new ≡ vec_capacity units.old };
 }
 
-/// The last value of units, and what is left before it: the first units of their list, and maybe one more.
+/// The last value of units, and what is left before it: the first units of their list, maybe one more, and the anchor by which they are read.
 #[derive(Clone, Copy)]
-pub struct Last<O: Copy> {
+pub struct Last<O: Copy, A: Copy> {
     pub value: O,
     pub left: usize,
     pub more: Option<u32>,
+    pub anchor: A,
 }
 
-/// A number is a unit.
+/// A number is a unit, whatever is known.
 impl Pack for u32 {
-    ghost said = { λ units. units };
+    type Anchor = ();
 
-    ghost said_none = { refl };
+    ghost said = { λ _ units. units };
 
-    ghost said_fewer = { λ units. le_refl (length units) };
+    ghost said_none = { λ _. refl };
+
+    ghost said_fewer = { λ _ units. omega arith };
+
+    fn anchor() {}
 
     fn pack(self, units: &mut Vec<u32>) {
         units.push_reserved(self);
     }
 
-    fn take(units: &mut Vec<u32>) -> Option<u32> {
+    fn take(units: &mut Vec<u32>, _anchor: &mut ()) -> Option<u32> {
         units.pop()
     }
 
-    fn last(units: &[u32], more: Option<u32>) -> Option<Last<u32>> {
+    fn last(units: &[u32], more: Option<u32>, anchor: ()) -> Option<Last<u32, ()>> {
         match more {
             Some(value) => Some(Last {
                 value,
                 left: units.len(),
                 more: None,
+                anchor,
             }),
             None => {
                 let left = units.len().checked_sub(1)?;
@@ -86,6 +103,7 @@ impl Pack for u32 {
                     value: units[left],
                     left,
                     more: None,
+                    anchor,
                 })
             }
         }

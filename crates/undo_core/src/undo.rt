@@ -60,16 +60,21 @@ pub trait Undo: Drop {
 
     /// Takes the last value of units off, and puts it back, and maybe some before it, but at most so many in all. Returns how many. It takes no memory.
     #[inline(always)]
-    fn restore_some(&mut self, units: &mut Vec<u32>, most: usize) -> usize
+    fn restore_some(
+        &mut self,
+        units: &mut Vec<u32>,
+        anchor: &mut <Self::Old as Pack>::Anchor,
+        most: usize,
+    ) -> usize
         requires some { 0 < most }
-        requires within { most ≤ length (Self.Old.said units.old.items) }
-        requires fits { IsSome (put_back put (drop (length (Self.Old.said units.old.items) - 1) (Self.Old.said units.old.items)) self.old) }
+        requires within { most ≤ length (Self.Old.said anchor.old units.old.items) }
+        requires fits { IsSome (put_back put (drop (length (Self.Old.said anchor.old units.old.items) - most) (Self.Old.said anchor.old units.old.items)) self.old) }
         ensures some { 0 < result }
         ensures within { result ≤ most }
-        ensures back { put_back put (drop (length (Self.Old.said units.old.items) - result) (Self.Old.said units.old.items)) self.old ≡ Some self.new }
-        ensures cut { Self.Old.said units.new.items ≡ take (length (Self.Old.said units.old.items) - result) (Self.Old.said units.old.items) }
+        ensures back { put_back put (drop (length (Self.Old.said anchor.old units.old.items) - result) (Self.Old.said anchor.old units.old.items)) self.old ≡ Some self.new }
+        ensures cut { Self.Old.said anchor.new units.new.items ≡ take (length (Self.Old.said anchor.old units.old.items) - result) (Self.Old.said anchor.old units.old.items) }
     {
-        match Self::Old::take(units) {
+        match Self::Old::take(units, anchor) {
             Some(value) => self.restore(value),
             None => unreachable!(),
         }

@@ -10,6 +10,8 @@ pub(crate) struct Backwards<'a, O: Pack> {
     units: &'a [u32],
     // the unit that stands after these
     more: Option<u32>,
+    // by which they are read
+    anchor: O::Anchor,
     of: PhantomData<O>,
 }
 
@@ -19,17 +21,18 @@ impl<'a, O: Pack> Model for Backwards<'a, O> {
 
     ghost Value = { List O };
 
-    ghost view = { λ b. O.said (b.units.now ++ unit_list b.more) };
+    ghost view = { λ b. O.said b.anchor (b.units.now ++ unit_list b.more) };
 }
 
 impl<'a, O: Pack> Backwards<'a, O> {
     // The values that units say.
-    pub(crate) fn of(units: &'a [u32]) -> Backwards<'a, O>
-        ensures { result ≡ O.said units.now }
+    pub(crate) fn of(units: &'a [u32], anchor: O::Anchor) -> Backwards<'a, O>
+        ensures { result ≡ O.said anchor units.now }
     {
         Backwards {
             units,
             more: None,
+            anchor,
             of: PhantomData,
         }
     }
@@ -39,10 +42,11 @@ impl<'a, O: Pack> Backwards<'a, O> {
     pub(crate) fn last(&self) -> Option<(O, Backwards<'a, O>)>
         ensures { MatchOption result (self.now ≡ []) (λ last. self.now ≡ last.1 ++ last.0 ∷ []) }
     {
-        let last = O::last(self.units, self.more)?;
+        let last = O::last(self.units, self.more, self.anchor)?;
         let front = Backwards {
             units: &self.units[..last.left],
             more: last.more,
+            anchor: last.anchor,
             of: PhantomData,
         };
         Some((last.value, front))
@@ -56,6 +60,7 @@ impl<'a, O: Pack> Backwards<'a, O> {
         Backwards {
             units: self.units,
             more: self.more,
+            anchor: self.anchor,
             of: PhantomData,
         }
     }

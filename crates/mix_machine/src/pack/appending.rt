@@ -2,6 +2,7 @@
 ghost use Rattle.std.specs.Prelude.{◌≡◌, ◌+◌, ◌*◌, ◌%◌, ◌<◌, ◌≤◌, ◌^◌, ◌++◌, [], ◌∷◌, Some, IsTrue, reverse, vec_len, vec_capacity};
 ghost use Rattle.mix_machine.specs.declared.old.Old.{Old};
 ghost use Rattle.mix_machine.specs.declared.old.Old.TheVariants as old;
+ghost use Rattle.mix_machine.specs.declared.pack.anchor.Anchor.{Anchor};
 ghost use Rattle.mix_machine.specs.Pack.{last_of, value_by, said};
 
 use crate::old::Old;
@@ -15,7 +16,7 @@ use mix_word::{Place, Reg, Word};
 #[inline(always)]
 pub(crate) fn append(value: Old, units: &mut Vec<u32>)
     requires { vec_len units.old + 3 ≤ vec_capacity units.old }
-    ensures said { said units.new.items ≡ said units.old.items ++ value ∷ [] }
+    ensures said { (a : Anchor) → said a units.new.items ≡ said a units.old.items ++ value ∷ [] }
     ensures len { vec_len units.new ≤ vec_len units.old + 3 }
     ensures capacity { vec_capacity units.new ≡ vec_capacity units.old }
 {
@@ -35,41 +36,22 @@ pub(crate) fn append(value: Old, units: &mut Vec<u32>)
 }
 
 // What a step keeps most is appended in each operation, whatever is rare, or long, by a function of its own.
-#[inline(always)]
+#[inline(never)]
 fn clock(time: Time, units: &mut Vec<u32>)
     requires { vec_len units.old + 3 ≤ vec_capacity units.old }
-    ensures said { said units.new.items ≡ said units.old.items ++ old.Clock time ∷ [] }
-    ensures len { vec_len units.new ≤ vec_len units.old + 3 }
-    ensures capacity { vec_capacity units.new ≡ vec_capacity units.old }
-{
-    let number = time.number();
-    if number < 0x1000_0000 {
-        one(Kind::Clock, number as u32, units);
-    } else {
-        long_clock(time, units);
-    }
-}
-
-#[cold]
-#[inline(never)]
-fn long_clock(time: Time, units: &mut Vec<u32>)
-    requires { vec_len units.old + 3 ≤ vec_capacity units.old }
-    ensures said { said units.new.items ≡ said units.old.items ++ old.Clock time ∷ [] }
+    ensures said { (a : Anchor) → said a units.new.items ≡ said a units.old.items ++ old.Clock time ∷ [] }
     ensures len { vec_len units.new ≤ vec_len units.old + 3 }
     ensures capacity { vec_capacity units.new ≡ vec_capacity units.old }
 {
     let (low, high) = halves(time);
-    if high < 0x1000_0000 {
-        two(Kind::LongClock, high, low, units);
-    } else {
-        three(Kind::WholeClock, 0, low, high, units);
-    }
+    three(Kind::Clock, 0, low, high, units);
 }
 
+/// Appends a register.
 #[inline(always)]
-fn register(reg: Reg, word: Word, units: &mut Vec<u32>)
+pub(crate) fn register(reg: Reg, word: Word, units: &mut Vec<u32>)
     requires { vec_len units.old + 3 ≤ vec_capacity units.old }
-    ensures said { said units.new.items ≡ said units.old.items ++ old.Reg reg word ∷ [] }
+    ensures said { (a : Anchor) → said a units.new.items ≡ said a units.old.items ++ old.Reg reg word ∷ [] }
     ensures len { vec_len units.new ≤ vec_len units.old + 3 }
     ensures capacity { vec_capacity units.new ≡ vec_capacity units.old }
 {
@@ -84,7 +66,7 @@ fn register(reg: Reg, word: Word, units: &mut Vec<u32>)
 #[inline(never)]
 fn long_register(reg: Reg, word: Word, units: &mut Vec<u32>)
     requires { vec_len units.old + 3 ≤ vec_capacity units.old }
-    ensures said { said units.new.items ≡ said units.old.items ++ old.Reg reg word ∷ [] }
+    ensures said { (a : Anchor) → said a units.new.items ≡ said a units.old.items ++ old.Reg reg word ∷ [] }
     ensures len { vec_len units.new ≤ vec_len units.old + 3 }
     ensures capacity { vec_capacity units.new ≡ vec_capacity units.old }
 {
@@ -96,7 +78,7 @@ fn long_register(reg: Reg, word: Word, units: &mut Vec<u32>)
 #[inline]
 fn cell(place: Place, word: Word, units: &mut Vec<u32>)
     requires { vec_len units.old + 3 ≤ vec_capacity units.old }
-    ensures said { said units.new.items ≡ said units.old.items ++ old.Cell place word ∷ [] }
+    ensures said { (a : Anchor) → said a units.new.items ≡ said a units.old.items ++ old.Cell place word ∷ [] }
     ensures len { vec_len units.new ≤ vec_len units.old + 3 }
     ensures capacity { vec_capacity units.new ≡ vec_capacity units.old }
 {
@@ -129,7 +111,7 @@ fn ends_before(header: u32, place: Place) -> bool
 #[inline(always)]
 fn row(place: Place, word: Word, units: &mut Vec<u32>)
     requires { vec_len units.old + 3 ≤ vec_capacity units.old }
-    ensures said { said units.new.items ≡ said units.old.items ++ old.Cell place word ∷ [] }
+    ensures said { (a : Anchor) → said a units.new.items ≡ said a units.old.items ++ old.Cell place word ∷ [] }
     ensures len { vec_len units.new ≤ vec_len units.old + 3 }
     ensures capacity { vec_capacity units.new ≡ vec_capacity units.old }
 {
@@ -140,7 +122,7 @@ fn row(place: Place, word: Word, units: &mut Vec<u32>)
 #[inline(never)]
 fn breakpoint(place: Place, on: bool, units: &mut Vec<u32>)
     requires { vec_len units.old + 3 ≤ vec_capacity units.old }
-    ensures said { said units.new.items ≡ said units.old.items ++ old.Break place on ∷ [] }
+    ensures said { (a : Anchor) → said a units.new.items ≡ said a units.old.items ++ old.Break place on ∷ [] }
     ensures len { vec_len units.new ≤ vec_len units.old + 3 }
     ensures capacity { vec_capacity units.new ≡ vec_capacity units.old }
 {
@@ -151,7 +133,7 @@ fn breakpoint(place: Place, on: bool, units: &mut Vec<u32>)
 #[inline(never)]
 fn unit_place(unit: UnitNo, place: u16, units: &mut Vec<u32>)
     requires { vec_len units.old + 3 ≤ vec_capacity units.old }
-    ensures said { said units.new.items ≡ said units.old.items ++ old.At unit place ∷ [] }
+    ensures said { (a : Anchor) → said a units.new.items ≡ said a units.old.items ++ old.At unit place ∷ [] }
     ensures len { vec_len units.new ≤ vec_len units.old + 3 }
     ensures capacity { vec_capacity units.new ≡ vec_capacity units.old }
 {
@@ -162,7 +144,7 @@ fn unit_place(unit: UnitNo, place: u16, units: &mut Vec<u32>)
 #[inline(never)]
 fn unit_length(unit: UnitNo, length: u16, units: &mut Vec<u32>)
     requires { vec_len units.old + 3 ≤ vec_capacity units.old }
-    ensures said { said units.new.items ≡ said units.old.items ++ old.Len unit length ∷ [] }
+    ensures said { (a : Anchor) → said a units.new.items ≡ said a units.old.items ++ old.Len unit length ∷ [] }
     ensures len { vec_len units.new ≤ vec_len units.old + 3 }
     ensures capacity { vec_capacity units.new ≡ vec_capacity units.old }
 {
@@ -173,7 +155,7 @@ fn unit_length(unit: UnitNo, length: u16, units: &mut Vec<u32>)
 #[inline(never)]
 fn unit_item(unit: UnitNo, i: u16, j: u8, word: Word, units: &mut Vec<u32>)
     requires { vec_len units.old + 3 ≤ vec_capacity units.old }
-    ensures said { said units.new.items ≡ said units.old.items ++ old.Item unit i j word ∷ [] }
+    ensures said { (a : Anchor) → said a units.new.items ≡ said a units.old.items ++ old.Item unit i j word ∷ [] }
     ensures len { vec_len units.new ≤ vec_len units.old + 3 }
     ensures capacity { vec_capacity units.new ≡ vec_capacity units.old }
 {
@@ -190,7 +172,7 @@ fn unit_item(unit: UnitNo, i: u16, j: u8, word: Word, units: &mut Vec<u32>)
 #[inline(never)]
 fn unit_time(unit: UnitNo, time: Time, units: &mut Vec<u32>)
     requires { vec_len units.old + 3 ≤ vec_capacity units.old }
-    ensures said { said units.new.items ≡ said units.old.items ++ old.Until unit time ∷ [] }
+    ensures said { (a : Anchor) → said a units.new.items ≡ said a units.old.items ++ old.Until unit time ∷ [] }
     ensures len { vec_len units.new ≤ vec_len units.old + 3 }
     ensures capacity { vec_capacity units.new ≡ vec_capacity units.old }
 {
@@ -203,8 +185,8 @@ fn unit_time(unit: UnitNo, time: Time, units: &mut Vec<u32>)
 fn one(kind: Kind, payload: u32, units: &mut Vec<u32>)
     requires room { vec_len units.old + 3 ≤ vec_capacity units.old }
     requires payload { payload < 2 ^ 28 }
-    ensures said { (v : Old) → value_by kind payload (reverse units.old.items) ≡ Some (last_of v (reverse units.old.items)) →
-        said units.new.items ≡ said units.old.items ++ v ∷ [] }
+    ensures said { (a : Anchor) (v : Old) → value_by kind payload a (reverse units.old.items) ≡ Some (last_of v a (reverse units.old.items)) →
+        said a units.new.items ≡ said a units.old.items ++ v ∷ [] }
     ensures len { vec_len units.new ≡ vec_len units.old + 1 }
     ensures capacity { vec_capacity units.new ≡ vec_capacity units.old }
 {
@@ -216,8 +198,8 @@ fn one(kind: Kind, payload: u32, units: &mut Vec<u32>)
 fn two(kind: Kind, payload: u32, first: u32, units: &mut Vec<u32>)
     requires room { vec_len units.old + 3 ≤ vec_capacity units.old }
     requires payload { payload < 2 ^ 28 }
-    ensures said { (v : Old) → value_by kind payload (first ∷ reverse units.old.items) ≡ Some (last_of v (reverse units.old.items)) →
-        said units.new.items ≡ said units.old.items ++ v ∷ [] }
+    ensures said { (a : Anchor) (v : Old) → value_by kind payload a (first ∷ reverse units.old.items) ≡ Some (last_of v a (reverse units.old.items)) →
+        said a units.new.items ≡ said a units.old.items ++ v ∷ [] }
     ensures len { vec_len units.new ≡ vec_len units.old + 2 }
     ensures capacity { vec_capacity units.new ≡ vec_capacity units.old }
 {
@@ -230,8 +212,8 @@ fn two(kind: Kind, payload: u32, first: u32, units: &mut Vec<u32>)
 fn three(kind: Kind, payload: u32, first: u32, second: u32, units: &mut Vec<u32>)
     requires room { vec_len units.old + 3 ≤ vec_capacity units.old }
     requires payload { payload < 2 ^ 28 }
-    ensures said { (v : Old) → value_by kind payload (second ∷ first ∷ reverse units.old.items) ≡ Some (last_of v (reverse units.old.items)) →
-        said units.new.items ≡ said units.old.items ++ v ∷ [] }
+    ensures said { (a : Anchor) (v : Old) → value_by kind payload a (second ∷ first ∷ reverse units.old.items) ≡ Some (last_of v a (reverse units.old.items)) →
+        said a units.new.items ≡ said a units.old.items ++ v ∷ [] }
     ensures len { vec_len units.new ≡ vec_len units.old + 3 }
     ensures capacity { vec_capacity units.new ≡ vec_capacity units.old }
 {

@@ -1,17 +1,18 @@
 //! The kinds of packed values, and the headers that say them.
-ghost use Rattle.std.specs.Prelude.{◌≡◌, ◌<◌, ◌^◌};
+ghost use Rattle.std.specs.Prelude.{◌≡◌, ◌<◌, ◌^◌, ◌/◌, MatchOption};
 ghost use Rattle.mix_machine.specs.Pack.{header_of, kind_of};
 
-/// What a header says of its value: the location, the clock, a register, a row of cells, the overflow toggle, the comparison indicator, a
-/// breakpoint, or of an input-output unit its place, its length, a word of it or its time. A long clock is of 2^28 or more, a whole one of
-/// 2^60 or more, and a long register is one whose word takes more than 23 bits.
+/// What a header says of its values: the location, the clock, a register, a row of cells, the overflow toggle, the comparison indicator, a
+/// breakpoint, or of an input-output unit its place, its length, a word of it or its time. A long register is one whose word takes more than
+/// 23 bits. What a step keeps last is read by the anchor: a moment is its location and its time; a jump says rJ too, and a short step a
+/// register of few bits, at the place before and one or two u earlier. A whole moment says the clock itself, and the anchor before.
 #[derive(Clone, Copy)]
 pub(crate) enum Kind {
     Location,
     Clock,
     Register,
     Row,
-    LongClock,
+    Moment,
     LongRegister,
     Overflow,
     Comparison,
@@ -20,21 +21,24 @@ pub(crate) enum Kind {
     UnitLength,
     UnitItem,
     UnitTime,
-    WholeClock,
+    WholeMoment,
+    Jump,
+    Short,
 }
 
 impl Kind {
     /// The kind that a header says, if there is one of its number.
     #[inline(always)]
     pub(crate) fn of(header: u32) -> Option<Kind>
-        ensures { result ≡ kind_of header }
+        ensures is { result ≡ kind_of header }
+        ensures header { MatchOption result (Unit {0}) (λ kind. header ≡ header_of kind (header / 16)) }
     {
         match header % 16 {
             0 => Some(Kind::Location),
             1 => Some(Kind::Clock),
             2 => Some(Kind::Register),
             3 => Some(Kind::Row),
-            4 => Some(Kind::LongClock),
+            4 => Some(Kind::Moment),
             5 => Some(Kind::LongRegister),
             6 => Some(Kind::Overflow),
             7 => Some(Kind::Comparison),
@@ -43,7 +47,9 @@ impl Kind {
             10 => Some(Kind::UnitLength),
             11 => Some(Kind::UnitItem),
             12 => Some(Kind::UnitTime),
-            13 => Some(Kind::WholeClock),
+            13 => Some(Kind::WholeMoment),
+            14 => Some(Kind::Jump),
+            15 => Some(Kind::Short),
             _ => None,
         }
     }

@@ -4,58 +4,27 @@ ghost use Rattle.std.specs.Option.{option_map};
 ghost use Rattle.undo_core.specs.Pack.{unit_list};
 ghost use Rattle.mix_machine.specs.declared.old.Old.{Old};
 ghost use Rattle.mix_machine.specs.declared.pack.kind.Kind.TheVariants as kind;
-ghost use Rattle.mix_machine.specs.Pack.{kind_of, shorter_row, last_cell, value_by, last_of, last_value, in_three, seen, is_rare};
+ghost use Rattle.mix_machine.specs.Pack.{shorter_row, last_cell, value_by, last_of, last_value, seen, is_rare, whole_value};
 
 use crate::old::Old;
+use crate::pack::anchor::Anchor;
 use crate::pack::kind::Kind;
+use crate::pack::last::{alone, last_two, with_more};
 use crate::pack::parts::{breakpoint, comparison, long, register, short, time, unit_of};
+use crate::pack::step::{before_jump, before_moment, before_short, wide_bits};
+use crate::time::Time;
 use mix_word::Place;
 use undo_core::Last;
 
 /// Takes off the last value of units, before their header, if there is one.
-#[inline(always)]
-pub(crate) fn take_before(header: u32, units: &mut Vec<u32>) -> Option<Old>
+pub(crate) fn take_before(header: u32, units: &mut Vec<u32>, anchor: &mut Anchor) -> Option<Old>
     requires { vec_len units.old < vec_capacity units.old }
-    ensures { MatchOption result (last_value (header ∷ reverse units.old.items) ≡ None)
-        (λ value. last_value (header ∷ reverse units.old.items) ≡ Some (last_of value (reverse units.new.items))) }
+    ensures { MatchOption result (last_value anchor.old (header ∷ reverse units.old.items) ≡ None)
+        (λ value. last_value anchor.old (header ∷ reverse units.old.items) ≡ Some (last_of value anchor.new (reverse units.new.items))) }
 {
-    let payload = header / 16;
-    match Kind::of(header) {
-        // the most frequent ones, of which all but a cell leave the units before their header
-        Some(Kind::Location) => Some(Old::Loc((payload % 65536) as u16)),
-        Some(Kind::Clock) => Some(Old::Clock(time(payload, 0))),
-        Some(Kind::Register) => register(payload % 16, short(payload / 16)),
-        Some(Kind::Row) => take_cell(payload, units),
-        _ => take_rare(header, units),
-    }
-}
-
-// The last cell of a row.
-#[inline(always)]
-fn take_cell(payload: u32, units: &mut Vec<u32>) -> Option<Old>
-    requires payload { payload < 2 ^ 28 }
-    requires room { vec_len units.old < vec_capacity units.old }
-    ensures { MatchOption result (last_cell payload (reverse units.old.items) ≡ None)
-        (λ value. last_cell payload (reverse units.old.items) ≡ Some (last_of value (reverse units.new.items))) }
-{
-    let bits = units.pop()?;
-    let place = Place::of((payload % 4096) as u16)?;
-    if let Some(header) = shorter(payload) {
-        units.push_reserved(header);
-    }
-    Some(Old::Cell(place, long(bits)))
-}
-
-// The same of the other kinds.
-#[inline(never)]
-fn take_rare(header: u32, units: &mut Vec<u32>) -> Option<Old>
-    requires rare { MatchOption (kind_of header) (Unit {0}) (λ kind. IsTrue (is_rare kind)) }
-    requires room { vec_len units.old < vec_capacity units.old }
-    ensures { MatchOption result (last_value (header ∷ reverse units.old.items) ≡ None)
-        (λ value. last_value (header ∷ reverse units.old.items) ≡ Some (last_of value (reverse units.new.items))) }
-{
-    let last = rare(Kind::of(header)?, header / 16, units)?;
+    let last = last_before(header, units, *anchor)?;
     leave(units, last.left, last.more);
+    *anchor = last.anchor;
     Some(last.value)
 }
 
@@ -73,79 +42,154 @@ fn leave(units: &mut Vec<u32>, left: usize, more: Option<u32>)
 
 /// The last value of units that end in a header, and what is left before it.
 #[inline(always)]
-pub(crate) fn last_before(header: u32, before: &[u32]) -> Option<Last<Old>>
-    ensures is { option_map (seen before.now) result ≡ last_value (header ∷ reverse before.now) }
+pub(crate) fn last_before(header: u32, before: &[u32], anchor: Anchor) -> Option<Last<Old, Anchor>>
+    ensures is { option_map (seen before.now) result ≡ last_value anchor (header ∷ reverse before.now) }
     ensures within { IfSome result (λ last. last.left ≤ length before.now) }
 {
     let payload = header / 16;
     match Kind::of(header)? {
         // the most frequent ones first
-        Kind::Location => Some(alone(Old::Loc((payload % 65536) as u16), before)),
-        Kind::Clock => Some(alone(Old::Clock(time(payload, 0)), before)),
-        Kind::Register => Some(alone(register(payload % 16, short(payload / 16))?, before)),
-        Kind::Row => cell(payload, before),
-        kind => rare(kind, payload, before),
+        Kind::Location => Some(alone(Old::Loc((payload % 65536) as u16), before, anchor)),
+        Kind::Register => Some(alone(register(payload % 16, short(payload / 16))?, before, anchor)),
+        Kind::Row => cell(payload, before, anchor),
+        Kind::Moment => Some(moment(payload, before, anchor)),
+        Kind::Jump => Some(jump(payload, before, anchor)),
+        Kind::Short => Some(short_step(payload, before, anchor)),
+        kind => rare(kind, payload, before, anchor),
     }
+}
+
+// The clock of a moment: its location is left.
+#[inline(always)]
+fn moment(payload: u32, before: &[u32], anchor: Anchor) -> Last<Old, Anchor>
+    requires { payload < 2 ^ 28 }
+    ensures is { Some (seen before.now result) ≡ value_by kind.Moment payload anchor (reverse before.now) }
+    ensures left { result.left ≡ length before.now }
+{
+    let earlier = before_moment(payload, anchor);
+    with_more(
+        Old::Clock(Time::of(earlier.clock)),
+        before,
+        Kind::Location.header(u32::from(earlier.loc)),
+        earlier,
+    )
+}
+
+// The clock of a jump, or its location: what else it says is left.
+fn jump(payload: u32, before: &[u32], anchor: Anchor) -> Last<Old, Anchor>
+    requires { payload < 2 ^ 28 }
+    ensures is { Some (seen before.now result) ≡ value_by kind.Jump payload anchor (reverse before.now) }
+    ensures left { result.left ≡ length before.now }
+{
+    let earlier = before_jump(payload, anchor);
+    if payload % 2 == 0 {
+        let value = Old::Clock(Time::of(earlier.clock));
+        return with_more(value, before, Kind::Jump.header(payload + 1), earlier);
+    }
+    let bits = wide_bits(4096, payload / 8192);
+    with_more(
+        Old::Loc(earlier.loc),
+        before,
+        Kind::Register.header(bits * 16 + 8),
+        anchor,
+    )
+}
+
+// The clock of a short step, or its location: what else it says is left.
+fn short_step(payload: u32, before: &[u32], anchor: Anchor) -> Last<Old, Anchor>
+    requires { payload < 2 ^ 28 }
+    ensures is { Some (seen before.now result) ≡ value_by kind.Short payload anchor (reverse before.now) }
+    ensures left { result.left ≡ length before.now }
+{
+    if payload / 16 % 2 == 0 {
+        let earlier = before_short(payload, anchor);
+        let value = Old::Clock(Time::of(earlier.clock));
+        return with_more(value, before, Kind::Short.header(payload + 16), earlier);
+    }
+    let bits = wide_bits(0x40_0000, payload / 32);
+    with_more(
+        Old::Loc(anchor.loc),
+        before,
+        Kind::Register.header(bits * 16 + payload % 8),
+        anchor,
+    )
 }
 
 // The same of the other kinds.
 #[inline(never)]
-fn rare(kind: Kind, payload: u32, before: &[u32]) -> Option<Last<Old>>
+fn rare(kind: Kind, payload: u32, before: &[u32], anchor: Anchor) -> Option<Last<Old, Anchor>>
     requires rare { IsTrue (is_rare kind) }
     requires payload { payload < 2 ^ 28 }
-    ensures is { option_map (seen before.now) result ≡ value_by kind payload (reverse before.now) }
+    ensures is { option_map (seen before.now) result ≡ value_by kind payload anchor (reverse before.now) }
     ensures within { IfSome result (λ last. last.left ≤ length before.now) }
 {
     match kind {
-        Kind::Location | Kind::Clock | Kind::Register | Kind::Row => unreachable!(),
-        Kind::LongClock => {
-            let (low, rest) = before.split_last()?;
-            Some(alone(Old::Clock(time(*low, payload)), rest))
-        }
+        Kind::Location | Kind::Register | Kind::Row | Kind::Moment | Kind::Jump | Kind::Short =>
+            unreachable!(),
         Kind::LongRegister => {
             let (bits, rest) = before.split_last()?;
-            Some(alone(register(payload, long(*bits))?, rest))
+            Some(alone(register(payload, long(*bits))?, rest, anchor))
         }
-        Kind::Overflow => Some(alone(Old::Over(payload == 1), before)),
-        Kind::Comparison => Some(alone(Old::Cmp(comparison(payload)), before)),
-        Kind::Breakpoint => Some(alone(breakpoint(payload)?, before)),
+        Kind::Overflow => Some(alone(Old::Over(payload == 1), before, anchor)),
+        Kind::Comparison => Some(alone(Old::Cmp(comparison(payload)), before, anchor)),
+        Kind::Breakpoint => Some(alone(breakpoint(payload)?, before, anchor)),
         Kind::UnitPlace => {
             let unit = unit_of(payload / 65536)?;
-            Some(alone(Old::At(unit, (payload % 65536) as u16), before))
+            Some(alone(Old::At(unit, (payload % 65536) as u16), before, anchor))
         }
         Kind::UnitLength => {
             let unit = unit_of(payload / 65536)?;
-            Some(alone(Old::Len(unit, (payload % 65536) as u16), before))
+            Some(alone(Old::Len(unit, (payload % 65536) as u16), before, anchor))
         }
-        Kind::UnitItem => item(payload, before),
+        Kind::UnitItem => item(payload, before, anchor),
         Kind::UnitTime => {
             let (low, high, rest) = last_two(before)?;
             let unit = unit_of(payload)?;
-            Some(alone(Old::Until(unit, time(low, high)), rest))
+            Some(alone(Old::Until(unit, time(low, high)), rest, anchor))
         }
-        Kind::WholeClock => {
+        Kind::Clock => {
             let (low, high, rest) = last_two(before)?;
-            Some(alone(Old::Clock(time(low, high)), rest))
+            Some(alone(Old::Clock(time(low, high)), rest, anchor))
         }
+        Kind::WholeMoment => whole(payload, before),
     }
 }
 
-fn item(payload: u32, before: &[u32]) -> Option<Last<Old>>
+// The clock of a whole moment: its location is left.
+fn whole(payload: u32, before: &[u32]) -> Option<Last<Old, Anchor>>
     requires { payload < 2 ^ 28 }
-    ensures is { option_map (seen before.now) result ≡ value_by kind.UnitItem payload (reverse before.now) }
+    ensures is { option_map (seen before.now) result ≡ whole_value payload (reverse before.now) }
+    ensures within { IfSome result (λ last. last.left ≤ length before.now) }
+{
+    let (low, high, rest) = last_two(before)?;
+    let (anchor_low, anchor_high, rest) = last_two(rest)?;
+    let clock = time(anchor_low, anchor_high).number();
+    let loc = (payload / 4096) as u16;
+    let header = Kind::Location.header(payload % 4096);
+    Some(with_more(
+        Old::Clock(time(low, high)),
+        rest,
+        header,
+        Anchor { loc, clock },
+    ))
+}
+
+fn item(payload: u32, before: &[u32], anchor: Anchor) -> Option<Last<Old, Anchor>>
+    requires { payload < 2 ^ 28 }
+    ensures is { option_map (seen before.now) result ≡ value_by kind.UnitItem payload anchor (reverse before.now) }
     ensures within { IfSome result (λ last. last.left ≤ length before.now) }
 {
     let (bits, block, rest) = last_two(before)?;
     let unit = unit_of(payload / 256)?;
     let (i, j) = ((block % 65536) as u16, (payload % 256) as u8);
-    Some(alone(Old::Item(unit, i, j, long(bits)), rest))
+    Some(alone(Old::Item(unit, i, j, long(bits)), rest, anchor))
 }
 
 // The last cell of a row.
 #[inline(always)]
-fn cell(payload: u32, before: &[u32]) -> Option<Last<Old>>
+fn cell(payload: u32, before: &[u32], anchor: Anchor) -> Option<Last<Old, Anchor>>
     requires { payload < 2 ^ 28 }
-    ensures is { option_map (seen before.now) result ≡ last_cell payload (reverse before.now) }
+    ensures is { option_map (seen before.now) result ≡ last_cell payload anchor (reverse before.now) }
     ensures within { IfSome result (λ last. last.left ≤ length before.now) }
 {
     let (bits, rest) = before.split_last()?;
@@ -154,6 +198,7 @@ fn cell(payload: u32, before: &[u32]) -> Option<Last<Old>>
         value: Old::Cell(place, long(*bits)),
         left: rest.len(),
         more: shorter(payload),
+        anchor,
     })
 }
 
@@ -168,29 +213,4 @@ fn shorter(payload: u32) -> Option<u32>
     } else {
         Some(Kind::Row.header(payload - 4097))
     }
-}
-
-// A value with all of these units left.
-#[inline(always)]
-fn alone(value: Old, rest: &[u32]) -> Last<Old>
-    ensures value { result.value ≡ value }
-    ensures left { result.left ≡ length rest.now }
-    ensures more { result.more ≡ None }
-{
-    Last {
-        value,
-        left: rest.len(),
-        more: None,
-    }
-}
-
-// The last two units, and those before them.
-#[inline(always)]
-pub(crate) fn last_two(units: &[u32]) -> Option<(u32, u32, &[u32])>
-    ensures none { (says : ℕ → ℕ → Option Old) → MatchOption result (in_three says (reverse units.now) ≡ None) (λ _. Unit {0}) }
-    ensures some { MatchOption result (Unit {0}) (λ r. units.now ≡ (r.2.now ++ r.0 ∷ []) ++ r.1 ∷ []) }
-{
-    let (last, rest) = units.split_last()?;
-    let (first, rest) = rest.split_last()?;
-    Some((*first, *last, rest))
 }

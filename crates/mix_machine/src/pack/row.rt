@@ -1,5 +1,6 @@
 //! Cells that stand one after the other, packed as one row.
 ghost use Rattle.std.specs.Prelude.{◌≡◌, ◌+◌, ◌*◌, ◌≤◌, ◌++◌, length, vec_len, vec_capacity, MatchOption};
+ghost use Rattle.mix_machine.specs.declared.pack.anchor.Anchor.{Anchor};
 ghost use Rattle.mix_machine.specs.Pack.{said};
 ghost use Rattle.mix_machine.specs.Cells.{cell_values, IsRow};
 
@@ -13,7 +14,7 @@ use std::mem;
 pub(crate) fn append_row(place: u16, words: &[Word], units: &mut Vec<u32>)
     requires cells { place + length words.now ≤ 4000 }
     requires room { vec_len units.old + 3 * length words.now ≤ vec_capacity units.old }
-    ensures said { said units.new.items ≡ said units.old.items ++ cell_values place words.now }
+    ensures said { (a : Anchor) → said a units.new.items ≡ said a units.old.items ++ cell_values place words.now }
     ensures len { vec_len units.new ≤ vec_len units.old + 3 * length words.now }
     ensures capacity { vec_capacity units.new ≡ vec_capacity units.old }
 {

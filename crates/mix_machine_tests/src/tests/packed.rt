@@ -68,9 +68,9 @@ fn is_kept(units: &mut Vec<u32>, value: &Old, count: usize) -> bool {
     let (before, header) = (&units[..count], units[count]);
     is_last(units, None, value)
         && is_last(before, Some(header), value)
-        && is_value(&Old::take(units), value)
-        && is_value(&Old::take(units), &Old::Loc(77))
-        && Old::take(units).is_none()
+        && is_value(&taken(units), value)
+        && is_value(&taken(units), &Old::Loc(77))
+        && taken(units).is_none()
 }
 
 // The value after another one, if there is memory for them.
@@ -85,8 +85,14 @@ fn is_appended(units: &mut Vec<u32>, value: &Old) -> bool {
     true
 }
 
+// The last value taken off, which leaves the anchor as it is.
+fn taken(units: &mut Vec<u32>) -> Option<Old> {
+    let mut anchor = Old::anchor();
+    Old::take(units, &mut anchor)
+}
+
 fn is_last(units: &[u32], more: Option<u32>, value: &Old) -> bool {
-    match Old::last(units, more) {
+    match Old::last(units, more, Old::anchor()) {
         Some(last) => last.value == *value && last.left == 1 && last.more.is_none(),
         None => false,
     }
@@ -143,7 +149,7 @@ fn cell(first: u32, number: u32) -> Option<Old> {
 fn are_read(units: &[u32], first: u32, count: u32) -> Option<bool> {
     let (mut left, mut more) = (units.len(), None);
     for back in 0..count {
-        let last = Old::last(units.get(..left)?, more)?;
+        let last = Old::last(units.get(..left)?, more, Old::anchor())?;
         if last.value != cell(first, count - 1 - back)? {
             return Some(false);
         }
@@ -156,7 +162,7 @@ fn are_read(units: &[u32], first: u32, count: u32) -> Option<bool> {
 // Whether the cells are taken off from the last one backwards.
 fn are_taken(units: &mut Vec<u32>, first: u32, count: u32) -> Option<bool> {
     for back in 0..count {
-        if Old::take(units)? != cell(first, count - 1 - back)? {
+        if taken(units)? != cell(first, count - 1 - back)? {
             return Some(false);
         }
     }
@@ -177,7 +183,7 @@ pub fn are_mixed_packed(alloc: Global, values: &str, back: &str, taken: usize) -
 
 fn are_mixed_taken(units: &mut Vec<u32>, back: &str) -> Option<bool> {
     for text in back.split(' ') {
-        if Old::take(units)? != cell_or_location(text)? {
+        if taken(units)? != cell_or_location(text)? {
             return Some(false);
         }
     }
@@ -197,5 +203,5 @@ pub fn is_no_value(alloc: Global, row: &str) -> Option<bool> {
     for number in row.split_whitespace() {
         units.push(number.parse::<u32>().ok()?).ok()?;
     }
-    Some(Old::last(&units, None).is_none() && Old::take(&mut units).is_none())
+    Some(Old::last(&units, None, Old::anchor()).is_none() && taken(&mut units).is_none())
 }

@@ -6,13 +6,13 @@ loc=0 1
 loc=1 1
 loc=4000 1
 loc=65535 1
-clock=0 1
-clock=1 1
-clock=268435455 1
-clock=268435456 2
-clock=4294967295 2
-clock=4294967296 2
-clock=1152921504606846975 2
+clock=0 3
+clock=1 3
+clock=268435455 3
+clock=268435456 3
+clock=4294967295 3
+clock=4294967296 3
+clock=1152921504606846975 3
 clock=1152921504606846976 3
 clock=18446744073709551615 3
 over=off 1
@@ -98,18 +98,17 @@ pub const PLACES: &str = "5 6 6 5 loc 6 7 9";
 /// The same backwards.
 pub const BACK: &str = "9 7 6 loc 5 6 6 5";
 
-/// Units that end in no value: none, a number of no kind, too few units, or a number out of its range.
+/// Units that end in no value: none, too few units, or a number out of its range.
 pub const NONE: &str = "\
 
-14
-15
-4294967295
+1
+7 1
 3
-4
 5
 7 11
 7 12
 7 13
+7 7 7 13
 146
 0 64003
 22020105

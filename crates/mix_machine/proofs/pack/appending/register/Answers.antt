@@ -6,7 +6,7 @@ use Rattle.mix_machine.proofs.pack.appending.register.Goals as goal
 
 pub returns-then-magnitude-lt8388608-clause-said : goal.returns-then-magnitude-lt8388608-clause-said
 returns-then-magnitude-lt8388608-clause-said c =
-    c.one.ensures.said (old.Reg c.args.reg c.args.word)
-    (register-header c.from-number.result c.short_bits.result c.args.reg c.args.word (reverse c.args.units.now.items)
+    λ a. c.one.ensures.said a (old.Reg c.args.reg c.args.word)
+    (register-header c.from-number.result c.short_bits.result c.args.reg c.args.word a (reverse c.args.units.now.items)
     (omega (arith, c.from-number.ensures, c.number.ensures.bound))
     (ap (slice_get all_registers) c.from-number.ensures ∙ c.number.ensures.listed) c.short_bits.ensures.is)

@@ -23,4 +23,4 @@ returns-clause-said c =
       is = c.header.ensures ∙ ap (λ p. header_of kind.Row (length words * 4096 + (p + length words - 1))) c.from.ensures;
       cells = c.requires.cells;
     } in
-    ap said c.push_reserved-2.ensures.items ∙ row-appended units now words c.header.result c.args.place (length words) row refl before after
+    λ a. ap (said a) c.push_reserved-2.ensures.items ∙ row-appended units now words c.header.result c.args.place (length words) a row refl before after

@@ -6,22 +6,22 @@ use Rattle.mix_machine.specs.Write.{put_value}
 use Rattle.mix_machine.specs.declared.old.Old.{Old}
 use Rattle.mix_machine.proofs.undo.WorldUndo.restore_some.Goals as goal
 
-pub restore_by-requires-clause-some : goal.restore_by-requires-clause-some
-restore_by-requires-clause-some c =
-    let same = ap length (ap said c.in-Some-pop.ensures.items) in
-    omega (arith, c.requires.some, c.requires.within, same)
+pub restore_by-requires-clause-within : goal.restore_by-requires-clause-within
+restore_by-requires-clause-within c =
+    let same = ap length (ap (said c.args.anchor.now) c.in-Some.ensures.items) in
+    omega (arith, c.requires.within, same)
 
 pub restore_by-requires-clause-fits : goal.restore_by-requires-clause-fits
 restore_by-requires-clause-fits c =
-    subst (λ (vs : List Old). IsSome (put_back put_value (drop (length vs - 1) vs) c.args.self.now)) (ap said c.in-Some-pop.ensures.items) c.requires.fits
+    subst (λ (vs : List Old). IsSome (put_back put_value (drop (length vs - c.args.most) vs) c.args.self.now)) (ap (said c.args.anchor.now) c.in-Some.ensures.items) c.requires.fits
 
 pub returns-clause-back : goal.returns-clause-back
 returns-clause-back c =
     let n = c.restore_by.result in
-    subst (λ (vs : List Old). put_back put_value (drop (length vs - n) vs) c.args.self.now ≡ Some c.restore_by.new.self) (sym (ap said c.in-Some-pop.ensures.items))
-    c.restore_by.ensures.restored.back
+    subst (λ (vs : List Old). put_back put_value (drop (length vs - n) vs) c.args.self.now ≡ Some c.restore_by.new.self)
+    (sym (ap (said c.args.anchor.now) c.in-Some.ensures.items)) c.restore_by.ensures.restored.back
 
 pub returns-clause-cut : goal.returns-clause-cut
 returns-clause-cut c =
     let n = c.restore_by.result in
-    c.restore_by.ensures.restored.cut ∙ ap (λ (vs : List Old). take (length vs - n) vs) (sym (ap said c.in-Some-pop.ensures.items))
+    c.restore_by.ensures.restored.cut ∙ ap (λ (vs : List Old). take (length vs - n) vs) (sym (ap (said c.args.anchor.now) c.in-Some.ensures.items))

@@ -27,6 +27,6 @@ returns c =
     let len = c.put_words.ensures.len ∙ ap length c.deref_mut.ensures.value ∙ sym cells.ok.0 in
     let same = ap (λ (s : WorldState). s.cells) c.self.view_is in
     let all = with_items_is cells now len ∙ words ∙ ap (λ (cs : List WordValue). with_words cs place (words_of (drop n units))) same in
-    row-restored c.args.header place c.args.count units c.truncate.new.self.items w _ c.requires.row within
+    row-restored c.args.header place c.args.count c.args.anchor units c.truncate.new.self.items w _ c.requires.row within
     (c.truncate.ensures.items ∙ ap (λ k. take k units) at)
     (same-cells (view_of c.self.inside) w (with_items cells now).items (with_words w.cells place (words_of (drop n units))) c.self.view_is all)
