@@ -58,6 +58,10 @@ FORTH = os.path.join(os.path.dirname(os.path.dirname(os.path.abspath(__file__)))
 
 VIEWED = "A EQU 100\n ENTA 5\n INCA 7\n STA A\n HLT\n END 0\n"
 CARDS = "FIRST\n SECOND\n"
+# Words as the views show them: 12, 5 and 0.
+TWELVE = '{"characters":"    K","number":"12","word":"+ 00 00 00 00 12"}'
+FIVE = '{"characters":"    E","number":"5","word":"+ 00 00 00 00 05"}'
+ZERO = '{"characters":"     ","number":"0","word":"+ 00 00 00 00 00"}'
 # A request by its name and its arguments, and a part of what answers it.
 VIEWS = [
     ("mix/program", {}, '"rows":[{"cell":0,"instruction":true,"line":2},{"cell":1,"instruction":true,"line":3},'),
@@ -71,6 +75,20 @@ VIEWS = [
     ("mix/state", {"nonzero": True}, '"registers":[{"characters":"    K","name":"A","number":"12","word":"+ 00 00 00 00 12"}'),
     ("mix/counts", {}, '{"cell":2,"count":"1","time":"2"}],"count":"3","time":"4"'),
     ("mix/change", {"number": 2}, '"items":[{"after":"+ 00 00 00 00 12","before":"+ 00 00 00 00 05","part":"A"}],"location":1,"number":2,"text":"INCA 7","time":"1"'),
+    # where the changes were done: each in a column, two in the first of two, and of a range that ends behind the last
+    ("mix/path", {"columns": 3}, '"body":{"columns":[{"cells":[{"cell":0,"count":1}]},{"cells":[{"cell":1,"count":1}]},{"cells":[{"cell":2,"count":1}]}],"from":0,"until":3}'),
+    ("mix/path", {"columns": 2}, '"columns":[{"cells":[{"cell":0,"count":1},{"cell":1,"count":1}]},{"cells":[{"cell":2,"count":1}]}]'),
+    ("mix/path", {"columns": 2, "from": 1, "until": 5}, '"columns":[{"cells":[{"cell":1,"count":1},{"cell":2,"count":1}]},{"cells":[]}],"from":1,"until":5'),
+    ("mix/path", {"columns": 1, "from": 3, "until": 3}, '"columns":[{"cells":[]}],"from":3,"until":3'), ("mix/path", {"columns": 0}, '"columns":[],"from":0,"until":3'),
+    ("mix/path", {"columns": 501}, '"id":302'), ("mix/path", {}, '"id":302'), ("mix/path", {"columns": "3"}, '"id":302'),
+    # what was written: both words of rA, the last one first; of the first change alone; a cell; the clock and the location, which no condition names alone; a toggle that stays; no part, and a place
+    ("mix/writes", {"part": "A"}, '"body":{"writes":[{"after":%s,"before":%s,"number":2},{"after":%s,"before":%s,"number":1}]}' % (TWELVE, FIVE, FIVE, ZERO)),
+    ("mix/writes", {"part": "A", "until": 1}, '"body":{"writes":[{"after":%s,"before":%s,"number":1}]}' % (FIVE, ZERO)),
+    ("mix/writes", {"part": "A", "count": 1, "until": 9}, '"body":{"writes":[{"after":%s,"before":%s,"number":2}]}' % (TWELVE, FIVE)),
+    ("mix/writes", {"part": "cell A"}, '"body":{"writes":[{"after":%s,"before":%s,"number":3}]}' % (TWELVE, ZERO)),
+    ("mix/writes", {"part": "clock", "count": 2}, '"id":306'), ("mix/writes", {"part": "loc", "until": 1}, '"id":306'),
+    ("mix/writes", {"part": "over"}, '"body":{"writes":[]}'), ("mix/writes", {"part": "A", "count": 0}, '"body":{"writes":[]}'),
+    ("mix/writes", {"part": "B"}, '"id":306'), ("mix/writes", {"part": "loc A"}, '"id":306'), ("mix/writes", {}, '"id":302'), ("mix/writes", {"part": "A", "count": 1001}, '"id":302'),
     ("mix/change", {"number": 4}, '"id":306'), ("mix/change", {}, '"id":302'), ("mix/state", {"cells": [[2, 1]]}, '"id":302'),
     ("mix/state", {"cells": [[0, 4000]]}, '"id":306'), ("mix/units", {"unit": 21}, '"id":306'),
     ("mix/check", {"source": " JUMP 0\n"}, '"body":{"diagnostics":[{"code":"A2","column":2,"endColumn":6,"line":1,"severity":"error","text":"'),

@@ -42,9 +42,11 @@ command_name command.Terminate = codes "terminate"
 command_name command.Cancel = codes "cancel"
 command_name command.ViewProgram = codes "mix/program"
 command_name command.ViewCounts = codes "mix/counts"
+command_name command.ViewPath = codes "mix/path"
 command_name command.ViewState = codes "mix/state"
 command_name command.ViewUnits = codes "mix/units"
 command_name command.ViewChange = codes "mix/change"
+command_name command.ViewWrites = codes "mix/writes"
 command_name command.ViewCheck = codes "mix/check"
 
 abbrev pub all_commands : List Command
@@ -55,8 +57,8 @@ all_commands =
     command.ExceptionInfo ∷ command.Continue ∷ command.Next ∷ command.StepIn ∷ command.StepOut ∷
     command.StepBack ∷ command.ReverseContinue ∷ command.Pause ∷ command.Goto ∷ command.GotoTargets ∷
     command.ReadMemory ∷ command.WriteMemory ∷ command.Disassemble ∷ command.Restart ∷ command.Disconnect ∷
-    command.Terminate ∷ command.Cancel ∷ command.ViewProgram ∷ command.ViewCounts ∷ command.ViewState ∷
-    command.ViewUnits ∷ command.ViewChange ∷ command.ViewCheck ∷ []
+    command.Terminate ∷ command.Cancel ∷ command.ViewProgram ∷ command.ViewCounts ∷ command.ViewPath ∷ command.ViewState ∷
+    command.ViewUnits ∷ command.ViewChange ∷ command.ViewWrites ∷ command.ViewCheck ∷ []
 
 -- the command of a name, letter for letter
 unfoldable pub command_named : List ℕ → Option Command

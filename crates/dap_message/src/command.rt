@@ -45,9 +45,11 @@ pub enum Command {
     Cancel,
     ViewProgram,
     ViewCounts,
+    ViewPath,
     ViewState,
     ViewUnits,
     ViewChange,
+    ViewWrites,
     ViewCheck,
 }
 
@@ -94,9 +96,11 @@ impl Command {
             Command::Cancel => "cancel",
             Command::ViewProgram => "mix/program",
             Command::ViewCounts => "mix/counts",
+            Command::ViewPath => "mix/path",
             Command::ViewState => "mix/state",
             Command::ViewUnits => "mix/units",
             Command::ViewChange => "mix/change",
+            Command::ViewWrites => "mix/writes",
             Command::ViewCheck => "mix/check",
         }
     }
@@ -113,8 +117,8 @@ impl Command {
             Command::ExceptionInfo, Command::Continue, Command::Next, Command::StepIn, Command::StepOut,
             Command::StepBack, Command::ReverseContinue, Command::Pause, Command::Goto, Command::GotoTargets,
             Command::ReadMemory, Command::WriteMemory, Command::Disassemble, Command::Restart, Command::Disconnect,
-            Command::Terminate, Command::Cancel, Command::ViewProgram, Command::ViewCounts, Command::ViewState,
-            Command::ViewUnits, Command::ViewChange, Command::ViewCheck,
+            Command::Terminate, Command::Cancel, Command::ViewProgram, Command::ViewCounts, Command::ViewPath, Command::ViewState,
+            Command::ViewUnits, Command::ViewChange, Command::ViewWrites, Command::ViewCheck,
         ]
     }
 

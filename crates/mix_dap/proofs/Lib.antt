@@ -14,6 +14,7 @@ pub mod LegLemmas
 pub mod ListLemmas
 pub mod LocationLemmas
 pub mod MemoryLemmas
+pub mod PathLemmas
 pub mod PointLemmas
 pub mod PrintLemmas
 pub mod ReferenceLemmas

@@ -23,12 +23,14 @@ use Rattle.mix_dap.specs.Look.{short_name, threads, stack_trace, scopes, excepti
 use Rattle.mix_dap.specs.Memory.{memory_asked}
 use Rattle.mix_dap.specs.Disassembly.{disassembly_asked}
 use Rattle.mix_dap.specs.Targets.{targets_asked}
+use Rattle.mix_dap.specs.Path.{path_asked}
 use Rattle.mix_dap.specs.Points.{no_points, points_told}
 use Rattle.mix_dap.specs.Program.{program_shown}
 use Rattle.mix_dap.specs.Units.{units_asked}
 use Rattle.mix_dap.specs.Value.{value_asked, worth_asked}
 use Rattle.mix_dap.specs.Variables.{variables_of}
 use Rattle.mix_dap.specs.Watch.{watch_asked}
+use Rattle.mix_dap.specs.Writes.{writes_asked}
 use Rattle.mix_dap.specs.Written.{write_shown}
 use Rattle.mix_dap.specs.declared.adapter.Adapter.{Adapter}
 use Rattle.mix_dap.specs.declared.deed.Deed.{Deed}
@@ -57,9 +59,11 @@ shown_of look.Locations r a = locations_asked a.session.program (string_bytes a.
 shown_of look.Completions r a = completions_asked a.session a.client.first_column r
 shown_of look.Program r a = Ok (program_shown a.session.program)
 shown_of look.Counts r a = Ok (counts_shown a.session)
+shown_of look.Path r a = path_asked a.session r
 shown_of look.State r a = state_asked a.session r
 shown_of look.Units r a = units_asked (world_of a.session.timeline) r
 shown_of look.Change r a = change_asked a.session r
+shown_of look.Writes r a = writes_asked a.session r
 
 -- a run of all threads goes on
 abbrev pub continued : Data

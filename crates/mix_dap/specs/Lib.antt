@@ -23,6 +23,7 @@ pub mod Locations
 pub mod Look
 pub mod Memory
 pub mod Output
+pub mod Path
 pub mod Points
 pub mod Prints
 pub mod Program
@@ -41,4 +42,5 @@ pub mod Value
 pub mod Variables
 pub mod View
 pub mod Watch
+pub mod Writes
 pub mod Written

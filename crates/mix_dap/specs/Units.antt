@@ -16,7 +16,7 @@ use Rattle.dap_message.specs.Request.{argument_of, number_of}
 use Rattle.dap_message.specs.declared.request.Request.{Request}
 use Rattle.mix_dap.specs.List.{numbered, list_alone}
 use Rattle.mix_dap.specs.Value.{row_characters}
-use Rattle.mix_dap.specs.View.{put_digits, put_word}
+use Rattle.mix_dap.specs.View.{put_digits, word_shown}
 use Rattle.mix_dap.specs.declared.fault.Fault.{Fault}
 use Rattle.mix_dap.specs.declared.fault.Fault.TheVariants as fault
 
@@ -96,9 +96,6 @@ abbrev pub unit_if_used : WorldState → ℕ → List Data
 unit_if_used w n = if was_used (unit_at w n) then object (unit_members w n) ∷ [] else []
 
 -- a block that is asked for, as words
-abbrev pub word_shown : WordValue → Data
-word_shown word = object (put_word word no_members)
-
 abbrev pub block_asked : UnitState → Request → Result (List WordValue) Fault
 block_asked u r = ok_or (option_and_then (slice_get u.blocks) (number_of r (codes "block"))) fault.NoSuchThing
 

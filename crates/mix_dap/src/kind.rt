@@ -63,12 +63,16 @@ pub(crate) enum Look {
     Program,
     /// How often each instruction was executed.
     Counts,
+    /// Where the instructions were executed in the course of the changes.
+    Path,
     /// The machine as it is.
     State,
     /// The units.
     Units,
     /// A change by its number.
     Change,
+    /// The changes that altered a part.
+    Writes,
 }
 
 /// What breakpoints are set on.
@@ -129,9 +133,11 @@ impl Kind {
             Command::Completions => Kind::Look(Look::Completions),
             Command::ViewProgram => Kind::Look(Look::Program),
             Command::ViewCounts => Kind::Look(Look::Counts),
+            Command::ViewPath => Kind::Look(Look::Path),
             Command::ViewState => Kind::Look(Look::State),
             Command::ViewUnits => Kind::Look(Look::Units),
             Command::ViewChange => Kind::Look(Look::Change),
+            Command::ViewWrites => Kind::Look(Look::Writes),
             Command::ViewCheck => Kind::Check,
             Command::SetBreakpoints => Kind::Points(Target::Lines),
             Command::SetInstructionBreakpoints => Kind::Points(Target::Instructions),

@@ -11,9 +11,11 @@ mod asked;
 mod change;
 mod check;
 mod counts;
+mod path;
 mod program;
 mod state;
 mod units;
+mod writes;
 
 pub(crate) use change::change_view;
 pub(crate) use check::tell_check;
@@ -23,11 +25,13 @@ use mix_machine::Word;
 use mix_refused::Memory;
 use mix_session::{Altered, Letters};
 use mix_word::Number;
+pub(crate) use path::path_view;
 pub(crate) use program::program_view;
 use serde_json::Value;
 pub(crate) use state::state_view;
 use std::alloc::Global;
 pub(crate) use units::units_view;
+pub(crate) use writes::writes_view;
 
 // A number that may be greater than what a page counts exactly, in decimal digits.
 fn put_digits(alloc: Global, fields: &mut Fields, name: &str, number: u128) -> Result<(), Memory>

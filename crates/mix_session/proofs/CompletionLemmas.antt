@@ -1,7 +1,7 @@
 -- How a blank cuts a line.
 use Rattle.std.proofs.Common.{◌≡◌, ℕ, zero, suc, ◌+◌, ◌-◌, ◌<◌, Bool, true, not, None, Some, List, [], ◌∷◌, length, take, drop, get_or, refl, sym, arith}
 use Rattle.std.specs.Prelude.{position}
-use Rattle.std.specs.List.{list_any, position_or_len}
+use Rattle.std.specs.List.{position_or_len}
 use Rattle.std.proofs.lemmas.Grind.{common_steps}
 use Rattle.std.proofs.lemmas.List.{take_rest}
 use Rattle.std.proofs.lemmas.List.Folds.{list_any_at, list_any_none}

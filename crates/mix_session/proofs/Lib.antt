@@ -4,6 +4,7 @@ mod CommandLemmas
 mod CompletionLemmas
 mod ConditionLemmas
 mod MoveLemmas
+mod PathLemmas
 mod PlacesLemmas
 mod ReadingLemmas
 mod RefusalLemmas
@@ -16,3 +17,4 @@ mod TallyLemmas
 mod TimelineLemmas
 mod UnitLemmas
 mod UntilLemmas
+mod WritesLemmas

@@ -12,6 +12,7 @@ use Rattle.mix_machine.specs.Write.{put_value}
 use Rattle.mix_machine.specs.declared.old.Change.{Change}
 use Rattle.mix_machine.specs.declared.old.Change.TheVariants.{Step}
 use Rattle.mix_machine.specs.declared.old.Old.{Old}
+use Rattle.mix_machine.specs.declared.part.Part.{Part}
 use Rattle.mix_machine.specs.declared.part.Part.TheVariants.{Loc, Clock}
 use Rattle.mix_machine.specs.declared.part.Mark.{Mark}
 use Rattle.mixal_asm.specs.Program.{ProgramValue}
@@ -46,7 +47,32 @@ Stands-now t world e real =
     let all : replay does t.first (take (length t.changes) t.changes) ≡ Some world = rw take-length e in
     (Stands-is t (length t.changes) world (omega arith) all real, world_at-is t (length t.changes) world (omega arith) all)
 
--- the machine before a change, and its marks, by what is kept
+-- the change after the first n, with the marks of a part before and after it
+pub record Marks (t : Timeline) (part : Part) (n : ℕ) (before after : Mark) : Type 0 where
+  pub below : n < length t.changes
+  pub ends : Stands t (suc n)
+  pub begins : Stands t n
+  pub from : before ≡ mark_of (world_at t n) part
+  pub to : after ≡ mark_of (world_at t (suc n)) part
+
+-- the marks before a change are read from the values that are kept
+pub Marks-is : BeforeLaw → WorldLaw → (t : Timeline) (part : Part) (m n : ℕ) (kept : List Old) (before after : Mark) → m ≡ suc n → m ≤ length t.changes →
+    Stands t m → after ≡ mark_of (world_at t m) part → TakesBack does put_value t.first t.changes n kept → IsPart part → before ≡ mark_before kept part after →
+    Marks t part n before after
+Marks-is marks worlds t part m n kept before after next within stands to_is back real is =
+    let below : n < length t.changes = omega (arith, next, within) in
+    let ends : Stands t (suc n) = rw next at stands in
+    let led = back (world_at t (suc n)) (rw add-one ends.replayed) in
+    let here = world_at-is t n led.0 (omega (arith, below)) led.2 in
+    let to : after ≡ mark_of (world_at t (suc n)) part = rw next at to_is in
+    record {
+      below = below;
+      ends = ends;
+      begins = Stands-is t n led.0 (omega (arith, below)) led.2 (worlds kept (world_at t (suc n)) led.0 ends.world led.1);
+      from = is ∙ rw (to, here) (marks kept (world_at t (suc n)) led.0 part ends.world real led.1);
+      to = to;
+    }
+
 -- the change after the first n, with the marks before it and the time after it
 pub record Passes (t : Timeline) (n : ℕ) (place start clock : Mark) : Type 0 where
   pub below : n < length t.changes
@@ -61,20 +87,9 @@ pub Passes-is : BeforeLaw → WorldLaw → (t : Timeline) (m n : ℕ) (kept : Li
     Stands t m → location ≡ mark_of (world_at t m) Loc → clock ≡ mark_of (world_at t m) Clock → TakesBack does put_value t.first t.changes n kept →
     IsPart Loc → IsPart Clock → place ≡ mark_before kept Loc location → start ≡ mark_before kept Clock clock → Passes t n place start clock
 Passes-is marks worlds t m n kept location clock place start next within stands at_is to_is back loc_real clock_real place_is start_is =
-    let below : n < length t.changes = omega (arith, next, within) in
-    let after : Stands t (suc n) = rw next at stands in
-    let before = back (world_at t (suc n)) (rw add-one after.replayed) in
-    let here = world_at-is t n before.0 (omega (arith, below)) before.2 in
-    let location_after : location ≡ mark_of (world_at t (suc n)) Loc = rw next at at_is in
-    let clock_after : clock ≡ mark_of (world_at t (suc n)) Clock = rw next at to_is in
-    record {
-      below = below;
-      after = after;
-      before = Stands-is t n before.0 (omega (arith, below)) before.2 (worlds kept (world_at t (suc n)) before.0 after.world before.1);
-      at = place_is ∙ rw (location_after, here) (marks kept (world_at t (suc n)) before.0 Loc after.world loc_real before.1);
-      from = start_is ∙ rw (clock_after, here) (marks kept (world_at t (suc n)) before.0 Clock after.world clock_real before.1);
-      to = clock_after;
-    }
+    let there = Marks-is marks worlds t Loc m n kept place location next within stands at_is back loc_real place_is in
+    let time = Marks-is marks worlds t Clock m n kept start clock next within stands to_is back clock_real start_is in
+    record { below = time.below; after = time.ends; before = time.begins; at = there.from; from = time.from; to = time.to }
 
 -- whether a change that is done is a step
 pub step-after : (t : Timeline) (n : ℕ) (change : Change) (changes : List Change) (b : Bool) → n < length t.changes → changes ≡ t.changes →
@@ -149,7 +164,7 @@ number_if-one : (b : Bool) → number_if b 1 ≤ 1
 number_if-one true = omega arith
 number_if-one false = omega arith
 
-ones-below : (which : ℕ → Bool) (n : ℕ) → sum_below n (λ i. number_if (which i) 1) ≤ n
+pub ones-below : (which : ℕ → Bool) (n : ℕ) → sum_below n (λ i. number_if (which i) 1) ≤ n
 ones-below which zero = omega arith
 ones-below which (suc n) = omega (arith, ones-below which n, number_if-one (which n))
 

@@ -1,6 +1,6 @@
 -- What a request does to the timeline of a session, and what it answers. The machine is run anew, from its first state on the changes
 -- done, wherever something of it is asked; no value from before a `back` is left to be shown.
-use Rattle.std.specs.Prelude.{◌≡◌, ◌≤◌, ◌+◌, ◌-◌, ◌==◌, ◌&&◌, ◌||◌, ℕ, zero, suc, List, [], ◌∷◌, length, position, Bool, true, false, Option, None, Some, Result, Ok, Err, is_some, unwrap_or, nat_le, nat_lt, if◌then◌else◌}
+use Rattle.std.specs.Prelude.{◌≡◌, ◌≤◌, ◌+◌, ◌-◌, ◌==◌, ℕ, zero, suc, List, length, position, Bool, true, false, Option, None, Some, Result, Ok, Err, is_some, unwrap_or, nat_le, nat_lt, if◌then◌else◌}
 use Rattle.std.specs.List.{list_any}
 use Rattle.std.specs.Option.{option_map, option_or}
 use Rattle.mix_refused.specs.declared.refused.Memory.{Memory}

@@ -15,6 +15,7 @@ pub mod Keyword
 pub mod Marks
 pub mod Names
 pub mod Operand
+pub mod Path
 pub mod Reply
 pub mod Request
 pub mod Session
@@ -30,4 +31,5 @@ pub mod Tally
 pub mod Timeline
 pub mod Topic
 pub mod Until
+pub mod Writes
 pub mod law

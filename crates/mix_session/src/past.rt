@@ -1,17 +1,22 @@
-//! What is asked of the changes: the machine after each of them, what each did, and how often each instruction was executed.
+//! What is asked of the changes: the machine after each of them, what each did, how often each instruction was executed, and where,
+//! and which of them altered a part.
 
-ghost use Rattle.std.specs.Prelude.{◌≡◌, ◌<◌, ℕ, IfOk, string_bytes};
+ghost use Rattle.std.specs.Prelude.{◌≡◌, ◌<◌, ℕ, IfOk, length, min, string_bytes, take};
 ghost use Rattle.mix_session.specs.Change.{world_at, change_line, change_text};
 ghost use Rattle.mix_session.specs.Counts.{tally_at, tally_of_all};
 ghost use Rattle.mix_session.specs.Client.{change_numbered};
+ghost use Rattle.mix_session.specs.Path.{IsPath};
 ghost use Rattle.mix_session.specs.Tally.{tally_in};
+ghost use Rattle.mix_session.specs.Writes.{writes_back};
 
 use crate::altered::Worlds;
+use crate::path::{Span, path_of};
 use crate::session::Session;
 use crate::show::changes;
 use crate::tally::{Tallies, tallies_of};
 use crate::timeline;
-use mix_machine::{Change, World};
+use crate::writes::{Write, writes_of};
+use mix_machine::{Change, Part, World};
 use std::alloc::Global;
 use undo_core::Memory;
 
@@ -41,6 +46,28 @@ impl Session {
         ensures all { IfOk result (λ tallies. tallies.all ≡ tally_of_all self.now.timeline) }
     {
         tallies_of(alloc, self.journal())
+    }
+
+    /// How often the instruction of each cell was executed by the changes of each column of a range: counts of 4,000 cells, column after column.
+    /// Only out of memory refuses it.
+    pub fn path(&self, alloc: Global, span: Span) -> Result<Vec<u64>, Memory>
+        ensures { IfOk result (λ counts. IsPath self.now.timeline span counts.items) }
+    {
+        path_of(alloc, self.journal(), span)
+    }
+
+    /// The changes that altered a part, of the first `until` of those done: the last one first, and at most `most` of them. Only out of memory
+    /// refuses it.
+    pub fn writes(
+        &self,
+        alloc: Global,
+        part: Part,
+        until: usize,
+        most: usize,
+    ) -> Result<Vec<Write>, Memory>
+        ensures { IfOk result (λ list. list.items ≡ take most (writes_back self.now.timeline part (min until (length self.now.timeline.changes)))) }
+    {
+        writes_of(alloc, self.journal(), &part, until, most)
     }
 }
 

@@ -88,20 +88,20 @@ fn no_tallies(alloc: Global, count: usize) -> Result<Vec<Tally>, AllocError>
 }
 
 // The mark of a part before a change that kept these values.
-fn before(kept: &Values<'_, Old>, part: &Part, mark: &Mark) -> Mark
+pub(crate) fn before(kept: &Values<'_, Old>, part: &Part, mark: &Mark) -> Mark
     ensures { result ≡ mark_before kept.now part.now mark.now }
 {
     mark_before(kept, *part, *mark)
 }
 
-fn is_step(change: Change) -> bool
+pub(crate) fn is_step(change: Change) -> bool
     ensures { result ≡ is_step change }
 {
     matches!(change, Change::Step)
 }
 
 // The location that a mark says.
-fn location_in(mark: &Mark) -> u16
+pub(crate) fn location_in(mark: &Mark) -> u16
     ensures { result ≡ location_in mark.now }
 {
     match mark {

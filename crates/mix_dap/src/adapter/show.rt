@@ -18,7 +18,9 @@ use crate::memory::read_memory;
 use crate::points::breakpoint_locations;
 use crate::set::goto_targets;
 use crate::variables::variables;
-use crate::view::{change_view, counts_view, program_view, state_view, units_view};
+use crate::view::{
+    change_view, counts_view, path_view, program_view, state_view, units_view, writes_view,
+};
 use crate::watch::data_breakpoint_info;
 use dap_message::{Fields, Request};
 use mix_machine::MixFault;
@@ -51,9 +53,11 @@ impl Adapter {
             Look::Completions => completions(alloc, session, self.client.first_column, request),
             Look::Program => Ok(program_view(alloc, session.program())?),
             Look::Counts => Ok(counts_view(alloc, session)?),
+            Look::Path => path_view(alloc, session, request),
             Look::State => state_view(alloc, session, request),
             Look::Units => units_view(alloc, session.world(), request),
             Look::Change => change_view(alloc, session, request),
+            Look::Writes => writes_view(alloc, session, request),
         }
     }
 

@@ -6,7 +6,8 @@ ghost use Rattle.dap_message.specs.Fields.{members_in};
 ghost use Rattle.mix_refused.specs.Refused.{IfFault};
 ghost use Rattle.mix_word.specs.Uses.{unit_count};
 ghost use Rattle.mix_dap.specs.List.{Gives, Shows};
-ghost use Rattle.mix_dap.specs.Units.{kind_name, head_members, put_times, unit_members, unit_if_used, word_shown, block_asked, put_block, unit_numbered, unit_asked, units_of, units_asked};
+ghost use Rattle.mix_dap.specs.Units.{kind_name, head_members, put_times, unit_members, unit_if_used, block_asked, put_block, unit_numbered, unit_asked, units_of, units_asked};
+ghost use Rattle.mix_dap.specs.View.{word_shown};
 ghost use Rattle.mix_dap.specs.declared.fault.Fault.TheVariants.{NoSuchThing};
 
 mod held;
@@ -14,7 +15,7 @@ mod held;
 use crate::fault::Fault;
 use crate::list::{Numbered, add, list_alone, list_of};
 use crate::variables::unit_at;
-use crate::view::{put_digits, put_word};
+use crate::view::{put_digits, word_shown};
 use dap_message::{Fields, Request};
 use held::put_held;
 use mix_machine::{Unit, UnitKind, UnitNo, Word, World};
@@ -131,14 +132,6 @@ fn words_of(alloc: Global, words: &[Word]) -> Result<Vec<Value>, Memory>
         add(&mut list, word_shown(alloc, *word)?)?;
     }
     Ok(list)
-}
-
-fn word_shown(alloc: Global, word: Word) -> Result<Value, Memory>
-    ensures { IfOk result (λ v. view v ≡ word_shown word) }
-{
-    let mut fields = Fields::new(alloc);
-    put_word(alloc, &mut fields, word)?;
-    Ok(fields.done())
 }
 
 fn unit_fields(alloc: Global, world: &World, number: UnitNo) -> Result<Fields, Memory>

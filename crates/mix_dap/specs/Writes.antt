@@ -1,0 +1,49 @@
+-- `mix/writes`: the changes that altered a part of the machine, and what it held before and after each.
+use Rattle.std.specs.Prelude.{ℕ, List, codes, length, map, min, nat_lt, take, Result, Ok, Err, ok_or, option_and_then, unwrap_or, if◌then◌else◌}
+use Rattle.serde_json.specs.Data.{Data, Members, boolean, number, string, unsigned, object, no_members, put}
+use Rattle.mixal_text.specs.Steps.{◌>>=◌}
+use Rattle.mix_machine.specs.declared.part.Mark.{Mark}
+use Rattle.mix_machine.specs.declared.part.Mark.TheVariants as mark
+use Rattle.mix_machine.specs.declared.part.Part.{Part}
+use Rattle.mix_session.specs.Keyword.{indicator_name}
+use Rattle.mix_session.specs.Session.{SessionState}
+use Rattle.mix_session.specs.Timeline.{Timeline}
+use Rattle.mix_session.specs.Writes.{writes_back}
+use Rattle.mix_session.specs.declared.writes.Write.{Write}
+use Rattle.dap_message.specs.Request.{text_of, number_of}
+use Rattle.dap_message.specs.declared.request.Request.{Request}
+use Rattle.mix_dap.specs.List.{list_alone}
+use Rattle.mix_dap.specs.View.{put_digits, word_shown}
+use Rattle.mix_dap.specs.Watch.{part_named}
+use Rattle.mix_dap.specs.declared.fault.Fault.{Fault}
+use Rattle.mix_dap.specs.declared.fault.Fault.TheVariants as fault
+
+-- what a part held, by its mark
+abbrev pub put_mark : List ℕ → Mark → Members → Members
+put_mark name (mark.Word v) members = put name (word_shown v) members
+put_mark name (mark.Toggle b) members = put name (boolean b) members
+put_mark name (mark.Indicator c) members = put name (string (indicator_name c)) members
+put_mark name (mark.Location n) members = put name (number (unsigned n)) members
+put_mark name (mark.Time t) members = put_digits name t members
+
+-- a change by its number, and what the part held before and after it
+abbrev pub write_shown : Write → Data
+write_shown write =
+    object (put_mark (codes "after") write.after (put_mark (codes "before") write.before (put (codes "number") (number (unsigned write.number)) no_members)))
+
+-- the last ones of the first `until` changes done
+abbrev pub writes_shown : Timeline → Part → ℕ → ℕ → Data
+writes_shown t part until most = list_alone (codes "writes") (map write_shown (take most (writes_back t part (min until (length t.changes)))))
+
+-- a number that is asked for, if none is greater
+abbrev pub up_to : ℕ → ℕ → Result ℕ Fault
+up_to most n = if nat_lt most n then Err fault.BadArgument else Ok n
+
+-- the answer to `mix/writes`: of a part that is named as after `until` in a command, the last of its writes, at most 1000, of the changes done unless it
+-- says of how many of them
+abbrev pub writes_asked : SessionState → Request → Result Data Fault
+writes_asked s r = do
+  name ← ok_or (text_of r (codes "part")) fault.BadArgument
+  part ← ok_or (part_named s name) fault.NoSuchThing
+  most ← up_to 1000 (unwrap_or (number_of r (codes "count")) 1000)
+  Ok (writes_shown s.timeline part (unwrap_or (number_of r (codes "until")) (length s.timeline.changes)) most)

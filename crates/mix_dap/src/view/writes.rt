@@ -1,0 +1,102 @@
+//! `mix/writes`: the changes that altered a part of the machine, and what it held before and after each.
+
+ghost use Rattle.std.specs.Prelude.{◌≡◌, IfOk, OnOk, length, map, min, take};
+ghost use Rattle.serde_json.specs.View.{view};
+ghost use Rattle.mix_session.specs.Keyword.{indicator_name};
+ghost use Rattle.dap_message.specs.Fields.{members_in};
+ghost use Rattle.mix_dap.specs.List.{Shows};
+ghost use Rattle.mix_dap.specs.Writes.{put_mark, write_shown, writes_shown, up_to, writes_asked};
+
+use crate::fault::Fault;
+use crate::list::{add, list_alone};
+use crate::view::{put_digits, word_shown};
+use crate::watch::part_named;
+use dap_message::{Fields, Request};
+use mix_machine::{Cmp, Mark, Part};
+use mix_refused::{Memory, Refused};
+use mix_session::{Session, Write};
+use serde_json::Value;
+use std::alloc::Global;
+
+/// The most writes that are told at once.
+const MAX_WRITES: u64 = 1_000;
+
+/// The last changes that altered a part, and what it held before and after each.
+pub(crate) fn writes_view(
+    alloc: Global,
+    session: &Session,
+    request: &Request,
+) -> Result<Value, Refused<Fault>>
+    ensures { Shows (writes_asked session.now request.now) result }
+{
+    let Some(name) = request.text("part") else {
+        return Err(Refused::Fault(Fault::BadArgument));
+    };
+    let Some(part) = part_named(session, name) else {
+        return Err(Refused::Fault(Fault::NoSuchThing));
+    };
+    let most = request.number("count").unwrap_or(MAX_WRITES);
+    if most > MAX_WRITES {
+        return Err(Refused::Fault(Fault::BadArgument));
+    }
+    let done = session.changes().len() as u64;
+    let until = request.number("until").unwrap_or(done);
+    Ok(writes_shown(alloc, session, part, until as usize, most as usize)?)
+}
+
+fn writes_shown(
+    alloc: Global,
+    session: &Session,
+    part: Part,
+    until: usize,
+    most: usize,
+) -> Result<Value, Memory>
+    ensures { IfOk result (λ v. view v ≡ writes_shown session.now.timeline part until most) }
+{
+    let writes = session.writes(alloc, part, until, most)?;
+    let list = all_shown(alloc, &writes)?;
+    list_alone(alloc, "writes", list)
+}
+
+fn all_shown(alloc: Global, writes: &[Write]) -> Result<Vec<Value>, Memory>
+    ensures { IfOk result (λ list. map view list.items ≡ map write_shown writes.now) }
+{
+    let mut list = Vec::new(alloc);
+    for write in writes {
+        add(&mut list, write_shown(alloc, *write)?)?;
+    }
+    Ok(list)
+}
+
+fn write_shown(alloc: Global, write: Write) -> Result<Value, Memory>
+    ensures { IfOk result (λ v. view v ≡ write_shown write) }
+{
+    let mut fields = Fields::new(alloc);
+    fields.number("number", write.number as u64)?;
+    put_mark(alloc, &mut fields, "before", write.before)?;
+    put_mark(alloc, &mut fields, "after", write.after)?;
+    Ok(fields.done())
+}
+
+// What a part held, by its mark.
+fn put_mark(alloc: Global, fields: &mut Fields, name: &str, mark: Mark) -> Result<(), Memory>
+    ensures { OnOk result (members_in fields.new ≡ put_mark name.now mark (members_in fields.old)) }
+{
+    match mark {
+        Mark::Word(word) => fields.put(name, word_shown(alloc, word)?),
+        Mark::Toggle(is_on) => fields.flag(name, is_on),
+        Mark::Indicator(indicator) => fields.text(name, indicator_name(indicator)),
+        Mark::Location(location) => fields.number(name, u64::from(location)),
+        Mark::Time(time) => put_digits(alloc, fields, name, u128::from(time)),
+    }
+}
+
+fn indicator_name(indicator: Cmp) -> &'static str
+    ensures { result.now ≡ indicator_name indicator }
+{
+    match indicator {
+        Cmp::Less => "L",
+        Cmp::Equal => "E",
+        Cmp::Greater => "G",
+    }
+}
