@@ -16,7 +16,7 @@ export class App extends Desk {
     super(machine, grammar, {
       edited: () => this.edited(),
       toggled: (line) => this.toggle(line),
-      ask: (part, name) => this.enqueue(() => this.who.open(part, name, this.view)),
+      ask: (part, name) => this.enqueue(() => this.who.open(part, name, this.view)).then(() => this.views.map.watch(part)),
       slide: (moment) => this.slide(moment),
     });
     this.agreed = ""; // what was asked for once, and is done when it is asked for again

@@ -42,6 +42,7 @@ export class Desk {
       ask,
       look: () => this.enqueue(async () => this.show(await this.session.look(this.session.done), "")),
       values: (expressions) => this.enqueue(() => this.session.values(expressions)),
+      listing: this.listing,
       copy: (text, name) => this.copy(text, name),
       session: () => this.session,
       enqueue: (work) => this.enqueue(work),

@@ -196,6 +196,20 @@ export class Session {
     return moments.map((_, index) => answers[2 * index + 1].body.cells);
   }
 
+  // The columns of all changes, with what was executed in each, and of each of some parts the changes that wrote it, the first one first.
+  async mapOf(columns, parts) {
+    const way = [...this.opening, ...this.changes.first(this.changes.total).map(repl)];
+    const asked = [["mix/path", { columns }], ...parts.map((part) => ["mix/writes", { part }])];
+    const [found, ...writes] = (await this.machine.ask([...way, ...asked])).slice(way.length);
+    return { columns: found.body.columns, writes: writes.map(({ body }) => body.writes.reverse()) };
+  }
+
+  // The last changes of all that wrote a part, with what it held before and after each, the first one first.
+  async writesOf(part) {
+    const { writes } = await this.mapOf(0, [part]);
+    return writes[0];
+  }
+
   // What the machine looks like after the first n changes, with or without the counts.
   async look(n, counts = true) {
     const looks = counts ? this.looks : this.looks.map((look) => (look[0] === "mix/counts" ? NO_LOOK : look));

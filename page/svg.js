@@ -1,4 +1,4 @@
-// Pictures of cells as SVG, which can be saved as they are: bars, and a strip of moments. Their colours are those of the light page; in the window
+// Pictures of cells as SVG, which can be saved as they are: bars, a strip of moments, a map of time, and values over time. Their colours are those of the light page; in the window
 // the style of the page overrides them.
 
 import { fourDigits } from "./dom.js";
@@ -82,6 +82,63 @@ export function stripOf({ title, cells, columns, done }) {
   });
   const text = [`At the start: ${columns[0].values.join(" ")}.`, ...told].join(" ");
   return picture({ id: "strip", title: `${title}, at ${columns.length} moments`, text, width: columns.length * wide, height }, shapes);
+}
+
+// The map of time: `rows` have a `cell`, the `line` it comes from, and whether it `isBreak`; `columns` the `cells` that were executed in each, with how
+// often; `marks` the `number` of a change that wrote a `part`, each part on a row of its own; `done` of `total` changes are done.
+export function mapOf({ title, text, rows, columns, marks, total, done }) {
+  const parts = [...new Set(marks.map(({ part }) => part))];
+  const wide = 720 / columns.length;
+  const high = Math.max(3, Math.min(12, 300 / rows.length));
+  const left = LETTER * Math.max(4, ...parts.map((part) => part.length)) + 8;
+  const counts = columns.map(({ cells }) => new Map(cells.map(({ cell, count }) => [cell, count])));
+  const most = Math.log(1 + Math.max(...columns.flatMap(({ cells }) => cells.map(({ count }) => count))));
+  const shade = (count) => (count === 0 ? 0 : Math.round(10 * (0.25 + (0.75 * Math.log(1 + count)) / most)) / 10);
+  const every = Math.ceil(11 / high);
+  const [foot, name] = [4 + rows.length * high, { "text-anchor": "end", "font-size": 10 }];
+  const shapes = rows.flatMap(({ cell, line, isBreak }, row) => {
+    const y = 4 + row * high;
+    const shades = counts.map((count) => shade(count.get(cell) || 0));
+    const found = isBreak ? [shape("rect", { x: left, y, width: 720, height: high, class: "mark", fill: "#96281c", "fill-opacity": ".15" })] : [];
+    for (let from = 0, to = 0; from < columns.length; from = to) {
+      while (to < columns.length && shades[to] === shades[from]) to += 1;
+      if (shades[from] > 0) found.push(shape("rect", { x: left + from * wide, y, width: (to - from) * wide, height: high, class: "bar", fill: "#224a69", "fill-opacity": String(shades[from]) }));
+    }
+    if (row % every === 0) found.push(label(left - 4, y + Math.min(high, 10), line ? String(line) : fourDigits(cell), { ...name, class: isBreak ? "mark" : "soft", fill: isBreak ? "#96281c" : "#5e5648" }));
+    return found;
+  });
+  parts.forEach((part, row) => {
+    const y = foot + 4 + row * 12;
+    shapes.push(label(left - 4, y + 9, part, { ...name, class: "mark", fill: "#96281c" }));
+    const seen = new Set();
+    for (const { number } of marks.filter((mark) => mark.part === part)) {
+      const x = Math.round(left + (number / total) * 720);
+      if (!seen.has(x)) shapes.push(shape("path", { d: `M ${x} ${y} l 3 9 h -6 z`, class: "mark", fill: "#96281c" }));
+      seen.add(x);
+    }
+  });
+  const height = foot + 8 + parts.length * 12;
+  const present = left + (done / Math.max(1, total)) * 720;
+  shapes.push(shape("line", { x1: present, x2: present, y1: 0, y2: height, class: "present", stroke: "#96281c", "stroke-width": 2 }));
+  shapes.push(shape("rect", { x: left, y: 2, width: 720, height: height - 4, class: "field axis", fill: "none", stroke: "#5e5648" }));
+  return picture({ id: "map", title, text, width: left + 724, height }, shapes);
+}
+
+// The values of a part over time: `writes` have the `number` of a change and the value `before` and `after` it; `done` of `total` changes are done.
+export function valuesOf({ title, text, writes, total, done }) {
+  const all = writes.flatMap(({ before, after }) => [before, after]);
+  const [most, least] = [Math.max(0, ...all), Math.min(0, ...all)];
+  const x = (number) => 4 + (number / Math.max(1, total)) * 480;
+  const y = (value) => 6 + (70 * (most - value)) / (most - least || 1);
+  const line = writes.map(({ number, after }) => `H ${Math.round(x(number))} V ${Math.round(y(after))}`).join(" ");
+  const shapes = [
+    shape("line", { x1: 4, x2: 484, y1: y(0), y2: y(0), class: "axis", stroke: "#5e5648", "stroke-dasharray": "3 3" }),
+    shape("path", { d: `M 4 ${Math.round(y(writes[0].before))} ${line} H 484`, fill: "none", class: "line", stroke: "#224a69", "stroke-width": 1.5 }),
+    shape("line", { x1: x(done), x2: x(done), y1: 0, y2: 82, class: "present", stroke: "#96281c", "stroke-width": 2 }),
+    label(488, y(most) + 6, String(most), { class: "soft", fill: "#5e5648", "text-anchor": "start", "font-size": 10 }),
+    ...(least < 0 ? [label(488, y(least) + 3, String(least), { class: "soft", fill: "#5e5648", "text-anchor": "start", "font-size": 10 })] : []),
+  ];
+  return picture({ id: "values", title, text, width: 570, height: 82 }, shapes);
 }
 
 // The file of some pictures, one below the other.

@@ -6,15 +6,17 @@ import { Memory } from "./memory.js";
 import { Output } from "./output.js";
 import { Registers } from "./registers.js";
 import { Symbols } from "./symbols.js";
+import { TimeMap } from "./timemap.js";
 import { Units } from "./units.js";
 
 export class Views {
   // `ask` is called with a part of the machine and its name when somebody asks who wrote it, `look` when more is to be seen of the same moment,
-  // `values` with W-values, of which it gives the words; the others are for the bars.
-  constructor({ ask, look, values, ...others }) {
+  // `values` with W-values, of which it gives the words; the others are for the pictures.
+  constructor({ ask, look, values, listing, ...others }) {
     this.registers = new Registers(ask);
     this.memory = new Memory(ask, values);
     this.bars = new Bars({ asked: ask, values, ...others });
+    this.map = new TimeMap({ listing, ...others });
     this.output = new Output();
     this.units = new Units(look);
     this.symbols = new Symbols((name) => this.memory.showFrom(name));
@@ -44,6 +46,7 @@ export class Views {
     this.output.forget();
     this.memory.forget();
     this.bars.forget();
+    this.map.forget();
   }
 
   // The cells that are shown, in a list or as bars, each once.
@@ -63,6 +66,6 @@ export class Views {
   }
 
   show(view) {
-    doAll([this.registers, this.memory, this.bars, this.output, this.units].map((part) => () => part.show(view)));
+    doAll([this.registers, this.memory, this.bars, this.map, this.output, this.units].map((part) => () => part.show(view)));
   }
 }

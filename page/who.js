@@ -1,8 +1,9 @@
 // Who wrote this? What the last change of a register, a cell or a flag was, the ways there, and a field to set it.
 
-import { $, counted, fourDigits, note, put } from "./dom.js";
+import { $, counted, fourDigits, make, note, put } from "./dom.js";
 import { wordOf } from "./registers.js";
 import { numberOf } from "./sentence.js";
+import { valuesOf } from "./svg.js";
 
 const CHARACTERS = " ABCDEFGHI~JKLMNOPQR[#STUVWXYZ0123456789.,()+-*/=$<>@;:'";
 
@@ -44,6 +45,7 @@ export class Who {
     this.written = back.reply.startsWith("?") ? 0 : back.done + 1;
     this.next = forth.reply.startsWith("?") ? 0 : forth.done;
     const change = this.written > 0 ? await session.changeAt(this.written) : null;
+    this.showWrites(name, await session.writesOf(part), session);
     put($("who-title"), `Who wrote ${name}?`);
     put($("who-word"), wordOf(view.state, part));
     put($("who-text"), this.told(change));
@@ -59,6 +61,19 @@ export class Who {
     put($("who-set"), ahead > 0 ? "Set and drop" : "Set");
     if (!$("who").open) $("who").showModal();
     (this.written === 0 ? $("who-value") : $("who-back").disabled ? $("who-before") : $("who-back")).focus();
+  }
+
+  // All changes that wrote it, the last thousand where there are more, each to click on; and of a word its number over time.
+  showWrites(name, writes, { done, changes: { total } }) {
+    const of = (value) => (value.number === undefined ? String(value) : value.number);
+    const here = writes.filter(({ number }) => number <= done).length - 1;
+    const items = writes.map(({ number, before, after }, at) => make("li", {}, make("button", { type: "button", "aria-current": at === here && "step", click: () => this.leave(`goto ${number}`) }, `change ${number}: ${of(before)} → ${of(after)}`)));
+    $("who-writes").hidden = items.length < 2;
+    $("who-writes").replaceChildren(...items);
+    const isWord = writes.length > 1 && writes[0].before.number !== undefined;
+    const numbers = isWord ? writes.map(({ number, before, after }) => ({ number, before: Number(before.number), after: Number(after.number) })) : [];
+    const text = `At first ${numbers.length > 0 ? numbers[0].before : ""}; ${numbers.map(({ number, after }) => `by change ${number}: ${after}`).join(", ")}.`;
+    $("who-values").replaceChildren(...(isWord ? [valuesOf({ title: `${name} over ${counted(total, "change")}`, text, writes: numbers, total, done })] : []));
   }
 
   told(change) {

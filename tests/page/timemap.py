@@ -1,0 +1,97 @@
+"""The map of time, and all changes that wrote a part: for a loop whose course follows from the rules of the book."""
+import xml.etree.ElementTree as tree
+
+from bars import COPIED
+from selenium.webdriver.common.by import By
+
+# Three times through a loop of two lines; a row is printed each time. Each line that is executed is a change: ENT1, then OUT, DEC1, J1P three times, HLT.
+SOURCE = """LINE EQU 100
+ ORIG 3000
+START ENT1 3
+LOOP OUT LINE(18)
+ DEC1 1
+ J1P LOOP
+ HLT
+ ORIG LINE
+ ALF HELLO
+ END START
+"""
+LINES = [3, *[4, 5, 6] * 3, 7]  # of the eleven changes
+PRINTED = [2, 5, 8]
+
+FIELD = "const f = document.querySelector('#map .field'); const x0 = Number(f.getAttribute('x')), w = Number(f.getAttribute('width'));"
+DARK = FIELD + """return [...document.querySelectorAll('#map rect.bar')].map(r => ['x', 'width', 'y', 'height'].map(n => Number(r.getAttribute(n))))
+    .map(([x, width, y, height]) => [Math.round((x - x0) / w * 11), Math.round(width / w * 11), Math.round((y - 4) / height)])"""
+TICKS = FIELD + """return [...document.querySelectorAll('#map path')].map(p => Number(p.getAttribute('d').split(' ')[1])).map(x => Math.round((x - x0) / w * 11))"""
+PRESENT = FIELD + "return Math.round((Number(document.querySelector('#map .present').getAttribute('x1')) - x0) / w * 11)"
+NAMES = "return [...document.querySelectorAll('#map text')].map(t => t.textContent)"
+CLICK = """const f = document.querySelector('#map .field').getBoundingClientRect();
+    document.querySelector('#map svg').dispatchEvent(new MouseEvent('click', { bubbles: true, clientX: f.left + f.width * arguments[0], clientY: f.top + 5 }));"""
+SAID = "return ['title', 'desc'].map(name => document.querySelector(`#map svg ${name}`).textContent)"
+
+
+def begin(page):
+    page.click("new")
+    page.leave()
+    page.idle()
+    page.put("text", SOURCE)
+
+
+def open_map(page):
+    page.press_button(page.driver.find_element(By.CSS_SELECTOR, "#map-box summary"))
+
+
+def time_map(page, native, count):
+    """Which line was executed by which change, what was printed, where one is; a click goes there; the map stays on the way back."""
+    begin(page)
+    open_map(page)
+    page.wait(lambda: page.text("map-more") == "Nothing was done yet.")
+    page.click("run")
+    page.wait(lambda: page.all("#map svg"))
+    columns = [[] for _ in LINES]
+    for x, width, row in page.script(DARK):
+        for at in range(x, x + width):
+            columns[at].append(row + 3)
+    count.same("map: the line of each change", columns, [[line] for line in LINES])
+    count.same("map: what was printed", page.script(TICKS), PRINTED)
+    count.same("map: the lines and the unit", page.script(NAMES), ["3", "4", "5", "6", "7", "unit 18"])
+    title, text = page.script(SAID)
+    count.same("map: its title", title, "Map of 11 changes")
+    count.row("map: as a text", "Line 4: 3 times, between changes 2 and 8." in text and "Written to unit 18 by 3 changes, the first 2, the last 8." in text, text)
+    count.same("map: where one is", page.script(PRESENT), 11)
+    page.script(CLICK, 5.1 / 11)
+    page.idle()
+    count.same("map: a click goes there", (page.value("moment"), page.script(PRESENT)), ("5", 5))
+    count.same("map: the same after the way back", (page.script(TICKS), page.script(NAMES)), (PRINTED, ["3", "4", "5", "6", "7", "unit 18"]))
+    page.script(COPIED)
+    page.click("map-copy")
+    page.wait(lambda: page.script("return Boolean(window.copiedText)"))
+    root = tree.fromstring(page.script("return window.copiedText"))
+    texts = [element.text for element in root.iter("{http://www.w3.org/2000/svg}text")]
+    count.same("map: as a file", texts, ["3", "4", "5", "6", "7", "unit 18"])
+    page.lesson(0)
+    count.same("map: none of another program", len(page.all("#map svg")), 0)
+
+
+def writes(page, native, count):
+    """All changes that wrote a register, each to click on; its values over time; its marks on the map."""
+    begin(page)
+    open_map(page)
+    page.click("run")
+    page.click("to-start")
+    for _ in range(4):
+        page.click("step")
+    page.tap(page.driver.find_element(By.CSS_SELECTOR, "#register-rows tr[data-key='I1'] button"))
+    page.wait(lambda: page.all("#who-writes button"))
+    rows = page.script("return [...document.querySelectorAll('#who-writes button')].map(b => [b.textContent, b.getAttribute('aria-current')])")
+    count.same("writes: all of rI1", rows, [["change 1: 0 → 3", None], ["change 3: 3 → 2", "step"], ["change 6: 2 → 1", None], ["change 9: 1 → 0", None]])
+    said = page.script("return ['title', 'desc'].map(name => document.querySelector(`#who-values svg ${name}`).textContent)")
+    count.same("writes: as a picture", said, ["rI1 over 11 changes", "At first 0; by change 1: 3, by change 3: 2, by change 6: 1, by change 9: 0."])
+    page.press_button(page.all("#who-writes button")[2])
+    page.idle()
+    count.same("writes: a click goes there", (page.value("moment"), page.script("return document.getElementById('who').open")), ("6", False))
+    page.wait(lambda: page.script(NAMES)[-1] == "I1")
+    count.same("writes: on the map", sorted(page.script(TICKS)), sorted([*PRINTED, 1, 3, 6, 9]))
+
+
+MAP = (time_map, writes)
