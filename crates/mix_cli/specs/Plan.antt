@@ -12,13 +12,13 @@ use Rattle.mix_cli.specs.declared.words.Plan.TheVariants as plan
 use Rattle.mix_cli.specs.declared.words.Printing.{Printing}
 
 -- a bundle; a listing of a source; a check of some sources, in JSON or not; a session of a source, of a script where it is named, and of a deck where it is named, with the commands of the script echoed or not; a run of a source, of
--- cards, lines of the typewriter and a deck where they are named, of so many steps at most, of what is printed, traced or not, whose units are kept in a file where one is named; the debug adapter
+-- cards, lines of the typewriter and a deck where they are named, of so many steps at most, of what is printed, traced or not, strict or not, whose units are kept in a file where one is named; the debug adapter
 pub data Planned : Type 0 where
   bundle : Planned
   lists : Text → Planned
   checks : List Text → Bool → Planned
   debugs : Text → Option Text → Option Text → Bool → Planned
-  runs : Text → Option Text → Option Text → Option Text → ℕ → Printing → Bool → Option Text → Planned
+  runs : Text → Option Text → Option Text → Option Text → ℕ → Printing → Bool → Bool → Option Text → Planned
   adapts : Planned
 
 abbrev pub planned_of : Plan → Planned
@@ -26,9 +26,9 @@ planned_of plan.Bundle = bundle
 planned_of (plan.List source) = lists (string_bytes source)
 planned_of (plan.Check sources json) = checks (map string_bytes sources.items) json
 planned_of (plan.Debug source script devices echo) = debugs (string_bytes source) (option_map string_bytes script) (option_map string_bytes devices) echo
-planned_of (plan.Run source cards typewriter devices steps printing trace keep) =
+planned_of (plan.Run source cards typewriter devices steps printing trace strict keep) =
     runs (string_bytes source) (option_map string_bytes cards) (option_map string_bytes typewriter) (option_map string_bytes devices) steps printing trace
-    (option_map string_bytes keep)
+    strict (option_map string_bytes keep)
 planned_of plan.Dap = adapts
 
 -- the number that a text writes in decimal digits, where it is below 2^64
@@ -76,7 +76,7 @@ abbrev pub run_planned : List Row → Option Planned
 run_planned rows =
     option_map
     (λ source. runs source (first_of (codes "cards") rows) (first_of (codes "typewriter") rows) (first_of (codes "devices") rows) (steps_of rows)
-    (printing_of rows) (is_set (codes "trace") rows) (first_of (codes "keep") rows))
+    (printing_of rows) (is_set (codes "trace") rows) (is_set (codes "strict") rows) (first_of (codes "keep") rows))
     (first_of (codes "SOURCE") rows)
 
 -- of the words after the name of a subcommand, as clap finds them

@@ -76,7 +76,7 @@ abbrev pub limited_run : App
 limited_run = with_rule (with_rule run_inputs steps_option) unit_option
 
 abbrev pub run_app : App
-run_app = with_rule (with_rule limited_run (flag_named (codes "trace"))) keep_option
+run_app = with_rule (with_rule (with_rule limited_run (flag_named (codes "trace"))) (flag_named (codes "strict"))) keep_option
 
 abbrev pub dap_app : App
 dap_app = new_app (codes "dap")

@@ -25,14 +25,17 @@ Examples:
   mixrev list primes.mixal
   mixrev check primes.mixal sieve.mixal
 
-The status is 0 if all is accepted, 1 if a source is refused, and 3 if a command is refused, a step meets a fault or
-the steps of a run are used up. It is 2 if nothing could be run to its end: a mistake in the words, a file that cannot be
-opened or read, a deck that is refused, a text that is too long, an output that takes no more, or no memory.";
+The status is 0 if all is accepted, 1 if a source is refused, and 3 if a command is refused, a step meets a fault, the
+steps of a run are used up or a strict run ends before a conflict. It is 2 if nothing could be run to its end: a mistake in
+the words, a file that cannot be opened or read, a deck that is refused, a text that is too long, an output that takes no
+more, or no memory.";
 
 pub(crate) const MORE_ON_RUN: &str = "\
 The program runs to its halt, and what it prints is written at once: the rows of the card punch, the printer, the typewriter
 and the paper tape in the order in which they are printed, without the blanks at their ends, and a page mark as a form feed.
 If a step meets a fault, or the steps are used up, one line on standard error says where. It cannot go back.
+A step that uses cells of a transfer that is not over is a mistake, such as a store into a line that is still printed.
+The first of them is told there, and how many there are; with --strict the run ends before it.
 With --trace the line of each step, with what it altered, comes before what it prints.
 With --keep the tapes and disks are there for the next program: it reads that file with --devices.
 A bundle may take the place of a source: its deck is taken, unless --devices names another, and its script is left out.

@@ -111,6 +111,11 @@ fn run_command<'a>(alloc: Global) -> Result<Command<'a>, AllocError>
             "trace",
             "Writes each step too, as the command trace does, before what it prints",
         ))?
+        .arg(flag_named(
+            alloc,
+            "strict",
+            "Ends before a step that uses cells of a transfer that is not over",
+        ))?
         .arg(keep_option(alloc))
 }
 

@@ -16,7 +16,7 @@ use std::alloc::{AllocError, Global};
 
 /// What the program is to do: a bundle from standard input; the listing of a source; a check of sources, in JSON or not; a session of a source, with a deck where one is named, by a
 /// script, whose commands are echoed or not, or, where none is named, a talk; a run of a source, with cards, lines of the typewriter and a deck where they are named, of so many steps at
-/// most, 1 to 10^18, traced or not, whose units are kept in a file where one is named; or to be a debug adapter. The texts are names of files.
+/// most, 1 to 10^18, traced or not, strict or not, whose units are kept in a file where one is named; or to be a debug adapter. The texts are names of files.
 #[derive(Drop)]
 pub enum Plan {
     Bundle,
@@ -39,6 +39,7 @@ pub enum Plan {
         steps: u64,
         printing: Printing,
         trace: bool,
+        strict: bool,
         keep: Option<String>,
     },
     Dap,
@@ -94,6 +95,7 @@ fn run_plan(alloc: Global, words: &ArgMatches<'_>) -> Result<Plan, AllocError>
         steps: steps(words),
         printing: what_is_printed(words),
         trace: is_set(words, "trace"),
+        strict: is_set(words, "strict"),
         keep: optional(alloc, words, "keep")?,
     })
 }

@@ -4,8 +4,10 @@ mod KeepLemmas
 mod PersonLemmas
 mod PrintLemmas
 mod PrintOutputLemmas
+mod PrintRunLemmas
 mod RunLemmas
 mod TalkLemmas
 mod TalkMeets
 mod Truncation
+mod WatchLemmas
 mod Written

@@ -1,84 +1,20 @@
--- A run goes on by one step, and rows by one row.
+-- What is written is the beginning of a whole, and rows go on by one row.
 use Rattle.std.proofs.Common.{◌≡◌, ◌<◌, ◌≤◌, ◌+◌, ℕ, zero, suc, Bool, true, false, List, [], ◌∷◌, ◌++◌, Option, None, Some, Result, Ok, Err, IfOk, IfErr, refl, sym, ap, ◌∙◌, arith, append_assoc, drop, length, flat_map, slice_index_or}
 use Rattle.std.proofs.lemmas.List.{append-nil}
 use Rattle.std.specs.Io.KnownBytes.{Appends}
-use Rattle.mix_machine.specs.Do.{does, is_halt_next}
+use Rattle.mix_machine.specs.Do.{does}
 use Rattle.mix_machine.specs.World.{WorldState, unit_at}
 use Rattle.mix_machine.specs.units.Row.{RowState}
 use Rattle.mix_machine.specs.units.Unit.{UnitState}
 use Rattle.mix_machine.specs.declared.fault.MixFault.{MixFault}
 use Rattle.mix_machine.specs.declared.old.Change.TheVariants.{Step}
 use Rattle.mix_stream.specs.Stream.{AppendsFront}
-use Rattle.mix_run.specs.Print.{Run, if_asked, printed, printed_row, printed_from, printed_between, printed_first, step_and_rest, traced_line, written_by}
-use Rattle.mix_run.specs.PrintSteps.{HasCounts, StepPrints, bytes_to, line_bytes, line_to, step_bytes, printed_after}
+use Rattle.mix_run.specs.Print.{if_asked, printed_row, printed_from, printed_between, traced_line, written_by}
+use Rattle.mix_run.specs.PrintSteps.{HasCounts, bytes_to, line_bytes, line_to, made_bytes, printed_after}
 use Rattle.mix_run.specs.declared.print.options.PrintOptions.{PrintOptions}
 use Rattle.mix_run.specs.declared.print.options.UnitSet.{UnitSet}
-use Rattle.mix_run.specs.declared.print.steps.RowCounts.{RowCounts}
-use Rattle.mix_run.specs.declared.print.steps.RunEnd.{RunEnd}
-use Rattle.mix_run.specs.declared.print.steps.RunEnd.TheVariants.{Halted, Faulted, UsedUp}
+use Rattle.mix_run.specs.declared.print.rows.RowCounts.{RowCounts}
 use Rattle.mix_run.proofs.Written.{Appends-then, Appends-same, Appends-nothing, AppendsFront-after}
-
--- no step is left
-pub run-none : (options : PrintOptions) (number steps : ℕ) (w : WorldState) → steps ≤ 0 → (printed options number steps w).bytes ≡ []
-run-none options number zero w h = refl
-run-none options number (suc steps) w h = absurd (omega arith)
-
--- a step that is no halt, and the rest of the run
-pub run-on : (options : PrintOptions) (number steps rest : ℕ) (w next : WorldState) → steps ≡ suc rest → does w Step ≡ Ok next → is_halt_next w ≡ false →
-    printed options number steps w ≡ printed_first (written_by options number w next) (printed options (number + 1) rest next)
-run-on options number steps rest w next e done goes = rw (e, done, goes) refl
-
--- a step that is a halt
-pub run-halted : (options : PrintOptions) (number steps rest : ℕ) (w next : WorldState) → steps ≡ suc rest → does w Step ≡ Ok next → is_halt_next w ≡ true →
-    printed options number steps w ≡ record { bytes = written_by options number w next ++ []; end = Halted; world = next }
-run-halted options number steps rest w next e done halts = rw (e, done, halts) refl
-
--- a step that is a fault
-pub run-faulted : (options : PrintOptions) (number steps rest : ℕ) (w : WorldState) (fault : MixFault) → steps ≡ suc rest → does w Step ≡ Err fault →
-    printed options number steps w ≡ record { bytes = []; end = Faulted fault; world = w }
-run-faulted options number steps rest w fault e failed = rw (e, failed) refl
-
--- what ends a run, or the step after which it goes on
-pub run-ended : (options : PrintOptions) (number steps rest : ℕ) (w next : WorldState) (end : RunEnd) (a b c : Option (List ℕ)) (whole : Run) → steps ≡ suc rest →
-    (done : List ℕ) × Appends a b done × (whole.bytes ≡ done ++ (printed options number steps w).bytes) → (printed options number steps w).end ≡ whole.end →
-    (printed options number steps w).world ≡ whole.world → StepPrints options number w next (Some end) b c →
-    (end ≡ whole.end) × (next ≡ whole.world) × Appends a c whole.bytes
-run-ended options number steps rest w next Halted a b c whole e so_far ends stands step =
-    let run = run-halted options number steps rest w next e step.0 step.1 in
-    let bytes = ap (λ r. r.bytes) run ∙ append-nil (written_by options number w next) in (
-      sym (ap (λ r. r.end) run) ∙ ends,
-      sym (ap (λ r. r.world) run) ∙ stands,
-      Appends-same a c _ whole.bytes (sym (so_far.2 ∙ ap (λ t. so_far.0 ++ t) bytes)) (Appends-then a b c so_far.0 _ so_far.1 step.2),
-    )
-run-ended options number steps rest w next (Faulted fault) a b c whole e so_far ends stands step =
-    let run = run-faulted options number steps rest w fault e step.0 in
-    let bytes = ap (λ r. r.bytes) run in (
-      sym (ap (λ r. r.end) run) ∙ ends,
-      step.1 ∙ sym (ap (λ r. r.world) run) ∙ stands,
-      Appends-same a c _ whole.bytes (sym (so_far.2 ∙ ap (λ t. so_far.0 ++ t) bytes)) (Appends-then a b c so_far.0 _ so_far.1 step.2),
-    )
-run-ended options number steps rest w next UsedUp a b c whole e so_far ends stands step = absurd step
-
-begins : (options : PrintOptions) (number : ℕ) (w : WorldState) (done : Result WorldState MixFault) (halts : Bool) (rest : WorldState → Run) → is_halt_next w ≡ halts →
-    (more : List ℕ) × ((step_and_rest options number w done rest).bytes ≡ bytes_to options number w done ++ more)
-begins options number w (Ok next) true rest e = ([], rw e refl)
-begins options number w (Ok next) false rest e = ((rest next).bytes, rw e refl)
-begins options number w (Err fault) halts rest e = ([], refl)
-
--- what a step prints is the beginning of what the run prints
-pub step-begins : (options : PrintOptions) (number steps : ℕ) (w : WorldState) → 0 < steps →
-    (more : List ℕ) × ((printed options number steps w).bytes ≡ step_bytes options number w ++ more)
-step-begins options number zero w more = absurd (omega arith)
-step-begins options number (suc steps) w more =
-    begins options number w (does w Step) (is_halt_next w) (λ next. printed options (number + 1) steps next) refl
-
--- a beginning of what one step prints
-pub begun-in_step : (options : PrintOptions) (number steps : ℕ) (w : WorldState) (a b c : Option (List ℕ)) (whole : List ℕ) → 0 < steps →
-    (done : List ℕ) × Appends a b done × (whole ≡ done ++ (printed options number steps w).bytes) → AppendsFront b c (step_bytes options number w) → AppendsFront a c whole
-begun-in_step options number steps w a b c whole more so_far begun =
-    let step = step-begins options number steps w more in
-    AppendsFront-after a b c so_far.0 (step_bytes options number w) step.0 whole so_far.1 begun
-    (so_far.2 ∙ ap (λ bytes. so_far.0 ++ bytes) step.1)
 
 -- what is written more, where it is a beginning of what is left
 pub written-more : (a b c : Option (List ℕ)) (whole left said more : List ℕ) →
@@ -191,13 +127,13 @@ begun_to options number w (Err fault) a b line = line
 
 -- a beginning of the line
 pub line-begun : (options : PrintOptions) (number : ℕ) (w : WorldState) (a b : Option (List ℕ))
-    → AppendsFront a b (line_bytes options.trace number w) → AppendsFront a b (step_bytes options number w)
+    → AppendsFront a b (line_bytes options.trace number w) → AppendsFront a b (made_bytes options number w)
 line-begun options number w a b line = begun_to options number w (does w Step) a b line
 
 -- the line, and a beginning of what the step printed
 pub rows-begun : (options : PrintOptions) (number : ℕ) (counts : RowCounts) (w next : WorldState) (a b c : Option (List ℕ))
     → HasCounts w counts → does w Step ≡ Ok next → Appends a b (line_bytes options.trace number w)
-    → AppendsFront b c (printed_after options.units counts next) → AppendsFront a c (step_bytes options number w)
+    → AppendsFront b c (printed_after options.units counts next) → AppendsFront a c (made_bytes options number w)
 rows-begun options number counts w next a b c h done line rows =
     rw done (begun-later a b c (traced_line (if_asked options.trace w) number next) (printed_between options.units w next)
     (rw done at line) (rw (after-between options.units counts w next h) at rows))

@@ -1,22 +1,26 @@
 -- What a run of a program prints: the rows that its steps write to the card punch, the printer, the typewriter and the paper tape; and the lines of
--- its steps, where it is traced.
-use Rattle.std.specs.Prelude.{ℕ, zero, suc, Bool, ◌+◌, ◌==◌, nat_lt, List, [], ◌∷◌, ◌++◌, length, drop, reverse, flat_map, Option, Some, None, Result, Ok, Err, if◌then◌else◌}
+-- its steps, where it is traced. And which of its steps conflict with a transfer under way, before the first of which a strict run ends.
+use Rattle.std.specs.Prelude.{ℕ, zero, suc, Bool, ◌+◌, ◌==◌, nat_lt, List, [], ◌∷◌, ◌++◌, length, drop, reverse, flat_map, Option, Some, None, option_map, Result, Ok, Err, if◌then◌else◌}
 use Rattle.mixal_asm.specs.PassOne.{SourceValue, Line, OfLiteral, OfName}
 use Rattle.mixal_asm.specs.Program.{ProgramValue}
 use Rattle.mixal_asm.specs.Source.{source_at}
 use Rattle.mix_word.specs.Word.{WordValue}
 use Rattle.mix_machine.specs.Do.{does, is_halt_next}
+use Rattle.mix_machine.specs.Transfers.{TransfersState, conflict_of, no_transfers, transfers_after}
 use Rattle.mix_machine.specs.World.{WorldState, unit_at}
 use Rattle.mix_machine.specs.units.Row.{RowState}
 use Rattle.mix_machine.specs.units.Unit.{UnitState}
 use Rattle.mix_machine.specs.declared.fault.MixFault.{MixFault}
 use Rattle.mix_machine.specs.declared.old.Change.TheVariants.{Step}
+use Rattle.mix_machine.specs.declared.transfers.Conflict.{Conflict}
 use Rattle.mix_session.specs.Change.{change_line}
 use Rattle.mix_session.specs.ShowUnit.{characters_text}
 use Rattle.mix_run.specs.declared.print.options.PrintOptions.{PrintOptions}
 use Rattle.mix_run.specs.declared.print.options.UnitSet.{UnitSet}
 use Rattle.mix_run.specs.declared.print.steps.RunEnd.{RunEnd}
-use Rattle.mix_run.specs.declared.print.steps.RunEnd.TheVariants.{Halted, Faulted, UsedUp}
+use Rattle.mix_run.specs.declared.print.steps.RunEnd.TheVariants.{Halted, Faulted, Conflicting, UsedUp}
+use Rattle.mix_run.specs.declared.print.watch.ConflictAt.{ConflictAt}
+use Rattle.mix_run.specs.declared.print.watch.Conflicts.{Conflicts}
 
 -- a text without the blanks that it begins with
 abbrev pub after_blanks : List ℕ → List ℕ
@@ -63,27 +67,67 @@ abbrev pub written_by : PrintOptions → ℕ → WorldState → WorldState → L
 written_by options number before after =
     traced_line (if_asked options.trace before) number after ++ printed_between options.units before after
 
--- what a run prints, how it ends, and the machine then
+-- a conflict of a step, with the location and the clock before it
+abbrev pub conflict_at : WorldState → Conflict → ConflictAt
+conflict_at w c = record { conflict = c; loc = w.loc; clock = w.clock }
+
+-- what is there of one, as a list
+abbrev pub listed : Option ConflictAt → List ConflictAt
+listed None = []
+listed (Some c) = c ∷ []
+
+-- what a run prints, how it ends, the machine then, and the conflicts of its steps
 pub record Run : Type 0 where
   pub bytes : List ℕ
   pub end : RunEnd
   pub world : WorldState
+  pub met : List ConflictAt
 
--- what was printed, and then what the rest of the run prints
-abbrev pub printed_first : List ℕ → Run → Run
-printed_first bytes run = record run { bytes = bytes ++ run.bytes }
+-- a run that ends where it stands
+abbrev pub ended : RunEnd → WorldState → Run
+ended end w = record { bytes = []; end = end; world = w; met = [] }
 
--- one step, from what it does, and then the rest of the run, unless the step is a fault or a halt
-abbrev pub step_and_rest : PrintOptions → ℕ → WorldState → Result WorldState MixFault → (WorldState → Run) → Run
-step_and_rest options number w (Err fault) rest = record { bytes = []; end = Faulted fault; world = w }
-step_and_rest options number w (Ok next) rest =
-    printed_first (written_by options number w next)
-    (if is_halt_next w then record { bytes = []; end = Halted; world = next } else rest next)
+-- what a step printed and its conflict, and then those of the rest of the run
+abbrev pub printed_first : List ℕ → List ConflictAt → Run → Run
+printed_first bytes met run = record run { bytes = bytes ++ run.bytes; met = met ++ run.met }
 
--- a run of so many steps at most, the first of which has this number, up to a halt or a fault
-abbrev pub printed : PrintOptions → ℕ → ℕ → WorldState → Run
-printed options number zero w = record { bytes = []; end = UsedUp; world = w }
-printed options number (suc steps) w = step_and_rest options number w (does w Step) (λ next. printed options (number + 1) steps next)
+-- the conflict that ends a run before its step: in a strict one, that of the step
+abbrev pub stops : Bool → Option Conflict → Option Conflict
+stops strict met = if strict then met else None
+
+-- a run, unless a conflict ends it
+abbrev pub unless : Option Conflict → WorldState → Run → Run
+unless None w run = run
+unless (Some c) w run = ended (Conflicting c) w
+
+-- a step that is made, with its conflict, if it has one, and then the rest of the run, unless the step is a halt
+abbrev pub made_and_rest : PrintOptions → ℕ → WorldState → Option Conflict → WorldState → (WorldState → Run) → Run
+made_and_rest options number w met next rest =
+    printed_first (written_by options number w next) (listed (option_map (conflict_at w) met)) (if is_halt_next w then ended Halted next else rest next)
+
+-- one step, from its conflict and from what it does, and then the rest of the run, unless the step is a fault or ends a strict run
+abbrev pub step_and_rest : PrintOptions → ℕ → WorldState → Option Conflict → Result WorldState MixFault → (WorldState → Run) → Run
+step_and_rest options number w met (Err fault) rest = ended (Faulted fault) w
+step_and_rest options number w met (Ok next) rest = unless (stops options.strict met) w (made_and_rest options number w met next rest)
+
+-- a run of so many steps at most, the first of which has this number, up to a halt, a fault or the end of a strict run, from the transfers that are
+-- under way
+abbrev pub printed : PrintOptions → ℕ → ℕ → TransfersState → WorldState → Run
+printed options number zero ts w = ended UsedUp w
+printed options number (suc steps) ts w =
+    step_and_rest options number w (conflict_of ts w Step) (does w Step) (λ next. printed options (number + 1) steps (transfers_after ts w Step) next)
+
+-- the whole run of a machine
+abbrev pub run_of : PrintOptions → WorldState → Run
+run_of options w = printed options 1 options.steps no_transfers w
+
+abbrev pub first_of : List ConflictAt → Option ConflictAt
+first_of [] = None
+first_of (c ∷ cs) = Some c
+
+-- how many conflicts there are, and the first of them
+abbrev pub counted : List ConflictAt → Conflicts
+counted met = record { count = length met; first = first_of met }
 
 -- the number of a line of the source; a literal or a name that END brings in has none
 abbrev pub line_number : Option SourceValue → Option ℕ

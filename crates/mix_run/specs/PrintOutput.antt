@@ -1,5 +1,5 @@
 -- What `run` writes, answers and keeps: a function of the source or bundle, the deck, the cards, the lines for the typewriter, and what is asked for.
-use Rattle.std.specs.Prelude.{◌≡◌, ℕ, Bool, Option, List, [], Result, Ok, Err, length, nat_lt, if◌then◌else◌}
+use Rattle.std.specs.Prelude.{◌≡◌, ℕ, Bool, Option, option_and_then, List, [], Result, Ok, Err, length, nat_lt, if◌then◌else◌}
 use Rattle.std.specs.Io.KnownBytes.{Appends, Keeps}
 use Rattle.mixal_asm.specs.Assembly.{assembly}
 use Rattle.mixal_asm.specs.Program.{ProgramValue}
@@ -14,11 +14,11 @@ use Rattle.mix_stream.specs.Stream.{AppendsFront}
 use Rattle.mix_run.specs.Bundle.{Cut, cut_of}
 use Rattle.mix_run.specs.Output.{max_bundle_bytes}
 use Rattle.mix_run.specs.Keep.{kept_if}
-use Rattle.mix_run.specs.Print.{Run, printed, line_at}
+use Rattle.mix_run.specs.Print.{Run, counted, line_at, run_of}
 use Rattle.mix_run.specs.UnitsRead.{deck_given}
 use Rattle.mix_run.specs.declared.print.PrintAnswer.{PrintAnswer}
 use Rattle.mix_run.specs.declared.print.PrintAnswer.TheVariants.{Ran, Refused}
-use Rattle.mix_run.specs.declared.print.RanTo.{RanTo}
+use Rattle.mix_run.specs.declared.print.loaded.RanTo.{RanTo}
 use Rattle.mix_run.specs.declared.print.options.PrintOptions.{PrintOptions}
 
 -- how `run` ends: with these bytes, this answer and this deck, or, with no byte written, for its deck or a text of a unit
@@ -43,14 +43,21 @@ with_typewriter units given typewriter = with_text 19 units given typewriter
 abbrev pub units_asked : PrintOptions → List ℕ → List ℕ → List ℕ → Result UnitsState DeckFault
 units_asked options deck cards typewriter = with_typewriter (with_cards (deck_of deck) options.cards cards) options.typewriter typewriter
 
--- where a run of a program came to
+-- where a run of a program came to, and its conflicts
 abbrev pub ran_to : ProgramValue → Run → RanTo
-ran_to program run = record { end = run.end; loc = run.world.loc; clock = run.world.clock; line = line_at program run.world.loc }
+ran_to program run = record {
+  end = run.end;
+  loc = run.world.loc;
+  clock = run.world.clock;
+  line = line_at program run.world.loc;
+  conflicts = counted run.met;
+  conflict_line = option_and_then (λ c. line_at program c.loc) (counted run.met).first;
+}
 
 -- a program run on the machine that it is loaded into, with its units
 unfoldable pub outcome_of_run : PrintOptions → ProgramValue → UnitsState → PrintOutcome
 outcome_of_run options program units =
-    let run = printed options 1 options.steps (loaded program.words program.start units) in
+    let run = run_of options (loaded program.words program.start units) in
     Answered run.bytes (Ran (ran_to program run)) (kept_if options.keep run.world)
 
 -- an assembled source, with its units

@@ -1,16 +1,21 @@
 -- What the function of one step says.
-use Rattle.std.specs.Prelude.{◌≡◌, ℕ, Bool, true, false, List, [], ◌++◌, length, Option, Some, None, Result, Ok, Err}
+use Rattle.std.specs.Prelude.{◌≡◌, ◌+◌, ℕ, Bool, true, false, List, [], ◌++◌, length, option_map, Option, Some, None, Result, Ok, Err}
 use Rattle.std.specs.Io.KnownBytes.{Appends}
+use Rattle.std.specs.Option.{option_or}
 use Rattle.mix_machine.specs.Do.{does, is_halt_next}
+use Rattle.mix_machine.specs.Transfers.{TransfersState, conflict_of, transfers_after}
+use Rattle.mix_machine.specs.declared.transfers.Conflict.{Conflict}
 use Rattle.mix_machine.specs.World.{WorldState, unit_at}
 use Rattle.mix_machine.specs.declared.fault.MixFault.{MixFault}
 use Rattle.mix_machine.specs.declared.old.Change.TheVariants.{Step}
-use Rattle.mix_run.specs.Print.{if_asked, printed_from, traced_line, written_by}
+use Rattle.mix_run.specs.Print.{conflict_at, first_of, if_asked, listed, printed_from, stops, traced_line, written_by}
 use Rattle.mix_run.specs.declared.print.options.PrintOptions.{PrintOptions}
 use Rattle.mix_run.specs.declared.print.options.UnitSet.{UnitSet}
-use Rattle.mix_run.specs.declared.print.steps.RowCounts.{RowCounts}
+use Rattle.mix_run.specs.declared.print.rows.RowCounts.{RowCounts}
 use Rattle.mix_run.specs.declared.print.steps.RunEnd.{RunEnd}
-use Rattle.mix_run.specs.declared.print.steps.RunEnd.TheVariants.{Halted, Faulted, UsedUp}
+use Rattle.mix_run.specs.declared.print.steps.RunEnd.TheVariants.{Halted, Faulted, Conflicting, UsedUp}
+use Rattle.mix_run.specs.declared.print.watch.ConflictAt.{ConflictAt}
+use Rattle.mix_run.specs.declared.print.watch.Conflicts.{Conflicts}
 
 -- the numbers of the rows of a state
 pub record HasCounts (w : WorldState) (counts : RowCounts) : Type 0 where
@@ -42,13 +47,57 @@ abbrev pub bytes_to : PrintOptions → ℕ → WorldState → Result WorldState 
 bytes_to options number w (Ok next) = written_by options number w next
 bytes_to options number w (Err fault) = []
 
--- what one step writes
-abbrev pub step_bytes : PrintOptions → ℕ → WorldState → List ℕ
-step_bytes options number w = bytes_to options number w (does w Step)
+-- what one step writes, if it is made
+abbrev pub made_bytes : PrintOptions → ℕ → WorldState → List ℕ
+made_bytes options number w = bytes_to options number w (does w Step)
 
--- what one step does and has written, with the end that it is, if it is one
-abbrev pub StepPrints : PrintOptions → ℕ → WorldState → WorldState → Option RunEnd → Option (List ℕ) → Option (List ℕ) → Type 0
-StepPrints options number w next None old new = (does w Step ≡ Ok next) × (is_halt_next w ≡ false) × Appends old new (written_by options number w next)
-StepPrints options number w next (Some Halted) old new = (does w Step ≡ Ok next) × (is_halt_next w ≡ true) × Appends old new (written_by options number w next)
-StepPrints options number w next (Some (Faulted fault)) old new = (does w Step ≡ Err fault) × (next ≡ w) × Appends old new []
-StepPrints options number w next (Some UsedUp) old new = ⊥
+abbrev pub bytes_unless : Option Conflict → List ℕ → List ℕ
+bytes_unless None bytes = bytes
+bytes_unless (Some c) bytes = []
+
+-- what one step writes: nothing where it ends a strict run
+abbrev pub step_bytes : PrintOptions → ℕ → TransfersState → WorldState → List ℕ
+step_bytes options number ts w = bytes_unless (stops options.strict (conflict_of ts w Step)) (made_bytes options number w)
+
+-- what a step does that is made and has written, with the end that it is, if it is one
+abbrev pub StepMakes : PrintOptions → ℕ → WorldState → WorldState → Option RunEnd → Option (List ℕ) → Option (List ℕ) → Type 0
+StepMakes options number w next None old new = (does w Step ≡ Ok next) × (is_halt_next w ≡ false) × Appends old new (written_by options number w next)
+StepMakes options number w next (Some Halted) old new = (does w Step ≡ Ok next) × (is_halt_next w ≡ true) × Appends old new (written_by options number w next)
+StepMakes options number w next (Some (Faulted fault)) old new = (does w Step ≡ Err fault) × (next ≡ w) × Appends old new []
+StepMakes options number w next (Some (Conflicting c)) old new = ⊥
+StepMakes options number w next (Some UsedUp) old new = ⊥
+
+-- whether a step with this end was made: it is no fault
+abbrev pub is_made : Option RunEnd → Bool
+is_made None = true
+is_made (Some Halted) = true
+is_made (Some (Faulted fault)) = false
+is_made (Some (Conflicting c)) = false
+is_made (Some UsedUp) = false
+
+-- Before a step of a strict run that conflicts: the machine stays as it is, and nothing is written.
+abbrev pub StepStops : WorldState → WorldState → RunEnd → Conflict → Type 0
+StepStops w next (Faulted fault) c = (does w Step ≡ Err fault) × (next ≡ w)
+StepStops w next (Conflicting met) c = ((done : WorldState) × (does w Step ≡ Ok done)) × (met ≡ c) × (next ≡ w)
+StepStops w next Halted c = ⊥
+StepStops w next UsedUp c = ⊥
+
+-- what one step of a run does and has written, by the conflict that ends the run before it, if one does
+abbrev pub StepPrints : Option Conflict → PrintOptions → ℕ → WorldState → WorldState → Option RunEnd → Option (List ℕ) → Option (List ℕ) → Type 0
+StepPrints None options number w next end old new = StepMakes options number w next end old new
+StepPrints (Some c) options number w next None old new = ⊥
+StepPrints (Some c) options number w next (Some end) old new = StepStops w next end c × Appends old new []
+
+-- conflicts and more of them
+abbrev pub conflicts_after : Conflicts → List ConflictAt → Conflicts
+conflicts_after conflicts met = record { count = conflicts.count + length met; first = option_or conflicts.first (first_of met) }
+
+-- what a step leaves of the transfers and the conflicts: those after it, if it was made, and else those before it
+abbrev pub StepNotes : WorldState → TransfersState → Conflicts → TransfersState → Conflicts → Option RunEnd → Type 0
+StepNotes w ts conflicts after noted None =
+    (after ≡ transfers_after ts w Step) × (noted ≡ conflicts_after conflicts (listed (option_map (conflict_at w) (conflict_of ts w Step))))
+StepNotes w ts conflicts after noted (Some Halted) =
+    (after ≡ transfers_after ts w Step) × (noted ≡ conflicts_after conflicts (listed (option_map (conflict_at w) (conflict_of ts w Step))))
+StepNotes w ts conflicts after noted (Some (Faulted fault)) = (after ≡ ts) × (noted ≡ conflicts)
+StepNotes w ts conflicts after noted (Some (Conflicting c)) = (after ≡ ts) × (noted ≡ conflicts)
+StepNotes w ts conflicts after noted (Some UsedUp) = ⊥

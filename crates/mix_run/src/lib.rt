@@ -21,14 +21,14 @@ pub use bundle::run_bundle;
 pub use check::{Reports, no_reports, report_next, write_reports};
 pub use fault::ToolFault;
 pub use list::run_list;
-pub use mix_machine::MixFault;
+pub use mix_machine::{Conflict, Direction, MixFault};
 pub use mix_session::{
     AsmFault, AsmKind, Counted, DeckFault, DeckKind, Failed, In, Out, Refusal, Session, Told,
     back_and_forth_law,
 };
 pub use opener::{Opener, Unsaved};
 pub use print::options::{PrintOptions, UnitSet};
-pub use print::{PrintAnswer, PrintTexts, RanTo, RunEnd, run_printed};
+pub use print::{ConflictAt, Conflicts, PrintAnswer, PrintTexts, RanTo, RunEnd, run_printed};
 pub use reason::Reason;
 pub use run::run_debug;
 pub use statuses::{DONE, NOT_DONE, SOURCE_REFUSED};

@@ -9,108 +9,40 @@ ghost use Rattle.mix_run.specs.Fault.{IsMemoryOrWrite};
 ghost use Rattle.mix_stream.specs.Stream.{AppendsFront, ConsumesAtMost, CountsFailure};
 ghost use Rattle.mix_run.specs.Output.{max_bundle_bytes};
 ghost use Rattle.mix_run.specs.Keep.{kept_if};
-ghost use Rattle.mix_run.specs.Print.{line_at, printed};
+ghost use Rattle.mix_run.specs.Print.{counted, line_at, run_of};
 ghost use Rattle.mix_run.specs.UnitsRead.{deck_given};
 ghost use Rattle.mix_run.specs.PrintOutput.{Prints, kept_of, outcome_of_run, parts_of, print_outcome, print_output, units_asked, with_cards};
 
+mod loaded;
 pub(crate) mod options;
 pub(crate) mod row;
+mod rows;
 mod steps;
 mod texts;
 mod trace;
+mod watch;
 
 use crate::beside::tell_report;
 use crate::bundle::{MAX_BUNDLE_BYTES, parts_of};
 use crate::fault::ToolFault;
-use crate::keep::keep_units;
+use crate::print::loaded::print_loaded;
 use crate::print::options::PrintOptions;
-use crate::print::steps::print_steps;
 use crate::print::texts::units_with_texts;
 use crate::statuses::tell_refusal;
-use mix_machine::{Place, Units, World};
+pub use loaded::RanTo;
 use mix_refused::Refused;
 use mix_stream::{In, Out, read_up_to};
-use mixal_asm::{AsmFault, Program, Source, assemble};
+use mixal_asm::{AsmFault, Program, assemble};
 use std::alloc::Global;
 pub use steps::RunEnd;
 pub use texts::PrintTexts;
-
-/// Where a run came to: why it ended, the location and the clock in u then, and the line of the source that put the last word into the cell at
-/// that location, if one did. After a fault that is the line of the instruction at fault.
-#[derive(Clone, Copy)]
-pub struct RanTo {
-    pub end: RunEnd,
-    pub loc: u16,
-    pub clock: u64,
-    pub line: Option<u32>,
-}
+pub use watch::{ConflictAt, Conflicts};
 
 /// What is answered of a run: where it came to, or the first fault of its source.
 #[derive(Clone, Copy)]
 pub enum PrintAnswer {
     Ran(RanTo),
     Refused(AsmFault),
-}
-
-// The line of the source that put the last word into the cell at a location.
-fn line_at(program: &Program, loc: u16) -> Option<u32>
-    ensures { result ≡ line_at program.now loc }
-{
-    let place = Place::of(loc)?;
-    match program.source_at(place)? {
-        Source::Line(number, _) => Some(*number),
-        Source::Literal(_) | Source::Name(_) => None,
-    }
-}
-
-// Steps, and then the deck of what the units hold.
-fn print_and_keep<W: Out>(
-    alloc: Global,
-    world: &mut World,
-    options: PrintOptions,
-    kept: &mut Vec<u8>,
-    out: &mut W,
-) -> Result<RunEnd, ToolFault>
-    requires { W.failed out.old < 2 ^ 64 - 1 }
-    ensures printed { let run = printed options 1 options.steps world.old in
-        IfOk result (λ end. (end ≡ run.end) × (world.new ≡ run.world) × Appends (W.told out.old) (W.told out.new) run.bytes) }
-    ensures kept { OnOk result (kept.new.items ≡ kept.old.items ++ kept_if options.keep (printed options 1 options.steps world.old).world) }
-    ensures begun { AppendsFront (W.told out.old) (W.told out.new) (printed options 1 options.steps world.old).bytes }
-    ensures write { CountsFailure (result ≡ Err ToolFault.Write) (W.failed out.old) (W.failed out.new) }
-    ensures only { IfErr result IsMemoryOrWrite }
-{
-    let end = print_steps(alloc, world, options, out)?;
-    keep_units(alloc, world, options.keep, kept)?;
-    Ok(end)
-}
-
-// A program, run on the machine that it is loaded into.
-#[tactic(auto, unfolding(crate::specs::PrintOutput::outcome_of_run))]
-fn print_loaded<W: Out>(
-    alloc: Global,
-    program: &Program,
-    units: Units,
-    options: PrintOptions,
-    kept: &mut Vec<u8>,
-    out: &mut W,
-) -> Result<PrintAnswer, ToolFault>
-    requires { W.failed out.old < 2 ^ 64 - 1 }
-    ensures output { Prints (outcome_of_run options program.now units) result (W.told out.old) (W.told out.new) }
-    ensures kept { OnOk result (kept.new.items ≡ kept.old.items ++ kept_of (outcome_of_run options program.now units)) }
-    ensures write { CountsFailure (result ≡ Err ToolFault.Write) (W.failed out.old) (W.failed out.new) }
-    ensures only { IfErr result IsMemoryOrWrite }
-    ensures ran { (f : AsmFault) → result ≢ Ok (PrintAnswer.Refused f) }
-{
-    let mut world = World::load(alloc, program.words(), program.start(), units)?;
-    let end = print_and_keep(alloc, &mut world, options, kept, out)?;
-    let (loc, clock) = (world.loc(), world.clock());
-    let line = line_at(program, loc);
-    Ok(PrintAnswer::Ran(RanTo {
-        end,
-        loc,
-        clock,
-        line,
-    }))
 }
 
 // The units of an assembled source, and then its run; the deck of its bundle is a text.
@@ -166,7 +98,7 @@ fn print_program<S, D: In, C: In, T: In, W: Out>(
 
 /// Assembles a source, or that of a bundle, and takes the deck of the bundle, or reads one if `options.deck` is true, which then is in the place of
 /// that; if `options.cards` is true it reads a text of cards, which are in the place of those that the deck gives to unit 16, and if
-/// `options.typewriter` is true a text of lines, which replace those that it gives to unit 19. Then it runs the loaded machine (1.3.1, 1.3.2) up to a halt, a fault, or `options.steps` steps, and writes what it prints: each row of the
+/// `options.typewriter` is true a text of lines, which replace those that it gives to unit 19. Then it runs the loaded machine (1.3.1, 1.3.2) up to a halt, a fault, or `options.steps` steps, and, if `options.strict` is true, up to before the first step that conflicts with a transfer under way; it writes what it prints: each row of the
 /// units in `options.units` as soon as its step is done, without the blanks at its end and with a line feed, a page mark as a form feed alone. If
 /// `options.trace` is true, the line of each step is written before what it prints, as the command `trace` has it. If `options.keep` is true, the deck
 /// of what the units hold at the end is appended to `kept`. It keeps nothing of the steps, so it takes no more memory for many steps than for few. Where the source is refused, its first fault is the answer, nothing is

@@ -46,6 +46,7 @@ creates_run (Some name) (Ok (answers.Ran ran)) status answered old new e end cre
     go : (end : RunEnd) (n : ℕ) → n ≡ status_of_end end → Creates (Some name) n old new
     go ends.Halted n is = rw is created
     go (ends.Faulted fault) n is = rw is created
+    go (ends.Conflicting conflict) n is = rw is created
     go ends.UsedUp n is = rw is created
 
 some_same : (a b : Option (List ℕ)) → Some a ≡ Some b → a ≡ b
@@ -72,4 +73,5 @@ print_range (Ok (answers.Ran ran)) status e = go ran.end e
     go : (end : RunEnd) → status ≡ status_of_end end → status ≤ 3
     go ends.Halted is = omega (arith, is)
     go (ends.Faulted fault) is = omega (arith, is)
+    go (ends.Conflicting conflict) is = omega (arith, is)
     go ends.UsedUp is = omega (arith, is)

@@ -17,7 +17,7 @@ use Rattle.mix_machine.specs.units.Units.{UnitsState}
 use Rattle.mix_machine.specs.declared.units.deck_fault.DeckFault.{DeckFault}
 use Rattle.mix_run.specs.declared.fault.ToolFault.{ToolFault}
 use Rattle.mix_run.specs.declared.fault.ToolFault.TheVariants as faults
-use Rattle.mix_run.specs.Opening.{Asks}
+use Rattle.mix_run.specs.Opening.{Asks, Files}
 use Rattle.mix_run.specs.Reason.{reason_text}
 use Rattle.mix_run.specs.declared.reason.Reason.{Reason}
 
@@ -94,15 +94,17 @@ Runs names outcome status before after =
     (run : Result ℕ ToolFault) × (file : Option (List ℕ)) × Meets outcome run before.out after.out × (status ≡ status_of_run run)
     × IsFileOf names file × TellsRun run file before.errors after.errors before.failed after.failed
 
--- a talk was made, and its status is answered
-abbrev pub TalkRuns : Result ProgramValue AsmFault → Result UnitsState DeckFault → Talker → List ℕ → ℕ → Seen → Seen → Type 0
-TalkRuns program units talker text status before after =
-    (run : Result ℕ ToolFault) × TalksWith program units talker text run after.input before.out after.out × (status ≡ status_of_run run)
+-- a talk was made, which may source these files, and its status is answered
+abbrev pub TalkRuns : Files → Result ProgramValue AsmFault → Result UnitsState DeckFault → Talker → List ℕ → ℕ → Seen → Seen → Type 0
+TalkRuns all program units talker text status before after =
+    (run : Result ℕ ToolFault) × TalksWith all program units talker text run after.input before.out after.out × (status ≡ status_of_run run)
 
--- the status of a run: 0 at a halt, 3 where a step meets a fault or the steps are used up, 1 where the source is refused
+-- the status of a run: 0 at a halt, 3 where a step meets a fault or the conflict that ends a strict run, or the steps are used up, 1 where the
+-- source is refused
 abbrev pub status_of_end : RunEnd → ℕ
 status_of_end ends.Halted = 0
 status_of_end (ends.Faulted fault) = 3
+status_of_end (ends.Conflicting conflict) = 3
 status_of_end ends.UsedUp = 3
 
 abbrev pub status_of_answer : PrintAnswer → ℕ

@@ -32,7 +32,7 @@ names_of (plan.List source) = record { source = Some (string_bytes source); deck
 names_of (plan.Check sources json) = record { source = None; deck = None; cards = None; typewriter = None; script = None }
 names_of (plan.Debug source script devices echo) =
     record { source = Some (string_bytes source); deck = option_map string_bytes devices; cards = None; typewriter = None; script = option_map string_bytes script }
-names_of (plan.Run source cards typewriter devices steps printing trace keep) =
+names_of (plan.Run source cards typewriter devices steps printing trace strict keep) =
     record {
       source = Some (string_bytes source);
       deck = option_map string_bytes devices;
@@ -52,7 +52,7 @@ sources_of plan.Bundle = []
 sources_of (plan.List source) = []
 sources_of (plan.Check sources json) = map string_bytes sources.items
 sources_of (plan.Debug source script devices echo) = []
-sources_of (plan.Run source cards typewriter devices steps printing trace keep) = []
+sources_of (plan.Run source cards typewriter devices steps printing trace strict keep) = []
 sources_of plan.Dap = []
 
 -- all files of a plan, in the order in which they are opened
@@ -114,8 +114,8 @@ abbrev pub units_of : Printing → UnitSet
 units_of printing =
     record { card_punch = printing.punch; printer = printing.printer; typewriter = printing.typewriter; paper_tape = printing.tape }
 
-abbrev pub options_of : {Name : Type 0} → Option Name → Option Name → Option Name → ℕ → Printing → Bool → Option Name → PrintOptions
-options_of devices cards typewriter steps printing trace keep =
+abbrev pub options_of : {Name : Type 0} → Option Name → Option Name → Option Name → ℕ → Printing → Bool → Bool → Option Name → PrintOptions
+options_of devices cards typewriter steps printing trace strict keep =
     record {
       steps = steps;
       units = units_of printing;
@@ -123,6 +123,7 @@ options_of devices cards typewriter steps printing trace keep =
       cards = is_some cards;
       typewriter = is_some typewriter;
       trace = trace;
+      strict = strict;
       keep = is_some keep;
     }
 
@@ -135,10 +136,10 @@ abbrev pub names_of_session : List ℕ → Option (List ℕ) → Option (List �
 names_of_session source deck script = source ∷ (named deck ++ named script)
 
 -- a session by a script, whose commands are echoed or not, or without one by the lines of the input
-abbrev pub DebugsOn : {Name : Type 0} → List (List ℕ) → Bool → Option Name → Given → Talker → ℕ → Seen → Seen → Type 0
-DebugsOn names echo (Some script) given talker status before after = Runs names (output echo given.source given.deck given.script) status before after
-DebugsOn names echo None given talker status before after =
-    (t : List ℕ) → before.input ≡ Some t → TalkRuns (assembly given.source) (deck_of given.deck) talker t status before after
+abbrev pub DebugsOn : {Name : Type 0} → Files → List (List ℕ) → Bool → Option Name → Given → Talker → ℕ → Seen → Seen → Type 0
+DebugsOn all names echo (Some script) given talker status before after = Runs names (output echo given.source given.deck given.script) status before after
+DebugsOn all names echo None given talker status before after =
+    (t : List ℕ) → before.input ≡ Some t → TalkRuns all (assembly given.source) (deck_of given.deck) talker t status before after
 
 -- whether a session is by the lines of the input
 abbrev pub is_talk : {Name : Type 0} → Option Name → Bool
@@ -152,10 +153,10 @@ RunsOn all (plan.List source) given talker status before after = Runs (string_by
 RunsOn all (plan.Check sources json) given talker status before after =
     Runs (map string_bytes sources.items) (check_output json (named_of all (map string_bytes sources.items))) status before after
 RunsOn all (plan.Debug source script devices echo) given talker status before after =
-    DebugsOn (names_of_session (string_bytes source) (option_map string_bytes devices) (option_map string_bytes script)) echo script given talker status before
+    DebugsOn all (names_of_session (string_bytes source) (option_map string_bytes devices) (option_map string_bytes script)) echo script given talker status before
     after
-RunsOn all (plan.Run source cards typewriter devices steps printing trace keep) given talker status before after =
-    PrintRuns (print_output (options_of devices cards typewriter steps printing trace keep) given.source given.deck given.cards given.typewriter)
+RunsOn all (plan.Run source cards typewriter devices steps printing trace strict keep) given talker status before after =
+    PrintRuns (print_output (options_of devices cards typewriter steps printing trace strict keep) given.source given.deck given.cards given.typewriter)
     (option_map string_bytes keep) status before after
 RunsOn all plan.Dap given talker status before after = status ≤ 2
 
@@ -177,7 +178,7 @@ reads_input plan.Bundle = true
 reads_input (plan.List source) = false
 reads_input (plan.Check sources json) = false
 reads_input (plan.Debug source script devices echo) = is_talk script
-reads_input (plan.Run source cards typewriter devices steps printing trace keep) = false
+reads_input (plan.Run source cards typewriter devices steps printing trace strict keep) = false
 reads_input plan.Dap = false
 
 -- whether a plan hears a client: the debug adapter does
@@ -186,7 +187,7 @@ hears_client plan.Bundle = false
 hears_client (plan.List source) = false
 hears_client (plan.Check sources json) = false
 hears_client (plan.Debug source script devices echo) = false
-hears_client (plan.Run source cards typewriter devices steps printing trace keep) = false
+hears_client (plan.Run source cards typewriter devices steps printing trace strict keep) = false
 hears_client plan.Dap = true
 
 -- whether nothing is told on the error output but a fault of the tool: of a talk and of a run other things are
@@ -195,7 +196,7 @@ is_quiet plan.Bundle = true
 is_quiet (plan.List source) = true
 is_quiet (plan.Check sources json) = true
 is_quiet (plan.Debug source script devices echo) = not (is_talk script)
-is_quiet (plan.Run source cards typewriter devices steps printing trace keep) = false
+is_quiet (plan.Run source cards typewriter devices steps printing trace strict keep) = false
 is_quiet plan.Dap = true
 
 -- what a run is told to keep what its units hold in: a file or nothing; no other plan is a run
@@ -204,5 +205,5 @@ keep_of plan.Bundle = None
 keep_of (plan.List source) = None
 keep_of (plan.Check sources json) = None
 keep_of (plan.Debug source script devices echo) = None
-keep_of (plan.Run source cards typewriter devices steps printing trace keep) = Some (option_map string_bytes keep)
+keep_of (plan.Run source cards typewriter devices steps printing trace strict keep) = Some (option_map string_bytes keep)
 keep_of plan.Dap = None

@@ -62,9 +62,10 @@ pub(crate) fn options_of(
     steps: u64,
     printing: Printing,
     trace: bool,
+    strict: bool,
     keep: &Option<String>,
 ) -> PrintOptions
-    ensures { result ≡ options_of devices.now cards.now typewriter.now steps printing trace keep.now }
+    ensures { result ≡ options_of devices.now cards.now typewriter.now steps printing trace strict keep.now }
 {
     PrintOptions {
         steps,
@@ -78,6 +79,7 @@ pub(crate) fn options_of(
         cards: cards.is_some(),
         typewriter: typewriter.is_some(),
         trace,
+        strict,
         keep: keep.is_some(),
     }
 }

@@ -4,6 +4,7 @@ ghost use Rattle.std.specs.Prelude.{◌≡◌, ◌<◌, ◌-◌, ◌^◌, ◌∷
 ghost use Rattle.mix_tool.specs.Ending.{IsAmong, Tells, TellsRun, Wrote, file_of_fault, memory_line, not_opened, not_written, report, status_of_end, status_of_print, status_of_run};
 ghost use Rattle.mix_run.specs.Opening.{named};
 
+use crate::conflicts::{conflict_line, tell_conflicts};
 use mix_cli::FAILED;
 use mix_run::{DONE, NOT_DONE, PrintAnswer, RanTo, Reason, RunEnd, SOURCE_REFUSED, ToolFault};
 use mix_stream::{Out, write_all};
@@ -168,14 +169,17 @@ fn came_to(alloc: Global, name: &str, ran: RanTo) -> Result<String, AllocError> 
     let (loc, clock) = (ran.loc, ran.clock);
     match ran.end {
         RunEnd::Faulted(fault) => format!(in alloc; "{place}: {fault} at {loc:04} clock {clock}\n"),
+        RunEnd::Conflicting(conflict) => {
+            conflict_line(alloc, place.as_str(), "error", (loc, clock), conflict)
+        }
         RunEnd::Halted | RunEnd::UsedUp => {
             format!(in alloc; "{place}: steps used up at {loc:04} clock {clock}\n")
         }
     }
 }
 
-// The name of a source, with the number of a line if there is one.
-fn place(alloc: Global, name: &str, line: Option<u32>) -> Result<String, AllocError> {
+/// The name of a source, with the number of a line if there is one.
+pub(crate) fn place(alloc: Global, name: &str, line: Option<u32>) -> Result<String, AllocError> {
     match line {
         Some(line) => format!(in alloc; "{name}:{line}"),
         None => String::from_str(alloc, name),
@@ -188,11 +192,11 @@ fn status_of_end(end: RunEnd) -> u8
 {
     match end {
         RunEnd::Halted => DONE,
-        RunEnd::Faulted(_) | RunEnd::UsedUp => NOT_DONE,
+        RunEnd::Faulted(_) | RunEnd::Conflicting(_) | RunEnd::UsedUp => NOT_DONE,
     }
 }
 
-/// The status of what a run answers; where it did not halt, where it came to is told, and a fault is.
+/// The status of what a run answers; which of its steps conflict with a transfer is told, where it came to, if not to a halt, and a fault is.
 pub(crate) fn print_status<E: Out>(
     alloc: Global,
     name: &str,
@@ -205,14 +209,21 @@ pub(crate) fn print_status<E: Out>(
     match outcome {
         Err(fault) => status_beside(alloc, Err(fault), file, errors),
         Ok(PrintAnswer::Refused(_)) => SOURCE_REFUSED,
-        Ok(PrintAnswer::Ran(ran)) => {
-            match ran.end {
-                RunEnd::Halted => {}
-                RunEnd::Faulted(_) | RunEnd::UsedUp => {
-                    tell_beside(came_to(alloc, name, ran), errors)
-                }
-            }
-            status_of_end(ran.end)
+        Ok(PrintAnswer::Ran(ran)) => ran_status(alloc, name, &ran, errors),
+    }
+}
+
+// The same of a run that came to its end.
+fn ran_status<E: Out>(alloc: Global, name: &str, ran: &RanTo, errors: &mut E) -> u8
+    ensures { result ≡ status_of_end ran.now.end }
+{
+    tell_conflicts(alloc, name, ran, errors);
+    let end = ran.end;
+    match end {
+        RunEnd::Halted => {}
+        RunEnd::Faulted(_) | RunEnd::Conflicting(_) | RunEnd::UsedUp => {
+            tell_beside(came_to(alloc, name, *ran), errors)
         }
     }
+    status_of_end(end)
 }

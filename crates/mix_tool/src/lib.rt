@@ -3,6 +3,7 @@
 
 mod asked;
 mod check;
+mod conflicts;
 mod debug;
 mod ending;
 mod keep;
@@ -14,10 +15,10 @@ mod texts;
 pub use mix_cli::{FAILED, LineFault, Plan, Printing, line_status, read_words};
 pub use mix_dap::serve;
 pub use mix_run::{
-    AsmFault, AsmKind, Counted, DeckFault, DeckKind, Failed, In, MixFault, Opener, Out,
-    PrintAnswer, PrintOptions, PrintTexts, RanTo, Reason, Refusal, RunEnd, Session, Streams,
-    Talker, Told, ToolFault, UnitSet, Unsaved, back_and_forth_law, run_bundle, run_debug, run_list,
-    run_printed, run_talk,
+    AsmFault, AsmKind, ConflictAt, Conflicts, Counted, DeckFault, DeckKind, Failed, In, MixFault,
+    Opener, Out, PrintAnswer, PrintOptions, PrintTexts, RanTo, Reason, Refusal, RunEnd, Session,
+    Streams, Talker, Told, ToolFault, UnitSet, Unsaved, back_and_forth_law, run_bundle,
+    run_debug, run_list, run_printed, run_talk,
 };
 pub use plan::run_plan;
 pub use system::SystemFiles;

@@ -80,9 +80,13 @@ fn run_on<O: Opener + Library, C: In, R: In, W: Out, E: Out>(
             steps,
             printing,
             trace,
+            strict,
             keep,
         } => {
-            let options = options_of(devices, cards, typewriter, *steps, *printing, *trace, keep);
+            let (steps, trace, strict) = (*steps, *trace, *strict);
+            let options = options_of(
+                devices, cards, typewriter, steps, *printing, trace, strict, keep,
+            );
             let mut texts = texts.of_run();
             let (out, errors) = (&mut streams.out, &mut streams.errors);
             let mut deck = Vec::new(alloc);
@@ -91,8 +95,10 @@ fn run_on<O: Opener + Library, C: In, R: In, W: Out, E: Out>(
             let file = unread(source, devices.as_deref(), cards.as_deref(), failures);
             let lines = (0, texts.typewriter.failures());
             let file = unread(file, None, typewriter.as_deref(), lines);
+            // (a copy, since the checker covers no value of this kind that is passed twice)
+            let again = outcome;
             let status = print_status(alloc, source, outcome, Some(file), errors);
-            keep_deck(files, alloc, keep, outcome, &deck, status, errors)
+            keep_deck(files, alloc, keep, again, &deck, status, errors)
         }
         Plan::Dap => {
             let (out, errors) = (&mut streams.out, &mut streams.errors);

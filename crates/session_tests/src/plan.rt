@@ -82,6 +82,7 @@ fn plan_of(alloc: Global, line: &str) -> Option<Plan> {
             typewriter: named(alloc, words.next().unwrap_or("-"))?,
             printing: PRINTING,
             trace: words.next() == Some("trace"),
+            strict: false,
             keep: named(alloc, words.next().unwrap_or("-"))?,
         }),
         _ => None,

@@ -1,7 +1,8 @@
 //! A kind of rows: what a run prints, its end, and the location, the clock and the line of the source then.
 use crate::reader::{bytes, number};
 use mix_run::{
-    PrintAnswer, PrintOptions, PrintTexts, RanTo, RunEnd, ToolFault, UnitSet, run_printed,
+    Conflict, ConflictAt, Direction, PrintAnswer, PrintOptions, PrintTexts, RanTo, RunEnd,
+    ToolFault, UnitSet, run_printed,
 };
 use mix_stream::fake::{Chunks, Sink};
 use std::alloc::Global;
@@ -19,7 +20,7 @@ const PRINTER: UnitSet = UnitSet {
 };
 
 /// Runs a source and a deck for so many steps at most, which are traced if the word `trace` follows, and whose units are kept as a deck, which is told
-/// first, if the word `keep` does, with the rows of some units, with cards where a
+/// first, if the word `keep` does, and which are strict if the word `strict` does, with the rows of some units, with cards where a
 /// field gives them, and with lines for the typewriter where another does, which has `-` before it where there are no cards; the readers and the writer
 /// take all bytes, one, or seven at a call.
 pub fn printed(alloc: Global, fields: &[&str]) -> Option<String> {
@@ -46,6 +47,7 @@ fn printed_by(alloc: Global, fields: &[&str], size: usize) -> Option<String> {
         _ => return None,
     };
     let (steps, trace) = asked(*steps, " trace");
+    let (steps, strict) = asked(steps, " strict");
     let (steps, keep) = asked(steps, " keep");
     let cards_text = bytes(alloc, cards.unwrap_or(""))?;
     let typewriter_text = bytes(alloc, typewriter.unwrap_or(""))?;
@@ -56,6 +58,7 @@ fn printed_by(alloc: Global, fields: &[&str], size: usize) -> Option<String> {
         cards: cards.is_some(),
         typewriter: typewriter.is_some(),
         trace,
+        strict,
         keep,
     };
     let mut out = Sink::of(size, 0);
@@ -113,14 +116,60 @@ fn push_answer(told: &mut String, answer: Result<PrintAnswer, ToolFault>) -> Opt
 }
 
 fn push_end(told: &mut String, ran: RanTo) -> Option<()> {
-    match ran.end {
-        RunEnd::Halted => write!(told, "halted").ok()?,
-        RunEnd::Faulted(fault) => write!(told, "faulted {fault}").ok()?,
-        RunEnd::UsedUp => write!(told, "used up").ok()?,
+    let (loc, clock, line) = (ran.loc, ran.clock, ran.line);
+    let (first, count, conflict_line) = (
+        ran.conflicts.first,
+        ran.conflicts.count,
+        ran.conflict_line,
+    );
+    push_why(told, ran.end)?;
+    push_place(told, loc, clock, line)?;
+    push_first(told, first, count, conflict_line)
+}
+
+fn push_why(told: &mut String, end: RunEnd) -> Option<()> {
+    match end {
+        RunEnd::Halted => write!(told, "halted").ok(),
+        RunEnd::Faulted(fault) => write!(told, "faulted {fault}").ok(),
+        RunEnd::UsedUp => write!(told, "used up").ok(),
+        RunEnd::Conflicting(conflict) => {
+            write!(told, "conflicting ").ok()?;
+            push_conflict(told, conflict)
+        }
     }
-    let (loc, clock) = (ran.loc, ran.clock);
-    match ran.line {
+}
+
+fn push_first(
+    told: &mut String,
+    first: Option<ConflictAt>,
+    count: u64,
+    line: Option<u32>,
+) -> Option<()> {
+    match first {
+        Some(first) => {
+            let (loc, clock) = (first.loc, first.clock);
+            write!(told, ", conflicts {count}: ").ok()?;
+            push_conflict(told, first.conflict)?;
+            push_place(told, loc, clock, line)
+        }
+        None => Some(()),
+    }
+}
+
+fn push_place(told: &mut String, loc: u16, clock: u64, line: Option<u32>) -> Option<()> {
+    match line {
         Some(line) => write!(told, " at {loc}, clock {clock}, line {line}").ok(),
         None => write!(told, " at {loc}, clock {clock}, no line").ok(),
     }
+}
+
+// `IN 2000 of unit 16 until 303`
+fn push_conflict(told: &mut String, conflict: Conflict) -> Option<()> {
+    let way = match conflict.transfer.way {
+        Direction::Input => "IN",
+        Direction::Output => "OUT",
+    };
+    let (cell, unit) = (conflict.cell.number(), conflict.unit.number());
+    let until = conflict.transfer.until;
+    write!(told, "{way} {cell} of unit {unit} until {until}").ok()
 }

@@ -1,5 +1,5 @@
 //! What is asked of a run: how many steps, the rows of which units, whether a deck, cards and lines for the typewriter are given, whether its steps
-//! are traced, and whether what the units hold at the end is kept.
+//! are traced, whether it ends before a conflict, and whether what the units hold at the end is kept.
 ghost use Rattle.std.specs.Prelude.{◌≡◌, true, false};
 
 /// The units whose rows are printed (1.3.1): of the card punch, unit 17, the printer, 18, the typewriter, 19, and the paper tape, 20, those that
@@ -45,6 +45,8 @@ pub struct PrintOptions {
     pub typewriter: bool,
     /// Whether the line of each step is written too.
     pub trace: bool,
+    /// Whether the run ends before the first step that conflicts with a transfer under way.
+    pub strict: bool,
     /// Whether the deck of what the units hold at the end is given.
     pub keep: bool,
 }

@@ -1,77 +1,89 @@
 //! Steps without history, and what they print.
-ghost use Rattle.std.specs.Prelude.{◌≡◌, ◌<◌, ◌-◌, ◌^◌, IfOk, IfErr, OnOk, Err, None, drop, flat_map, length, slice_index_or};
+ghost use Rattle.std.specs.Prelude.{◌≡◌, ◌<◌, ◌≤◌, ◌+◌, ◌-◌, ◌^◌, IfOk, IfErr, Err, None};
 ghost use Rattle.std.specs.Io.KnownBytes.{Appends};
-ghost use Rattle.mix_word.specs.Uses.{unit_count};
-ghost use Rattle.mix_machine.specs.World.{unit_at};
+ghost use Rattle.mix_machine.specs.Transfers.{AreOver, conflict_of};
+ghost use Rattle.mix_machine.specs.declared.old.Change.TheVariants.{Step};
 ghost use Rattle.mix_run.specs.Fault.{IsMemoryOrWrite};
 ghost use Rattle.mix_stream.specs.Stream.{AppendsFront, CountsFailure};
-ghost use Rattle.mix_run.specs.Print.{printed, printed_row, printed_from};
-ghost use Rattle.mix_run.specs.PrintSteps.{HasCounts, StepPrints, step_bytes, printed_after};
+ghost use Rattle.mix_run.specs.Print.{counted, run_of, stops};
+ghost use Rattle.mix_run.specs.PrintSteps.{HasCounts, StepMakes, StepNotes, StepPrints, StepStops, is_made, made_bytes, step_bytes};
 
 use crate::fault::ToolFault;
-use crate::print::options::{PrintOptions, UnitSet};
-use crate::print::row::print_row;
-use crate::print::trace::step_with_line;
-use mix_machine::{MixFault, Old, Row, Unit, UnitNo, World};
+use crate::print::options::PrintOptions;
+use crate::print::rows::{RowCounts, print_new, row_counts};
+use crate::print::trace::{quiet_step, step_with_line};
+use crate::print::watch::{Conflicts, Watch, conflict_at, stops};
+use mix_machine::{Change, Conflict, MixFault, Old, World};
 use mix_stream::Out;
 use std::alloc::Global;
 use undo_core::Kept;
 
-/// Why a run ended: the last step was a halt, one more step is a fault, or as many steps were done as were allowed.
+/// Why a run ended: the last step was a halt, one more step is a fault, or, of a strict run, conflicts with a transfer under way, or as many steps
+/// were done as were allowed.
 #[derive(Clone, Copy)]
 pub enum RunEnd {
     Halted,
     Faulted(MixFault),
+    Conflicting(Conflict),
     UsedUp,
 }
 
-/// How many rows stand in each of the units that are printed.
-#[derive(Clone, Copy, PartialEq, Eq)]
-pub(crate) struct RowCounts {
-    card_punch: u16,
-    printer: u16,
-    typewriter: u16,
-    paper_tape: u16,
+/// Why some steps ended, and which of them conflict with a transfer under way.
+#[derive(Clone, Copy)]
+pub(super) struct Stepped {
+    pub(super) end: RunEnd,
+    pub(super) conflicts: Conflicts,
 }
 
-// What is kept from one step to the next: room for what a step overwrites, and how many rows each unit has.
+// What is kept from one step to the next: room for what a step overwrites, how many rows each unit has, and one transfer a unit at most.
 #[derive(Drop)]
 struct Records {
     kept: Kept<Old>,
     rows: RowCounts,
+    watch: Watch,
 }
 
-/// Does steps, up to a halt or a fault and so many at most, and writes what each prints as soon as it is done, and before that its line, if they are
-/// traced. It keeps nothing of the steps, so many take no more memory than few.
+/// Does steps, up to a halt or a fault, or, if they are strict, up to before the first that conflicts, and so many at most, and writes what each prints
+/// as soon as it is done, and before that its line, if they are traced. It keeps nothing of the steps, so many take no more memory than few.
 pub(super) fn print_steps<W: Out>(
     alloc: Global,
     world: &mut World,
     options: PrintOptions,
     out: &mut W,
-) -> Result<RunEnd, ToolFault>
+) -> Result<Stepped, ToolFault>
     requires { W.failed out.old < 2 ^ 64 - 1 }
-    ensures printed { let run = printed options 1 options.steps world.old in
-        IfOk result (λ end. (end ≡ run.end) × (world.new ≡ run.world) × Appends (W.told out.old) (W.told out.new) run.bytes) }
-    ensures begun { AppendsFront (W.told out.old) (W.told out.new) (printed options 1 options.steps world.old).bytes }
+    ensures printed { let run = run_of options world.old in
+        IfOk result (λ s. (s.end ≡ run.end) × (s.conflicts ≡ counted run.met) × (world.new ≡ run.world) × Appends (W.told out.old) (W.told out.new) run.bytes) }
+    ensures begun { AppendsFront (W.told out.old) (W.told out.new) (run_of options world.old).bytes }
     ensures write { CountsFailure (result ≡ Err ToolFault.Write) (W.failed out.old) (W.failed out.new) }
     ensures only { IfErr result IsMemoryOrWrite }
 {
+    let watch = Watch::new();
     let mut records = Records {
         kept: Kept::new(alloc),
         rows: row_counts(world),
+        watch,
     };
     let mut left = options.steps;
     while left > 0 {
         let number = options.steps - left + 1;
         match print_step(alloc, world, &mut records, number, options, out)? {
             None => left -= 1,
-            Some(end) => return Ok(end),
+            Some(end) => {
+                return Ok(Stepped {
+                    end,
+                    conflicts: records.watch.conflicts,
+                });
+            }
         }
     }
-    Ok(RunEnd::UsedUp)
+    Ok(Stepped {
+        end: RunEnd::UsedUp,
+        conflicts: records.watch.conflicts,
+    })
 }
 
-// The step of a number, its line, if it is traced, and what it prints; its end, if it ends the run. What it overwrote is forgotten before the next one.
+// The step of a number, its line, if it is traced, and what it prints; its end, if it ends the run. (Only some steps look at the transfers.)
 #[inline(always)]
 fn print_step<W: Out>(
     alloc: Global,
@@ -83,9 +95,144 @@ fn print_step<W: Out>(
 ) -> Result<Option<RunEnd>, ToolFault>
     requires count { W.failed out.old < 2 ^ 64 - 1 }
     requires before { HasCounts world.old records.old.rows }
+    requires over { AreOver records.old.watch.over records.old.watch.transfers }
+    requires room { records.old.watch.conflicts.count < 2 ^ 64 - 1 }
     ensures before { IfOk result (λ _. HasCounts world.new records.new.rows) }
-    ensures printed { IfOk result (λ end. StepPrints options number world.old world.new end (W.told out.old) (W.told out.new)) }
-    ensures begun { IfErr result (λ _. AppendsFront (W.told out.old) (W.told out.new) (step_bytes options number world.old)) }
+    ensures over { IfOk result (λ _. AreOver records.new.watch.over records.new.watch.transfers) }
+    ensures room { IfOk result (λ _. records.new.watch.conflicts.count ≤ records.old.watch.conflicts.count + 1) }
+    ensures printed { IfOk result (λ end. StepPrints (stops options.strict (conflict_of records.old.watch.transfers world.old Step)) options number
+        world.old world.new end (W.told out.old) (W.told out.new)) }
+    ensures noted { IfOk result (λ end. StepNotes world.old records.old.watch.transfers records.old.watch.conflicts
+        records.new.watch.transfers records.new.watch.conflicts end) }
+    ensures begun { IfErr result (λ _. AppendsFront (W.told out.old) (W.told out.new) (step_bytes options number records.old.watch.transfers world.old)) }
+    ensures write { CountsFailure (result ≡ Err ToolFault.Write) (W.failed out.old) (W.failed out.new) }
+    ensures only { IfErr result IsMemoryOrWrite }
+{
+    let quiet = records.watch.is_quiet(world);
+    if quiet {
+        made_step(alloc, world, records, number, options, out)
+    } else {
+        watched_step(alloc, world, records, number, options, out)
+    }
+}
+
+// A step where a transfer is under way, or may begin or end.
+#[inline(never)]
+fn watched_step<W: Out>(
+    alloc: Global,
+    world: &mut World,
+    records: &mut Records,
+    number: u64,
+    options: PrintOptions,
+    out: &mut W,
+) -> Result<Option<RunEnd>, ToolFault>
+    requires count { W.failed out.old < 2 ^ 64 - 1 }
+    requires before { HasCounts world.old records.old.rows }
+    requires over { AreOver records.old.watch.over records.old.watch.transfers }
+    requires room { records.old.watch.conflicts.count < 2 ^ 64 - 1 }
+    ensures before { IfOk result (λ _. HasCounts world.new records.new.rows) }
+    ensures over { IfOk result (λ _. AreOver records.new.watch.over records.new.watch.transfers) }
+    ensures room { IfOk result (λ _. records.new.watch.conflicts.count ≤ records.old.watch.conflicts.count + 1) }
+    ensures printed { IfOk result (λ end. StepPrints (stops options.strict (conflict_of records.old.watch.transfers world.old Step)) options number
+        world.old world.new end (W.told out.old) (W.told out.new)) }
+    ensures noted { IfOk result (λ end. StepNotes world.old records.old.watch.transfers records.old.watch.conflicts
+        records.new.watch.transfers records.new.watch.conflicts end) }
+    ensures begun { IfErr result (λ _. AppendsFront (W.told out.old) (W.told out.new) (step_bytes options number records.old.watch.transfers world.old)) }
+    ensures write { CountsFailure (result ≡ Err ToolFault.Write) (W.failed out.old) (W.failed out.new) }
+    ensures only { IfErr result IsMemoryOrWrite }
+{
+    // (a copy, since the checker covers no struct that is passed by value twice)
+    let conflict = records.watch.conflict(world);
+    let given = conflict;
+    let stop = stops(options.strict, given);
+    match stop {
+        None => {}
+        Some(conflict) => {
+            let end = end_before(alloc, world, conflict)?;
+            return Ok(Some(end));
+        }
+    }
+    noted_step(alloc, world, records, number, options, conflict, out)
+}
+
+// The end of a strict run before a step that conflicts; its fault, if it is one. (It is tried on a second machine.)
+fn end_before(alloc: Global, world: &World, conflict: Conflict) -> Result<RunEnd, ToolFault>
+    ensures stops { IfOk result (λ end. StepStops world.now world.now end conflict) }
+    ensures only { IfErr result (λ fault. fault ≡ ToolFault.Memory) }
+{
+    let mut kept = Kept::new(alloc);
+    let mut other = world.copied(alloc)?;
+    match quiet_step(&mut other, &mut kept)? {
+        None => {}
+        Some(fault) => return Ok(RunEnd::Faulted(fault)),
+    }
+    Ok(RunEnd::Conflicting(conflict))
+}
+
+// A step that is made, and what it makes of a transfer, with its conflict, if it has one.
+fn noted_step<W: Out>(
+    alloc: Global,
+    world: &mut World,
+    records: &mut Records,
+    number: u64,
+    options: PrintOptions,
+    conflict: Option<Conflict>,
+    out: &mut W,
+) -> Result<Option<RunEnd>, ToolFault>
+    requires count { W.failed out.old < 2 ^ 64 - 1 }
+    requires before { HasCounts world.old records.old.rows }
+    requires over { AreOver records.old.watch.over records.old.watch.transfers }
+    requires conflict { conflict ≡ conflict_of records.old.watch.transfers world.old Step }
+    requires room { records.old.watch.conflicts.count < 2 ^ 64 - 1 }
+    ensures before { IfOk result (λ _. HasCounts world.new records.new.rows) }
+    ensures over { IfOk result (λ _. AreOver records.new.watch.over records.new.watch.transfers) }
+    ensures room { IfOk result (λ _. records.new.watch.conflicts.count ≤ records.old.watch.conflicts.count + 1) }
+    ensures printed { IfOk result (λ end. StepMakes options number world.old world.new end (W.told out.old) (W.told out.new)) }
+    ensures noted { IfOk result (λ end. StepNotes world.old records.old.watch.transfers records.old.watch.conflicts
+        records.new.watch.transfers records.new.watch.conflicts end) }
+    ensures begun { IfErr result (λ _. AppendsFront (W.told out.old) (W.told out.new) (made_bytes options number world.old)) }
+    ensures write { CountsFailure (result ≡ Err ToolFault.Write) (W.failed out.old) (W.failed out.new) }
+    ensures only { IfErr result IsMemoryOrWrite }
+{
+    let made = world.transfer_by(Change::Step);
+    let found = conflict_at(world, conflict);
+    let end = made_step(alloc, world, records, number, options, out)?;
+    let given = end;
+    let went = is_made(given);
+    if went {
+        records.watch.note(made, found);
+        Ok(end)
+    } else {
+        Ok(end)
+    }
+}
+
+// Whether a step with this end was made: it is no fault.
+fn is_made(end: Option<RunEnd>) -> bool
+    ensures { result ≡ is_made end }
+{
+    match end {
+        None | Some(RunEnd::Halted) => true,
+        Some(RunEnd::Faulted(_)) | Some(RunEnd::Conflicting(_)) | Some(RunEnd::UsedUp) => false,
+    }
+}
+
+// A step, its line, if it is traced, and what it prints; its end, if it is a fault or a halt. What it overwrote is forgotten before the next one.
+#[inline(always)]
+fn made_step<W: Out>(
+    alloc: Global,
+    world: &mut World,
+    records: &mut Records,
+    number: u64,
+    options: PrintOptions,
+    out: &mut W,
+) -> Result<Option<RunEnd>, ToolFault>
+    requires count { W.failed out.old < 2 ^ 64 - 1 }
+    requires before { HasCounts world.old records.old.rows }
+    ensures before { IfOk result (λ _. HasCounts world.new records.new.rows) }
+    ensures printed { IfOk result (λ end. StepMakes options number world.old world.new end (W.told out.old) (W.told out.new)) }
+    ensures watch { records.new.watch ≡ records.old.watch }
+    ensures begun { IfErr result (λ _. AppendsFront (W.told out.old) (W.told out.new) (made_bytes options number world.old)) }
     ensures write { CountsFailure (result ≡ Err ToolFault.Write) (W.failed out.old) (W.failed out.new) }
     ensures only { IfErr result IsMemoryOrWrite }
 {
@@ -99,137 +246,5 @@ fn print_step<W: Out>(
         Ok(Some(RunEnd::Halted))
     } else {
         Ok(None)
-    }
-}
-
-// The rows that were written after the first ones, of the units that are asked for; their numbers become those of all rows.
-#[inline(always)]
-fn print_new<W: Out>(
-    alloc: Global,
-    world: &World,
-    before: &mut RowCounts,
-    units: UnitSet,
-    out: &mut W,
-) -> Result<(), ToolFault>
-    requires { W.failed out.old < 2 ^ 64 - 1 }
-    ensures counts { OnOk result (HasCounts world.now before.new) }
-    ensures written { OnOk result (Appends (W.told out.old) (W.told out.new) (printed_after units before.old world.now)) }
-    ensures begun { AppendsFront (W.told out.old) (W.told out.new) (printed_after units before.old world.now) }
-    ensures write { CountsFailure (result ≡ Err ToolFault.Write) (W.failed out.old) (W.failed out.new) }
-    ensures only { IfErr result IsMemoryOrWrite }
-{
-    let after = row_counts(world);
-    if after == *before {
-        return Ok(());
-    }
-    print_rows(alloc, world, *before, units, out)?;
-    *before = after;
-    Ok(())
-}
-
-// The rows of the units that are asked for, from these numbers on.
-fn print_rows<W: Out>(
-    alloc: Global,
-    world: &World,
-    from: RowCounts,
-    units: UnitSet,
-    out: &mut W,
-) -> Result<(), ToolFault>
-    requires { W.failed out.old < 2 ^ 64 - 1 }
-    ensures written { OnOk result (Appends (W.told out.old) (W.told out.new) (printed_after units from world.now)) }
-    ensures begun { AppendsFront (W.told out.old) (W.told out.new) (printed_after units from world.now) }
-    ensures write { CountsFailure (result ≡ Err ToolFault.Write) (W.failed out.old) (W.failed out.new) }
-    ensures only { IfErr result IsMemoryOrWrite }
-{
-    print_unit(
-        alloc,
-        unit_at(world, 17),
-        from.card_punch,
-        units.card_punch,
-        out,
-    )?;
-    print_unit(alloc, unit_at(world, 18), from.printer, units.printer, out)?;
-    print_unit(
-        alloc,
-        unit_at(world, 19),
-        from.typewriter,
-        units.typewriter,
-        out,
-    )?;
-    print_unit(
-        alloc,
-        unit_at(world, 20),
-        from.paper_tape,
-        units.paper_tape,
-        out,
-    )?;
-    Ok(())
-}
-
-// The rows of a unit from this number on, if it is asked for.
-fn print_unit<W: Out>(
-    alloc: Global,
-    unit: &Unit,
-    from: u16,
-    asked: bool,
-    out: &mut W,
-) -> Result<(), ToolFault>
-    requires { W.failed out.old < 2 ^ 64 - 1 }
-    ensures written { OnOk result (Appends (W.told out.old) (W.told out.new) (printed_from asked from unit.now)) }
-    ensures begun { AppendsFront (W.told out.old) (W.told out.new) (printed_from asked from unit.now) }
-    ensures write { CountsFailure (result ≡ Err ToolFault.Write) (W.failed out.old) (W.failed out.new) }
-    ensures only { IfErr result IsMemoryOrWrite }
-{
-    if asked {
-        print_from(alloc, unit, from, out)
-    } else {
-        Ok(())
-    }
-}
-
-// The rows of a unit from this number on.
-fn print_from<W: Out>(alloc: Global, unit: &Unit, from: u16, out: &mut W) -> Result<(), ToolFault>
-    requires { W.failed out.old < 2 ^ 64 - 1 }
-    ensures written { OnOk result (Appends (W.told out.old) (W.told out.new) (flat_map printed_row (drop from unit.now.rows))) }
-    ensures begun { AppendsFront (W.told out.old) (W.told out.new) (flat_map printed_row (drop from unit.now.rows)) }
-    ensures write { CountsFailure (result ≡ Err ToolFault.Write) (W.failed out.old) (W.failed out.new) }
-    ensures only { IfErr result IsMemoryOrWrite }
-{
-    let mut at = from;
-    while at < unit.rows() {
-        print_row(alloc, row_at(unit, at), out)?;
-        at += 1;
-    }
-    Ok(())
-}
-
-fn row_at(unit: &Unit, number: u16) -> &Row
-    requires { number < length unit.now.rows }
-    ensures { result.now ≡ slice_index_or unit.now.rows number None }
-{
-    unit.row(number).unwrap()
-}
-
-#[inline(always)]
-fn row_counts(world: &World) -> RowCounts
-    ensures { HasCounts world.now result }
-{
-    RowCounts {
-        card_punch: unit_at(world, 17).rows(),
-        printer: unit_at(world, 18).rows(),
-        typewriter: unit_at(world, 19).rows(),
-        paper_tape: unit_at(world, 20).rows(),
-    }
-}
-
-// One unit, by its number.
-#[inline(always)]
-fn unit_at(world: &World, number: u8) -> &Unit
-    requires { number < unit_count }
-    ensures { result.now ≡ unit_at world.now number }
-{
-    match UnitNo::of(number) {
-        Some(number) => world.unit(number),
-        None => unreachable!(),
     }
 }

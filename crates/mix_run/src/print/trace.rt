@@ -81,9 +81,12 @@ fn print_line<W: Out>(
     Ok(())
 }
 
-// A step; its fault, if it is one. What it overwrote is forgotten before the next one.
+/// A step; its fault, if it is one. What it overwrote is forgotten before the next one.
 #[inline(always)]
-fn quiet_step(world: &mut World, kept: &mut Kept<Old>) -> Result<Option<MixFault>, ToolFault>
+pub(super) fn quiet_step(
+    world: &mut World,
+    kept: &mut Kept<Old>,
+) -> Result<Option<MixFault>, ToolFault>
     ensures stepped { IfOk result (HasStepped world.old world.new) }
     ensures only { IfErr result (λ fault. fault ≡ ToolFault.Memory) }
 {

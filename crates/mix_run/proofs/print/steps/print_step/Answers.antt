@@ -1,45 +1,27 @@
--- The line of a step, and then what was written since the rows of the state before, is what the step writes.
-use Rattle.mix_run.proofs.PrintLemmas.{fault-line, line-begun, line-then, on-error, rows-begun}
-use Rattle.mix_run.proofs.Written.{Appends-same}
+-- A step of a quiet watch is one that is made, with no conflict.
+use Rattle.std.proofs.Common.{◌≤◌, ◌+◌, arith}
+use Rattle.mix_run.proofs.PrintLemmas.{on-ok}
+use Rattle.mix_run.proofs.PrintRunLemmas.{quiet-notes, stops-none}
 use Rattle.mix_run.proofs.print.steps.print_step.Goals as goal
 
-pub returns-in_err-step_with_line-clause-begun : goal.returns-in_err-step_with_line-clause-begun
-returns-in_err-step_with_line-clause-begun g c =
-    on-error c.from_residual.result _
-    (line-begun c.args.options c.args.number c.args.world.now _ _ c.in_err-step_with_line.ensures.begun)
+pub returns-then-quiet-clause-over : goal.returns-then-quiet-clause-over
+returns-then-quiet-clause-over g c = rw c.made_step.ensures.watch (on-ok _ _ c.requires.over)
 
-pub returns-in-Some-clause-printed : goal.returns-in-Some-clause-printed
-returns-in-Some-clause-printed g c =
-    let stepped = rw c.in-Some.is at c.in_ok-step_with_line.ensures.stepped in (
-      stepped.0,
-      stepped.1,
-      Appends-same _ _ _ _ (fault-line c.args.options.trace c.args.number c.args.world.now _ stepped.0) c.in_ok-step_with_line.ensures.written,
-    )
+pub returns-then-quiet-clause-room : goal.returns-then-quiet-clause-room
+returns-then-quiet-clause-room g c =
+    let room : c.args.records.now.watch.conflicts.count ≤ c.args.records.now.watch.conflicts.count + 1 = omega arith in
+    rw c.made_step.ensures.watch (on-ok _ _ room)
 
-pub returns-in_err-print_new-clause-begun : goal.returns-in_err-print_new-clause-begun
-returns-in_err-print_new-clause-begun g c =
-    on-error c.from_residual-in_err-print_new.result _
-    (rows-begun c.args.options c.args.number c.args.records.now.rows c.args.world.now c.step_with_line.new.world _ _ _ c.requires.before
-    (rw c.in-None.is at c.in_ok-step_with_line.ensures.stepped) c.in_ok-step_with_line.ensures.written c.in_err-print_new.ensures.begun)
+pub returns-then-quiet-clause-printed : goal.returns-then-quiet-clause-printed
+returns-then-quiet-clause-printed g c =
+    rw (c.is_quiet-quiet.ensures.apart c.if-quiet.true, stops-none c.args.options.strict) c.made_step.ensures.printed
 
-pub returns-then-halts-clause-printed : goal.returns-then-halts-clause-printed
-returns-then-halts-clause-printed g c =
-    let asked = c.next_is_halt-halts.ensures in
-    let answered = c.if-halts.true in
-    let stepped = rw c.in-None.is at c.in_ok-step_with_line.ensures.stepped in (
-      stepped,
-      cc,
-      line-then c.args.options c.args.number c.args.records.now.rows c.args.world.now c.step_with_line.new.world _ _ _ c.requires.before stepped
-          c.in_ok-step_with_line.ensures.written c.in_ok-print_new.ensures.written,
-    )
+pub returns-then-quiet-clause-noted : goal.returns-then-quiet-clause-noted
+returns-then-quiet-clause-noted g c =
+    rw c.made_step.ensures.watch (quiet-notes _ c.args.options c.args.number c.args.records.now.watch.transfers c.args.world.now c.made_step.new.world
+    c.args.records.now.watch.conflicts _ _ (c.is_quiet-quiet.ensures.apart c.if-quiet.true) (c.is_quiet-quiet.ensures.still c.if-quiet.true)
+    c.made_step.ensures.printed)
 
-pub returns-else-halts-clause-printed : goal.returns-else-halts-clause-printed
-returns-else-halts-clause-printed g c =
-    let asked = c.next_is_halt-halts.ensures in
-    let answered = c.if-halts.false in
-    let stepped = rw c.in-None.is at c.in_ok-step_with_line.ensures.stepped in (
-      stepped,
-      cc,
-      line-then c.args.options c.args.number c.args.records.now.rows c.args.world.now c.step_with_line.new.world _ _ _ c.requires.before stepped
-          c.in_ok-step_with_line.ensures.written c.in_ok-print_new.ensures.written,
-    )
+pub returns-then-quiet-clause-begun : goal.returns-then-quiet-clause-begun
+returns-then-quiet-clause-begun g c =
+    rw (c.is_quiet-quiet.ensures.apart c.if-quiet.true, stops-none c.args.options.strict) c.made_step.ensures.begun

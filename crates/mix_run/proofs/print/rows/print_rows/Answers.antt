@@ -1,7 +1,7 @@
 -- One unit after the other.
 use Rattle.mix_run.proofs.PrintLemmas.{begun-front, begun-later}
 use Rattle.mix_run.proofs.Written.{Appends-then, AppendsFront-all}
-use Rattle.mix_run.proofs.print.steps.print_rows.Goals as goal
+use Rattle.mix_run.proofs.print.rows.print_rows.Goals as goal
 
 pub returns-in_err-print_unit-2-clause-begun : goal.returns-in_err-print_unit-2-clause-begun
 returns-in_err-print_unit-2-clause-begun g c =

@@ -1,7 +1,7 @@
 use Rattle.std.proofs.Common.{◌≡◌, ◌++◌, ◌-◌, List, ℕ, drop, flat_map, length}
 use Rattle.std.specs.Io.KnownBytes.{Appends}
 use Rattle.mix_run.specs.Print.{printed_row}
-use Rattle.mix_run.proofs.print.steps.print_from.Given as goal
+use Rattle.mix_run.proofs.print.rows.print_from.Given as goal
 
 -- what was written so far, and the rows that are left, are all rows
 abbrev pub invariant-loop-at : goal.invariant-loop-at

@@ -3,7 +3,7 @@ use Rattle.std.proofs.Common.{◌∙◌, arith, drop, flat_map, ◌+◌, ap, ◌
 use Rattle.mix_run.specs.Print.{printed_row}
 use Rattle.mix_run.proofs.PrintLemmas.{rows-next, rows-none, written-more, written-all}
 use Rattle.mix_run.proofs.Written.{AppendsFront-after, AppendsFront-all}
-use Rattle.mix_run.proofs.print.steps.print_from.Goals as goal
+use Rattle.mix_run.proofs.print.rows.print_from.Goals as goal
 
 pub returns-in_err-print_row-clause-begun : goal.returns-in_err-print_row-clause-begun
 returns-in_err-print_row-clause-begun g c =

@@ -1,0 +1,175 @@
+//! The transfers under way in a run, and the steps that conflict with one (1.3.1, "Input-output operators").
+ghost use Rattle.std.specs.Prelude.{◌≡◌, ◌<◌, ◌≤◌, ◌+◌, ◌-◌, ◌^◌, ◌&&◌, IfSome, None, [], false, true, nat_le, option_map};
+ghost use Rattle.mix_machine.specs.Decode.{instruction};
+ghost use Rattle.mix_machine.specs.Transfers.{AreOver, conflict_of, no_transfers, transfer_by, with_transfer};
+ghost use Rattle.mix_machine.specs.declared.old.Change.TheVariants.{Step};
+ghost use Rattle.mix_run.specs.Print.{conflict_at, counted, listed, stops};
+ghost use Rattle.mix_run.specs.PrintSteps.{conflicts_after};
+
+use mix_machine::{Change, Conflict, Pending, Place, Transfers, UnitNo, World};
+use mix_word::decode_law;
+
+/// A conflict of a step with a transfer under way (1.3.1), with the location and the clock in u before that step.
+#[derive(Clone, Copy)]
+pub struct ConflictAt {
+    pub conflict: Conflict,
+    pub loc: u16,
+    pub clock: u64,
+}
+
+/// How many steps of a run conflict with a transfer under way, and the first of them.
+#[derive(Clone, Copy)]
+pub struct Conflicts {
+    pub count: u64,
+    pub first: Option<ConflictAt>,
+}
+
+/// The transfers under way, a clock at which all of them are over, and the conflicts so far.
+#[derive(Drop)]
+pub(super) struct Watch {
+    transfers: Transfers,
+    over: u64,
+    pub(super) conflicts: Conflicts,
+}
+
+impl Watch {
+    /// No transfer, and no conflict.
+    pub(super) fn new() -> Watch
+        ensures transfers { result.transfers ≡ no_transfers }
+        ensures over { AreOver result.over result.transfers }
+        ensures conflicts { result.conflicts ≡ counted [] }
+    {
+        Watch {
+            transfers: Transfers::none(),
+            over: 0,
+            conflicts: Conflicts {
+                count: 0,
+                first: None,
+            },
+        }
+    }
+
+    /// Whether the next step conflicts with nothing, and begins and ends no transfer. (It asks the clock and the code of the instruction alone.)
+    #[tactic(auto, using(crate::proofs::WatchLemmas::no_conflict))]
+    #[inline(always)]
+    pub(super) fn is_quiet(&self, world: &World) -> bool
+        requires { AreOver self.now.over self.now.transfers }
+        ensures apart { result ≡ true → conflict_of self.now.transfers world.now Step ≡ None }
+        ensures still { result ≡ true → transfer_by world.now Step ≡ None }
+    {
+        if world.clock() < self.over {
+            return false;
+        }
+        !may_transfer(world)
+    }
+
+    /// The conflict of the next step, if it is accepted and conflicts with a transfer.
+    pub(super) fn conflict(&self, world: &World) -> Option<Conflict>
+        ensures { result ≡ conflict_of self.now.transfers world.now Step }
+    {
+        self.transfers.conflict(Change::Step, world)
+    }
+
+    /// Notes what a step has made of a unit's transfer, and its conflict, if it has one.
+    pub(super) fn note(
+        &mut self,
+        made: Option<(UnitNo, Option<Pending>)>,
+        found: Option<ConflictAt>,
+    )
+        requires over { AreOver self.old.over self.old.transfers }
+        requires room { self.old.conflicts.count < 2 ^ 64 - 1 }
+        ensures over { AreOver self.new.over self.new.transfers }
+        ensures transfers { self.new.transfers ≡ with_transfer self.old.transfers made }
+        ensures conflicts { self.new.conflicts ≡ conflicts_after self.old.conflicts (listed found) }
+    {
+        // (copies, since the checker covers no struct that is passed by value twice)
+        let (given, before) = (made, self.conflicts);
+        self.over = over_after(self.over, given);
+        self.transfers.set(made);
+        self.conflicts = with_conflict(before, found);
+    }
+}
+
+// A clock at which what was over at another one is over, and a transfer that was made too.
+fn over_after(over: u64, made: Option<(UnitNo, Option<Pending>)>) -> u64
+    ensures kept { over ≤ result }
+    ensures ended { IfSome made (λ m. IfSome m.1 (λ p. p.until ≤ result)) }
+{
+    match made {
+        Some((_, Some(pending))) => {
+            if pending.until > over {
+                pending.until
+            } else {
+                over
+            }
+        }
+        Some((_, None)) | None => over,
+    }
+}
+
+// Some conflicts and one more, if there is one.
+fn with_conflict(conflicts: Conflicts, found: Option<ConflictAt>) -> Conflicts
+    requires { conflicts.count < 2 ^ 64 - 1 }
+    ensures { result ≡ conflicts_after conflicts (listed found) }
+{
+    match found {
+        None => conflicts,
+        Some(found) => Conflicts {
+            count: conflicts.count + 1,
+            first: conflicts.first.or(Some(found)),
+        },
+    }
+}
+
+/// The conflict that ends a run before its step: that of a strict one.
+pub(super) fn stops(strict: bool, conflict: Option<Conflict>) -> Option<Conflict>
+    ensures { result ≡ stops strict conflict }
+{
+    if strict { conflict } else { None }
+}
+
+/// A conflict of the next step, with its location and clock.
+pub(super) fn conflict_at(world: &World, conflict: Option<Conflict>) -> Option<ConflictAt>
+    ensures { result ≡ option_map (conflict_at world.now) conflict }
+{
+    match conflict {
+        Some(conflict) => Some(ConflictAt {
+            conflict,
+            loc: world.loc(),
+            clock: world.clock(),
+        }),
+        None => None,
+    }
+}
+
+// Whether the next step may begin a transfer or end one: that it is an IOC, an IN or an OUT, or that there is none.
+#[inline(always)]
+fn may_transfer(world: &World) -> bool
+    ensures still { result ≡ false → transfer_by world.now Step ≡ None }
+{
+    decode_law();
+    match Place::of(world.loc()) {
+        None => true,
+        Some(place) => {
+            let code = code_at(world, place);
+            is_of_transfers(code)
+        }
+    }
+}
+
+// The code of the instruction at the location.
+#[inline(always)]
+fn code_at(world: &World, place: Place) -> u8
+    requires { place ≡ world.now.loc }
+    ensures { result ≡ (instruction world.now).code }
+{
+    world.cell(place).parts().code
+}
+
+// Whether C is that of IOC, IN or OUT.
+#[inline(always)]
+fn is_of_transfers(code: u8) -> bool
+    ensures { result ≡ (nat_le 35 code && nat_le code 37) }
+{
+    35 <= code && code <= 37
+}
