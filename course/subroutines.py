@@ -80,18 +80,26 @@ def interpreter(run):
 
 
 def buffers(run):
+    shown = [*RUN, "show unit 18"]
+    for n, m, delay in ((5, 10, 300), (5, 10, 177), (5, 10, 178), (1, 1, 0), (2, 24, 1000), (9, 3, 40), (4, 7, 4), (3, 20, 0)):
+        table = ["".join(" %04d" % (row * column) for column in range(1, m + 1)) for row in range(1, n + 1)]
+        jbus = 1 + (n - 1) * (max(0, delay - 4) + 1)  # 4 u from an OUT to the JBUS
+        clocks = {"lesson.mixal": 19 + 17 * m + (n - 1) * max(8 + 17 * m, delay + 1),
+                  "wait.mixal": 20 + 17 * m + (n - 1) * (max(4, delay) + 5 + 17 * m),
+                  "two.mixal": 21 + 17 * m + (n - 1) * max(9 + 17 * m, delay + 1)}
+        for name, clock in clocks.items():
+            ran = run(name, deck=[f"%UNIT 18 delay {delay}"], N=n, M=m, script=shown)
+            yield f"{name}, the table of {n} lines", ran.rows(18), table
+            yield from times(ran, waiting=True, N=n, M=m, W=jbus)
+            yield f"{name}, delay {delay}: the clock", ran.clock, clock
     cards = ["0000000031", "0000000041", "0000000059", "0000000026", "0000000053", "1000000000", "0000000097"]
-    for n, delay, work in ((5, 300, 100), (5, 220, 100), (1, 300, 100), (7, 10, 200), (7, 1000, 10), (3, 0, 50)):
-        deck = [f"%UNIT 16 delay {delay}", *cards[:n]]
-        busy = 20 + 2 * work  # from an IN to the next JBUS, where the program has two buffers
-        waits = {"lesson.mixal": n * (delay + 1), "two.mixal": delay + 1 + (n - 1) * (max(0, delay - busy) + 1)}
-        for name in ("lesson.mixal", "two.mixal", "answer.mixal"):
-            ran = run(name, deck=deck, N=n, WORK=work, script=[*RUN, "show values SUM SUM"])
-            yield f"{name}, the sum of {n} cards", ran.numbers("show values SUM SUM"), [sum(map(int, cards[:n]))]
-            waited = waits.get(name, waits["two.mixal"])
-            yield from times(ran, N=n, WORK=work, DELAY=delay, W=waited)
-            one, two = 11 + n * (22 + 2 * work), 13 + n * (24 + 2 * work) + n - 1  # without the waiting
-            yield f"{name}, delay {delay}: the clock", ran.clock, waited + (one if name == "lesson.mixal" else two)
+    for n, delay, work in ((5, 220, 100), (5, 221, 100), (1, 300, 100), (7, 10, 200), (7, 1000, 10), (3, 0, 50)):
+        busy = 20 + 2 * work  # from an IN to the next JBUS
+        waited = delay + 1 + (n - 1) * (max(0, delay - busy) + 1)
+        ran = run("answer.mixal", deck=[f"%UNIT 16 delay {delay}", *cards[:n]], N=n, WORK=work, script=[*RUN, "show values SUM SUM"])
+        yield f"the sum of {n} cards", ran.numbers("show values SUM SUM"), [sum(map(int, cards[:n]))]
+        yield from times(ran, N=n, WORK=work, W=waited)
+        yield f"answer.mixal, delay {delay}: the clock", ran.clock, waited + 13 + n * (24 + 2 * work) + n - 1
     ran = run("answer.mixal", script=RUN)
     yield "no JBUS waits but the first: how often it is done", count_at(ran, "JBUS *(READER)"), 220 + 5
 
@@ -100,5 +108,5 @@ LESSONS = [
     Lesson("10_entrances_exits", entrances_exits, ("JXZ  0,3", "JXZ  1,3")),
     Lesson("11_coroutines", coroutines, ("STA  LINE,2(2:2)", "STA  LINE,2(3:3)")),
     Lesson("12_interpreter", interpreter, ("JANZ STEP", "JAZ  STEP")),
-    Lesson("13_buffers", buffers, ("JBUS *(READER)", "JRED *(READER)")),
+    Lesson("13_buffers", buffers, ("INC5 0,1", "INC5 1,1")),
 ]

@@ -3,14 +3,17 @@
 A session is a block that begins with "```text NAME.mixal". Its lines that begin with the prompt `(mixrev) ` are the commands of the bundle, all
 of them and in their order. Below each command is its reply, in which a line `..` stands for lines that are left out, and ` ..` at the end of a
 line for what follows there. A block that begins with "```text after NAME.mixal" has commands that follow those of the bundle. A block that begins
-with "```text times NAME.mixal N=4 N=7" is what `course/times` writes of these values."""
+with "```text times NAME.mixal N=4 N=7" is what `course/times` writes of these values. A block whose first line is `$ mixrev run ..` has what
+this command writes in the folder of the lesson, on standard error last; a program that cannot `run` a source is not asked."""
 import re
+import subprocess
 
 from columns import columns
 from running import Bundle, replies_of
 
 BLOCK = re.compile(r"^```text (after )?(\S+\.mixal)\n(.*?)^```$", re.S | re.M)
 COLUMNS = re.compile(r"^```text times (\S+\.mixal) (.*?)\n(.*?)^```$", re.S | re.M)
+RUNS = re.compile(r"^```text\n\$ mixrev (run .*?)\n(.*?)^```$", re.S | re.M)
 PROMPT = "(mixrev) "
 LEFT_OUT = ".."
 
@@ -47,6 +50,14 @@ def is_shown(shown, written):
     return any(is_shown(shown[1:], written[at:]) for at in range(1, len(written) + 1))
 
 
+def runs(program, folder, text):
+    """Compares what `mixrev run` writes with each block that shows it."""
+    if subprocess.run([program, "run", "--help"], stdin=subprocess.DEVNULL, capture_output=True).returncode == 0:
+        for found in RUNS.finditer(text):
+            ran = subprocess.run([program, *found[1].split()], cwd=folder, stdin=subprocess.DEVNULL, capture_output=True, text=True)
+            yield f"what {found[1]} writes", found[2].splitlines(), [line.rstrip() for line in (ran.stdout + ran.stderr).splitlines()]
+
+
 def talks(program, folder):
     """Compares each talk of a lesson's README.md; that of `lesson.mixal` and that of `answer.mixal` have to be there."""
     text, seen = (folder / "README.md").read_text(), set()
@@ -66,5 +77,6 @@ def talks(program, folder):
     for found in COLUMNS.finditer(text):
         said = columns(program, (folder / found[1]).read_text(), found[2].split())
         yield f"the counts of {found[1]} for {found[2]}", found[3].splitlines(), said
+    yield from runs(program, folder, text)
     for name in ("answer.mixal", "lesson.mixal"):
         yield f"README.md shows {name}", name in seen, True
