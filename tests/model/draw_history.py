@@ -12,7 +12,7 @@ REGISTERS = b"A X I1 I2 I3 I4 I5 I6 J".split()
 UNITS = b"0 0 1 8 8 16 16 18 18 19 19 20 17 21 x 1+1".split()
 WRONG = b"""step 3 until A/run 3 until/run 3 until reg A/run 0 until cell Q/run 0 until cell 4000/run 3 until unit 21/run until A/run 3 until A 1
 back until/back until break/back 1 until A/back until cell 4000/back until unit 99999999999/back until loc Q/forth until/forth until loc 4000
-forth until break/trace 0/trace 1 2/trace all/trace 1000001/show last/show last 0/show last -1/show diff/show diff X/show diff 9999/show counts 1
+forth until break/trace 0/trace 1 2/trace all/trace 1000001/show last/show last 0/show last -1/show diff/show diff X/show diff 9999/show counts 1/show conflicts 1/show conflict
 show writes/show writes 3/show writes A 1/show writes A or X/show writes cell 4000/show writes unit x/show writes loc/run 0 until unit 1+1/run 1000001 until A/run 3 until unit 20/back until over 1/run 3 until loc -1/run 3 until cmp L
 run 9 until A or/run 9 until or A/back until A or or X/forth until A X/run 9 until A and X/back until cell 4000 or Q/back until cell 4000 or A
 run 9 until A or unit 21/forth until cell or A/run 9 until loc or or over/run 0 until A or X""".replace(b"\n", b"/").split(b"/")
@@ -54,7 +54,7 @@ def command(r):
     if kind < 18:
         return b"show diff " + number(r)
     if kind < 20:
-        return b"show counts"
+        return r.choice((b"show counts", b"show conflicts"))
     if kind < 21:
         return r.choice(WRONG)
     return sources.command(r)

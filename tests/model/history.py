@@ -7,6 +7,7 @@ from machine import do, instruction, replay
 from operations import FLOATING, NEEDS_FIELD, REGISTERS, TABLE
 from parts import has
 from texts import Fault
+from transfers import conflicts
 from units import UNITS, characters
 from words import FIELDS, bytes_of, written
 
@@ -304,6 +305,8 @@ def show(session, words):
 def show_past(session, words):
     if words == [b"COUNTS"]:
         return counts(session)
+    if words == [b"CONFLICTS"]:
+        return clashing(session)
     if len(words) == 2 and words[0] == b"LAST":
         return last(session, digits_of(words[1]))
     if words[:1] == [b"WRITES"]:
@@ -322,6 +325,15 @@ def last(session, number):
 
 def writes(session, cond):
     return "".join(told(*move) for move in moves(session.loaded, session.changes) if reached(cond, move[2], move[3]))
+
+
+def clashing(session):
+    """The lines of the changes that conflict with a transfer under way, each with the cell and the transfer."""
+    lines = []
+    for move, found in zip(moves(session.loaded, session.changes), conflicts(session.loaded, session.changes)):
+        if found:
+            lines.append(told(*move)[:-1] + "  cell %04d, unit %d until %d\n" % found)
+    return "".join(lines)
 
 
 def diff(session, n):

@@ -136,6 +136,24 @@ $ show code 3 6
 0004  + 01 36 00 18 37  OUT 100(18)            5   OUT 100(18)
 0005  + 00 00 00 02 05  HLT                    6   HLT
 0006  + 00 00 00 00 00  NOP
+== a line that is altered while it is printed
+ OUT 2000(18)
+ LDA 2000
+ STZ 2001
+ IOC 0(18)
+ STZ 2001
+ HLT
+ END 0
+%DEVICES
+%UNIT 18 delay 40
+$ show conflicts
+$ run 9
+ran 6 to 0006 clock 54: halt
+$ show conflicts
+      3  0002  STZ 2001             2u  cell 2001, unit 18 until 41
+$ back 4
+back 4 to 0002 clock 3
+$ show conflicts
 == an instruction that IN overwrites; a waiting unit
  ORIG 15
  IN 0(16)

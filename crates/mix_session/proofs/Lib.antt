@@ -3,6 +3,7 @@ mod ChangeLemmas
 mod CommandLemmas
 mod CompletionLemmas
 mod ConditionLemmas
+mod ConflictLemmas
 mod MoveLemmas
 mod PathLemmas
 mod PlacesLemmas

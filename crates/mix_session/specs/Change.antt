@@ -49,9 +49,13 @@ unfoldable pub change_columns : ℕ → Change → WorldState → ℕ → List �
 change_columns n change v time =
     right_in 7 (decimal n) ++ codes "  " ++ location_text v.loc ++ codes "  " ++ left_in 17 (change_text v change) ++ codes "  " ++ right_in 3 (decimal time) ++ codes "u"
 
--- a change of a number, from one state to another
+-- a change of a number, from one state to another, without the end of its line
+unfoldable pub change_front : ℕ → Change → WorldState → WorldState → List ℕ
+change_front n change v w = change_columns n change v (w.clock - v.clock) ++ altered_text change v w
+
+-- its line
 unfoldable pub change_line : ℕ → Change → WorldState → WorldState → List ℕ
-change_line n change v w = change_columns n change v (w.clock - v.clock) ++ altered_text change v w ++ 10 ∷ []
+change_line n change v w = change_front n change v w ++ 10 ∷ []
 
 -- the line of the change of a number, counted from 1
 abbrev pub change_line_at : Timeline → ℕ → List ℕ

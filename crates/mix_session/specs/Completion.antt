@@ -130,6 +130,7 @@ after_show_word show.Last words = next.Nothing
 after_show_word show.Writes words = after_until words
 after_show_word show.Diff words = next.Nothing
 after_show_word show.Counts words = next.Nothing
+after_show_word show.Conflicts words = next.Nothing
 
 abbrev pub after_show_named : Option ShowWord → List (List ℕ) → Next
 after_show_named None words = next.Nothing

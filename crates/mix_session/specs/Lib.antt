@@ -7,6 +7,7 @@ pub mod Command
 pub mod Completion
 pub mod Condition
 pub mod Conditions
+pub mod Conflicts
 pub mod Counts
 pub mod Differences
 pub mod Each

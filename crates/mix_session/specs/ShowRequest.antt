@@ -29,10 +29,11 @@ show_name show.Last = codes "last"
 show_name show.Writes = codes "writes"
 show_name show.Diff = codes "diff"
 show_name show.Counts = codes "counts"
+show_name show.Conflicts = codes "conflicts"
 
 abbrev pub all_shows : List ShowWord
 all_shows =
-    show.Registers ∷ show.Cells ∷ show.Clock ∷ show.Breaks ∷ show.Changes ∷ show.Unit ∷ show.All ∷ show.Code ∷ show.Value ∷ show.Values ∷ show.Symbols ∷ show.Last ∷ show.Writes ∷ show.Diff ∷ show.Counts ∷ []
+    show.Registers ∷ show.Cells ∷ show.Clock ∷ show.Breaks ∷ show.Changes ∷ show.Unit ∷ show.All ∷ show.Code ∷ show.Value ∷ show.Values ∷ show.Symbols ∷ show.Last ∷ show.Writes ∷ show.Diff ∷ show.Counts ∷ show.Conflicts ∷ []
 
 -- a topic after which there is no word
 abbrev pub alone : Topic → List (List ℕ) → Result Topic Refusal
@@ -123,6 +124,7 @@ topic_of names here show.Last words = last_topic words
 topic_of names here show.Writes words = writes_topic names here words
 topic_of names here show.Diff words = diff_topic words
 topic_of names here show.Counts words = alone topic.Counts words
+topic_of names here show.Conflicts words = alone topic.Conflicts words
 
 -- `show regs`, `show cells E E`, `show clock`, and so on: a keyword and what it takes
 unfoldable pub topic_in : NamesValue → WordValue → List (List ℕ) → Result Topic Refusal

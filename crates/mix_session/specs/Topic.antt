@@ -9,8 +9,9 @@ use Rattle.mix_session.specs.ShowValue.{value_line, values_text, cell_values_tex
 use Rattle.mixal_asm.specs.Listing.{symbols_text}
 use Rattle.mix_session.specs.Change.{last_lines, writes_text, diff_text}
 use Rattle.mix_session.specs.Counts.{counts_text}
+use Rattle.mix_session.specs.Conflicts.{conflicts_text}
 use Rattle.mix_session.specs.declared.request.topics.Topic.{Topic}
-use Rattle.mix_session.specs.declared.request.topics.Topic.TheVariants.{Registers, Cells, Clock, Breaks, Changes, Unit, All, Code, Value, Values, CellValues, Symbols, Last, Writes, Diff, Counts}
+use Rattle.mix_session.specs.declared.request.topics.Topic.TheVariants.{Registers, Cells, Clock, Breaks, Changes, Unit, All, Code, Value, Values, CellValues, Symbols, Last, Writes, Diff, Counts, Conflicts}
 
 -- of a program and of the machine that its timeline has come to
 abbrev pub topic_text : Topic → ProgramValue → Timeline → List ℕ
@@ -30,3 +31,4 @@ topic_text (Last n) program t = last_lines t n
 topic_text (Writes condition) program t = writes_text condition t
 topic_text (Diff n) program t = diff_text t n
 topic_text Counts program t = counts_text program t
+topic_text Conflicts program t = conflicts_text t

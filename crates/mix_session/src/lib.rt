@@ -8,6 +8,7 @@ mod command;
 mod completion;
 mod condition;
 mod conditions;
+mod conflicts;
 mod fault;
 mod keyword;
 mod laws;

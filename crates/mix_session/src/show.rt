@@ -10,6 +10,7 @@ pub(crate) mod cells;
 pub(crate) mod changes;
 mod code;
 mod columns;
+mod conflicts;
 pub(crate) mod counts;
 pub(crate) mod differences;
 mod each;
@@ -26,6 +27,7 @@ use crate::show::all::all_lines;
 use crate::show::cells::{Breakpoints, CellLines, Cells};
 use crate::show::changes::diff_lines;
 use crate::show::code::code_lines;
+use crate::show::conflicts::conflict_lines;
 use crate::show::counts::count_lines;
 use crate::show::each::Each;
 use crate::show::last::{last_lines, write_lines};
@@ -66,6 +68,7 @@ pub(crate) fn topic_lines(
         Topic::Writes(condition) => write_lines(alloc, journal, condition),
         Topic::Diff(number) => diff_lines(alloc, journal, number),
         Topic::Counts => count_lines(alloc, program, journal),
+        Topic::Conflicts => conflict_lines(alloc, journal),
     }
 }
 

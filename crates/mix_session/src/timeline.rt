@@ -68,6 +68,15 @@ pub(crate) fn world_at(
     Ok(world)
 }
 
+/// The machine before all changes: a copy that is led back there.
+pub(crate) fn first_world(alloc: Global, journal: &Journal<World>) -> Result<World, Memory>
+    ensures { IfOk result (λ w. w ≡ journal.now.first) }
+{
+    let mut world = journal.state().copied(alloc)?;
+    lead_back(journal, 0, &mut world);
+    Ok(world)
+}
+
 // Leads the machine back to where it was after the first of the changes done.
 fn lead_back(journal: &Journal<World>, number: usize, world: &mut World)
     requires within { number ≤ length journal.now.changes }

@@ -73,12 +73,13 @@ show last N      what the last N changes altered
 show writes COND  each change done that reaches COND, and what it altered, the first one first
 show diff N      what differs between the state after N changes and now
 show counts      how often each instruction was executed, and the time that it took
+show conflicts   each change done that conflicts with a transfer under way, and with which
 show clock, show breaks, show changes, show symbols
 ";
 
 const SHOW_TAKES: &str = "\
 show takes regs, all, cells E E, unit N, code, value W, values, last N, writes COND, diff N,
-counts, clock, breaks, changes or symbols
+counts, conflicts, clock, breaks, changes or symbols
 ";
 
 const WATCH_TAKES: &str = "watch takes COND: a register, over, cmp, cell E, unit N or loc E\n";

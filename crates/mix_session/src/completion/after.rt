@@ -204,6 +204,7 @@ fn after_show_word(word: ShowWord, words: &mut Words) -> Next
         | ShowWord::Symbols
         | ShowWord::Last
         | ShowWord::Diff
-        | ShowWord::Counts => Next::Nothing,
+        | ShowWord::Counts
+        | ShowWord::Conflicts => Next::Nothing,
     }
 }

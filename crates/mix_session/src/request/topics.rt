@@ -36,6 +36,7 @@ pub enum Topic {
     Writes(Condition),
     Diff(u64),
     Counts,
+    Conflicts,
 }
 
 /// What `show` may show.
@@ -56,6 +57,7 @@ pub(crate) enum ShowWord {
     Writes,
     Diff,
     Counts,
+    Conflicts,
 }
 
 impl Keyword for ShowWord {
@@ -80,6 +82,7 @@ impl Keyword for ShowWord {
             ShowWord::Writes => "writes",
             ShowWord::Diff => "diff",
             ShowWord::Counts => "counts",
+            ShowWord::Conflicts => "conflicts",
         }
     }
 
@@ -90,10 +93,11 @@ impl Keyword for ShowWord {
             ShowWord::Changes, ShowWord::Unit, ShowWord::All, ShowWord::Code,
             ShowWord::Value, ShowWord::Values, ShowWord::Symbols,
             ShowWord::Last, ShowWord::Writes, ShowWord::Diff, ShowWord::Counts,
+            ShowWord::Conflicts,
         ]
     }
 
-    ghost named = { elim [ show.Registers ↦ refl | show.Cells ↦ refl | show.Clock ↦ refl | show.Breaks ↦ refl | show.Changes ↦ refl | show.Unit ↦ refl | show.All ↦ refl | show.Code ↦ refl | show.Value ↦ refl | show.Values ↦ refl | show.Symbols ↦ refl | show.Last ↦ refl | show.Writes ↦ refl | show.Diff ↦ refl | show.Counts ↦ refl ] };
+    ghost named = { elim [ show.Registers ↦ refl | show.Cells ↦ refl | show.Clock ↦ refl | show.Breaks ↦ refl | show.Changes ↦ refl | show.Unit ↦ refl | show.All ↦ refl | show.Code ↦ refl | show.Value ↦ refl | show.Values ↦ refl | show.Symbols ↦ refl | show.Last ↦ refl | show.Writes ↦ refl | show.Diff ↦ refl | show.Counts ↦ refl | show.Conflicts ↦ refl ] };
 }
 
 #[tactic(auto, unfolding(crate::specs::ShowRequest::topic_in))]
@@ -121,6 +125,7 @@ pub(crate) fn read_topic<N: Names>(
         ShowWord::Writes => read_writes(words, names, here),
         ShowWord::Diff => read_diff(words),
         ShowWord::Counts => alone(Topic::Counts, words),
+        ShowWord::Conflicts => alone(Topic::Conflicts, words),
     }
 }
 

@@ -2,7 +2,7 @@
 
 ghost use Rattle.std.specs.Prelude.{◌≡◌, ◌+◌, ◌++◌, OnOk, IfOk, length, string_bytes};
 ghost use Rattle.mix_machine.specs.declared.old.Change.TheVariants.{Step};
-ghost use Rattle.mix_session.specs.Change.{change_at, change_text, change_columns, change_line, change_line_at, diff_text};
+ghost use Rattle.mix_session.specs.Change.{change_at, change_text, change_columns, change_front, change_line, change_line_at, diff_text};
 ghost use Rattle.mix_session.specs.Differences.{differences};
 
 use crate::altered::{Worlds, alterations, altered_by};
@@ -49,12 +49,26 @@ pub(crate) fn line_of(
 ) -> Result<Vec<u8>, Memory>
     ensures { IfOk result (λ text. text.items ≡ change_line number change.now worlds.entry.before.now worlds.entry.after.now) }
 {
+    let mut text = front_of(alloc, number, change, worlds)?;
+    text.push(b'\n')?;
+    Ok(text)
+}
+
+/// The same without the end of the line.
+#[tactic(auto, unfolding(crate::specs::Change::change_front))]
+pub(crate) fn front_of(
+    alloc: Global,
+    number: usize,
+    change: &Change,
+    worlds: Worlds<'_>,
+) -> Result<Vec<u8>, Memory>
+    ensures { IfOk result (λ text. text.items ≡ change_front number change.now worlds.entry.before.now worlds.entry.after.now) }
+{
     let mut text = Vec::new(alloc);
     let time = worlds.after.clock().saturating_sub(worlds.before.clock());
     add_columns(alloc, &mut text, number, change, worlds.before, time)?;
     let parts = altered_by(alloc, change, worlds.before, worlds.after)?;
     add_item_columns(alloc, &mut text, worlds, &parts)?;
-    text.push(b'\n')?;
     Ok(text)
 }
 

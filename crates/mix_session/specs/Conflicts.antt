@@ -1,0 +1,35 @@
+-- Which changes conflict with a transfer under way, and what `show conflicts` writes of them.
+use Rattle.std.specs.Prelude.{ℕ, zero, suc, ◌+◌, ◌-◌, List, [], ◌∷◌, ◌++◌, codes, length, Option, None, Some}
+use Rattle.std.specs.Fmt.{decimal}
+use Rattle.mix_word.specs.Text.{location_text}
+use Rattle.mix_machine.specs.Transfers.{TransfersState, no_transfers, transfers_after, conflict_of}
+use Rattle.mix_machine.specs.declared.transfers.Conflict.{Conflict}
+use Rattle.mix_session.specs.Change.{world_at, change_at, change_front}
+use Rattle.mix_session.specs.Each.{texts}
+use Rattle.mix_session.specs.Timeline.{Timeline}
+
+-- the transfers under way after the first n of all changes
+abbrev pub transfers_at : Timeline → ℕ → TransfersState
+transfers_at t zero = no_transfers
+transfers_at t (suc n) = transfers_after (transfers_at t n) (world_at t n) (change_at t (suc n))
+
+-- with which cell of which transfer under way before it the change of a number conflicts, counted from 1
+unfoldable pub conflict_at : Timeline → ℕ → Option Conflict
+conflict_at t n = conflict_of (transfers_at t (n - 1)) (world_at t (n - 1)) (change_at t n)
+
+-- the last column: the cell, the unit, and when its transfer ends
+unfoldable pub conflict_column : Conflict → List ℕ
+conflict_column c = codes "  cell " ++ location_text c.cell ++ codes ", unit " ++ decimal c.unit ++ codes " until " ++ decimal c.transfer.until
+
+-- the line of a change that conflicts, by its columns; nothing of another
+abbrev pub conflict_line : List ℕ → Option Conflict → List ℕ
+conflict_line front None = []
+conflict_line front (Some c) = front ++ conflict_column c ++ 10 ∷ []
+
+-- the same of the change of a number, whose columns are those of `show last`
+abbrev pub conflict_line_at : Timeline → ℕ → List ℕ
+conflict_line_at t n = conflict_line (change_front n (change_at t n) (world_at t (n - 1)) (world_at t n)) (conflict_at t n)
+
+-- the reply of `show conflicts`: the lines of the changes done that conflict
+abbrev pub conflicts_text : Timeline → List ℕ
+conflicts_text t = texts (conflict_line_at t) 1 (length t.changes + 1)
