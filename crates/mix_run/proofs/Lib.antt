@@ -1,11 +1,13 @@
 mod CheckLemmas
 mod CutLemmas
+mod HearingLemmas
 mod KeepLemmas
 mod PersonLemmas
 mod PrintLemmas
 mod PrintOutputLemmas
 mod PrintRunLemmas
 mod RunLemmas
+mod SourceLemmas
 mod TalkLemmas
 mod TalkMeets
 mod Truncation

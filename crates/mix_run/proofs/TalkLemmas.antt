@@ -20,7 +20,7 @@ use Rattle.mix_stream.specs.Stream.{AppendsFront}
 use Rattle.mix_run.specs.Output.{replies}
 use Rattle.mix_run.specs.Bundle.{OriginValue, bundle_of}
 use Rattle.mix_run.specs.Opening.{Saved, noted, noted_one}
-use Rattle.mix_run.specs.Recall.{RecallState, meant, meant_by, nothing, recalled}
+use Rattle.mix_run.specs.Recall.{RecallState, meant, meant_by, recalled, recalled_by}
 use Rattle.mix_run.specs.Saves.{saves, saves_by, saves_of}
 use Rattle.mix_run.specs.Talk.{AnswersRead, Talks, after_lines, answers, asked, is_over, is_end, is_quit, is_too_long, is_whole, max_line_bytes, recalled_all}
 use Rattle.mix_run.specs.Hearing.{Hears}
@@ -67,7 +67,7 @@ lines-append front rest whole =
 
 -- ---- lines that are too long
 
-parts-clear : (a b : Bool) → (a || b) ≡ false → (a ≡ false) × (b ≡ false)
+pub parts-clear : (a b : Bool) → (a || b) ≡ false → (a ≡ false) × (b ≡ false)
 parts-clear true b h = absurd (true≢false h)
 parts-clear false b h = (refl, h)
 
@@ -113,7 +113,7 @@ end-of-two line =
     let return : length bare ≤ length (strip_carriage_return bare) + 1 = one-less (eqb (get_or bare (length bare - 1) 0) 13) bare in
     omega (arith, feed, return)
 
-or-true : (v : Bool) → (v || true) ≡ true
+pub or-true : (v : Bool) → (v || true) ≡ true
 or-true true = refl
 or-true false = refl
 
@@ -121,7 +121,7 @@ any-first : (line : List ℕ) (more : List (List ℕ)) → max_line_bytes < leng
 any-first line more over = rw (lt-ltb max_line_bytes (length line) over) refl
 
 -- the line that such a part begins is too long, if the part is longer than a line may be with its end
-long-first : (part rest : List ℕ) → list_any is_line_feed part ≡ false → max_line_bytes + 2 < length part
+pub long-first : (part rest : List ℕ) → list_any is_line_feed part ≡ false → max_line_bytes + 2 < length part
     → list_any is_too_long (lines (part ++ rest)) ≡ true
 unfolding lines
 long-first part rest clear over =
@@ -156,28 +156,28 @@ whole-take text n within last =
 
 -- ---- replies
 
-bytes-append : (s : SessionState) (xs ys : List (List ℕ)) → (replies s (xs ++ ys)).bytes ≡ (replies s xs).bytes ++ (replies (after_lines s xs) ys).bytes
+pub bytes-append : (s : SessionState) (xs ys : List (List ℕ)) → (replies s (xs ++ ys)).bytes ≡ (replies s xs).bytes ++ (replies (after_lines s xs) ys).bytes
 bytes-append s [] ys = refl
 bytes-append s (line ∷ rest) ys =
     let next = record s { timeline = after (effect_in s line) } in
     let said = reply_of s.program (effect_in s line) in
     ap (λ b. said ++ b) (bytes-append next rest ys) ∙ sym (append_assoc said (replies next rest).bytes (replies (after_lines next rest) ys).bytes)
 
-told-append : (s : SessionState) (xs ys : List (List ℕ)) → (replies s (xs ++ ys)).told ≡ told_of_both (replies s xs).told (replies (after_lines s xs) ys).told
+pub told-append : (s : SessionState) (xs ys : List (List ℕ)) → (replies s (xs ++ ys)).told ≡ told_of_both (replies s xs).told (replies (after_lines s xs) ys).told
 told-append s [] ys = refl
 told-append s (line ∷ rest) ys =
     let next = record s { timeline = after (effect_in s line) } in
     let one = told_of (effect_in s line).answer in
     ap (told_of_both one) (told-append next rest ys) ∙ sym (both-assoc one (replies next rest).told (replies (after_lines next rest) ys).told)
 
-after-append : (s : SessionState) (xs ys : List (List ℕ)) → after_lines s (xs ++ ys) ≡ after_lines (after_lines s xs) ys
+pub after-append : (s : SessionState) (xs ys : List (List ℕ)) → after_lines s (xs ++ ys) ≡ after_lines (after_lines s xs) ys
 after-append s [] ys = refl
 after-append s (line ∷ rest) ys = after-append (record s { timeline = after (effect_in s line) }) rest ys
 
 -- ---- the commands among lines
 
 -- the lines that follow some lines, after which the talk goes on
-asked-append : (s : SessionState) (talker : Talker) (r : RecallState) (xs ys : List (List ℕ)) → is_over talker xs ≡ false
+pub asked-append : (s : SessionState) (talker : Talker) (r : RecallState) (xs ys : List (List ℕ)) → is_over talker xs ≡ false
     → asked s talker r (xs ++ ys) ≡ asked s talker r xs ++ asked (after_lines s (asked s talker r xs)) talker (recalled_all s talker r xs) ys
 asked-append s talker r [] ys still = refl
 asked-append s talker r (line ∷ rest) ys still =
@@ -206,7 +206,7 @@ asked-append s talker r (line ∷ rest) ys still =
         ∙ sym (append_assoc said more (asked (after_lines next more) talker (recalled_all next talker later rest) ys))
         ∙ ap (λ t. (said ++ more) ++ asked t talker (recalled_all next talker later rest) ys) (sym (after-append s said more))
 
-recalled-append : (s : SessionState) (talker : Talker) (r : RecallState) (xs ys : List (List ℕ)) → is_over talker xs ≡ false
+pub recalled-append : (s : SessionState) (talker : Talker) (r : RecallState) (xs ys : List (List ℕ)) → is_over talker xs ≡ false
     → recalled_all s talker r (xs ++ ys) ≡ recalled_all (after_lines s (asked s talker r xs)) talker (recalled_all s talker r xs) ys
 recalled-append s talker r [] ys still = refl
 recalled-append s talker r (line ∷ rest) ys still =
@@ -234,7 +234,7 @@ recalled-append s talker r (line ∷ rest) ys still =
         first still
         ∙ ap (λ t. recalled_all t talker (recalled_all next talker later rest) ys) (sym (after-append s said more))
 
-asked-over : (s : SessionState) (talker : Talker) (r : RecallState) (xs ys : List (List ℕ)) → is_over talker xs ≡ true
+pub asked-over : (s : SessionState) (talker : Talker) (r : RecallState) (xs ys : List (List ℕ)) → is_over talker xs ≡ true
     → asked s talker r (xs ++ ys) ≡ asked s talker r xs
 asked-over s talker r [] ys over = absurd (true≢false (sym over))
 asked-over s talker r (line ∷ rest) ys over =
@@ -255,14 +255,32 @@ asked-over s talker r (line ∷ rest) ys over =
     go true over first = refl
     go false over first = ap (λ l. said ++ l) (first over)
 
+pub recalled-over : (s : SessionState) (talker : Talker) (r : RecallState) (xs ys : List (List ℕ)) → is_over talker xs ≡ true
+    → recalled_all s talker r (xs ++ ys) ≡ recalled_all s talker r xs
+recalled-over s talker r [] ys over = absurd (true≢false (sym over))
+recalled-over s talker r (line ∷ rest) ys over =
+    go (is_quit talker line) over (recalled-over (after_lines s (meant s talker r line)) talker (recalled s talker r line) rest ys)
+  where
+    next : SessionState
+    next = after_lines s (meant s talker r line)
+
+    later : RecallState
+    later = recalled s talker r line
+
+    go : (q : Bool) → (q || is_over talker rest) ≡ true
+        → (is_over talker rest ≡ true → recalled_all next talker later (rest ++ ys) ≡ recalled_all next talker later rest)
+        → cond q r (recalled_all next talker later (rest ++ ys)) ≡ cond q r (recalled_all next talker later rest)
+    go true over first = refl
+    go false over first = first over
+
 -- ---- what lines save
 
-noted-then : (so_far : Option (List Saved)) (xs ys : List Saved) → noted (noted so_far xs) ys ≡ noted so_far (xs ++ ys)
+pub noted-then : (so_far : Option (List Saved)) (xs ys : List Saved) → noted (noted so_far xs) ys ≡ noted so_far (xs ++ ys)
 noted-then so_far [] ys = refl
 noted-then so_far (file ∷ files) ys = noted-then (noted_one so_far file) files ys
 
 -- what is saved by the lines that follow some lines, after which the talk goes on
-saves-append : (o : OriginValue) (s : SessionState) (talker : Talker) (r : RecallState) (xs ys : List (List ℕ)) → is_over talker xs ≡ false
+pub saves-append : (o : OriginValue) (s : SessionState) (talker : Talker) (r : RecallState) (xs ys : List (List ℕ)) → is_over talker xs ≡ false
     → saves o s talker r (xs ++ ys) ≡ saves o s talker r xs ++ saves o (after_lines s (asked s talker r xs)) talker (recalled_all s talker r xs) ys
 saves-append o s talker r [] ys still = refl
 saves-append o s talker r (line ∷ rest) ys still =
@@ -297,7 +315,7 @@ saves-append o s talker r (line ∷ rest) ys still =
         ∙ sym (append_assoc one here (saves o (after_lines next more) talker (recalled_all next talker later rest) ys))
         ∙ ap (λ t. (one ++ here) ++ saves o t talker (recalled_all next talker later rest) ys) (sym (after-append s said more))
 
-saves-over : (o : OriginValue) (s : SessionState) (talker : Talker) (r : RecallState) (xs ys : List (List ℕ)) → is_over talker xs ≡ true
+pub saves-over : (o : OriginValue) (s : SessionState) (talker : Talker) (r : RecallState) (xs ys : List (List ℕ)) → is_over talker xs ≡ true
     → saves o s talker r (xs ++ ys) ≡ saves o s talker r xs
 saves-over o s talker r [] ys over = absurd (true≢false (sym over))
 saves-over o s talker r (line ∷ rest) ys over =
@@ -318,97 +336,6 @@ saves-over o s talker r (line ∷ rest) ys over =
     go true over first = refl
     go false over first = ap (λ l. one ++ l) (first over)
 
--- ---- parts of a talk
-
--- the session and what is recalled after some whole lines
-module _ (s : SessionState) (talker : Talker) (r : RecallState) where
-  abbrev pub session_after : List ℕ → SessionState
-  session_after front = after_lines s (asked s talker r (lines front))
-
-  abbrev pub recall_after : List ℕ → RecallState
-  recall_after front = recalled_all s talker r (lines front)
-
-  -- the lines of whole lines, and of what follows them, where the talk is not over
-  asked-lines : (front rest : List ℕ) → is_whole front ≡ true → is_over talker (lines front) ≡ false
-      → asked s talker r (lines (front ++ rest)) ≡ asked s talker r (lines front) ++ asked (session_after front) talker (recall_after front) (lines rest)
-  asked-lines front rest whole still = ap (asked s talker r) (lines-append front rest whole) ∙ asked-append s talker r (lines front) (lines rest) still
-
-  recalled-lines : (front rest : List ℕ) → is_whole front ≡ true → is_over talker (lines front) ≡ false
-      → recalled_all s talker r (lines (front ++ rest)) ≡ recalled_all (session_after front) talker (recall_after front) (lines rest)
-  recalled-lines front rest whole still =
-      ap (recalled_all s talker r) (lines-append front rest whole) ∙ recalled-append s talker r (lines front) (lines rest) still
-
-  saves-lines : (o : OriginValue) (front rest : List ℕ) → is_whole front ≡ true → is_over talker (lines front) ≡ false
-      → saves o s talker r (lines (front ++ rest)) ≡ saves o s talker r (lines front) ++ saves o (session_after front) talker (recall_after front) (lines rest)
-  saves-lines o front rest whole still = ap (saves o s talker r) (lines-append front rest whole) ∙ saves-append o s talker r (lines front) (lines rest) still
-
-  -- the replies to whole lines are a beginning of those to a text that begins with them
-  front-said : (front rest : List ℕ) → is_whole front ≡ true
-      → (more : List ℕ) × ((answers s talker r (lines (front ++ rest))).bytes ≡ (answers s talker r (lines front)).bytes ++ more)
-  front-said front rest whole = go (is_over talker (lines front)) refl
-    where
-      go : (v : Bool) → is_over talker (lines front) ≡ v
-          → (more : List ℕ) × ((answers s talker r (lines (front ++ rest))).bytes ≡ (answers s talker r (lines front)).bytes ++ more)
-      go true over = (
-        [],
-        ap (λ l. (replies s l).bytes) (ap (asked s talker r) (lines-append front rest whole) ∙ asked-over s talker r (lines front) (lines rest) over)
-            ∙ sym (append-nil _),
-      )
-      go false still = (
-        (answers (session_after front) talker (recall_after front) (lines rest)).bytes,
-        ap (λ l. (replies s l).bytes) (asked-lines front rest whole still)
-            ∙ bytes-append s (asked s talker r (lines front)) (asked (session_after front) talker (recall_after front) (lines rest)),
-      )
-
--- what was heard before, and what was heard then
-pub Hears-then : {o : OriginValue} {d e f : Option (List Saved)} (s mid now : SessionState) (talker : Talker) (r between last : RecallState) (bytes left part later : List ℕ) (told more : Told) (ends : Bool)
-    (a b c : Option (List ℕ)) → Hears o s talker r bytes left mid between told false d e a b
-    → Hears o mid talker between (left ++ part) later now last more ends e f b c
-    → Hears o s talker r (bytes ++ part) later now last (told_of_both told more) ends d f a c
-Hears-then {o} {d} {e} {f} s mid now talker r between last bytes left part later told more ends a b c h k =
-    let xs = asked s talker r (lines h.front) in
-    let ys = asked (session_after s talker r h.front) talker (recall_after s talker r h.front) (lines k.front) in
-    let same : asked mid talker between (lines k.front) ≡ ys = ap₂ (λ t u. asked t talker u (lines k.front)) h.session h.recall in
-    let both = asked-lines s talker r h.front k.front h.whole (sym h.over) in
-    record {
-      front = h.front ++ k.front;
-      parts = ap (λ t. t ++ part) h.parts ∙ append_assoc h.front left part ∙ ap (λ t. h.front ++ t) k.parts ∙ sym (append_assoc h.front k.front later);
-      whole = whole-append h.front k.front h.whole k.whole;
-      part = k.part;
-      session = k.session ∙ ap₂ after_lines h.session same ∙ sym (after-append s xs ys) ∙ ap (after_lines s) (sym both);
-      recall = k.recall ∙ ap₂ (λ t u. recalled_all t talker u (lines k.front)) h.session h.recall
-          ∙ sym (recalled-lines s talker r h.front k.front h.whole (sym h.over));
-      told = ap (λ t. told_of_both t more) h.told
-          ∙ ap (told_of_both (replies s xs).told) (k.told ∙ ap₂ (λ t l. (replies t l).told) h.session same)
-          ∙ sym (told-append s xs ys) ∙ ap (λ l. (replies s l).told) (sym both);
-      over = k.over ∙ sym (ap (is_over talker) (lines-append h.front k.front h.whole) ∙ list_any-append (is_quit talker) (lines h.front) (lines k.front)
-          ∙ ap (λ v. v || is_over talker (lines k.front)) (sym h.over));
-      written = Appends-same a c _ _ (sym (ap (λ l. (replies s l).bytes) both ∙ bytes-append s xs ys))
-          (Appends-then a b c (replies s xs).bytes (replies (after_lines s xs) ys).bytes h.written
-          (Appends-same b c _ _ (ap₂ (λ t l. (replies t l).bytes) h.session same) k.written));
-      saved = k.saved ∙ ap₂ (λ t u. noted e (saves o t talker u (lines k.front))) h.session h.recall
-          ∙ ap (λ t. noted t (saves o (session_after s talker r h.front) talker (recall_after s talker r h.front) (lines k.front))) h.saved
-          ∙ noted-then d (saves o s talker r (lines h.front)) (saves o (session_after s talker r h.front) talker (recall_after s talker r h.front) (lines k.front))
-          ∙ ap (noted d) (sym (saves-lines s talker r o h.front k.front h.whole (sym h.over)));
-    }
-
--- nothing was heard yet
-pub Hears-nothing : {o : OriginValue} {d : Option (List Saved)} (s : SessionState) (talker : Talker) (r last : RecallState) (left : List ℕ) (told : Told) (a : Option (List ℕ)) → last ≡ r → left ≡ []
-    → told ≡ (replies s []).told → Hears o s talker r [] left s last told false d d a a
-unfolding lines
-Hears-nothing s talker r last left told a same none is = record {
-  front = [];
-  parts = sym none;
-  whole = refl;
-  part = ap (list_any is_line_feed) none;
-  session = refl;
-  recall = same;
-  told = is;
-  over = refl;
-  written = Appends-nothing a;
-  saved = refl;
-}
-
 -- ---- one line of a text
 
 pub not_so : (v : Bool) → (v ≡ true → ⊥) → v ≡ false
@@ -426,8 +353,9 @@ quit-meant line_kind.Delete typed e = absurd (true≢false (sym e))
 quit-meant line_kind.Display typed e = absurd (true≢false (sym e))
 quit-meant line_kind.Undisplay typed e = absurd (true≢false (sym e))
 quit-meant line_kind.Save typed e = absurd (true≢false (sym e))
+quit-meant line_kind.Source typed e = absurd (true≢false (sym e))
 
-quit-said : (s : SessionState) (talker : Talker) (r : RecallState) (line : List ℕ) → is_quit talker line ≡ true → meant s talker r line ≡ []
+pub quit-said : (s : SessionState) (talker : Talker) (r : RecallState) (line : List ℕ) → is_quit talker line ≡ true → meant s talker r line ≡ []
 quit-said s talkers.Program r line e = absurd (true≢false (sym e))
 quit-said s talkers.Person r line e = quit-meant (kind_of (words line)) (person_line r.again r.watch line) e
 
@@ -442,8 +370,26 @@ quit-unsaved line_kind.Delete bundle said e = absurd (true≢false (sym e))
 quit-unsaved line_kind.Display bundle said e = absurd (true≢false (sym e))
 quit-unsaved line_kind.Undisplay bundle said e = absurd (true≢false (sym e))
 quit-unsaved line_kind.Save bundle said e = absurd (true≢false (sym e))
+quit-unsaved line_kind.Source bundle said e = absurd (true≢false (sym e))
 
-quit-saves : (o : OriginValue) (talker : Talker) (r : RecallState) (line : List ℕ) → is_quit talker line ≡ true → saves_of o talker r line ≡ []
+-- nor is anything recalled of it
+quit-unrecalled : (s : SessionState) (kind : Line) (typed : List ℕ) (r : RecallState) → is_end kind ≡ true → recalled_by s kind typed r ≡ r
+quit-unrecalled s line_kind.Quit typed r e = refl
+quit-unrecalled s line_kind.Command typed r e = absurd (true≢false (sym e))
+quit-unrecalled s line_kind.Help typed r e = absurd (true≢false (sym e))
+quit-unrecalled s line_kind.Listing typed r e = absurd (true≢false (sym e))
+quit-unrecalled s line_kind.Watch typed r e = absurd (true≢false (sym e))
+quit-unrecalled s line_kind.Delete typed r e = absurd (true≢false (sym e))
+quit-unrecalled s line_kind.Display typed r e = absurd (true≢false (sym e))
+quit-unrecalled s line_kind.Undisplay typed r e = absurd (true≢false (sym e))
+quit-unrecalled s line_kind.Save typed r e = absurd (true≢false (sym e))
+quit-unrecalled s line_kind.Source typed r e = absurd (true≢false (sym e))
+
+pub quit-recalled : (s : SessionState) (talker : Talker) (r : RecallState) (line : List ℕ) → is_quit talker line ≡ true → recalled s talker r line ≡ r
+quit-recalled s talkers.Program r line e = refl
+quit-recalled s talkers.Person r line e = quit-unrecalled s (kind_of (words line)) (person_line r.again r.watch line) r e
+
+pub quit-saves : (o : OriginValue) (talker : Talker) (r : RecallState) (line : List ℕ) → is_quit talker line ≡ true → saves_of o talker r line ≡ []
 quit-saves o talkers.Program r line e = refl
 quit-saves o talkers.Person r line e = quit-unsaved (kind_of (words line)) (bundle_of o r.done) (words line) e
 
@@ -584,25 +530,6 @@ module _ (left part front rest : List ℕ) (parts : part ≡ front ++ rest) wher
   pub joined-whole : 0 < length front → is_whole front ≡ true → is_whole (left ++ front) ≡ true
   joined-whole some whole = whole-onto left front some whole
 
--- the whole lines among some bytes are answered
-pub Hears-lines : {o : OriginValue} {d f : Option (List Saved)} (s : SessionState) (talker : Talker) (r : RecallState) (bytes text left given : List ℕ) (now : SessionState) (last : RecallState) (said : Told)
-    (ends : Bool) (a b : Option (List ℕ)) → bytes ≡ text ++ left → is_whole text ≡ true → list_any is_line_feed left ≡ false → given ≡ text
-    → now ≡ after_lines s (asked s talker r (lines given)) → last ≡ recalled_all s talker r (lines given) → ends ≡ is_over talker (lines given)
-    → (said ≡ (answers s talker r (lines given)).told) × Appends a b (answers s talker r (lines given)).bytes
-    → f ≡ noted d (saves o s talker r (lines given)) → Hears o s talker r bytes left now last said ends d f a b
-Hears-lines s talker r bytes text left given now last said ends a b parts whole part is session recall over replied kept = record {
-  front = given;
-  parts = parts ∙ ap (λ t. t ++ left) (sym is);
-  whole = ap is_whole is ∙ whole;
-  part = part;
-  session = session;
-  recall = recall;
-  told = replied.0;
-  over = over;
-  written = replied.1;
-  saved = kept;
-}
-
 pub some-from_length : (xs : List ℕ) → false ≡ eqb (length xs) 0 → 0 < length xs
 some-from_length [] e = absurd (true≢false (sym e))
 some-from_length (x ∷ xs) e = omega arith
@@ -617,6 +544,14 @@ known-rest (Some rest) t bytes consumed = (rest, refl, consumed)
 pub left-known : (old new : Option (List ℕ)) (t bytes : List ℕ) → old ≡ Some t → Consumes old new bytes
     → (rest : List ℕ) × (new ≡ Some rest) × (t ≡ bytes ++ rest)
 left-known old new t bytes e consumed = known-rest new t bytes (subst (λ o. Consumes o new bytes) e consumed)
+
+kept-rest : (new : Option (List ℕ)) (rest : List ℕ) → Keeps (Some rest) new → new ≡ Some rest
+kept-rest None rest keeps = absurd keeps
+kept-rest (Some now) rest keeps = ap (λ l. Some l) keeps
+
+-- a read that failed took nothing
+pub kept-known : (old new : Option (List ℕ)) (rest : List ℕ) → old ≡ Some rest → Keeps old new → new ≡ Some rest
+kept-known old new rest e keeps = kept-rest new rest (subst (λ o. Keeps o new) e keeps)
 
 at-end : (new : Option (List ℕ)) (rest : List ℕ) → new ≡ Some rest → IsAtEnd new → rest ≡ []
 at-end new rest e is = let there : IsAtEnd (Some rest) = subst IsAtEnd e is in there
@@ -636,153 +571,3 @@ length-take (suc n) (x ∷ xs) le = ap suc (length-take n xs (omega arith))
 -- a read that gave bytes
 pub read-more : (reads n : ℕ) (bytes buffer : List ℕ) → reads ≤ length bytes → 0 < n → n ≤ length buffer → reads + 1 ≤ length (bytes ++ take n buffer)
 read-more reads n bytes buffer le some within = omega (arith, length-append bytes (take n buffer), length-take n buffer within)
-
-pub Talks-begun : (s : SessionState) (talker : Talker) (t : List ℕ) (fault : ToolFault) (left old new : Option (List ℕ)) → IsMemoryOrWrite fault
-    → AppendsFront old new (answers s talker nothing (lines t)).bytes → Talks s talker t (Err fault) left old new
-Talks-begun s talker t faults.Memory left old new only begun = begun
-Talks-begun s talker t faults.Write left old new only begun = begun
-Talks-begun s talker t faults.Read left old new only begun = absurd only
-Talks-begun s talker t (faults.Deck fault) left old new only begun = absurd only
-Talks-begun s talker t faults.Long left old new only begun = absurd only
-
-module _ {o : OriginValue} {d e : Option (List Saved)} (s mid : SessionState) (talker : Talker) (between : RecallState) (bytes left : List ℕ) (told : Told)
-    (a b : Option (List ℕ)) (h : Hears o s talker nothing bytes left mid between told false d e a b) where
-  abbrev said-before : List ℕ
-  said-before = (answers s talker nothing (lines h.front)).bytes
-
-  text-step : (rest : List ℕ) → bytes ++ rest ≡ h.front ++ (left ++ rest)
-  text-step rest = ap (λ t. t ++ rest) h.parts ∙ append_assoc h.front left rest
-
-  asked-step : (rest : List ℕ) → asked s talker nothing (lines (bytes ++ rest))
-      ≡ asked s talker nothing (lines h.front) ++ asked mid talker between (lines (left ++ rest))
-  asked-step rest =
-      ap (λ t. asked s talker nothing (lines t)) (text-step rest) ∙ asked-lines s talker nothing h.front (left ++ rest) h.whole (sym h.over)
-      ∙ ap₂ (λ t u. asked s talker nothing (lines h.front) ++ asked t talker u (lines (left ++ rest))) (sym h.session) (sym h.recall)
-
-  bytes-step : (rest : List ℕ) → (answers s talker nothing (lines (bytes ++ rest))).bytes
-      ≡ (answers s talker nothing (lines h.front)).bytes ++ (answers mid talker between (lines (left ++ rest))).bytes
-  bytes-step rest =
-      let xs = asked s talker nothing (lines h.front) in
-      let ys = asked mid talker between (lines (left ++ rest)) in
-      ap (λ l. (replies s l).bytes) (asked-step rest) ∙ bytes-append s xs ys ∙ ap (λ t. (replies s xs).bytes ++ (replies t ys).bytes) (sym h.session)
-
-  told-step : (rest : List ℕ) → (answers s talker nothing (lines (bytes ++ rest))).told ≡ told_of_both told (answers mid talker between (lines (left ++ rest))).told
-  told-step rest =
-      let xs = asked s talker nothing (lines h.front) in
-      let ys = asked mid talker between (lines (left ++ rest)) in
-      ap (λ l. (replies s l).told) (asked-step rest) ∙ told-append s xs ys ∙ ap (λ t. told_of_both (replies s xs).told (replies t ys).told) (sym h.session)
-      ∙ ap (λ t. told_of_both t (replies mid ys).told) (sym h.told)
-
-  saves-step : (rest : List ℕ) → noted d (saves o s talker nothing (lines (bytes ++ rest))) ≡ noted e (saves o mid talker between (lines (left ++ rest)))
-  saves-step rest =
-      let xs = saves o s talker nothing (lines h.front) in
-      let ys = saves o (session_after s talker nothing h.front) talker (recall_after s talker nothing h.front) (lines (left ++ rest)) in
-      ap (λ t. noted d (saves o s talker nothing (lines t))) (text-step rest)
-      ∙ ap (noted d) (saves-lines s talker nothing o h.front (left ++ rest) h.whole (sym h.over))
-      ∙ sym (noted-then d xs ys) ∙ ap (λ t. noted t ys) (sym h.saved)
-      ∙ ap₂ (λ t u. noted e (saves o t talker u (lines (left ++ rest)))) (sym h.session) (sym h.recall)
-
-  -- the last line, which has no line feed, at the end of the text
-  module _ (t text : List ℕ) (here : t ≡ bytes ++ []) (is : text ≡ left) (c : Option (List ℕ)) where
-    last-text : left ++ [] ≡ text
-    last-text = append-nil left ∙ sym is
-
-    last-bytes : (answers s talker nothing (lines t)).bytes ≡ (answers s talker nothing (lines h.front)).bytes ++ (answers mid talker between (lines text)).bytes
-    last-bytes =
-        ap (λ l. (answers s talker nothing (lines l)).bytes) here ∙ bytes-step []
-        ∙ ap (λ l. (answers s talker nothing (lines h.front)).bytes ++ (answers mid talker between (lines l)).bytes) last-text
-
-    last-told : (answers s talker nothing (lines t)).told ≡ told_of_both told (answers mid talker between (lines text)).told
-    last-told = ap (λ l. (answers s talker nothing (lines l)).told) here ∙ told-step [] ∙ ap (λ l. told_of_both told (answers mid talker between (lines l)).told) last-text
-
-    pub end-said : (more all : Told) → all ≡ told_of_both told more
-        → (more ≡ (answers mid talker between (lines text)).told) × Appends b c (answers mid talker between (lines text)).bytes
-        → (all ≡ (answers s talker nothing (lines t)).told) × Appends a c (answers s talker nothing (lines t)).bytes
-    end-said more all both replied = (
-      both ∙ ap (told_of_both told) replied.0 ∙ sym last-told,
-      Appends-same a c _ _ (sym last-bytes) (Appends-then a b c said-before (answers mid talker between (lines text)).bytes h.written replied.1),
-    )
-
-    pub end-saved : (f : Option (List Saved)) → f ≡ noted e (saves o mid talker between (lines text)) → f ≡ noted d (saves o s talker nothing (lines t))
-    end-saved f is_saved =
-        is_saved ∙ sym (ap (λ l. noted e (saves o mid talker between (lines l))) last-text) ∙ sym (saves-step [])
-        ∙ sym (ap (λ l. noted d (saves o s talker nothing (lines l))) here)
-
-    pub end-begun : AppendsFront b c (answers mid talker between (lines text)).bytes → AppendsFront a c (answers s talker nothing (lines t)).bytes
-    end-begun begun =
-        let ys = (answers mid talker between (lines text)).bytes in
-        AppendsFront-after a b c said-before ys [] (answers s talker nothing (lines t)).bytes h.written begun (last-bytes ∙ ap (λ l. said-before ++ l) (sym (append-nil ys)))
-
-  pub more-begun : (t part rest text more : List ℕ) (c : Option (List ℕ)) → t ≡ (bytes ++ part) ++ rest → left ++ part ≡ text ++ more → is_whole text ≡ true
-      → AppendsFront b c (answers mid talker between (lines text)).bytes → AppendsFront a c (answers s talker nothing (lines t)).bytes
-  more-begun t part rest text more c here parts is_text begun =
-      let later = more ++ rest in
-      let front = front-said mid talker between text later is_text in
-      let same : left ++ (part ++ rest) ≡ text ++ later =
-      sym (append_assoc left part rest) ∙ ap (λ l. l ++ rest) parts ∙ append_assoc text more rest in
-      let whole : (answers s talker nothing (lines t)).bytes ≡ said-before ++ ((answers mid talker between (lines text)).bytes ++ front.0) =
-      ap (λ l. (answers s talker nothing (lines l)).bytes) (here ∙ append_assoc bytes part rest) ∙ bytes-step (part ++ rest)
-      ∙ ap (λ l. said-before ++ (answers mid talker between (lines l)).bytes) same ∙ ap (λ l. said-before ++ l) front.1 in
-      AppendsFront-after a b c said-before (answers mid talker between (lines text)).bytes front.0 (answers s talker nothing (lines t)).bytes h.written begun whole
-
--- a part of a line that is longer than a line may be
-pub too-long : {o : OriginValue} {d f : Option (List Saved)} (s now : SessionState) (talker : Talker) (last : RecallState) (bytes left : List ℕ) (told : Told) (ends : Bool) (a b : Option (List ℕ))
-    → Hears o s talker nothing bytes left now last told ends d f a b → max_line_bytes + 2 < length left → (t rest : List ℕ) → t ≡ bytes ++ rest
-    → list_any is_too_long (lines t) ≡ true
-too-long s now talker last bytes left told ends a b h over t rest e =
-    let same : t ≡ h.front ++ (left ++ rest) = e ∙ ap (λ l. l ++ rest) h.parts ∙ append_assoc h.front left rest in
-    ap (λ l. list_any is_too_long (lines l)) same
-    ∙ ap (list_any is_too_long) (lines-append h.front (left ++ rest) h.whole)
-    ∙ list_any-append is_too_long (lines h.front) (lines (left ++ rest))
-    ∙ ap (λ v. list_any is_too_long (lines h.front) || v) (long-first left rest h.part over) ∙ or-true (list_any is_too_long (lines h.front))
-
--- and the text has more bytes than a line may have
-pub long-text : {o : OriginValue} {d f : Option (List Saved)} (s now : SessionState) (talker : Talker) (last : RecallState) (bytes left : List ℕ) (told : Told) (ends : Bool) (a b : Option (List ℕ))
-    → Hears o s talker nothing bytes left now last told ends d f a b → max_line_bytes + 2 < length left → (t rest : List ℕ) → t ≡ bytes ++ rest
-    → max_line_bytes < length t
-long-text s now talker last bytes left told ends a b h over t rest e =
-    let same : t ≡ h.front ++ (left ++ rest) = e ∙ ap (λ l. l ++ rest) h.parts ∙ append_assoc h.front left rest in
-    rw (same, length-append, length-append) (omega (arith, over))
-
--- a line ended the talk
-pub ended : {o : OriginValue} {d f : Option (List Saved)} (s now : SessionState) (talker : Talker) (last : RecallState) (bytes left : List ℕ) (told all : Told) (ends : Bool) (a b : Option (List ℕ))
-    → Hears o s talker nothing bytes left now last told ends d f a b → ends ≡ true → all ≡ told
-    → (t rest : List ℕ) → t ≡ bytes ++ rest → (all ≡ (answers s talker nothing (lines t)).told) × Appends a b (answers s talker nothing (lines t)).bytes
-ended s now talker last bytes left told all ends a b h over is t rest e =
-    let same : asked s talker nothing (lines t) ≡ asked s talker nothing (lines h.front) =
-    ap (λ l. asked s talker nothing (lines l)) (e ∙ ap (λ l. l ++ rest) h.parts ∙ append_assoc h.front left rest)
-    ∙ ap (asked s talker nothing) (lines-append h.front (left ++ rest) h.whole) ∙ asked-over s talker nothing (lines h.front) (lines (left ++ rest)) (sym h.over ∙ over) in
-    (is ∙ h.told ∙ sym (ap (λ l. (replies s l).told) same), Appends-same a b _ _ (sym (ap (λ l. (replies s l).bytes) same)) h.written)
-
--- and nothing more is saved
-pub ended-saved : {o : OriginValue} {d f : Option (List Saved)} (s now : SessionState) (talker : Talker) (last : RecallState) (bytes left : List ℕ) (told : Told)
-    (ends : Bool) (a b : Option (List ℕ)) → Hears o s talker nothing bytes left now last told ends d f a b → ends ≡ true
-    → (t rest : List ℕ) → t ≡ bytes ++ rest → f ≡ noted d (saves o s talker nothing (lines t))
-ended-saved {o} {d} s now talker last bytes left told ends a b h over t rest e =
-    let same : saves o s talker nothing (lines t) ≡ saves o s talker nothing (lines h.front) =
-    ap (λ l. saves o s talker nothing (lines l)) (e ∙ ap (λ l. l ++ rest) h.parts ∙ append_assoc h.front left rest)
-    ∙ ap (saves o s talker nothing) (lines-append h.front (left ++ rest) h.whole)
-    ∙ saves-over o s talker nothing (lines h.front) (lines (left ++ rest)) (sym h.over ∙ over) in
-    h.saved ∙ ap (noted d) (sym same)
-
--- no more is read
-pub unread : {o : OriginValue} {d f : Option (List Saved)} (s now : SessionState) (talker : Talker) (last : RecallState) (bytes left : List ℕ) (told : Told) (ends : Bool) (a b new : Option (List ℕ))
-    → Hears o s talker nothing bytes left now last told ends d f a b → (t rest : List ℕ) → new ≡ Some rest → t ≡ bytes ++ rest → AnswersRead s talker t new a b
-unread s now talker last bytes left told ends a b new h t rest is e =
-    (h.front, left, rest, is, e ∙ ap (λ l. l ++ rest) h.parts ∙ append_assoc h.front left rest, h.whole, h.part, h.written)
-
--- the talk goes on
-pub Hears-on : {o : OriginValue} {d f : Option (List Saved)} (s now : SessionState) (talker : Talker) (last : RecallState) (bytes left : List ℕ) (told all : Told) (ends : Bool) (a b : Option (List ℕ))
-    → Hears o s talker nothing bytes left now last told ends d f a b → ends ≡ false → all ≡ told → Hears o s talker nothing bytes left now last all false d f a b
-Hears-on s now talker last bytes left told all ends a b h on is = record {
-  front = h.front;
-  parts = h.parts;
-  whole = h.whole;
-  part = h.part;
-  session = h.session;
-  recall = h.recall;
-  told = is ∙ h.told;
-  over = sym on ∙ h.over;
-  written = h.written;
-  saved = h.saved;
-}

@@ -1,5 +1,5 @@
 -- A talk that is not begun, and a talk as a script.
-use Rattle.std.proofs.Common.{◌≡◌, ◌∙◌, ◌+◌, ◌<◌, ◌≤◌, ℕ, false, List, [], ◌∷◌, ◌++◌, length, take, Option, None, Some, Result, Ok, Err, refl, sym, ap, subst, arith}
+use Rattle.std.proofs.Common.{◌≡◌, ◌∙◌, ◌+◌, ◌<◌, ◌≤◌, ℕ, false, List, [], ◌∷◌, ◌++◌, length, take, Option, None, Some, Result, Ok, Err, refl, sym, ap, subst, arith, inr}
 use Rattle.std.proofs.lemmas.Bool.{le-ltb}
 use Rattle.std.specs.Io.KnownBytes.{Appends, Keeps}
 use Rattle.mix_lines.specs.Lines.{lines}
@@ -17,7 +17,7 @@ use Rattle.mix_run.specs.Fault.{fault_of_read}
 use Rattle.mix_session.specs.declared.reply.Told.{Told}
 use Rattle.mix_run.specs.declared.fault.ToolFault.{ToolFault}
 use Rattle.mix_run.specs.declared.fault.ToolFault.TheVariants as faults
-use Rattle.mix_run.specs.Output.{DeckRefused, Ended, Meets, TooLong, max_script_bytes, outcome_of, outcome_of_script, refusal_of, replies, status_of}
+use Rattle.mix_run.specs.Output.{DeckRefused, Ended, Meets, Replies, TooLong, max_script_bytes, outcome_of, outcome_of_script, refusal_of, replies, status_of}
 use Rattle.mix_run.specs.Talk.{AnswersRead, Talks, TalksWith, after_lines, answers, asked, max_line_bytes, status_from}
 use Rattle.mix_run.specs.Recall.{RecallState, nothing}
 use Rattle.mix_run.specs.UnitsRead.{GivesUnits}
@@ -26,35 +26,38 @@ use Rattle.mix_run.specs.declared.talk.aside.Talker.TheVariants.{Program}
 use Rattle.mix_run.proofs.RunLemmas.{Keeps-same, Meets-unread}
 use Rattle.std.specs.Prelude.{OnOk}
 use Rattle.mix_run.specs.Bundle.{OriginValue, origin_of}
-use Rattle.mix_run.specs.Opening.{Saved, noted}
+use Rattle.mix_run.specs.Opening.{Files, Saved, noted}
 use Rattle.mix_run.specs.Saves.{saves}
+use Rattle.mix_run.specs.Sources.{Knows, heard, is_source}
+use Rattle.mix_run.specs.declared.reason.Reason.TheVariants as reason
+use Rattle.std.specs.List.{list_any}
 use Rattle.mix_machine.specs.units.deck.Deck.{deck_of}
 use Rattle.mix_run.proofs.Truncation.{assembly-take, assembly-whole, deck-whole}
 use Rattle.mix_run.proofs.Written.{Appends-nothing}
 
 -- no line was read yet
-AnswersRead-nothing : (s : SessionState) (talker : Talker) (t : List ℕ) (left told : Option (List ℕ)) → left ≡ Some t → AnswersRead s talker t left told told
+AnswersRead-nothing : (all : Files) (s : SessionState) (talker : Talker) (t : List ℕ) (left told : Option (List ℕ)) → left ≡ Some t → AnswersRead all s talker t left told told
 unfolding lines
-AnswersRead-nothing s talker t left told e = ([], [], t, e, refl, refl, refl, Appends-nothing told)
+AnswersRead-nothing all s talker t left told e = ([], [], t, e, refl, refl, refl, Appends-nothing told)
 
 -- nothing was written, and memory was refused or a read failed
-pub TalksWith-unread : (program : Result ProgramValue AsmFault) (units : Result UnitsState DeckFault) (talker : Talker) (t : List ℕ) (fault : Refusal Failed)
-    (left told : Option (List ℕ)) → left ≡ Some t → TalksWith program units talker t (Err (fault_of_read fault)) left told told
-TalksWith-unread (Err f) units talker t fault left told e = Meets-unread (refusal_of f) fault told
-TalksWith-unread (Ok p) (Err f) talker t fault left told e = Meets-unread (DeckRefused f) fault told
-TalksWith-unread (Ok p) (Ok units) talker t reads.Memory left told e = (Err faults.Memory, refl, (0, omega arith, Appends-nothing told))
-TalksWith-unread (Ok p) (Ok units) talker t (reads.Fault failed) left told e =
-    (Err faults.Read, refl, AnswersRead-nothing (opened p units) talker t left told e)
+pub TalksWith-unread : (all : Files) (program : Result ProgramValue AsmFault) (units : Result UnitsState DeckFault) (talker : Talker) (t : List ℕ) (fault : Refusal Failed)
+    (left told : Option (List ℕ)) → left ≡ Some t → TalksWith all program units talker t (Err (fault_of_read fault)) left told told
+TalksWith-unread all (Err f) units talker t fault left told e = Meets-unread (refusal_of f) fault told
+TalksWith-unread all (Ok p) (Err f) talker t fault left told e = Meets-unread (DeckRefused f) fault told
+TalksWith-unread all (Ok p) (Ok units) talker t reads.Memory left told e = (Err faults.Memory, refl, (0, omega arith, Appends-nothing told))
+TalksWith-unread all (Ok p) (Ok units) talker t (reads.Fault failed) left told e =
+    (Err faults.Read, refl, AnswersRead-nothing all (opened p units) talker t left told e)
 
 -- the units could not be read, or their deck is refused
-pub TalksWith-no_units : (p : ProgramValue) (units : Result UnitsState DeckFault) (talker : Talker) (t : List ℕ) (fault : ToolFault) (left told : Option (List ℕ))
-    → left ≡ Some t → GivesUnits units (Err fault) → TalksWith (Ok p) units talker t (Err fault) left told told
-TalksWith-no_units p units talker t faults.Memory left told e given = TalksWith-unread (Ok p) units talker t reads.Memory left told e
-TalksWith-no_units p units talker t faults.Read left told e given = TalksWith-unread (Ok p) units talker t (reads.Fault record {}) left told e
-TalksWith-no_units p units talker t faults.Write left told e given = absurd given
-TalksWith-no_units p units talker t faults.Long left told e given = absurd given
-TalksWith-no_units p units talker t (faults.Deck fault) left told e given =
-    subst (λ u. TalksWith (Ok p) u talker t (Err (faults.Deck fault)) left told told) (sym given) (refl, Keeps-same told)
+pub TalksWith-no_units : (all : Files) (p : ProgramValue) (units : Result UnitsState DeckFault) (talker : Talker) (t : List ℕ) (fault : ToolFault) (left told : Option (List ℕ))
+    → left ≡ Some t → GivesUnits units (Err fault) → TalksWith all (Ok p) units talker t (Err fault) left told told
+TalksWith-no_units all p units talker t faults.Memory left told e given = TalksWith-unread all (Ok p) units talker t reads.Memory left told e
+TalksWith-no_units all p units talker t faults.Read left told e given = TalksWith-unread all (Ok p) units talker t (reads.Fault record {}) left told e
+TalksWith-no_units all p units talker t faults.Write left told e given = absurd given
+TalksWith-no_units all p units talker t faults.Long left told e given = absurd given
+TalksWith-no_units all p units talker t (faults.Deck fault) left told e given =
+    subst (λ u. TalksWith all (Ok p) u talker t (Err (faults.Deck fault)) left told told) (sym given) (refl, Keeps-same told)
 
 pub not-long : (units : Result UnitsState DeckFault) (fault : ToolFault) → GivesUnits units (Err fault) → fault ≡ faults.Long → ⊥
 not-long units fault given e = let there : GivesUnits units (Err faults.Long) = subst (λ f. GivesUnits units (Err f)) e given in there
@@ -70,22 +73,22 @@ counts-after P a b c d old new e f counts = (
 pub source-is : (s read : List ℕ) (program : Result ProgramValue AsmFault) → read ≡ take 1048577 s → assembly read ≡ program → assembly s ≡ program
 source-is s read program e is = sym (assembly-take s) ∙ sym (ap assembly e) ∙ is
 
-pub TalksWith-source : (s read : List ℕ) (program : Result ProgramValue AsmFault) (units : Result UnitsState DeckFault) (talker : Talker) (t : List ℕ)
+pub TalksWith-source : (all : Files) (s read : List ℕ) (program : Result ProgramValue AsmFault) (units : Result UnitsState DeckFault) (talker : Talker) (t : List ℕ)
     (result : Result ℕ ToolFault) (left old new : Option (List ℕ)) → read ≡ take 1048577 s → assembly read ≡ program
-    → TalksWith program units talker t result left old new → TalksWith (assembly s) units talker t result left old new
-TalksWith-source s read program units talker t result left old new e is talks =
-    subst (λ p. TalksWith p units talker t result left old new) (sym (source-is s read program e is)) talks
+    → TalksWith all program units talker t result left old new → TalksWith all (assembly s) units talker t result left old new
+TalksWith-source all s read program units talker t result left old new e is talks =
+    subst (λ p. TalksWith all p units talker t result left old new) (sym (source-is s read program e is)) talks
 
-pub TalksWith-refused : (s read : List ℕ) (fault : AsmFault) (units : Result UnitsState DeckFault) (talker : Talker) (t : List ℕ)
+pub TalksWith-refused : (all : Files) (s read : List ℕ) (fault : AsmFault) (units : Result UnitsState DeckFault) (talker : Talker) (t : List ℕ)
     (result : Result ℕ ToolFault) (left old new : Option (List ℕ)) → read ≡ take 1048577 s → assembly read ≡ Err fault
-    → Meets (refusal_of fault) result old new → TalksWith (assembly s) units talker t result left old new
-TalksWith-refused s read fault units talker t result left old new e is met =
-    TalksWith-source s read (Err fault) units talker t result left old new e is met
+    → Meets (refusal_of fault) result old new → TalksWith all (assembly s) units talker t result left old new
+TalksWith-refused all s read fault units talker t result left old new e is met =
+    TalksWith-source all s read (Err fault) units talker t result left old new e is met
 
-pub TalksWith-units : (p : ProgramValue) (units : Result UnitsState DeckFault) (some : UnitsState) (talker : Talker) (t : List ℕ)
-    (result : Result ℕ ToolFault) (left old new : Option (List ℕ)) → units ≡ Ok some → TalksWith (Ok p) (Ok some) talker t result left old new
-    → TalksWith (Ok p) units talker t result left old new
-TalksWith-units p units some talker t result left old new e talks = subst (λ u. TalksWith (Ok p) u talker t result left old new) (sym e) talks
+pub TalksWith-units : (all : Files) (p : ProgramValue) (units : Result UnitsState DeckFault) (some : UnitsState) (talker : Talker) (t : List ℕ)
+    (result : Result ℕ ToolFault) (left old new : Option (List ℕ)) → units ≡ Ok some → TalksWith all (Ok p) (Ok some) talker t result left old new
+    → TalksWith all (Ok p) units talker t result left old new
+TalksWith-units all p units some talker t result left old new e talks = subst (λ u. TalksWith all (Ok p) u talker t result left old new) (sym e) talks
 
 -- what holds of the source and the deck that were read holds of those that were given
 holds-as : (s d read text : List ℕ) (p q : ProgramValue) (u v : UnitsState) (P : OriginValue → SessionState → Type 0) → read ≡ take 1048577 s
@@ -113,6 +116,22 @@ saved-as result s d read text p q u v talker all old new whole_read whole_text m
 
 -- ---- as a script
 
+-- a program sources no file
+heard-program : (all : Files) (typed : List (List ℕ)) → heard all Program typed ≡ typed
+heard-program all [] = refl
+heard-program all (line ∷ typed) = ap (λ l. line ∷ l) (heard-program all typed)
+
+none-sourced : (typed : List (List ℕ)) → list_any (is_source Program) typed ≡ false
+none-sourced [] = refl
+none-sourced (line ∷ typed) = none-sourced typed
+
+pub Knows-program : (held : Option Files) (all : Files) (talker : Talker) (typed : List (List ℕ)) → talker ≡ Program → Knows held all talker typed
+Knows-program held all talker typed is = inr (ap (λ k. list_any (is_source k) typed) is ∙ none-sourced typed)
+
+-- no file can be opened
+abbrev pub no_files : Files
+no_files name = Err reason.Missing
+
 asked-all : (s : SessionState) (r : RecallState) (all : List (List ℕ)) → asked s Program r all ≡ all
 asked-all s r [] = refl
 asked-all s r (line ∷ rest) = ap (λ l. line ∷ l) (asked-all (after_lines s (line ∷ [])) r rest)
@@ -122,29 +141,38 @@ script-said : (s : SessionState) (t : List ℕ) → length t ≤ max_script_byte
 unfolding outcome_of_script
 script-said s t le = rw (le-ltb max_script_bytes (length t) le, asked-all s nothing (lines t)) refl
 
-module _ (s : SessionState) (t : List ℕ) (le : length t ≤ max_script_bytes) (left old new : Option (List ℕ)) where
+module _ (all : Files) (s : SessionState) (t : List ℕ) (le : length t ≤ max_script_bytes) (left old new : Option (List ℕ)) where
+  abbrev said : List (List ℕ) → Replies
+  said typed = answers s Program nothing typed
+
+  same-lines : heard all Program (lines t) ≡ lines t
+  same-lines = heard-program all (lines t)
+
   -- the bytes and the status of the talk are those of the script
   meets-talk : (talk : Result Told ToolFault) → (status_from talk ≡ Err faults.Read → ⊥) → (status_from talk ≡ Err faults.Long → max_script_bytes < length t)
-      → Talks s Program t talk left old new
-      → Meets (Ended (answers s Program nothing (lines t)).bytes (status_of (answers s Program nothing (lines t)).told)) (status_from talk) old new
-  meets-talk (Ok told) read long talks = (ap (λ v. Ended (answers s Program nothing (lines t)).bytes (status_of v)) (sym talks.0), talks.1)
-  meets-talk (Err faults.Memory) read long talks = talks
-  meets-talk (Err faults.Write) read long talks = talks
+      → Talks all s Program t talk left old new
+      → Meets (Ended (said (lines t)).bytes (status_of (said (lines t)).told)) (status_from talk) old new
+  meets-talk (Ok told) read long talks =
+      let there : (told ≡ (said (lines t)).told) × Appends old new (said (lines t)).bytes =
+      subst (λ l. (told ≡ (said l).told) × Appends old new (said l).bytes) same-lines talks in
+      (ap (λ v. Ended (said (lines t)).bytes (status_of v)) (sym there.0), there.1)
+  meets-talk (Err faults.Memory) read long talks = subst (λ l. AppendsFront old new (said l).bytes) same-lines talks
+  meets-talk (Err faults.Write) read long talks = subst (λ l. AppendsFront old new (said l).bytes) same-lines talks
   meets-talk (Err faults.Read) read long talks = absurd (read refl)
   meets-talk (Err faults.Long) read long talks = let over = long refl in absurd (omega (arith, le, over))
   meets-talk (Err (faults.Deck fault)) read long talks = absurd talks
 
-pub TalksWith-script : (program : Result ProgramValue AsmFault) (units : Result UnitsState DeckFault) (talker : Talker) (t : List ℕ) (result : Result ℕ ToolFault)
-    (left old new : Option (List ℕ)) → talker ≡ Program → length t ≤ max_script_bytes → (result ≡ Err faults.Read → ⊥)
-    → (result ≡ Err faults.Long → max_script_bytes < length t) → TalksWith program units talker t result left old new
+pub TalksWith-script : (all : Files) (program : Result ProgramValue AsmFault) (units : Result UnitsState DeckFault) (talker : Talker) (t : List ℕ)
+    (result : Result ℕ ToolFault) (left old new : Option (List ℕ)) → talker ≡ Program → length t ≤ max_script_bytes → (result ≡ Err faults.Read → ⊥)
+    → (result ≡ Err faults.Long → max_script_bytes < length t) → TalksWith all program units talker t result left old new
     → Meets (outcome_of false program units t) result old new
 unfolding outcome_of
-TalksWith-script (Err fault) units talker t result left old new is le read long talks = talks
-TalksWith-script (Ok p) (Err fault) talker t result left old new is le read long talks = talks
-TalksWith-script (Ok p) (Ok units) talker t result left old new is le read long talks =
+TalksWith-script all (Err fault) units talker t result left old new is le read long talks = talks
+TalksWith-script all (Ok p) (Err fault) talker t result left old new is le read long talks = talks
+TalksWith-script all (Ok p) (Ok units) talker t result left old new is le read long talks =
     let s = opened p units in
     let same : result ≡ status_from talks.0 = talks.1 in
-    let heard : Talks s Program t talks.0 left old new = subst (λ k. Talks s k t talks.0 left old new) is talks.2 in
-    let met = meets-talk s t le left old new talks.0 (λ e. read (same ∙ e)) (λ e. long (same ∙ e)) heard in
+    let script : Talks all s Program t talks.0 left old new = subst (λ k. Talks all s k t talks.0 left old new) is talks.2 in
+    let met = meets-talk all s t le left old new talks.0 (λ e. read (same ∙ e)) (λ e. long (same ∙ e)) script in
     let there = subst (λ r. Meets (Ended (answers s Program nothing (lines t)).bytes (status_of (answers s Program nothing (lines t)).told)) r old new) (sym same) met in
     subst (λ o. Meets o result old new) (sym (script-said s t le)) there

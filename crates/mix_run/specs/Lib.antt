@@ -13,5 +13,6 @@ pub mod Reason
 pub mod Recall
 pub mod Refusal
 pub mod Saves
+pub mod Sources
 pub mod Talk
 pub mod UnitsRead

@@ -1,5 +1,9 @@
 -- What opens files: which names it was asked for, and what their files hold, where that is known.
-use Rattle.std.specs.Prelude.{◌≡◌, ℕ, ⊤, List, [], ◌∷◌, ◌++◌, Option, None, Some, Result, Ok, Err}
+use Rattle.std.specs.Prelude.{◌≡◌, ℕ, ⊤, List, [], ◌∷◌, ◌++◌, Option, None, Some, Result, Ok, Err, take}
+use Rattle.mix_refused.specs.declared.refused.Refused.{Refused}
+use Rattle.mix_refused.specs.declared.refused.Refused.TheVariants as refused
+use Rattle.mix_run.specs.declared.opener.Unread.{Unread}
+use Rattle.mix_run.specs.declared.opener.Unread.TheVariants as unread
 use Rattle.mix_run.specs.declared.reason.Reason.{Reason}
 
 -- what files hold: the text of each name, or why a name can't be opened
@@ -42,6 +46,15 @@ Gives (Err reason) (Err told) = told ≡ reason
 Gives (Err reason) (Ok rest) = ⊥
 Gives (Ok text) (Err told) = ⊥
 Gives (Ok text) (Ok rest) = rest ≡ Some text
+
+-- what is read of a file: its text, of which no more than so many bytes are read, and of one that can't be opened the reason; unless memory is refused
+abbrev pub GivesText : {V : Type 0} → (V → List ℕ) → Result (List ℕ) Reason → ℕ → Result V (Refused Unread) → Type 0
+GivesText bytes held most (Err refused.Memory) = ⊤
+GivesText bytes (Ok text) most (Ok given) = bytes given ≡ take most text
+GivesText bytes (Ok text) most (Err (refused.Fault why)) = ⊥
+GivesText bytes (Err reason) most (Ok given) = ⊥
+GivesText bytes (Err reason) most (Err (refused.Fault unread.NotRead)) = ⊥
+GivesText bytes (Err reason) most (Err (refused.Fault (unread.NotOpened told))) = told ≡ reason
 
 -- a name, if there is one
 abbrev pub named : Option (List ℕ) → List (List ℕ)

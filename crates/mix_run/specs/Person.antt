@@ -7,7 +7,7 @@ use Rattle.mix_word.specs.Register.{all_registers, name_of_register}
 use Rattle.mix_run.specs.declared.talk.person.Line.{Line}
 use Rattle.mix_run.specs.declared.talk.person.Line.TheVariants as line_kind
 use Rattle.mix_run.specs.declared.talk.person.PersonWord.{PersonWord}
-use Rattle.mix_run.specs.declared.talk.person.PersonWord.TheVariants.{Step, Next, Run, Trace, Break, Back, Forth, Goto, Continue, Clear, Set, Show, Quit, Help, Question, Print, Listing, Where, Watch, Delete, Display, Until, Undisplay, Examine, Exit, Save}
+use Rattle.mix_run.specs.declared.talk.person.PersonWord.TheVariants.{Step, Next, Run, Trace, Break, Back, Forth, Goto, Continue, Clear, Set, Show, Quit, Help, Question, Print, Listing, Where, Watch, Delete, Display, Until, Undisplay, Examine, Exit, Save, Source}
 
 -- the words that a person may begin a line with
 abbrev pub name_of : PersonWord → List ℕ
@@ -37,12 +37,13 @@ name_of Undisplay = codes "undisplay"
 name_of Examine = codes "x"
 name_of Exit = codes "exit"
 name_of Save = codes "save"
+name_of Source = codes "source"
 
 -- in this order: of several that begin in the same way, the first one is meant
 abbrev pub all_words : List PersonWord
 all_words =
     Step ∷ Next ∷ Run ∷ Trace ∷ Break ∷ Back ∷ Forth ∷ Goto ∷ Continue ∷ Clear ∷ Set ∷ Show ∷ Quit ∷ Help ∷ Question
-    ∷ Print ∷ Listing ∷ Where ∷ Watch ∷ Delete ∷ Display ∷ Until ∷ Undisplay ∷ Examine ∷ Exit ∷ Save ∷ []
+    ∷ Print ∷ Listing ∷ Where ∷ Watch ∷ Delete ∷ Display ∷ Until ∷ Undisplay ∷ Examine ∷ Exit ∷ Save ∷ Source ∷ []
 
 -- the command that each stands for
 abbrev pub command_of : PersonWord → List ℕ
@@ -215,6 +216,7 @@ kind_of_word (Some Display) rest = line_kind.Display
 kind_of_word (Some Undisplay) [] = line_kind.Undisplay
 kind_of_word (Some Undisplay) (word ∷ rest) = line_kind.Command
 kind_of_word (Some Save) rest = line_kind.Save
+kind_of_word (Some Source) rest = line_kind.Source
 kind_of_word (Some Quit) [] = line_kind.Quit
 kind_of_word (Some Exit) [] = line_kind.Quit
 kind_of_word (Some Quit) (word ∷ rest) = line_kind.Command
@@ -225,7 +227,7 @@ abbrev pub kind_of : List (List ℕ) → Line
 kind_of [] = line_kind.Command
 kind_of (word ∷ rest) = kind_of_word (word_begun word) rest
 
--- the name of the file in the words of a line that saves it: the one after the first; none, where there is no word more, or more than one
+-- the name of the file in the words of a line that saves or sources it: the one after the first; none, where there is no word more, or more than one
 abbrev pub name_in : List (List ℕ) → Option (List ℕ)
 name_in [] = None
 name_in (word ∷ []) = None

@@ -16,7 +16,9 @@ use Rattle.mix_run.specs.Person.{kind_of}
 use Rattle.mix_run.specs.Recall.{RecallState, meant, nothing, recalled}
 use Rattle.mix_run.specs.declared.talk.person.Line.{Line}
 use Rattle.mix_run.specs.declared.talk.person.Line.TheVariants as line_kind
+use Rattle.mix_run.specs.Opening.{Files}
 use Rattle.mix_run.specs.Output.{DeckRefused, Meets, Replies, refusal_of, replies, status_of}
+use Rattle.mix_run.specs.Sources.{heard}
 use Rattle.mix_stream.specs.Stream.{AppendsFront}
 use Rattle.mix_run.specs.declared.talk.aside.Talker.{Talker}
 use Rattle.mix_run.specs.declared.talk.aside.Talker.TheVariants.{Program, Person}
@@ -40,6 +42,7 @@ is_end line_kind.Delete = false
 is_end line_kind.Display = false
 is_end line_kind.Undisplay = false
 is_end line_kind.Save = false
+is_end line_kind.Source = false
 
 abbrev pub is_quit : Talker → List ℕ → Bool
 is_quit Program line = false
@@ -80,20 +83,22 @@ is_whole (byte ∷ next ∷ rest) = is_whole (next ∷ rest)
 
 -- What was written when no more could be read: exactly the replies to the whole lines of what had been read. They were answered before the
 -- next read.
-abbrev pub AnswersRead : SessionState → Talker → List ℕ → Option (List ℕ) → Option (List ℕ) → Option (List ℕ) → Type 0
-AnswersRead s talker text left old new =
+abbrev pub AnswersRead : Files → SessionState → Talker → List ℕ → Option (List ℕ) → Option (List ℕ) → Option (List ℕ) → Type 0
+AnswersRead all s talker text left old new =
     (front : List ℕ) × (part : List ℕ) × (rest : List ℕ) × (left ≡ Some rest) × (text ≡ front ++ (part ++ rest)) × (is_whole front ≡ true)
-    × (list_any is_line_feed part ≡ false) × Appends old new (answers s talker nothing (lines front)).bytes
+    × (list_any is_line_feed part ≡ false) × Appends old new (answers s talker nothing (heard all talker (lines front))).bytes
 
 -- What a talk over this text answers and writes: at its end the replies to all its commands, and whether each was accepted; where memory is
--- refused, or a write fails, a beginning of them; where a read fails, or a line is too long, the replies to the lines before that.
-abbrev pub Talks : SessionState → Talker → List ℕ → Result Told ToolFault → Option (List ℕ) → Option (List ℕ) → Option (List ℕ) → Type 0
-Talks s talker text (Ok told) left old new = (told ≡ (answers s talker nothing (lines text)).told) × Appends old new (answers s talker nothing (lines text)).bytes
-Talks s talker text (Err faults.Read) left old new = AnswersRead s talker text left old new
-Talks s talker text (Err faults.Long) left old new = AnswersRead s talker text left old new
-Talks s talker text (Err faults.Memory) left old new = AppendsFront old new (answers s talker nothing (lines text)).bytes
-Talks s talker text (Err faults.Write) left old new = AppendsFront old new (answers s talker nothing (lines text)).bytes
-Talks s talker text (Err (faults.Deck fault)) left old new = ⊥
+-- refused, or a write fails, a beginning of them; where a read fails, or a line is too long, the replies to the lines before that. These are the files
+-- that a line may source.
+abbrev pub Talks : Files → SessionState → Talker → List ℕ → Result Told ToolFault → Option (List ℕ) → Option (List ℕ) → Option (List ℕ) → Type 0
+Talks all s talker text (Ok told) left old new =
+    let said = answers s talker nothing (heard all talker (lines text)) in (told ≡ said.told) × Appends old new said.bytes
+Talks all s talker text (Err faults.Read) left old new = AnswersRead all s talker text left old new
+Talks all s talker text (Err faults.Long) left old new = AnswersRead all s talker text left old new
+Talks all s talker text (Err faults.Memory) left old new = AppendsFront old new (answers s talker nothing (heard all talker (lines text))).bytes
+Talks all s talker text (Err faults.Write) left old new = AppendsFront old new (answers s talker nothing (heard all talker (lines text))).bytes
+Talks all s talker text (Err (faults.Deck fault)) left old new = ⊥
 
 -- the status of a talk, and its fault
 abbrev pub status_from : Result Told ToolFault → Result ℕ ToolFault
@@ -101,7 +106,7 @@ status_from (Ok told) = Ok (status_of told)
 status_from (Err fault) = Err fault
 
 -- A talk with the program of a source and the units of a deck: where one of them is refused, that is answered.
-abbrev pub TalksWith : Result ProgramValue AsmFault → Result UnitsState DeckFault → Talker → List ℕ → Result ℕ ToolFault
+abbrev pub TalksWith : Files → Result ProgramValue AsmFault → Result UnitsState DeckFault → Talker → List ℕ → Result ℕ ToolFault
     → Option (List ℕ) → Option (List ℕ) → Option (List ℕ) → Type 0
 TalksWith all (Err fault) units talker text result left old new = Meets (refusal_of fault) result old new
 TalksWith all (Ok program) (Err fault) talker text result left old new = Meets (DeckRefused fault) result old new

@@ -26,7 +26,7 @@ pub use mix_session::{
     AsmFault, AsmKind, Counted, DeckFault, DeckKind, Failed, In, Out, Refusal, Session, Told,
     back_and_forth_law,
 };
-pub use opener::{Opener, Unsaved};
+pub use opener::{Opener, Unread, Unsaved};
 pub use print::options::{PrintOptions, UnitSet};
 pub use print::{ConflictAt, Conflicts, PrintAnswer, PrintTexts, RanTo, RunEnd, run_printed};
 pub use reason::Reason;

@@ -1,10 +1,21 @@
-//! What opens files by their names, and creates them.
+//! What opens files by their names, reads them, and saves texts in them.
 
 ghost use Rattle.std.specs.Prelude.{◌≡◌, ◌∷◌, [], ℕ, List, Option, Some, IfOk};
-ghost use Rattle.mix_run.specs.Opening.{Asks, Files, Gives, Saved, noted, rest_given};
+ghost use Rattle.mix_run.specs.Opening.{Asks, Files, Gives, GivesText, Saved, noted, rest_given};
 
 use crate::reason::Reason;
-use mix_stream::{In, Out};
+use mix_refused::Refused;
+use mix_stream::In;
+use std::alloc::Global;
+
+/// Why the text of a file is not read.
+#[derive(Clone, Copy)]
+pub enum Unread {
+    /// The file can't be opened.
+    NotOpened(Reason),
+    /// A read failed.
+    NotRead,
+}
 
 /// Why a text is not saved in a file.
 #[derive(Clone, Copy)]
@@ -15,11 +26,9 @@ pub enum Unsaved {
     NotWritten(Reason),
 }
 
-/// What opens files by their names, creates them, and saves texts in them.
+/// What opens files by their names, reads them, and saves texts in them.
 pub trait Opener {
     type Reader: In + Drop;
-
-    type Writer: Out + Drop;
 
     // The names that were asked for so far, in their order, where they are known.
     ghost asked: { Self → Option (List (List ℕ)) };
@@ -42,19 +51,18 @@ pub trait Opener {
         ensures nothing_created { created self.new ≡ created self.old }
         ensures nothing_saved { saved self.new ≡ saved self.old };
 
-    /// A writer of a file, which is empty at first, with no failure yet, or why the file can't be created. A file of this name that is there already
-    /// loses what it holds.
-    fn create(&mut self, name: &str) -> Result<Self::Writer, Reason>
-        ensures created { Asks (created self.old) (created self.new) (name.now ∷ []) }
-        ensures empty { (all : List (List ℕ)) → created self.old ≡ Some all → IfOk result (λ w. Self.Writer.told w ≡ Some []) }
-        ensures fresh { IfOk result (λ w. Self.Writer.failed w ≡ 0) }
+    /// The text of a file beside those that are opened, up to its end or to so many bytes; or why it can't be read, or memory is refused.
+    fn read(&mut self, alloc: Global, name: &[u8], most: usize) -> Result<Vec<u8>, Refused<Unread>>
+        ensures given { (all : Files) → holds self.old ≡ Some all → GivesText (λ text. text.items) (all name.now) most result }
         ensures same { holds self.new ≡ holds self.old }
         ensures nothing_asked { asked self.new ≡ asked self.old }
+        ensures nothing_created { created self.new ≡ created self.old }
         ensures nothing_saved { saved self.new ≡ saved self.old };
 
-    /// Saves a text in a file of this name, or says why not. A file that is there already loses what it holds; if the text can't be written, the file
-    /// may hold a part of it.
-    fn save(&mut self, name: &[u8], text: &[u8]) -> Result<(), Unsaved>
+    /// Saves a text in a file of this name, or says why not, or memory is refused. A file that is there already holds either what it held or the
+    /// whole text: never a part of it. What is no file but a device, or leads to another file, is written to as it is.
+    fn save(&mut self, alloc: Global, name: &[u8], text: &[u8]) -> Result<(), Refused<Unsaved>>
+        ensures created { Asks (created self.old) (created self.new) (name.now ∷ []) }
         ensures saved { saved self.new ≡ noted (saved self.old) ((name.now, text.now) ∷ []) }
         ensures same { holds self.new ≡ holds self.old }
         ensures nothing_asked { asked self.new ≡ asked self.old };

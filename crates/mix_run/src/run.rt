@@ -22,7 +22,7 @@ use mixal_asm::{MAX_SOURCE_BYTES, Program, assemble};
 use std::alloc::Global;
 
 /// The most bytes that a script may have.
-const MAX_SCRIPT_BYTES: usize = 1_048_576;
+pub(crate) const MAX_SCRIPT_BYTES: usize = 1_048_576;
 
 // A script in a session.
 #[tactic(auto, unfolding(crate::specs::Output::outcome_of_script))]

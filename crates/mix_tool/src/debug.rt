@@ -1,6 +1,7 @@
 //! A session of a plan.
 
-ghost use Rattle.std.specs.Prelude.{◌≡◌, ◌≢◌, ◌<◌, ◌≤◌, ◌-◌, ◌^◌, false, option_map, string_bytes};
+ghost use Rattle.std.specs.Prelude.{Some, ◌≡◌, ◌≢◌, ◌<◌, ◌≤◌, ◌-◌, ◌^◌, false, option_map, string_bytes};
+ghost use Rattle.mix_run.specs.Opening.{Files};
 ghost use Rattle.mix_tool.specs.Plan.{AreFresh, DebugsOn, Given, HoldTexts, is_talk, names_of_session, seen};
 
 use crate::ending::{status, status_beside, unread};
@@ -24,8 +25,8 @@ pub(crate) fn debug_on<'n, O: Opener, R: In, W: Out, E: Out>(
     requires input_count { R.failed streams.old.input < 2 ^ 64 - 1 }
     requires out_count { W.failed streams.old.out < 2 ^ 64 - 1 }
     requires errors_count { E.failed streams.old.errors < 2 ^ 64 - 1 }
-    ensures runs { (given : Given) → HoldTexts O.Reader.rest texts given
-        → DebugsOn (names_of_session name.now (option_map string_bytes devices.now) (option_map string_bytes script.now)) echo script.now given streams.old.talker result (seen R.rest W.told E.told E.failed streams.old) (seen R.rest W.told E.told E.failed streams.new) }
+    ensures runs { (all : Files) (given : Given) → O.holds files.old ≡ Some all → HoldTexts O.Reader.rest texts given
+        → DebugsOn all (names_of_session name.now (option_map string_bytes devices.now) (option_map string_bytes script.now)) echo script.now given streams.old.talker result (seen R.rest W.told E.told E.failed streams.old) (seen R.rest W.told E.told E.failed streams.new) }
     ensures input { is_talk script.now ≡ false → streams.new.input ≡ streams.old.input }
     ensures unasked { O.asked files.new ≡ O.asked files.old }
     ensures range { result ≤ 3 }

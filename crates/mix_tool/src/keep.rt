@@ -1,17 +1,31 @@
 //! What the units hold at the end of a run, kept in a file.
 
-ghost use Rattle.std.specs.Prelude.{◌≡◌, ◌≢◌, ◌≤◌, ◌∷◌, [], true, option_map, string_bytes};
-ghost use Rattle.mix_run.specs.Opening.{Asks};
+ghost use Rattle.std.specs.Prelude.{◌≡◌, ◌≢◌, ◌≤◌, ◌∷◌, [], map, true, option_map, string_bytes};
+ghost use Rattle.mix_run.specs.Opening.{Asks, noted};
 ghost use Rattle.mix_tool.specs.Ending.{EndsWith, created_after};
 
 use crate::ending::{not_opened_line, not_written_line, tell_beside};
 use mix_cli::FAILED;
-use mix_run::{Opener, PrintAnswer, ToolFault};
-use mix_stream::{Out, write_all};
-use std::alloc::Global;
+use mix_refused::Refused;
+use mix_run::{Opener, PrintAnswer, ToolFault, Unsaved};
+use mix_stream::Out;
+use std::alloc::{AllocError, Global};
 
-// Creates a file and writes a text to it. What prevents that is told.
-fn is_written<O: Opener, E: Out>(
+// What prevents that a text is saved.
+fn unsaved_line(
+    alloc: Global,
+    name: &str,
+    refused: Refused<Unsaved>,
+) -> Result<String, AllocError> {
+    match refused {
+        Refused::Memory => Err(AllocError),
+        Refused::Fault(Unsaved::NotOpened(reason)) => not_opened_line(alloc, name, reason),
+        Refused::Fault(Unsaved::NotWritten(_)) => not_written_line(alloc, name),
+    }
+}
+
+// Saves a text in a file. What prevents that is told.
+fn is_saved<O: Opener, E: Out>(
     files: &mut O,
     alloc: Global,
     name: &str,
@@ -19,28 +33,20 @@ fn is_written<O: Opener, E: Out>(
     errors: &mut E,
 ) -> bool
     ensures created { Asks (O.created files.old) (O.created files.new) (name.now ∷ []) }
+    ensures saved { O.saved files.new ≡ noted (O.saved files.old) ((name.now, text.now) ∷ []) }
     ensures asked { O.asked files.new ≡ O.asked files.old }
     ensures quiet { result ≡ true → errors.new ≡ errors.old }
 {
-    match files.create(name) {
-        Ok(created) => {
-            let mut file = created;
-            match write_all(&mut file, text) {
-                Ok(()) => true,
-                Err(_) => {
-                    tell_beside(not_written_line(alloc, name), errors);
-                    false
-                }
-            }
-        }
-        Err(reason) => {
-            tell_beside(not_opened_line(alloc, name, reason), errors);
+    match files.save(alloc, name.as_bytes(), text) {
+        Ok(()) => true,
+        Err(refused) => {
+            tell_beside(unsaved_line(alloc, name, refused), errors);
             false
         }
     }
 }
 
-/// Writes the deck of a run that has come to its end to a file, if one is named for it. The status is that of the run, or 2 if it is not written.
+/// Saves the deck of a run that has come to its end in a file, if one is named for it. The status is that of the run, or 2 if it is not saved.
 pub(crate) fn keep_deck<O: Opener, E: Out>(
     files: &mut O,
     alloc: Global,
@@ -51,6 +57,7 @@ pub(crate) fn keep_deck<O: Opener, E: Out>(
     errors: &mut E,
 ) -> u8
     ensures created { Asks (O.created files.old) (O.created files.new) (created_after (option_map string_bytes keep.now) outcome) }
+    ensures saved { O.saved files.new ≡ noted (O.saved files.old) (map (λ name. (name, deck.now)) (created_after (option_map string_bytes keep.now) outcome)) }
     ensures asked { O.asked files.new ≡ O.asked files.old }
     ensures status { EndsWith (created_after (option_map string_bytes keep.now) outcome) status result }
     ensures range { status ≤ 3 → result ≤ 3 }
@@ -60,7 +67,7 @@ pub(crate) fn keep_deck<O: Opener, E: Out>(
         None => status,
         Some(name) => match outcome {
             Ok(PrintAnswer::Ran(_)) => {
-                if is_written(files, alloc, name, deck, errors) {
+                if is_saved(files, alloc, name, deck, errors) {
                     status
                 } else {
                     FAILED

@@ -8,6 +8,7 @@ mod debug;
 mod ending;
 mod keep;
 mod plan;
+mod save;
 pub mod shelf;
 mod system;
 mod texts;
@@ -17,7 +18,7 @@ pub use mix_dap::serve;
 pub use mix_run::{
     AsmFault, AsmKind, ConflictAt, Conflicts, Counted, DeckFault, DeckKind, Failed, In, MixFault,
     Opener, Out, PrintAnswer, PrintOptions, PrintTexts, RanTo, Reason, Refusal, RunEnd, Session,
-    Streams, Talker, Told, ToolFault, UnitSet, Unsaved, back_and_forth_law, run_bundle,
+    Streams, Talker, Told, ToolFault, UnitSet, Unread, Unsaved, back_and_forth_law, run_bundle,
     run_debug, run_list, run_printed, run_talk,
 };
 pub use plan::run_plan;

@@ -6,8 +6,8 @@ ghost use Rattle.mix_tool.specs.Shelf.{text_in};
 
 use mix_dap::{Fault, Library};
 use mix_refused::Refused;
-use mix_run::{Opener, Reason, Unsaved};
-use mix_stream::fake::{Chunks, Sink};
+use mix_run::{Opener, Reason, Unread, Unsaved};
+use mix_stream::fake::Chunks;
 use std::alloc::{AllocError, Global};
 
 /// All bytes in one call.
@@ -20,7 +20,7 @@ pub struct Shelved<'a> {
     pub text: &'a [u8],
 }
 
-/// Files in memory. The first of two files of a name is the one that is opened. One that is created takes 4,096 bytes, and is not kept.
+/// Files in memory. The first of two files of a name is the one that is opened. What is saved is not kept.
 #[derive(Drop)]
 pub struct Shelf<'a> {
     alloc: Global,
@@ -61,8 +61,6 @@ fn known(names: &Option<Vec<String>>) -> Option<&[String]> {
 impl<'a> Opener for Shelf<'a> {
     type Reader = Chunks<'a>;
 
-    type Writer = Sink;
-
     ghost use Rattle.std.specs.Prelude.{None, Some, map, option_map, string_bytes};
     ghost use Rattle.mix_tool.specs.Shelf.{held_in};
 
@@ -77,18 +75,26 @@ impl<'a> Opener for Shelf<'a> {
 
     fn open(&mut self, name: &str) -> Result<Chunks<'a>, Reason> {
         note(self.alloc, &mut self.asked, name);
-        match text_in(self.files, name) {
+        match text_in(self.files, name.as_bytes()) {
             Some(text) => Ok(Chunks::of(text, ALL, 0)),
             None => Err(Reason::Missing),
         }
     }
 
-    fn create(&mut self, name: &str) -> Result<Sink, Reason> {
-        note(self.alloc, &mut self.created, name);
-        Ok(Sink::of(ALL, 0))
+    fn read(
+        &mut self,
+        alloc: Global,
+        name: &[u8],
+        most: usize,
+    ) -> Result<Vec<u8>, Refused<Unread>> {
+        match text_in(self.files, name) {
+            Some(text) => Ok(Vec::from_slice(alloc, &text[..most.min(text.len())])?),
+            None => Err(Refused::Fault(Unread::NotOpened(Reason::Missing))),
+        }
     }
 
-    fn save(&mut self, _name: &[u8], _text: &[u8]) -> Result<(), Unsaved> {
+    fn save(&mut self, _alloc: Global, name: &[u8], _text: &[u8]) -> Result<(), Refused<Unsaved>> {
+        note_bytes(self.alloc, &mut self.created, name);
         Ok(())
     }
 }
@@ -98,7 +104,7 @@ impl Library for Shelf<'_> {
     ghost knows = { λ _ _. None };
 
     fn text(&self, alloc: Global, name: &str, most: usize) -> Result<Vec<u8>, Refused<Fault>> {
-        match text_in(self.files, name) {
+        match text_in(self.files, name.as_bytes()) {
             Some(text) => Ok(Vec::from_slice(alloc, &text[..most.min(text.len())])?),
             None => Err(Refused::Fault(Fault::NotOpened)),
         }
@@ -116,6 +122,16 @@ fn note(alloc: Global, asked: &mut Option<Vec<String>>, name: &str)
     }
 }
 
+// The same of a name of any bytes; one that is no text is not noted, so the names are no longer known.
+fn note_bytes(alloc: Global, names: &mut Option<Vec<String>>, name: &[u8])
+    ensures { Asks (option_map (λ names. map string_bytes names.items) names.old) (option_map (λ names. map string_bytes names.items) names.new) (name.now ∷ []) }
+{
+    match str::from_utf8(name) {
+        Ok(name) => note(alloc, names, name),
+        Err(_) => *names = None,
+    }
+}
+
 fn push_name(alloc: Global, names: &mut Vec<String>, name: &str) -> Result<(), AllocError>
     ensures { OnOk result (map string_bytes names.new.items ≡ map string_bytes names.old.items ++ (name.now ∷ [])) }
 {
@@ -124,12 +140,12 @@ fn push_name(alloc: Global, names: &mut Vec<String>, name: &str) -> Result<(), A
 }
 
 // The text of the first file of a name.
-fn text_in<'a>(files: &[Shelved<'a>], name: &str) -> Option<&'a [u8]>
+fn text_in<'a>(files: &[Shelved<'a>], name: &[u8]) -> Option<&'a [u8]>
     ensures { option_map (λ t. t.now) result ≡ text_in files.now name.now }
 {
     let mut rest = files;
     while let [file, after @ ..] = rest {
-        if file.name == name {
+        if file.name.as_bytes() == name {
             return Some(file.text);
         }
         rest = after;

@@ -3,13 +3,13 @@
 ghost use Rattle.std.specs.Prelude.{◌≡◌, None};
 ghost use Rattle.mix_run.specs.Reason.{path_of};
 
+use crate::save::save_file;
 use mix_dap::{Fault, FileLibrary, Library};
 use mix_refused::Refused;
-use mix_run::{Opener, Reason, Unsaved};
-use mix_stream::Counted;
+use mix_run::{Opener, Reason, Unread, Unsaved};
+use mix_stream::{Counted, read_up_to};
 use std::alloc::Global;
 use std::fs::{self, OpenFile};
-use std::io::Write;
 use std::rt::Files;
 
 /// The files of a system. What they hold is known only when they are read; what is written to them is not followed.
@@ -32,8 +32,6 @@ impl<'f, F: Files> SystemFiles<'f, F> {
 
 impl<F: Files> Opener for SystemFiles<'_, F> {
     type Reader = Counted<F::File>;
-
-    type Writer = Counted<F::File>;
 
     ghost use Rattle.std.specs.Prelude.{None};
 
@@ -58,29 +56,30 @@ impl<F: Files> Opener for SystemFiles<'_, F> {
         }
     }
 
-    fn create(&mut self, name: &str) -> Result<Counted<F::File>, Reason> {
-        match fs::create(self.files, name) {
-            Ok(file) => Ok(Counted::of(file)),
-            Err(error) => Err(Reason::of(error.kind())),
-        }
-    }
-
-    fn save(&mut self, name: &[u8], text: &[u8]) -> Result<(), Unsaved> {
+    fn read(
+        &mut self,
+        alloc: Global,
+        name: &[u8],
+        most: usize,
+    ) -> Result<Vec<u8>, Refused<Unread>> {
         match str::from_utf8(name) {
-            Err(_) => Err(Unsaved::NotOpened(Reason::Other)),
-            Ok(name) => match fs::create(self.files, name) {
-                Ok(mut file) => write_file(&mut file, text),
-                Err(error) => Err(Unsaved::NotOpened(Reason::of(error.kind()))),
+            Err(_) => Err(Refused::Fault(Unread::NotOpened(Reason::Other))),
+            Ok(name) => match self.open(name) {
+                Ok(mut file) => match read_up_to(alloc, &mut file, most) {
+                    Ok(text) => Ok(text),
+                    Err(Refused::Memory) => Err(Refused::Memory),
+                    Err(Refused::Fault(_)) => Err(Refused::Fault(Unread::NotRead)),
+                },
+                Err(reason) => Err(Refused::Fault(Unread::NotOpened(reason))),
             },
         }
     }
-}
 
-// Writes a whole text.
-fn write_file<F: Write>(file: &mut F, text: &[u8]) -> Result<(), Unsaved> {
-    match file.write_all(text) {
-        Ok(()) => Ok(()),
-        Err(error) => Err(Unsaved::NotWritten(Reason::of(error.kind()))),
+    fn save(&mut self, alloc: Global, name: &[u8], text: &[u8]) -> Result<(), Refused<Unsaved>> {
+        match str::from_utf8(name) {
+            Err(_) => Err(Refused::Fault(Unsaved::NotOpened(Reason::Other))),
+            Ok(name) => save_file(self.files, alloc, name, text),
+        }
     }
 }
 

@@ -17,11 +17,12 @@ use crate::opener::Opener;
 use crate::talk::aside::{Talker, after_reply, help, tell};
 use crate::talk::person::{Line, kind_of};
 use crate::talk::recall::Recall;
+use crate::talk::source::refuse_source;
 use mix_session::{Session, Told};
 use mix_stream::Out;
 
-// A person's line: the command that it stands for is executed, help is given, and what was done is saved. Whether the command was accepted; none where
-// the line ends the talk.
+// A person's line: the command that it stands for is executed, help is given, and what was done is saved. A line that sources a file is one of such a
+// file: it is refused. Whether the command was accepted; none where the line ends the talk.
 fn answer_person<O: Opener, W: Out, E: Out>(
     session: &mut Session,
     recall: &mut Recall,
@@ -39,6 +40,7 @@ fn answer_person<O: Opener, W: Out, E: Out>(
     ensures recall { OnOk result (recall.new ≡ recalled session.old Talker.Person recall.old line.now) }
     ensures saved { OnOk result (O.saved files.new ≡ noted (O.saved files.old) (saves_of origin.now Talker.Person recall.old line.now)) }
     ensures unasked { O.asked files.new ≡ O.asked files.old }
+    ensures held { O.holds files.new ≡ O.holds files.old }
     ensures begun { AppendsFront (W.told out.old) (W.told out.new) (replies session.old (meant session.old Talker.Person recall.old line.now)).bytes }
     ensures write { CountsFailure (result ≡ Err ToolFault.Write) (W.failed out.old) (W.failed out.new) }
     ensures only { IfErr result IsMemoryOrWrite }
@@ -74,6 +76,10 @@ fn answer_person<O: Opener, W: Out, E: Out>(
             recall.save(origin, line, files, errors)?;
             Ok(Some(Told::Accepted))
         }
+        Line::Source => {
+            refuse_source(errors);
+            Ok(Some(Told::Accepted))
+        }
         Line::Command => {
             let after = after_reply(session, &typed);
             let told = command(session, &typed, out)?;
@@ -104,6 +110,7 @@ pub(crate) fn answer_line<O: Opener, W: Out, E: Out>(
     ensures recall { OnOk result (recall.new ≡ recalled session.old talker recall.old line.now) }
     ensures saved { OnOk result (O.saved files.new ≡ noted (O.saved files.old) (saves_of origin.now talker recall.old line.now)) }
     ensures unasked { O.asked files.new ≡ O.asked files.old }
+    ensures held { O.holds files.new ≡ O.holds files.old }
     ensures begun { AppendsFront (W.told out.old) (W.told out.new) (replies session.old (meant session.old talker recall.old line.now)).bytes }
     ensures write { CountsFailure (result ≡ Err ToolFault.Write) (W.failed out.old) (W.failed out.new) }
     ensures only { IfErr result IsMemoryOrWrite }

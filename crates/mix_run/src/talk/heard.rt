@@ -6,9 +6,11 @@ ghost use Rattle.std.specs.Io.KnownBytes.{Appends};
 ghost use Rattle.mix_lines.specs.Lines.{is_line_feed, lines};
 ghost use Rattle.mix_machine.specs.declared.units.deck_fault.DeckFault.{DeckFault};
 ghost use Rattle.mix_run.specs.Fault.{IsMemoryOrWrite};
-ghost use Rattle.mix_run.specs.Opening.{noted};
+ghost use Rattle.mix_run.specs.Hearing.{Answered};
+ghost use Rattle.mix_run.specs.Opening.{Files, noted};
 ghost use Rattle.mix_run.specs.Recall.{nothing};
 ghost use Rattle.mix_run.specs.Saves.{saves};
+ghost use Rattle.mix_run.specs.Sources.{Knows, heard, stands_for};
 ghost use Rattle.mix_run.specs.Talk.{Talks, after_lines, answers, asked, is_over, is_quit, is_too_long, is_whole, max_line_bytes, recalled_all};
 ghost use Rattle.mix_stream.specs.Stream.{AppendsFront, CountsFailure};
 
@@ -18,6 +20,7 @@ use crate::opener::Opener;
 use crate::talk::answer::answer_line;
 use crate::talk::aside::{Talker, end_prompt, prompt};
 use crate::talk::recall::Recall;
+use crate::talk::source::text_sourced;
 use mix_lines::split_line;
 use mix_refused::Memory;
 use mix_session::{Session, Told};
@@ -35,7 +38,7 @@ pub(crate) struct Heard {
     is_over: bool,
 }
 
-// The lines of a text, one after the other, up to the one that ends the talk.
+// The lines of a file that is sourced, one after the other, up to the one that ends the talk.
 fn answer_lines<O: Opener, W: Out, E: Out>(
     session: &mut Session,
     talker: Talker,
@@ -54,6 +57,7 @@ fn answer_lines<O: Opener, W: Out, E: Out>(
     ensures recall { IfOk result (λ _. recall.new ≡ recalled_all session.old talker recall.old (lines text.now)) }
     ensures saved { OnOk result (O.saved files.new ≡ noted (O.saved files.old) (saves origin.now session.old talker recall.old (lines text.now))) }
     ensures unasked { O.asked files.new ≡ O.asked files.old }
+    ensures held { O.holds files.new ≡ O.holds files.old }
     ensures begun { AppendsFront (W.told out.old) (W.told out.new) (answers session.old talker recall.old (lines text.now)).bytes }
     ensures write { CountsFailure (result ≡ Err ToolFault.Write) (W.failed out.old) (W.failed out.new) }
     ensures only { IfErr result IsMemoryOrWrite }
@@ -72,6 +76,118 @@ fn answer_lines<O: Opener, W: Out, E: Out>(
                 });
             }
             Some(next) => told = told.and(next),
+        }
+        rest = after;
+    }
+    Ok(Heard {
+        told,
+        is_over: false,
+    })
+}
+
+// A line that stands for itself.
+fn answer_itself<O: Opener, W: Out, E: Out>(
+    session: &mut Session,
+    talker: Talker,
+    recall: &mut Recall,
+    origin: &Origin,
+    line: &[u8],
+    files: &mut O,
+    out: &mut W,
+    errors: &mut E,
+) -> Result<Heard, ToolFault>
+    requires { W.failed out.old < 2 ^ 64 - 1 }
+    ensures answered { IfOk result (λ now. Answered origin.now session.old talker recall.old (line.now ∷ []) session.new recall.new now.told now.is_over
+        (O.saved files.old) (O.saved files.new) (W.told out.old) (W.told out.new)) }
+    ensures begun { AppendsFront (W.told out.old) (W.told out.new) (answers session.old talker recall.old (line.now ∷ [])).bytes }
+    ensures unasked { O.asked files.new ≡ O.asked files.old }
+    ensures held { O.holds files.new ≡ O.holds files.old }
+    ensures write { CountsFailure (result ≡ Err ToolFault.Write) (W.failed out.old) (W.failed out.new) }
+    ensures only { IfErr result IsMemoryOrWrite }
+    ensures quiet { talker ≡ Talker.Program → errors.new ≡ errors.old }
+    ensures untouched { talker ≡ Talker.Program → files.new ≡ files.old }
+{
+    match answer_line(session, talker, recall, origin, line, files, out, errors)? {
+        None => {
+            Ok(Heard {
+                told: Told::Accepted,
+                is_over: true,
+            })
+        }
+        Some(told) => {
+            Ok(Heard {
+                told,
+                is_over: false,
+            })
+        }
+    }
+}
+
+// A typed line: those that it stands for are answered.
+fn answer_typed<O: Opener, W: Out, E: Out>(
+    session: &mut Session,
+    talker: Talker,
+    recall: &mut Recall,
+    origin: &Origin,
+    line: &[u8],
+    files: &mut O,
+    out: &mut W,
+    errors: &mut E,
+) -> Result<Heard, ToolFault>
+    requires { W.failed out.old < 2 ^ 64 - 1 }
+    ensures answered { (all : Files) → Knows (O.holds files.old) all talker (line.now ∷ [])
+        → IfOk result (λ now. Answered origin.now session.old talker recall.old (stands_for all talker line.now) session.new recall.new now.told now.is_over
+        (O.saved files.old) (O.saved files.new) (W.told out.old) (W.told out.new)) }
+    ensures begun { (all : Files) → Knows (O.holds files.old) all talker (line.now ∷ [])
+        → AppendsFront (W.told out.old) (W.told out.new) (answers session.old talker recall.old (stands_for all talker line.now)).bytes }
+    ensures unasked { O.asked files.new ≡ O.asked files.old }
+    ensures held { O.holds files.new ≡ O.holds files.old }
+    ensures write { CountsFailure (result ≡ Err ToolFault.Write) (W.failed out.old) (W.failed out.new) }
+    ensures only { IfErr result IsMemoryOrWrite }
+    ensures quiet { talker ≡ Talker.Program → errors.new ≡ errors.old }
+    ensures untouched { talker ≡ Talker.Program → files.new ≡ files.old }
+{
+    match text_sourced(recall.allocator(), talker, line, files, errors)? {
+        Some(text) => answer_lines(session, talker, recall, origin, &text, files, out, errors),
+        None => answer_itself(session, talker, recall, origin, line, files, out, errors),
+    }
+}
+
+// The lines of a text, each before the next, up to the one that ends the talk; a person is prompted after each.
+fn answer_text<O: Opener, W: Out, E: Out>(
+    session: &mut Session,
+    talker: Talker,
+    recall: &mut Recall,
+    origin: &Origin,
+    text: &[u8],
+    files: &mut O,
+    out: &mut W,
+    errors: &mut E,
+) -> Result<Heard, ToolFault>
+    requires { W.failed out.old < 2 ^ 64 - 1 }
+    ensures answered { (all : Files) → Knows (O.holds files.old) all talker (lines text.now)
+        → IfOk result (λ now. Answered origin.now session.old talker recall.old (heard all talker (lines text.now)) session.new recall.new now.told now.is_over
+        (O.saved files.old) (O.saved files.new) (W.told out.old) (W.told out.new)) }
+    ensures begun { (all : Files) → Knows (O.holds files.old) all talker (lines text.now)
+        → AppendsFront (W.told out.old) (W.told out.new) (answers session.old talker recall.old (heard all talker (lines text.now))).bytes }
+    ensures unasked { O.asked files.new ≡ O.asked files.old }
+    ensures held { O.holds files.new ≡ O.holds files.old }
+    ensures write { CountsFailure (result ≡ Err ToolFault.Write) (W.failed out.old) (W.failed out.new) }
+    ensures only { IfErr result IsMemoryOrWrite }
+    ensures quiet { talker ≡ Talker.Program → errors.new ≡ errors.old }
+    ensures untouched { talker ≡ Talker.Program → files.new ≡ files.old }
+{
+    let mut told = Told::Accepted;
+    let mut rest = text;
+    while !rest.is_empty() {
+        let (line, after) = split_line(rest);
+        let now = answer_typed(session, talker, recall, origin, line, files, out, errors)?;
+        told = told.and(now.told);
+        if now.is_over {
+            return Ok(Heard {
+                told,
+                is_over: true,
+            });
         }
         prompt(talker, errors);
         rest = after;
@@ -145,10 +261,10 @@ pub(crate) fn talk<O: Opener, R: In, W: Out, E: Out>(
     requires input_count { R.failed input.old < 2 ^ 64 - 1 }
     requires out_count { W.failed out.old < 2 ^ 64 - 1 }
     requires recall { recall ≡ nothing }
-    ensures talks { (t : List ℕ) → R.rest input.old ≡ Some t
-        → Talks session.old talker t result (R.rest input.new) (W.told out.old) (W.told out.new) }
-    ensures saved { (t : List ℕ) → R.rest input.old ≡ Some t
-        → OnOk result (O.saved files.new ≡ noted (O.saved files.old) (saves origin.now session.old talker nothing (lines t))) }
+    ensures talks { (all : Files) (t : List ℕ) → R.rest input.old ≡ Some t → Knows (O.holds files.old) all talker (lines t)
+        → Talks all session.old talker t result (R.rest input.new) (W.told out.old) (W.told out.new) }
+    ensures saved { (all : Files) (t : List ℕ) → R.rest input.old ≡ Some t → Knows (O.holds files.old) all talker (lines t)
+        → OnOk result (O.saved files.new ≡ noted (O.saved files.old) (saves origin.now session.old talker nothing (heard all talker (lines t)))) }
     ensures unasked { O.asked files.new ≡ O.asked files.old }
     ensures long { result ≡ Err ToolFault.Long → (t : List ℕ) → R.rest input.old ≡ Some t → max_line_bytes < length t }
     ensures long_line { result ≡ Err ToolFault.Long → (t : List ℕ) → R.rest input.old ≡ Some t → length t < 2 ^ 64 - 1 → list_any is_too_long (lines t) ≡ true }
@@ -170,7 +286,7 @@ pub(crate) fn talk<O: Opener, R: In, W: Out, E: Out>(
         };
         if count == 0 {
             end_prompt(talker, errors);
-            match answer_lines(
+            match answer_text(
                 session,
                 talker,
                 &mut recall,
@@ -188,7 +304,7 @@ pub(crate) fn talk<O: Opener, R: In, W: Out, E: Out>(
             Ok(text) => text,
             Err(Memory) => return Err(ToolFault::Memory),
         };
-        let heard = match answer_lines(
+        let heard = match answer_text(
             session,
             talker,
             &mut recall,

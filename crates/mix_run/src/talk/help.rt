@@ -12,6 +12,7 @@ watch COND stops run, back and forth at that from now on; delete forgets all.
 print shows a register, cell E or a word W; list shows the source, where what comes next.
 display shows what print shows after each stop; undisplay ends that.
 save FILE saves what was done, as a bundle: mixrev < FILE does it again.
+source FILE does the lines of FILE, as if they were typed.
 help COMMAND explains one, as help back. A blank line repeats the last step or back.
 ";
 
@@ -115,6 +116,11 @@ save FILE        saves the source, the deck and what was done in FILE, as a bund
 mixrev < FILE does the same again. A file that is there already is written over.
 ";
 
+const SOURCE: &str = "\
+source FILE      does the lines of FILE, one after the other, as if each were typed here
+If FILE can't be read, nothing is done. In FILE source itself can't be used.
+";
+
 const LIST: &str = "list takes the number of a line, a symbol, or nothing\n";
 
 const UNTIL: &str = "\
@@ -168,7 +174,7 @@ fn form_elsewhere(word: Option<&[u8]>) -> &'static str {
 
 // Each word that there is help on: what it takes, as a refusal says it, and the help.
 #[rattlefmt::skip]
-static TOPICS: [(&str, &str, &str); 23] = [
+static TOPICS: [(&str, &str, &str); 24] = [
     ("step", "step takes a number, 1 to 1000000, or nothing\n", STEP),
     ("run", "run takes a number, 1 to 1000000, until COND, both or nothing\n", RUN),
     ("trace", "trace takes a number, 1 to 1000000, or nothing\n", TRACE),
@@ -191,6 +197,7 @@ static TOPICS: [(&str, &str, &str); 23] = [
     ("display", "display takes a register, cell E or a word W, as print does\n", DISPLAY),
     ("undisplay", "undisplay takes nothing: nothing is displayed any more\n", DISPLAY),
     ("save", "save takes the name of a file\n", SAVE),
+    ("source", "source takes the name of a file\n", SOURCE),
     ("help", NO_COMMAND, ALL),
 ];
 

@@ -9,7 +9,8 @@ use mix_lines::Words;
 use mix_refused::Memory;
 use std::alloc::Global;
 
-/// What a person's line is: a command, a question for help, a listing of the source, what is watched, displayed or saved, or the end of the talk.
+/// What a person's line is: a command, a question for help, a listing of the source, what is watched, displayed, saved or sourced, or the end of the
+/// talk.
 #[derive(Clone, Copy)]
 pub(crate) enum Line {
     Command,
@@ -20,6 +21,7 @@ pub(crate) enum Line {
     Display,
     Undisplay,
     Save,
+    Source,
     Quit,
 }
 
@@ -52,6 +54,7 @@ pub(crate) enum PersonWord {
     Examine,
     Exit,
     Save,
+    Source,
 }
 
 // In this order: of several that begin in the same way, the first one is meant.
@@ -64,7 +67,7 @@ fn all_words() -> &'static [PersonWord]
         PersonWord::Goto, PersonWord::Continue, PersonWord::Clear, PersonWord::Set, PersonWord::Show, PersonWord::Quit, PersonWord::Help,
         PersonWord::Question, PersonWord::Print, PersonWord::Listing, PersonWord::Where, PersonWord::Watch,
         PersonWord::Delete, PersonWord::Display, PersonWord::Until, PersonWord::Undisplay, PersonWord::Examine, PersonWord::Exit,
-        PersonWord::Save,
+        PersonWord::Save, PersonWord::Source,
     ]
 }
 
@@ -99,6 +102,7 @@ impl PersonWord {
             PersonWord::Examine => "x",
             PersonWord::Exit => "exit",
             PersonWord::Save => "save",
+            PersonWord::Source => "source",
         }
     }
 
@@ -170,6 +174,7 @@ fn kind_of_word(word: Option<PersonWord>, words: &Words) -> Line
         Some(PersonWord::Display) => Line::Display,
         Some(PersonWord::Undisplay) if words.is_end() => Line::Undisplay,
         Some(PersonWord::Save) => Line::Save,
+        Some(PersonWord::Source) => Line::Source,
         Some(PersonWord::Quit | PersonWord::Exit) if words.is_end() => Line::Quit,
         _ => Line::Command,
     }

@@ -228,6 +228,7 @@ impl<'s> Recall<'s> {
     ) -> Result<(), Memory>
         ensures saved { OnOk result (O.saved files.new ≡ noted (O.saved files.old) (saves_under (bundle_of origin.now self.now.done) (name_in (words line.now)))) }
         ensures unasked { O.asked files.new ≡ O.asked files.old }
+        ensures held { O.holds files.new ≡ O.holds files.old }
     {
         save(self.alloc, origin, &self.done, line, files, errors)
     }

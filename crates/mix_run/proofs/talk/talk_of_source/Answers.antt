@@ -2,6 +2,7 @@
 use Rattle.std.proofs.Common.{◌≡◌, ◌∙◌, Ok, Err, ap, inl, inr, refl, sym}
 use Rattle.mix_lines.specs.Lines.{lines}
 use Rattle.std.proofs.lemmas.Result.{err_from_is_err_and}
+use Rattle.mix_run.specs.Sources.{heard}
 use Rattle.mix_run.specs.declared.fault.ToolFault.TheVariants.{Long}
 use Rattle.mix_refused.specs.declared.refused.Refused.TheVariants as reads
 use Rattle.mixal_asm.specs.Assembly.{assembly}
@@ -12,29 +13,29 @@ use Rattle.mix_run.proofs.Truncation.{source-taken}
 use Rattle.mix_run.proofs.talk.talk_of_source.Goals as goal
 
 pub returns-in_err-text-clause-talks : goal.returns-in_err-text-clause-talks
-returns-in_err-text-clause-talks g c s d t hs hd ht =
+returns-in_err-text-clause-talks g c all s d t hs hd ht known =
     let p = err_from_is_err_and c.from_residual.result c.from_residual.ensures.1 in
-    rw (p.1, p.2) (TalksWith-unread (assembly s) (deck_of d) c.args.streams.now.talker t _ _ _ ht)
+    rw (p.1, p.2) (TalksWith-unread all (assembly s) (deck_of d) c.args.streams.now.talker t _ _ _ ht)
 
 pub returns-in-Err-Memory-clause-talks : goal.returns-in-Err-Memory-clause-talks
-returns-in-Err-Memory-clause-talks g c s d t hs hd ht = TalksWith-unread (assembly s) (deck_of d) c.args.streams.now.talker t reads.Memory _ _ ht
+returns-in-Err-Memory-clause-talks g c all s d t hs hd ht known = TalksWith-unread all (assembly s) (deck_of d) c.args.streams.now.talker t reads.Memory _ _ ht
 
 pub returns-in-Err-Memory-clause-deck : goal.returns-in-Err-Memory-clause-deck
 returns-in-Err-Memory-clause-deck g c = ConsumesAtMost-none _ _
 
 pub returns-in-Err-Fault-clause-talks : goal.returns-in-Err-Fault-clause-talks
-returns-in-Err-Fault-clause-talks g c s d t hs hd ht =
-    TalksWith-refused s _ c.in-Err-Fault.fault (deck_of d) c.args.streams.now.talker t _ _ _ _ (c.deref.ensures.value ∙ (c.in_ok-text.ensures.whole s hs).0)
+returns-in-Err-Fault-clause-talks g c all s d t hs hd ht known =
+    TalksWith-refused all s _ c.in-Err-Fault.fault (deck_of d) c.args.streams.now.talker t _ _ _ _ (c.deref.ensures.value ∙ (c.in_ok-text.ensures.whole s hs).0)
     (rw c.in-Err-Fault.field-0-is at c.in-Err-Fault.ensures.fault) c.refuse_and_tell.ensures.output
 
 pub returns-in-Err-Fault-clause-deck : goal.returns-in-Err-Fault-clause-deck
 returns-in-Err-Fault-clause-deck g c = ConsumesAtMost-none _ _
 
 pub returns-in-Err-clause-talks : goal.returns-in-Err-clause-talks
-returns-in-Err-clause-talks g c s d t hs hd ht =
-    TalksWith-source s _ (Ok c.in-Ok.program) (deck_of d) c.args.streams.now.talker t (Err c.in-Err.fault) _ _ _
+returns-in-Err-clause-talks g c all s d t hs hd ht known =
+    TalksWith-source all s _ (Ok c.in-Ok.program) (deck_of d) c.args.streams.now.talker t (Err c.in-Err.fault) _ _ _
     (c.deref.ensures.value ∙ (c.in_ok-text.ensures.whole s hs).0) c.in-Ok.ensures.ok
-    (TalksWith-no_units c.in-Ok.program (deck_of d) c.args.streams.now.talker t c.in-Err.fault _ _ ht (c.in-Err.ensures.units d hd))
+    (TalksWith-no_units all c.in-Ok.program (deck_of d) c.args.streams.now.talker t c.in-Err.fault _ _ ht (c.in-Err.ensures.units d hd))
 
 pub returns-in-Err-clause-long : goal.returns-in-Err-clause-long
 returns-in-Err-clause-long g c e d t hd ht =
@@ -47,9 +48,9 @@ returns-in-Err-clause-long_line g c e d t hd ht counted =
     absurd (not-long (deck_of d) c.in-Err.fault (c.in-Err.ensures.units d hd) same)
 
 pub returns-clause-talks : goal.returns-clause-talks
-returns-clause-talks g c s d t hs hd ht =
-    TalksWith-source s _ (Ok c.in-Ok.program) (deck_of d) c.args.streams.now.talker t _ _ _ _ (c.deref.ensures.value ∙ (c.in_ok-text.ensures.whole s hs).0) c.in-Ok.ensures.ok
-    (TalksWith-units c.in-Ok.program (deck_of d) _ c.args.streams.now.talker t _ _ _ _ (c.in-Ok-read_deck.ensures.units d hd) (c.talk_with.ensures.talks t ht))
+returns-clause-talks g c all s d t hs hd ht known =
+    TalksWith-source all s _ (Ok c.in-Ok.program) (deck_of d) c.args.streams.now.talker t _ _ _ _ (c.deref.ensures.value ∙ (c.in_ok-text.ensures.whole s hs).0) c.in-Ok.ensures.ok
+    (TalksWith-units all c.in-Ok.program (deck_of d) _ c.args.streams.now.talker t _ _ _ _ (c.in-Ok-read_deck.ensures.units d hd) (c.talk_with.ensures.talks all t ht known))
 
 pub returns-clause-read : goal.returns-clause-read
 returns-clause-read g c =
@@ -74,12 +75,12 @@ pub returns-clause-input_in_turn : goal.returns-clause-input_in_turn
 returns-clause-input_in_turn g c d hd = inr (c.in-Ok-read_deck.ensures.whole d hd)
 
 pub returns-in-Err-Fault-clause-saved : goal.returns-in-Err-Fault-clause-saved
-returns-in-Err-Fault-clause-saved g c s d t p u hs hd ht made units =
+returns-in-Err-Fault-clause-saved g c all s d t p u hs hd ht known made units =
     absurd (let refused = source-is s _ (Err c.in-Err-Fault.fault) (c.deref.ensures.value ∙ (c.in_ok-text.ensures.whole s hs).0)
     (rw c.in-Err-Fault.field-0-is at c.in-Err-Fault.ensures.fault) in let both = sym refused ∙ made in cc)
 
 pub returns-clause-saved : goal.returns-clause-saved
-returns-clause-saved g c s d t p u hs hd ht made units =
+returns-clause-saved g c all s d t p u hs hd ht known made units =
     let same = c.deref-in-Ok.ensures.value ∙ sym c.deref.ensures.value in
-    saved-as _ s d _ _ p c.in-Ok.program u _ c.args.streams.now.talker (lines t) _ _ (c.deref-in-Ok.ensures.value ∙ (c.in_ok-text.ensures.whole s hs).0)
-    (c.in-Ok-read_deck.ensures.text d hd) (ap assembly same ∙ c.in-Ok.ensures.ok) (c.in-Ok-read_deck.ensures.units d hd) made units (c.talk_with.ensures.saved t ht)
+    saved-as _ s d _ _ p c.in-Ok.program u _ c.args.streams.now.talker (heard all c.args.streams.now.talker (lines t)) _ _ (c.deref-in-Ok.ensures.value ∙ (c.in_ok-text.ensures.whole s hs).0)
+    (c.in-Ok-read_deck.ensures.text d hd) (ap assembly same ∙ c.in-Ok.ensures.ok) (c.in-Ok-read_deck.ensures.units d hd) made units (c.talk_with.ensures.saved all t ht known)

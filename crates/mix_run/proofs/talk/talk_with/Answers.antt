@@ -5,4 +5,4 @@ use Rattle.mix_run.proofs.Written.{Appends-nothing}
 use Rattle.mix_run.proofs.talk.talk_with.Goals as goal
 
 pub returns-in-Err-clause-talks : goal.returns-in-Err-clause-talks
-returns-in-Err-clause-talks g c t e = (Err Memory, refl, (0, omega arith, Appends-nothing _))
+returns-in-Err-clause-talks g c all t e known = (Err Memory, refl, (0, omega arith, Appends-nothing _))

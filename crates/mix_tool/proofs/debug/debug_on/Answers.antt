@@ -1,5 +1,5 @@
 -- A session by a script and one by the lines of the input are those of the texts that were opened.
-use Rattle.std.proofs.Common.{◌∙◌, ap}
+use Rattle.std.proofs.Common.{◌∙◌, ap, inl}
 use Rattle.mix_tool.specs.Ending.{status_of_run}
 use Rattle.mix_tool.proofs.EndingLemmas.{among_same, run_range, run_well}
 use Rattle.mix_tool.proofs.debug.debug_on.Goals as goal
@@ -17,12 +17,12 @@ returns-in-Some-clause-quiet g c talks n =
     run_well c.run_debug-outcome.result c.status.result _ c.status.ensures.status n c.status.ensures.quiet
 
 pub returns-in-Some-clause-runs : goal.returns-in-Some-clause-runs
-returns-in-Some-clause-runs g c given holds =
+returns-in-Some-clause-runs g c all given e holds =
     let met = c.run_debug-outcome.ensures.output given.source given.deck given.script holds.source holds.deck holds.script in
     let file = among_same c.args.name.now _ _ _ _ _ c.as_deref-deck.ensures.value c.as_deref-last.ensures.value c.unread-file.ensures in
     rw c.in-Some.is (c.run_debug-outcome.result, _, met, c.status.ensures.status, rw c.in-Some.is at file, c.status.ensures.told)
 
 pub returns-clause-runs : goal.returns-clause-runs
-returns-clause-runs g c given holds =
-    let talks = c.run_talk-outcome.ensures.talks given.source given.deck in
-    rw c.in-None.is (λ t there. (c.run_talk-outcome.result, talks t holds.source holds.deck there, c.status_beside.ensures))
+returns-clause-runs g c all given e holds =
+    let talks = c.run_talk-outcome.ensures.talks all given.source given.deck in
+    rw c.in-None.is (λ t there. (c.run_talk-outcome.result, talks t holds.source holds.deck there (inl e), c.status_beside.ensures))

@@ -31,9 +31,10 @@ loop-rest-preserved g c =
       session = c.loop-rest.invariant.session ∙ after-one s talker r _ _ _ split _ _ goes_on answer.session answer.recall;
       recall = c.loop-rest.invariant.recall ∙ recall-one s talker r _ _ _ split _ _ goes_on answer.session answer.recall;
       failed = answer.write.1 (λ e. cc) ∙ c.loop-rest.invariant.failed;
-      quiet = λ e. c.prompt.ensures e ∙ answer.quiet e ∙ c.loop-rest.invariant.quiet e;
+      quiet = λ e. answer.quiet e ∙ c.loop-rest.invariant.quiet e;
       saved = saved-one s talker r _ _ _ split _ _ goes_on answer.session answer.recall c.args.origin.now _ _ _ c.loop-rest.invariant.saved answer.saved;
       unasked = answer.unasked ∙ c.loop-rest.invariant.unasked;
+      held = answer.held ∙ c.loop-rest.invariant.held;
       untouched = λ e. answer.untouched e ∙ c.loop-rest.invariant.untouched e;
     }
 

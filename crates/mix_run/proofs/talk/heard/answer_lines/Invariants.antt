@@ -24,6 +24,7 @@ invariant-loop-rest g l =
       saved : noted (g.O.Opener.saved l.files) (saves l.origin l.session l.talker l.recall (lines l.rest))
           ≡ noted (g.O.Opener.saved l.fn.files) (saves l.origin l.fn.session l.talker l.fn.recall (lines l.text));
       unasked : g.O.Opener.asked l.files ≡ g.O.Opener.asked l.fn.files;
+      held : g.O.Opener.holds l.files ≡ g.O.Opener.holds l.fn.files;
       untouched : l.talker ≡ Program → l.files ≡ l.fn.files;
     }
 

@@ -1,8 +1,10 @@
 -- What is said of the parts that were read holds of the whole text.
 use Rattle.std.proofs.Common.{◌∙◌, ◌<◌, [], ◌++◌, length, take, ap, refl, sym, arith, rules}
 use Rattle.mix_run.specs.Talk.{is_whole}
+use Rattle.std.proofs.lemmas.List.{length-append}
 use Rattle.std.proofs.KnownBytes.{Consumes-nil, Consumes-trans}
-use Rattle.mix_run.proofs.TalkLemmas.{Hears-lines, Hears-nothing, Hears-on, Hears-then, Talks-begun, all-read, end-begun, end-said, end-saved, ended, ended-saved, left-known, long-text, more-begun, read-more, too-long, unread}
+use Rattle.mix_run.proofs.HearingLemmas.{Hears-lines, Hears-nothing, Hears-on, Hears-then, Talks-begun, end-answered, end-begun, end-known, ended, long-text, more-begun, more-known, too-long, unread}
+use Rattle.mix_run.proofs.TalkLemmas.{all-read, kept-known, left-known, read-more}
 use Rattle.mix_run.proofs.Written.{Appends-nothing}
 use Rattle.mix_run.proofs.talk.heard.talk.Goals as goal
 
@@ -13,87 +15,107 @@ loop-reads-init g c = record {
   written = refl;
   quiet = c.prompt.ensures;
   unasked = refl;
+  held = refl;
   untouched = λ e. refl;
 }
 
-pub returns-in-Ok-answer_lines-clause-talks : goal.returns-in-Ok-answer_lines-clause-talks
-returns-in-Ok-answer_lines-clause-talks g c t e =
+pub returns-in-Ok-answer_text-clause-talks : goal.returns-in-Ok-answer_text-clause-talks
+returns-in-Ok-answer_text-clause-talks g c all t e knows =
     let so_far = c.loop-reads.invariant.heard in
     let none = c.if-count-eq0.true in
     let some : 0 < length c.read.new.buf = search rules in
-    let all = all-read _ _ _ t _ _ e so_far.1 c.in-Ok.ensures.bytes.0 (ap (λ n. take n c.read.new.buf) none) (c.in-Ok.ensures.bytes.1 none some) in
-    end-said c.args.session.now c.loop-reads.session c.args.talker c.loop-reads.recall so_far.0 c.loop-reads.pending.items c.loop-reads.told _ _ so_far.3
-    t c.deref.result.now all c.deref.ensures.value _ c.in-Ok-answer_lines.heard.told c.and.result c.and.ensures c.in-Ok-answer_lines.ensures.replies
+    let whole = all-read _ _ _ t _ _ e so_far.1 c.in-Ok.ensures.bytes.0 (ap (λ n. take n c.read.new.buf) none) (c.in-Ok.ensures.bytes.1 none some) in
+    let done = end-answered c.args.session.now c.loop-reads.session c.args.talker c.loop-reads.recall so_far.0 c.loop-reads.pending.items c.loop-reads.told _ _ so_far.3 c.loop-reads.invariant.held all t knows c.deref.result.now whole c.deref.ensures.value _ _ _ _ _
+    (c.in-Ok-answer_text.ensures.answered all (end-known c.args.session.now c.loop-reads.session c.args.talker c.loop-reads.recall so_far.0 c.loop-reads.pending.items c.loop-reads.told _ _ so_far.3 c.loop-reads.invariant.held all t knows c.deref.result.now whole c.deref.ensures.value)) in
+    (c.and.ensures ∙ done.told, done.written)
 
-pub returns-in-Err-answer_lines-clause-talks : goal.returns-in-Err-answer_lines-clause-talks
-returns-in-Err-answer_lines-clause-talks g c t e =
+pub returns-in-Ok-answer_text-clause-saved : goal.returns-in-Ok-answer_text-clause-saved
+returns-in-Ok-answer_text-clause-saved g c all t e knows =
     let so_far = c.loop-reads.invariant.heard in
     let none = c.if-count-eq0.true in
     let some : 0 < length c.read.new.buf = search rules in
-    let all = all-read _ _ _ t _ _ e so_far.1 c.in-Ok.ensures.bytes.0 (ap (λ n. take n c.read.new.buf) none) (c.in-Ok.ensures.bytes.1 none some) in
-    Talks-begun c.args.session.now c.args.talker t c.in-Err-answer_lines.fault _ _ _ c.in-Err-answer_lines.ensures.only
-    (end-begun c.args.session.now c.loop-reads.session c.args.talker c.loop-reads.recall so_far.0 c.loop-reads.pending.items c.loop-reads.told _ _ so_far.3
-    t c.deref.result.now all c.deref.ensures.value _ c.in-Err-answer_lines.ensures.begun)
+    let whole = all-read _ _ _ t _ _ e so_far.1 c.in-Ok.ensures.bytes.0 (ap (λ n. take n c.read.new.buf) none) (c.in-Ok.ensures.bytes.1 none some) in
+    let done = end-answered c.args.session.now c.loop-reads.session c.args.talker c.loop-reads.recall so_far.0 c.loop-reads.pending.items c.loop-reads.told _ _ so_far.3 c.loop-reads.invariant.held all t knows c.deref.result.now whole c.deref.ensures.value _ _ _ _ (g.W.Out.told c.answer_text.new.out)
+    (c.in-Ok-answer_text.ensures.answered all (end-known c.args.session.now c.loop-reads.session c.args.talker c.loop-reads.recall so_far.0 c.loop-reads.pending.items c.loop-reads.told _ _ so_far.3 c.loop-reads.invariant.held all t knows c.deref.result.now whole c.deref.ensures.value)) in
+    done.saved
+
+pub returns-in-Err-answer_text-clause-talks : goal.returns-in-Err-answer_text-clause-talks
+returns-in-Err-answer_text-clause-talks g c all t e knows =
+    let so_far = c.loop-reads.invariant.heard in
+    let none = c.if-count-eq0.true in
+    let some : 0 < length c.read.new.buf = search rules in
+    let whole = all-read _ _ _ t _ _ e so_far.1 c.in-Ok.ensures.bytes.0 (ap (λ n. take n c.read.new.buf) none) (c.in-Ok.ensures.bytes.1 none some) in
+    Talks-begun all c.args.session.now c.args.talker t c.in-Err-answer_text.fault _ _ _ c.in-Err-answer_text.ensures.only
+    (end-begun c.args.session.now c.loop-reads.session c.args.talker c.loop-reads.recall so_far.0 c.loop-reads.pending.items c.loop-reads.told _ _ so_far.3 c.loop-reads.invariant.held all t knows c.deref.result.now whole c.deref.ensures.value _
+    (c.in-Err-answer_text.ensures.begun all (end-known c.args.session.now c.loop-reads.session c.args.talker c.loop-reads.recall so_far.0 c.loop-reads.pending.items c.loop-reads.told _ _ so_far.3 c.loop-reads.invariant.held all t knows c.deref.result.now whole c.deref.ensures.value)))
 
 pub returns-in-Err-take_lines-clause-talks : goal.returns-in-Err-take_lines-clause-talks
-returns-in-Err-take_lines-clause-talks g c t e =
+returns-in-Err-take_lines-clause-talks g c all t e knows =
     let so_far = c.loop-reads.invariant.heard in
     let known = left-known _ _ t _ e (Consumes-trans _ _ _ _ _ so_far.1 c.in-Ok.ensures.bytes.0) in
-    more-begun c.args.session.now c.loop-reads.session c.args.talker c.loop-reads.recall so_far.0 c.loop-reads.pending.items c.loop-reads.told _ _ so_far.3
-    t _ known.0 [] _ _ known.2 refl refl (0, omega arith, Appends-nothing _)
+    more-begun c.args.session.now c.loop-reads.session c.args.talker c.loop-reads.recall so_far.0 c.loop-reads.pending.items c.loop-reads.told _ _ so_far.3 c.loop-reads.invariant.held all t knows _ known.0 [] _ known.2 refl refl _ (0, omega arith, Appends-nothing _)
 
-pub returns-in-Err-answer_lines-clause-write : goal.returns-in-Err-answer_lines-clause-write
-returns-in-Err-answer_lines-clause-write g c =
-    let w = rw c.loop-reads.invariant.written at c.in-Err-answer_lines.ensures.write in
+pub returns-in-Err-answer_text-clause-write : goal.returns-in-Err-answer_text-clause-write
+returns-in-Err-answer_text-clause-write g c =
+    let w = rw c.loop-reads.invariant.written at c.in-Err-answer_text.ensures.write in
     ((λ e. w.0.0 cc, λ n. let e = w.0.1 n in cc), λ no. w.1 (λ e. no cc))
 
-pub returns-in-Err-answer_lines-2-clause-write : goal.returns-in-Err-answer_lines-2-clause-write
-returns-in-Err-answer_lines-2-clause-write g c =
-    let w = rw c.loop-reads.invariant.written at c.in-Err-answer_lines-2.ensures.write in
+pub returns-in-Err-answer_text-2-clause-write : goal.returns-in-Err-answer_text-2-clause-write
+returns-in-Err-answer_text-2-clause-write g c =
+    let w = rw c.loop-reads.invariant.written at c.in-Err-answer_text-2.ensures.write in
     ((λ e. w.0.0 cc, λ n. let e = w.0.1 n in cc), λ no. w.1 (λ e. no cc))
 
-pub returns-in-Err-answer_lines-2-clause-talks : goal.returns-in-Err-answer_lines-2-clause-talks
-returns-in-Err-answer_lines-2-clause-talks g c t e =
+pub returns-in-Err-answer_text-2-clause-talks : goal.returns-in-Err-answer_text-2-clause-talks
+returns-in-Err-answer_text-2-clause-talks g c all t e knows =
     let so_far = c.loop-reads.invariant.heard in
     let known = left-known _ _ t _ e (Consumes-trans _ _ _ _ _ so_far.1 c.in-Ok.ensures.bytes.0) in
-    Talks-begun c.args.session.now c.args.talker t c.in-Err-answer_lines-2.fault _ _ _ c.in-Err-answer_lines-2.ensures.only
-    (more-begun c.args.session.now c.loop-reads.session c.args.talker c.loop-reads.recall so_far.0 c.loop-reads.pending.items c.loop-reads.told _ _ so_far.3
-    t _ known.0 c.deref-in-loop-reads.result.now _ _ known.2
-    (c.in-Ok-take_lines.ensures.parts ∙ ap (λ l. l ++ c.take_lines.new.pending.items) (sym c.deref-in-loop-reads.ensures.value))
-    (ap is_whole c.deref-in-loop-reads.ensures.value ∙ c.in-Ok-take_lines.ensures.whole) c.in-Err-answer_lines-2.ensures.begun)
+    let parts = c.in-Ok-take_lines.ensures.parts ∙ ap (λ l. l ++ c.take_lines.new.pending.items) (sym c.deref-in-loop-reads.ensures.value) in
+    let whole = ap is_whole c.deref-in-loop-reads.ensures.value ∙ c.in-Ok-take_lines.ensures.whole in
+    Talks-begun all c.args.session.now c.args.talker t c.in-Err-answer_text-2.fault _ _ _ c.in-Err-answer_text-2.ensures.only
+    (more-begun c.args.session.now c.loop-reads.session c.args.talker c.loop-reads.recall so_far.0 c.loop-reads.pending.items c.loop-reads.told _ _ so_far.3 c.loop-reads.invariant.held all t knows _ known.0 c.deref-in-loop-reads.result.now _ known.2 parts whole _
+    (c.in-Err-answer_text-2.ensures.begun all (more-known c.args.session.now c.loop-reads.session c.args.talker c.loop-reads.recall so_far.0 c.loop-reads.pending.items c.loop-reads.told _ _ so_far.3 c.loop-reads.invariant.held all t knows _ known.0 c.deref-in-loop-reads.result.now _ known.2 parts whole)))
 
 pub returns-then-heard-clause-talks : goal.returns-then-heard-clause-talks
-returns-then-heard-clause-talks g c t e =
+returns-then-heard-clause-talks g c all t e knows =
     let so_far = c.loop-reads.invariant.heard in
     let known = left-known _ _ t _ e (Consumes-trans _ _ _ _ _ so_far.1 c.in-Ok.ensures.bytes.0) in
-    ended _ _ _ _ _ _ _ c.and-told.result _ _ _ (Hears-then _ _ _ _ _ _ _ _ _ _ _ _ _ _ _ _ _ so_far.3 (Hears-lines _ _ _ _ _ _ _ _ _ _ _ _ _ c.in-Ok-take_lines.ensures.parts c.in-Ok-take_lines.ensures.whole
-    c.in-Ok-take_lines.ensures.rest c.deref-in-loop-reads.ensures.value c.in-Ok-answer_lines-2.ensures.session c.in-Ok-answer_lines-2.ensures.recall
-    c.in-Ok-answer_lines-2.ensures.over c.in-Ok-answer_lines-2.ensures.replies c.in-Ok-answer_lines-2.ensures.saved)) c.if-heard.true c.and-told.ensures
-    t known.0 known.2
+    let done = ended _ _ _ _ _ _ _ _ _ _ (Hears-then _ _ _ _ _ _ _ _ _ _ _ _ _ _ _ _ _ c.loop-reads.invariant.held so_far.3
+    (Hears-lines _ _ _ _ _ _ _ _ _ _ _ _ _ c.in-Ok-take_lines.ensures.parts c.in-Ok-take_lines.ensures.whole c.in-Ok-take_lines.ensures.rest
+    c.deref-in-loop-reads.ensures.value c.in-Ok-answer_text-2.ensures.answered)) all t known.0 known.2 knows c.if-heard.true in
+    (c.and-told.ensures ∙ done.told, done.written)
+
+pub returns-then-heard-clause-saved : goal.returns-then-heard-clause-saved
+returns-then-heard-clause-saved g c all t e knows =
+    let so_far = c.loop-reads.invariant.heard in
+    let known = left-known _ _ t _ e (Consumes-trans _ _ _ _ _ so_far.1 c.in-Ok.ensures.bytes.0) in
+    let done = ended _ _ _ _ _ _ _ _ _ _ (Hears-then _ _ _ _ _ _ _ _ _ _ _ _ _ _ _ _ _ c.loop-reads.invariant.held so_far.3
+    (Hears-lines _ _ _ _ _ _ _ _ _ _ _ _ _ c.in-Ok-take_lines.ensures.parts c.in-Ok-take_lines.ensures.whole c.in-Ok-take_lines.ensures.rest
+    c.deref-in-loop-reads.ensures.value c.in-Ok-answer_text-2.ensures.answered)) all t known.0 known.2 knows c.if-heard.true in
+    done.saved
 
 pub returns-then-len-gt-MAX_WHOLE_LINE_BYTES-clause-talks : goal.returns-then-len-gt-MAX_WHOLE_LINE_BYTES-clause-talks
-returns-then-len-gt-MAX_WHOLE_LINE_BYTES-clause-talks g c t e =
+returns-then-len-gt-MAX_WHOLE_LINE_BYTES-clause-talks g c all t e knows =
     let so_far = c.loop-reads.invariant.heard in
     let known = left-known _ _ t _ e (Consumes-trans _ _ _ _ _ so_far.1 c.in-Ok.ensures.bytes.0) in
-    unread _ _ _ _ _ _ _ _ _ _ _ (Hears-then _ _ _ _ _ _ _ _ _ _ _ _ _ _ _ _ _ so_far.3 (Hears-lines _ _ _ _ _ _ _ _ _ _ _ _ _ c.in-Ok-take_lines.ensures.parts c.in-Ok-take_lines.ensures.whole
-    c.in-Ok-take_lines.ensures.rest c.deref-in-loop-reads.ensures.value c.in-Ok-answer_lines-2.ensures.session c.in-Ok-answer_lines-2.ensures.recall
-    c.in-Ok-answer_lines-2.ensures.over c.in-Ok-answer_lines-2.ensures.replies c.in-Ok-answer_lines-2.ensures.saved)) t known.0 known.1 known.2
+    unread _ _ _ _ _ _ _ _ _ _ (Hears-then _ _ _ _ _ _ _ _ _ _ _ _ _ _ _ _ _ c.loop-reads.invariant.held so_far.3
+    (Hears-lines _ _ _ _ _ _ _ _ _ _ _ _ _ c.in-Ok-take_lines.ensures.parts c.in-Ok-take_lines.ensures.whole c.in-Ok-take_lines.ensures.rest
+    c.deref-in-loop-reads.ensures.value c.in-Ok-answer_text-2.ensures.answered)) all t known.0 known.2 knows _ known.1
 
 pub returns-then-len-gt-MAX_WHOLE_LINE_BYTES-clause-long : goal.returns-then-len-gt-MAX_WHOLE_LINE_BYTES-clause-long
 returns-then-len-gt-MAX_WHOLE_LINE_BYTES-clause-long g c long t e =
     let so_far = c.loop-reads.invariant.heard in
     let known = left-known _ _ t _ e (Consumes-trans _ _ _ _ _ so_far.1 c.in-Ok.ensures.bytes.0) in
-    long-text _ _ _ _ _ _ _ _ _ _ (Hears-then _ _ _ _ _ _ _ _ _ _ _ _ _ _ _ _ _ so_far.3 (Hears-lines _ _ _ _ _ _ _ _ _ _ _ _ _ c.in-Ok-take_lines.ensures.parts c.in-Ok-take_lines.ensures.whole
-    c.in-Ok-take_lines.ensures.rest c.deref-in-loop-reads.ensures.value c.in-Ok-answer_lines-2.ensures.session c.in-Ok-answer_lines-2.ensures.recall
-    c.in-Ok-answer_lines-2.ensures.over c.in-Ok-answer_lines-2.ensures.replies c.in-Ok-answer_lines-2.ensures.saved)) (search rules) t known.0 known.2
+    long-text _ _ _ _ _ _ _ _ _ _ (Hears-then _ _ _ _ _ _ _ _ _ _ _ _ _ _ _ _ _ c.loop-reads.invariant.held so_far.3
+    (Hears-lines _ _ _ _ _ _ _ _ _ _ _ _ _ c.in-Ok-take_lines.ensures.parts c.in-Ok-take_lines.ensures.whole c.in-Ok-take_lines.ensures.rest
+    c.deref-in-loop-reads.ensures.value c.in-Ok-answer_text-2.ensures.answered)) (search rules) t known.0 known.2
 
 pub returns-then-len-gt-MAX_WHOLE_LINE_BYTES-clause-long_line : goal.returns-then-len-gt-MAX_WHOLE_LINE_BYTES-clause-long_line
 returns-then-len-gt-MAX_WHOLE_LINE_BYTES-clause-long_line g c long t e counted =
     let so_far = c.loop-reads.invariant.heard in
     let known = left-known _ _ t _ e (Consumes-trans _ _ _ _ _ so_far.1 c.in-Ok.ensures.bytes.0) in
-    too-long _ _ _ _ _ _ _ _ _ _ (Hears-then _ _ _ _ _ _ _ _ _ _ _ _ _ _ _ _ _ so_far.3 (Hears-lines _ _ _ _ _ _ _ _ _ _ _ _ _ c.in-Ok-take_lines.ensures.parts c.in-Ok-take_lines.ensures.whole
-    c.in-Ok-take_lines.ensures.rest c.deref-in-loop-reads.ensures.value c.in-Ok-answer_lines-2.ensures.session c.in-Ok-answer_lines-2.ensures.recall
-    c.in-Ok-answer_lines-2.ensures.over c.in-Ok-answer_lines-2.ensures.replies c.in-Ok-answer_lines-2.ensures.saved)) (search rules) t known.0 known.2
+    too-long _ _ _ _ _ _ _ _ _ _ (Hears-then _ _ _ _ _ _ _ _ _ _ _ _ _ _ _ _ _ c.loop-reads.invariant.held so_far.3
+    (Hears-lines _ _ _ _ _ _ _ _ _ _ _ _ _ c.in-Ok-take_lines.ensures.parts c.in-Ok-take_lines.ensures.whole c.in-Ok-take_lines.ensures.rest
+    c.deref-in-loop-reads.ensures.value c.in-Ok-answer_text-2.ensures.answered)) (search rules) t known.0 known.2
 
 pub loop-reads-preserved : goal.loop-reads-preserved
 loop-reads-preserved g c =
@@ -103,30 +125,41 @@ loop-reads-preserved g c =
         _,
         Consumes-trans _ _ _ _ _ so_far.1 c.in-Ok.ensures.bytes.0,
         read-more _ _ _ _ so_far.2 (omega (arith, c.if-count-eq0.false)) c.in-Ok.ensures.bound,
-        Hears-on _ _ _ _ _ _ _ c.and-told.result _ _ _ (Hears-then _ _ _ _ _ _ _ _ _ _ _ _ _ _ _ _ _ so_far.3 (Hears-lines _ _ _ _ _ _ _ _ _ _ _ _ _ c.in-Ok-take_lines.ensures.parts c.in-Ok-take_lines.ensures.whole
-            c.in-Ok-take_lines.ensures.rest c.deref-in-loop-reads.ensures.value c.in-Ok-answer_lines-2.ensures.session c.in-Ok-answer_lines-2.ensures.recall
-            c.in-Ok-answer_lines-2.ensures.over c.in-Ok-answer_lines-2.ensures.replies c.in-Ok-answer_lines-2.ensures.saved)) c.if-heard.false c.and-told.ensures,
+        Hears-on _ _ _ _ _ _ _ _ c.and-told.result _ _ _ (Hears-then _ _ _ _ _ _ _ _ _ _ _ _ _ _ _ _ _ c.loop-reads.invariant.held so_far.3
+            (Hears-lines _ _ _ _ _ _ _ _ _ _ _ _ _ c.in-Ok-take_lines.ensures.parts c.in-Ok-take_lines.ensures.whole c.in-Ok-take_lines.ensures.rest
+            c.deref-in-loop-reads.ensures.value c.in-Ok-answer_text-2.ensures.answered)) c.if-heard.false c.and-told.ensures,
       );
       read = c.in-Ok.ensures.ok ∙ c.loop-reads.invariant.read;
-      written = c.in-Ok-answer_lines-2.ensures.write.1 (λ e. cc) ∙ c.loop-reads.invariant.written;
-      quiet = λ e. c.in-Ok-answer_lines-2.ensures.quiet e ∙ c.loop-reads.invariant.quiet e;
-      unasked = c.in-Ok-answer_lines-2.ensures.unasked ∙ c.loop-reads.invariant.unasked;
-      untouched = λ e. c.in-Ok-answer_lines-2.ensures.untouched e ∙ c.loop-reads.invariant.untouched e;
+      written = c.in-Ok-answer_text-2.ensures.write.1 (λ e. cc) ∙ c.loop-reads.invariant.written;
+      quiet = λ e. c.in-Ok-answer_text-2.ensures.quiet e ∙ c.loop-reads.invariant.quiet e;
+      unasked = c.in-Ok-answer_text-2.ensures.unasked ∙ c.loop-reads.invariant.unasked;
+      held = c.in-Ok-answer_text-2.ensures.held ∙ c.loop-reads.invariant.held;
+      untouched = λ e. c.in-Ok-answer_text-2.ensures.untouched e ∙ c.loop-reads.invariant.untouched e;
     }
 
-pub returns-in-Ok-answer_lines-clause-saved : goal.returns-in-Ok-answer_lines-clause-saved
-returns-in-Ok-answer_lines-clause-saved g c t e =
+pub returns-in-Err-clause-talks : goal.returns-in-Err-clause-talks
+returns-in-Err-clause-talks g c all t e knows =
     let so_far = c.loop-reads.invariant.heard in
-    let none = c.if-count-eq0.true in
-    let some : 0 < length c.read.new.buf = search rules in
-    let all = all-read _ _ _ t _ _ e so_far.1 c.in-Ok.ensures.bytes.0 (ap (λ n. take n c.read.new.buf) none) (c.in-Ok.ensures.bytes.1 none some) in
-    end-saved c.args.session.now c.loop-reads.session c.args.talker c.loop-reads.recall so_far.0 c.loop-reads.pending.items c.loop-reads.told _ _ so_far.3
-    t c.deref.result.now all c.deref.ensures.value (g.W.Out.told c.answer_lines.new.out) _ c.in-Ok-answer_lines.ensures.saved
+    let known = left-known _ _ t _ e so_far.1 in
+    unread c.args.session.now c.loop-reads.session c.args.talker c.loop-reads.recall so_far.0 c.loop-reads.pending.items c.loop-reads.told _ _ _ so_far.3 all t
+    known.0 known.2 knows _ (kept-known _ _ known.0 known.1 c.in-Err.ensures.bytes)
 
-pub returns-then-heard-clause-saved : goal.returns-then-heard-clause-saved
-returns-then-heard-clause-saved g c t e =
+pub returns-clause-talks : goal.returns-clause-talks
+returns-clause-talks g c all t e knows =
     let so_far = c.loop-reads.invariant.heard in
-    let known = left-known _ _ t _ e (Consumes-trans _ _ _ _ _ so_far.1 c.in-Ok.ensures.bytes.0) in
-    ended-saved _ _ _ _ _ _ _ _ _ _ (Hears-then _ _ _ _ _ _ _ _ _ _ _ _ _ _ _ _ _ so_far.3 (Hears-lines _ _ _ _ _ _ _ _ _ _ _ _ _ c.in-Ok-take_lines.ensures.parts c.in-Ok-take_lines.ensures.whole
-    c.in-Ok-take_lines.ensures.rest c.deref-in-loop-reads.ensures.value c.in-Ok-answer_lines-2.ensures.session c.in-Ok-answer_lines-2.ensures.recall
-    c.in-Ok-answer_lines-2.ensures.over c.in-Ok-answer_lines-2.ensures.replies c.in-Ok-answer_lines-2.ensures.saved)) c.if-heard.true t known.0 known.2
+    let known = left-known _ _ t _ e so_far.1 in
+    unread c.args.session.now c.loop-reads.session c.args.talker c.loop-reads.recall so_far.0 c.loop-reads.pending.items c.loop-reads.told _ _ _ so_far.3 all t
+    known.0 known.2 knows _ known.1
+
+-- each read gave a byte
+pub returns-clause-long : goal.returns-clause-long
+returns-clause-long g c long t e =
+    let so_far = c.loop-reads.invariant.heard in
+    let known = left-known _ _ t _ e so_far.1 in
+    omega (arith, so_far.2, c.loop-reads-test.false, ap length known.2, length-append so_far.0 known.0)
+
+pub returns-clause-long_line : goal.returns-clause-long_line
+returns-clause-long_line g c long t e counted =
+    let so_far = c.loop-reads.invariant.heard in
+    let known = left-known _ _ t _ e so_far.1 in
+    absurd (omega (arith, so_far.2, c.loop-reads-test.false, counted, ap length known.2, length-append so_far.0 known.0))

@@ -9,11 +9,12 @@ use Rattle.mix_run.proofs.talk.heard.talk.Given as goal
 abbrev pub invariant-loop-reads : goal.invariant-loop-reads
 invariant-loop-reads g l = record {
   heard : (bytes : List ℕ) × Consumes (g.R.In.rest l.fn.input) (g.R.In.rest l.input) bytes × (l.reads ≤ length bytes)
-      × Hears l.origin l.fn.session l.talker nothing bytes l.pending.items l.session l.recall l.told false
+      × Hears l.origin (g.O.Opener.holds l.fn.files) l.fn.session l.talker nothing bytes l.pending.items l.session l.recall l.told false
       (g.O.Opener.saved l.fn.files) (g.O.Opener.saved l.files) (g.W.Out.told l.fn.out) (g.W.Out.told l.out);
   read : g.R.In.failed l.input ≡ g.R.In.failed l.fn.input;
   written : g.W.Out.failed l.out ≡ g.W.Out.failed l.fn.out;
   quiet : l.talker ≡ Program → l.errors ≡ l.fn.errors;
   unasked : g.O.Opener.asked l.files ≡ g.O.Opener.asked l.fn.files;
+  held : g.O.Opener.holds l.files ≡ g.O.Opener.holds l.fn.files;
   untouched : l.talker ≡ Program → l.files ≡ l.fn.files;
 }
