@@ -6,7 +6,7 @@ What a command asks for is what a script asks for with it as the last line, beyo
 - A run of changes takes 16 bytes: steps that follow each other are one run, any other change is one of its own. How many values a change keeps takes one byte, and a
   list for numbers from 255 on, of 8 bytes, has room for its first four though no change keeps so many. A kept value takes one to three
   units of 4, and room is made for three: a `set`, a `break` or a `clear` keeps one value; a step makes room for the 104 that the largest step keeps, since the
-  room is made before the step is done. The values of the steps here take a unit each.
+  room is made before the step is done. What a step here keeps takes one unit.
 - A reply is a text: it begins with 8 bytes or more and is doubled. So of N bytes it asks for fewer than four times N in all, and 8.
 - `back`, `forth`, a refusal and what `show` writes need nothing but their reply; a blank line and a remark need nothing.
 - A change that is refused needs nothing, and may have made room in the three lists. What stands ahead stays until a new change is accepted.
@@ -41,7 +41,7 @@ ROWS = [
     ("a blank line", FIRST, b"", b"    ", [], b""),
     ("a remark", FIRST, b"", b"*   ", [], b""),
     ("a step that keeps three values", FIRST, b"", b"step", STEP, b"ran 1 to 0001 clock 1: limit\n"),
-    ("a step of a MOVE, where 309 units are left", MOVE, b"step\n", b"step", [2 * MOST * UNIT], b"ran 1 to 0002 clock 128: limit\n"),
+    ("a step of a MOVE, where 311 units are left", MOVE, b"step\n", b"step", [2 * MOST * UNIT], b"ran 1 to 0002 clock 128: limit\n"),
     ("the third step, for which there is room", FIRST, b"step 2\n", b"step", [], b"ran 1 to 0003 clock 4: limit\n"),
     ("four steps", FIRST, b"", b"step 4", [*STEP, 2 * MOST * UNIT], b"ran 4 to 0004 clock 14: halt\n"),
     ("the fifth step", LOOP, b"step 4\n", b"step", [], b"ran 1 to 0000 clock 5: limit\n"),
@@ -122,7 +122,7 @@ def rows(program, workers, quick=False):
         # many steps: each list is doubled, nothing else is asked for, and nothing is asked for again where it was asked for before
         (_, _, _), asked = asking.run(LOOP + b"%%SCRIPT\nrun %d\n" % STEPS)
         after = asked[asked.index(CELLS) + 1:]
-        wanted = [4 * RUN, 4 * LARGE] + grown(COUNT, 8, STEPS) + grown(UNIT, MOST, 3 * (STEPS - 1) + MOST)
+        wanted = [4 * RUN, 4 * LARGE] + grown(COUNT, 8, STEPS) + grown(UNIT, MOST, (STEPS - 1) + MOST)
         reply = b"ran %d to 0000 clock %d: limit\n" % (STEPS, STEPS)
         rest = list(after)
         for one in wanted:

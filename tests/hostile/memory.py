@@ -54,7 +54,7 @@ def bundles(shows_all):
     yield "a source with characters", HELLO, None, GREETED + last
     yield "literals and undefined names", LITERALS, None, lines("show cells 0 12", "set A NOWHERE+2B", "back 1")
     yield "the first example", FIRST, None, lines("step 4", "back 2", "show regs")
-    yield "four units with delays", TRANSFERS, DELAYED, lines("run 100") + UNITS + lines("back all", "forth 3", "back 2") + UNITS + last
+    yield "four units with delays", TRANSFERS, DELAYED, lines("run 100", "show conflicts") + UNITS + lines("back all", "forth 3", "back 2") + UNITS + last
     yield "a deck", b" END 0\n", DECK, UNITS + last
     yield "a move", MOVE, None, lines("set cell 100 7", "step 2", "show cells 163 164", "back 1", "forth 1", "show cells 163 163")
     yield "a tape is read", TAPE_IN, BLOCK, lines("step", "back 1", "forth 1", "show unit 0")

@@ -63,7 +63,9 @@ PRINTED = [
     (COPY, CARDS, None, ["--steps", "2"], b"ONE\n", b"3: steps used up at 0002 clock 2\n"),
     (COPY, CARDS, b"first\r\n  SECOND  ", [], b"FIRST\n  SECOND\n", b"1: M11 no block at 0000 clock 6\n"),
     (COPY, CARDS, b"", [], b"", b"1: M11 no block at 0000 clock 0\n"),
-    (COPY, b"%UNIT 16 delay 5\n%UNIT 18 delay 1", b"A", [], b"A\n", b"1: M11 no block at 0000 clock 3\n"),
+    (COPY, b"%UNIT 16 delay 5\n%UNIT 18 delay 1", b"A", [], b"A\n",
+     b"2: warning: at 0001 clock 1 cell 0100 is used while unit 16 reads into it until 6\n"
+     b"a.mixal: warning: 1 step conflicts with a transfer under way\na.mixal:1: M11 no block at 0000 clock 3\n"),
     (LAST, b"", None, ["--steps", "2"], b"", b" M15 no cell at the location at 4000 clock 1\n"),
     (LITERAL, b"", None, ["--steps", "1"], b"", b" steps used up at 0001 clock 2\n"),
     (LITERAL, b"", None, ["--steps", "2"], b"", b" steps used up at 0005 clock 3\n")]

@@ -136,7 +136,7 @@ def printed(turns):
         return ["run", turns.file("a.mixal", row[0]), *row[3], "--devices", turns.file("deck", row[1]), *cards]
 
     for k, row in enumerate(PRINTED):
-        told = name.encode() + b":" + row[5] if row[5] else b""
+        told = name.encode() + b":" + row[5].replace(b"a.mixal", name.encode()) if row[5] else b""
         for size in SIZES:
             turns.count.same("run %d, %d bytes a call" % (k, size), turns.run(b"", words(row), read_most=size, write_most=size)[0],
                              (row[4], told, 3 if told else 0))
