@@ -19,6 +19,7 @@ pub mod SameUnit
 pub mod SizeLemmas
 pub mod StageLemmas
 pub mod StepLemmas
+pub mod StoreLemmas
 pub mod TransferLemmas
 pub mod TransferTimes
 pub mod UnitLemmas

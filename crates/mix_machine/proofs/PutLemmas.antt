@@ -1,11 +1,9 @@
--- What a step keeps put back: the clock, the location, and a register.
-use Rattle.std.proofs.Common.{Bool, ℕ, true, false, nat_le, IsSome, IsTrue, ◌≡◌, ◌≤◌, ◌∙◌, List, [], ◌∷◌, Option, Some, None, refl, sym, ap, subst, arith}
+-- What a step keeps put back: the clock, the location, and another value.
+use Rattle.std.proofs.Common.{Bool, ℕ, true, false, nat_le, IsSome, IsTrue, ◌≡◌, ◌≤◌, ◌∙◌, List, [], ◌∷◌, Option, Some, None, MatchOption, refl, sym, ap, subst, arith}
 use Rattle.std.specs.Bool.{then_some}
 use Rattle.std.specs.Option.{option_and_then}
 use Rattle.std.proofs.lemmas.Bool.Decides.{nat_tests}
 use Rattle.undo_core.specs.Replay.{put_back}
-use Rattle.mix_word.specs.Word.{WordValue}
-use Rattle.mix_word.specs.declared.register.Reg.{Reg}
 use Rattle.mix_machine.specs.World.{WorldState, last_clock}
 use Rattle.mix_machine.specs.Write.{put_value, set_value, fits}
 use Rattle.mix_machine.specs.declared.old.Old.{Old}
@@ -46,17 +44,20 @@ two-put w l c some =
       done = ap (option_and_then (λ (t : WorldState). put_value t (old.Loc l))) first ∙ rw place refl;
     }
 
-pub record ThreePut (w : WorldState) (r : Reg) (v : WordValue) (l c : ℕ) : Type 0 where
-  pub two : TwoPut w l c
-  pub register : IsTrue (fits (set_value (set_value w (old.Clock c)) (old.Loc l)) (old.Reg r v))
-  pub done : put_back put_value (old.Reg r v ∷ old.Loc l ∷ old.Clock c ∷ []) w ≡
-      Some (set_value (set_value (set_value w (old.Clock c)) (old.Loc l)) (old.Reg r v))
+-- the state after them
+abbrev pub after_two : WorldState → ℕ → ℕ → WorldState
+after_two w l c = set_value (set_value w (old.Clock c)) (old.Loc l)
 
--- a register too
-pub three-put : (w : WorldState) (r : Reg) (v : WordValue) (l c : ℕ) → IsSome (put_back put_value (old.Reg r v ∷ old.Loc l ∷ old.Clock c ∷ []) w) →
-    ThreePut w r v l c
-three-put w r v l c some =
-    let last = put-after (put_back put_value (old.Loc l ∷ old.Clock c ∷ []) w) (old.Reg r v) some in
+pub record ThreePut (w : WorldState) (v : Old) (l c : ℕ) : Type 0 where
+  pub two : TwoPut w l c
+  pub value : IsTrue (fits (after_two w l c) v)
+  pub done : put_back put_value (v ∷ old.Loc l ∷ old.Clock c ∷ []) w ≡ Some (set_value (after_two w l c) v)
+
+-- another value too
+pub three-put : (w : WorldState) (v : Old) (l c : ℕ) → IsSome (put_back put_value (v ∷ old.Loc l ∷ old.Clock c ∷ []) w) → ThreePut w v l c
+three-put w v l c some =
+    let last = put-after (put_back put_value (old.Loc l ∷ old.Clock c ∷ []) w) v some in
     let two = two-put w l c (subst IsSome (sym last.others) refl) in
-    let fit : IsTrue (fits (set_value (set_value w (old.Clock c)) (old.Loc l)) (old.Reg r v)) = last.fit in
-    record { two = two; register = fit; done = ap (option_and_then (λ (t : WorldState). put_value t (old.Reg r v))) two.done ∙ rw fit refl }
+    let same : Some last.state ≡ Some (after_two w l c) = sym last.others ∙ two.done in
+    let fit : IsTrue (fits (after_two w l c) v) = subst (λ (t : Option WorldState). MatchOption t (Unit {0}) (λ s. IsTrue (fits s v))) same last.fit in
+    record { two = two; value = fit; done = ap (option_and_then (λ (t : WorldState). put_value t v)) two.done ∙ rw fit refl }

@@ -73,7 +73,7 @@ said-row (suc n) place m a rest ws len cells e =
     ∙ ap (λ (vs : List Old). said a rest ++ vs) (sym last)
 
 -- the same, of its first cell and the number of its cells
-row-says : (header place count : ℕ) (a : Anchor) (rest ws : List ℕ) → IsRow header place count → length ws ≡ count →
+pub row-says : (header place count : ℕ) (a : Anchor) (rest ws : List ℕ) → IsRow header place count → length ws ≡ count →
     said a ((rest ++ ws) ++ header ∷ []) ≡ said a rest ++ cell_values place (words_of ws)
 row-says header place count a rest ws row len =
     let some = row.some in

@@ -10,7 +10,7 @@ use Rattle.mix_machine.specs.declared.old.Old.TheVariants as old
 use Rattle.mix_machine.specs.declared.pack.anchor.Anchor.{Anchor}
 use Rattle.mix_machine.specs.declared.pack.kind.Kind.{Kind}
 use Rattle.mix_machine.specs.declared.pack.kind.Kind.TheVariants as kind
-use Rattle.mix_machine.specs.Pack.{LastValue, kind_number, header_of, kind_of, last_of, in_one, in_two, in_three, wide_bits, time_of, shorter_row, last_cell, moment_value, whole_value, jump_value, short_value, value_by, last_value, values_before}
+use Rattle.mix_machine.specs.Pack.{LastValue, kind_number, header_of, kind_of, last_of, in_one, in_two, in_three, wide_bits, time_of, shorter_row, last_cell, moment_value, whole_value, jump_value, short_value, store_value, value_by, last_value, values_before}
 
 -- how many values at most a header says, and units
 abbrev tall_by : Kind → ℕ → ℕ
@@ -18,6 +18,7 @@ tall_by kind.Moment n = 2
 tall_by kind.WholeMoment n = 2
 tall_by kind.Jump n = cond (nat_eq (n % 2) 0) 3 2
 tall_by kind.Short n = cond (nat_eq (n / 16 % 2) 0) 3 2
+tall_by kind.Store n = cond (nat_eq (n % 2) 0) 3 2
 tall_by _ n = 1
 
 abbrev tall_of : Option Kind → ℕ → ℕ
@@ -42,8 +43,8 @@ tall-bounds-by kind.Register n = (omega arith, omega arith)
 tall-bounds-by kind.Row n = (omega arith, omega arith)
 tall-bounds-by kind.Moment n = (omega arith, omega arith)
 tall-bounds-by kind.LongRegister n = (omega arith, omega arith)
-tall-bounds-by kind.Overflow n = (omega arith, omega arith)
-tall-bounds-by kind.Comparison n = (omega arith, omega arith)
+tall-bounds-by kind.Indicator n = (omega arith, omega arith)
+tall-bounds-by kind.Store n = tall-bit (nat_eq (n % 2) 0)
 tall-bounds-by kind.Breakpoint n = (omega arith, omega arith)
 tall-bounds-by kind.UnitPlace n = (omega arith, omega arith)
 tall-bounds-by kind.UnitLength n = (omega arith, omega arith)
@@ -72,8 +73,8 @@ kind-of-header kind.Register n = rw (mod-mul-add n 16 2 (omega arith)) refl
 kind-of-header kind.Row n = rw (mod-mul-add n 16 3 (omega arith)) refl
 kind-of-header kind.Moment n = rw (mod-mul-add n 16 4 (omega arith)) refl
 kind-of-header kind.LongRegister n = rw (mod-mul-add n 16 5 (omega arith)) refl
-kind-of-header kind.Overflow n = rw (mod-mul-add n 16 6 (omega arith)) refl
-kind-of-header kind.Comparison n = rw (mod-mul-add n 16 7 (omega arith)) refl
+kind-of-header kind.Indicator n = rw (mod-mul-add n 16 6 (omega arith)) refl
+kind-of-header kind.Store n = rw (mod-mul-add n 16 7 (omega arith)) refl
 kind-of-header kind.Breakpoint n = rw (mod-mul-add n 16 8 (omega arith)) refl
 kind-of-header kind.UnitPlace n = rw (mod-mul-add n 16 9 (omega arith)) refl
 kind-of-header kind.UnitLength n = rw (mod-mul-add n 16 10 (omega arith)) refl
@@ -90,8 +91,8 @@ number-below kind.Register = omega arith
 number-below kind.Row = omega arith
 number-below kind.Moment = omega arith
 number-below kind.LongRegister = omega arith
-number-below kind.Overflow = omega arith
-number-below kind.Comparison = omega arith
+number-below kind.Indicator = omega arith
+number-below kind.Store = omega arith
 number-below kind.Breakpoint = omega arith
 number-below kind.UnitPlace = omega arith
 number-below kind.UnitLength = omega arith
@@ -152,8 +153,8 @@ shrinks-whole n (one ∷ two ∷ []) = tt
 shrinks-whole n (one ∷ two ∷ three ∷ []) = tt
 shrinks-whole n (one ∷ two ∷ three ∷ four ∷ us) = let lone = tall-header kind.Location (n % 4096) in omega (arith, lone)
 
-next-jump : (n : ℕ) → nat_eq (n % 2) 0 ≡ true → nat_eq ((n + 1) % 2) 0 ≡ false
-next-jump n e = let even : n % 2 ≡ 0 = grind (arith, nat_tests) in let odd : (n + 1) % 2 ≡ 1 = omega (arith, even) in rw odd refl
+pub next-even : (n : ℕ) → nat_eq (n % 2) 0 ≡ true → nat_eq ((n + 1) % 2) 0 ≡ false
+next-even n e = let even : n % 2 ≡ 0 = grind (arith, nat_tests) in let odd : (n + 1) % 2 ≡ 1 = omega (arith, even) in rw odd refl
 
 next-short : (n : ℕ) → nat_eq (n / 16 % 2) 0 ≡ true → nat_eq ((n + 16) / 16 % 2) 0 ≡ false
 next-short n e =
@@ -161,13 +162,18 @@ next-short n e =
 
 shrinks-jump : (b : Bool) (n : ℕ) (a : Anchor) (us : List ℕ) → nat_eq (n % 2) 0 ≡ b → Shrinks (cond b 3 2 + size us) (jump_value b n a us)
 shrinks-jump true n a us e =
-    let two : tall (header_of kind.Jump (n + 1)) ≡ 2 = tall-header kind.Jump (n + 1) ∙ ap (λ b. cond b 3 2) (next-jump n e) in omega (arith, two)
+    let two : tall (header_of kind.Jump (n + 1)) ≡ 2 = tall-header kind.Jump (n + 1) ∙ ap (λ b. cond b 3 2) (next-even n e) in omega (arith, two)
 shrinks-jump false n a us e = let one = tall-header kind.Register (wide_bits 4096 (n / 8192) * 16 + 8) in omega (arith, one)
 
 shrinks-short : (b : Bool) (n : ℕ) (a : Anchor) (us : List ℕ) → nat_eq (n / 16 % 2) 0 ≡ b → Shrinks (cond b 3 2 + size us) (short_value b n a us)
 shrinks-short true n a us e =
     let two : tall (header_of kind.Short (n + 16)) ≡ 2 = tall-header kind.Short (n + 16) ∙ ap (λ b. cond b 3 2) (next-short n e) in omega (arith, two)
 shrinks-short false n a us e = let one = tall-header kind.Register (wide_bits (2 ^ 22) (n / 32) * 16 + n % 8) in omega (arith, one)
+
+shrinks-store : (b : Bool) (n : ℕ) (a : Anchor) (us : List ℕ) → nat_eq (n % 2) 0 ≡ b → Shrinks (cond b 3 2 + size us) (store_value b n a us)
+shrinks-store true n a us e =
+    let two : tall (header_of kind.Store (n + 1)) ≡ 2 = tall-header kind.Store (n + 1) ∙ ap (λ b. cond b 3 2) (next-even n e) in omega (arith, two)
+shrinks-store false n a us e = let one = tall-header kind.Row (4096 + n / 2 % 4096) in omega (arith, one)
 
 shrinks-by : (k : Kind) (n : ℕ) (a : Anchor) (us : List ℕ) → Shrinks (tall_by k n + size us) (value_by k n a us)
 shrinks-by kind.Location n a us = omega arith
@@ -176,8 +182,8 @@ shrinks-by kind.Register n a us = shrinks-one _ a us (1 + size us) (omega arith)
 shrinks-by kind.Row n a us = shrinks-row n a us
 shrinks-by kind.Moment n a us = shrinks-moment n a us
 shrinks-by kind.LongRegister n a us = shrinks-two _ a us
-shrinks-by kind.Overflow n a us = omega arith
-shrinks-by kind.Comparison n a us = omega arith
+shrinks-by kind.Indicator n a us = omega arith
+shrinks-by kind.Store n a us = shrinks-store (nat_eq (n % 2) 0) n a us refl
 shrinks-by kind.Breakpoint n a us = shrinks-one _ a us (1 + size us) (omega arith)
 shrinks-by kind.UnitPlace n a us = shrinks-one _ a us (1 + size us) (omega arith)
 shrinks-by kind.UnitLength n a us = shrinks-one _ a us (1 + size us) (omega arith)

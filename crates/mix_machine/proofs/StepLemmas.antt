@@ -15,10 +15,10 @@ use Rattle.mix_machine.specs.declared.pack.kind.Kind.{Kind}
 use Rattle.mix_machine.specs.declared.pack.kind.Kind.TheVariants as kind
 use Rattle.mix_machine.specs.Pack.{header_of, last_of, last_value, value_by, jump_value, short_value, short_word, wide_bits, time_of, said, Says, IsAfterTime, before_moment, before_jump, before_short, moment_said, jump_said, short_said}
 use Rattle.mix_machine.proofs.PackLemmas.{said-last, said-one, register-header}
-use Rattle.mix_machine.proofs.SizeLemmas.{last-header}
+use Rattle.mix_machine.proofs.SizeLemmas.{last-header, next-even}
 
 -- a header whose last value leaves another header
-leaves : (units : List ℕ) (k j : Kind) (n m : ℕ) (a b : Anchor) (v : Old) → value_by k n a (reverse units) ≡ Some (last_of v b (header_of j m ∷ reverse units)) →
+pub leaves : (units : List ℕ) (k j : Kind) (n m : ℕ) (a b : Anchor) (v : Old) → value_by k n a (reverse units) ≡ Some (last_of v b (header_of j m ∷ reverse units)) →
     said a (units ++ header_of k n ∷ []) ≡ said b (units ++ header_of j m ∷ []) ++ v ∷ []
 leaves units k j n m a b v e =
     said-last (units ++ header_of k n ∷ []) (units ++ header_of j m ∷ []) a b v
@@ -33,7 +33,7 @@ alone units k n a v e = said-one units (units ++ header_of k n ∷ []) k n (head
 two-said : (all some none : List Old) (one two : Old) → all ≡ some ++ two ∷ [] → some ≡ none ++ one ∷ [] → all ≡ none ++ one ∷ two ∷ []
 two-said all some none one two e f = e ∙ ap (λ (vs : List Old). vs ++ two ∷ []) f ∙ append_assoc none (one ∷ []) (two ∷ [])
 
-three-said : (all most some none : List Old) (one two three : Old) → all ≡ most ++ three ∷ [] → most ≡ some ++ two ∷ [] → some ≡ none ++ one ∷ [] →
+pub three-said : (all most some none : List Old) (one two three : Old) → all ≡ most ++ three ∷ [] → most ≡ some ++ two ∷ [] → some ≡ none ++ one ∷ [] →
     all ≡ none ++ one ∷ two ∷ three ∷ []
 three-said all most some none one two three e f g =
     e ∙ ap (λ (vs : List Old). vs ++ three ∷ []) (two-said most some none one two f g) ∙ append_assoc none (one ∷ two ∷ []) (three ∷ [])
@@ -51,7 +51,7 @@ pub jump-says : (n : ℕ) (a : Anchor) → nat_eq (n % 2) 0 ≡ true → Says (h
 jump-says n a e units =
     let b = before_jump n a in
     let even : n % 2 ≡ 0 = grind (arith, nat_tests) in
-    let odd : nat_eq ((n + 1) % 2) 0 ≡ false = (let one : (n + 1) % 2 ≡ 1 = omega (arith, even) in rw one refl) in
+    let odd = next-even n e in
     let bits = wide_bits 4096 (n / 8192) in
     let half : (n + 1) / 2 ≡ n / 2 = omega (arith, even) in
     let high : (n + 1) / 8192 ≡ n / 8192 = omega (arith, even) in
@@ -82,10 +82,10 @@ short-says n r a e listed units =
     (alone units kind.Register (bits * 16 + n % 8) b (old.Reg r (short_word bits))
     (register-header (n % 8) bits r (short_word bits) b (reverse units) (omega arith) listed refl))
 
-abbrev anchor_of : ℕ → ℕ → Anchor
+abbrev pub anchor_of : ℕ → ℕ → Anchor
 anchor_of l c = record { loc = l; clock = c }
 
-anchor-is : (l c : ℕ) (from : Anchor) → l ≡ from.loc → c ≡ from.clock → anchor_of l c ≡ from
+pub anchor-is : (l c : ℕ) (from : Anchor) → l ≡ from.loc → c ≡ from.clock → anchor_of l c ≡ from
 anchor-is l c from e f = rw (e, f) refl
 
 -- a header that is made says what it is made of

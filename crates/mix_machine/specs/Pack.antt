@@ -22,7 +22,7 @@ use Rattle.mix_machine.specs.declared.pack.kind.Kind.TheVariants as kind
 -- the kinds, each at its number
 abbrev pub kinds : List Kind
 kinds =
-    kind.Location ∷ kind.Clock ∷ kind.Register ∷ kind.Row ∷ kind.Moment ∷ kind.LongRegister ∷ kind.Overflow ∷ kind.Comparison ∷
+    kind.Location ∷ kind.Clock ∷ kind.Register ∷ kind.Row ∷ kind.Moment ∷ kind.LongRegister ∷ kind.Indicator ∷ kind.Store ∷
     kind.Breakpoint ∷ kind.UnitPlace ∷ kind.UnitLength ∷ kind.UnitItem ∷ kind.UnitTime ∷ kind.WholeMoment ∷
     kind.Jump ∷ kind.Short ∷ []
 
@@ -34,8 +34,8 @@ kind_number kind.Register = 2
 kind_number kind.Row = 3
 kind_number kind.Moment = 4
 kind_number kind.LongRegister = 5
-kind_number kind.Overflow = 6
-kind_number kind.Comparison = 7
+kind_number kind.Indicator = 6
+kind_number kind.Store = 7
 kind_number kind.Breakpoint = 8
 kind_number kind.UnitPlace = 9
 kind_number kind.UnitLength = 10
@@ -84,6 +84,10 @@ time_of low high = high * 2 ^ 32 + low
 
 abbrev pub comparison_of : ℕ → Cmp
 comparison_of n = cond (nat_eq n 0) cmp.Less (cond (nat_eq n 1) cmp.Equal cmp.Greater)
+
+-- the overflow toggle, off or on, or the comparison indicator
+abbrev pub indicator_value : ℕ → Old
+indicator_value n = cond (nat_lt n 2) (old.Over (nat_eq n 1)) (old.Cmp (comparison_of (n - 2)))
 
 -- a register by its number, if there is one, and its word
 abbrev pub register_value : ℕ → WordValue → Option Old
@@ -149,14 +153,27 @@ abbrev pub jump_value : Bool → ℕ → Anchor → List ℕ → Option LastValu
 jump_value true n a us = Some (last_of (old.Clock (before_jump n a).clock) (before_jump n a) (header_of kind.Jump (n + 1) ∷ us))
 jump_value false n a us = Some (last_of (old.Loc (n / 2 % 4096)) a (header_of kind.Register (wide_bits 4096 (n / 8192) * 16 + 8) ∷ us))
 
+-- the anchor before a step that goes on to the next location and takes so many u
+abbrev pub before_next : ℕ → Anchor → Anchor
+before_next time a = record { loc = a.loc - 1; clock = a.clock - time }
+
 -- The clock and the location before a step that goes on to the next one, and a register. The payload is the number of the register in three
 -- bits; one bit for the time, 1 or 2 u; one that is 0 where it says the clock; and the magnitude of the word in 22 bits, and its sign.
 abbrev pub before_short : ℕ → Anchor → Anchor
-before_short n a = record { loc = a.loc - 1; clock = a.clock - (n / 8 % 2 + 1) }
+before_short n a = before_next (n / 8 % 2 + 1) a
 
 abbrev pub short_value : Bool → ℕ → Anchor → List ℕ → Option LastValue
 short_value true n a us = Some (last_of (old.Clock (before_short n a).clock) (before_short n a) (header_of kind.Short (n + 16) ∷ us))
 short_value false n a us = Some (last_of (old.Loc a.loc) a (header_of kind.Register (wide_bits (2 ^ 22) (n / 32) * 16 + n % 8) ∷ us))
+
+-- The clock and the location before a store, which goes on to the next one and takes 2 u, and the cell that it overwrote, whose word stands
+-- before the header. The lowest bit of the payload is 0 where it says the clock, and above it is the place of the cell in 12 bits.
+abbrev pub before_store : Anchor → Anchor
+before_store a = before_next 2 a
+
+abbrev pub store_value : Bool → ℕ → Anchor → List ℕ → Option LastValue
+store_value true n a us = Some (last_of (old.Clock (before_store a).clock) (before_store a) (header_of kind.Store (n + 1) ∷ us))
+store_value false n a us = Some (last_of (old.Loc a.loc) a (header_of kind.Row (4096 + n / 2 % 4096) ∷ us))
 
 -- all that such a header says
 abbrev pub moment_said : ℕ → Anchor → List Old
@@ -168,6 +185,9 @@ jump_said n a = old.Reg reg.J (short_word (wide_bits 4096 (n / 8192))) ∷ old.L
 abbrev pub short_said : Reg → ℕ → Anchor → List Old
 short_said r n a = old.Reg r (short_word (wide_bits (2 ^ 22) (n / 32))) ∷ old.Loc (before_short n a).loc ∷ old.Clock (before_short n a).clock ∷ []
 
+abbrev pub store_said : ℕ → ℕ → Anchor → List Old
+store_said place w a = old.Cell place (long_word w) ∷ old.Loc (before_store a).loc ∷ old.Clock (before_store a).clock ∷ []
+
 -- the last value where the header is of this kind and payload
 abbrev pub value_by : Kind → ℕ → Anchor → List ℕ → Option LastValue
 value_by kind.Location n a us = in_one (Some (old.Loc (n % 65536))) a us
@@ -176,8 +196,8 @@ value_by kind.Register n a us = in_one (register_value (n % 16) (short_word (n /
 value_by kind.Row n a us = last_cell n a us
 value_by kind.Moment n a us = moment_value n a us
 value_by kind.LongRegister n a us = in_two (λ w. register_value n (long_word w)) a us
-value_by kind.Overflow n a us = in_one (Some (old.Over (nat_eq n 1))) a us
-value_by kind.Comparison n a us = in_one (Some (old.Cmp (comparison_of n))) a us
+value_by kind.Indicator n a us = in_one (Some (indicator_value n)) a us
+value_by kind.Store n a us = store_value (nat_eq (n % 2) 0) n a us
 value_by kind.Breakpoint n a us = in_one (breakpoint_value n) a us
 value_by kind.UnitPlace n a us = in_one (unit_value (n / 65536) (old.At (n / 65536) (n % 65536))) a us
 value_by kind.UnitLength n a us = in_one (unit_value (n / 65536) (old.Len (n / 65536) (n % 65536))) a us
@@ -205,6 +225,10 @@ said a units = values_before (3 * length units) a (reverse units)
 abbrev pub Says : ℕ → Anchor → Anchor → List Old → Type 0
 Says header after before values = (units : List ℕ) → said after (units ++ header ∷ []) ≡ said before units ++ values
 
+-- A header after a word says these values, by the anchor after them, and units before both are read by the one before them.
+abbrev pub SaysWith : ℕ → ℕ → Anchor → Anchor → List Old → Type 0
+SaysWith w header after before values = (units : List ℕ) → said after ((units ++ w ∷ []) ++ header ∷ []) ≡ said before units ++ values
+
 -- units and after them the two of a time
 abbrev pub IsAfterTime : List ℕ → ℕ → List ℕ → Type 0
 IsAfterTime before time after = (low : ℕ) × (high : ℕ) × (after ≡ (before ++ low ∷ []) ++ high ∷ []) × (time_of low high ≡ time)
@@ -221,4 +245,5 @@ is_rare kind.Row = false
 is_rare kind.Moment = false
 is_rare kind.Jump = false
 is_rare kind.Short = false
+is_rare kind.Store = false
 is_rare _ = true

@@ -13,6 +13,7 @@ mod parts;
 mod reading;
 mod row;
 mod step;
+mod stored;
 
 use crate::old::Old;
 pub use crate::pack::anchor::Anchor;
@@ -22,8 +23,9 @@ pub(crate) use crate::pack::parts::{long, register, short};
 pub(crate) use crate::pack::reading::take_before;
 pub(crate) use crate::pack::row::{append_row, row_of};
 pub(crate) use crate::pack::step::{
-    before_jump, before_moment, before_short, short_register, wide_bits,
+    before_jump, before_moment, before_short, before_store, short_register, wide_bits,
 };
+pub(crate) use crate::pack::stored::{Stored, store_of};
 use undo_core::{Last, Pack};
 
 impl Pack for Old {

@@ -26,6 +26,7 @@ impl World {
             Plan::Value(value) => self.write(value, kept),
             Plan::Step(writes, loc, clock) => match writes {
                 Writes::Register(r, word) => self.move_with(r, word, loc, clock, kept),
+                Writes::Cell(place, word) => self.store(place, word, loc, clock, kept),
                 writes => {
                     self.write_in(writes, kept)?;
                     self.move_to(loc, clock, kept);

@@ -9,6 +9,8 @@ ghost use Rattle.mix_machine.specs.Pack.{header_of, last_value, said};
 ghost use Rattle.mix_machine.specs.Cells.{IsRow};
 ghost use Rattle.mix_machine.specs.law.Restored.{Restored};
 
+mod stored;
+
 use crate::cells::put_words;
 use crate::old::Old;
 use crate::pack::{
@@ -40,6 +42,7 @@ impl World {
             Some(Kind::Moment) => self.restore_moment(header, units, anchor, most),
             Some(Kind::Jump) => self.restore_jump(header, units, anchor, most),
             Some(Kind::Short) => self.restore_short(header, units, anchor, most),
+            Some(Kind::Store) => self.restore_store(header, units, anchor, most),
             _ => self.restore_one(header, units, anchor, most),
         }
     }

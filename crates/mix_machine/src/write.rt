@@ -5,7 +5,7 @@ ghost use Rattle.mix_machine.specs.law.Wrote.{HasRoom, Wrote};
 ghost use Rattle.mix_machine.specs.law.Apart.{is_apart_value};
 
 use crate::old::Old;
-use crate::pack::{Anchor, Moved, MovedWith};
+use crate::pack::{Anchor, Moved, MovedWith, Stored};
 use crate::time::Time;
 use crate::units::UnitNo;
 use crate::world::World;
@@ -103,6 +103,30 @@ impl World {
         let held = self.registers.get(r);
         kept.append_reserved(&MovedWith::of(r, held, self.anchor(), Anchor { loc, clock }));
         self.registers.set(r, word);
+        self.loc = loc;
+        self.clock = clock;
+    }
+
+    /// Sets a cell, the location and the clock, and keeps those before.
+    #[inline(always)]
+    pub(crate) fn store(
+        &mut self,
+        place: Place,
+        word: Word,
+        loc: u16,
+        clock: u64,
+        kept: &mut Kept<Old>,
+    )
+        requires fits { IsTrue (fits self.old (Old.Cell place word)) }
+        requires loc { IsTrue (fits self.old (Old.Loc loc)) }
+        requires clock { IsTrue (fits self.old (Old.Clock clock)) }
+        requires room { HasRoom kept.old (set (Old.Cell place word) ∷ set (Old.Loc loc) ∷ set (Old.Clock clock) ∷ []) }
+        ensures { Wrote (set (Old.Cell place word) ∷ set (Old.Loc loc) ∷ set (Old.Clock clock) ∷ []) self.old self.new kept.old kept.new }
+    {
+        let at = usize::from(place.number());
+        let held = self.cells[at];
+        kept.append_reserved(&Stored::of(place, held, self.anchor(), Anchor { loc, clock }));
+        self.cells[at] = word;
         self.loc = loc;
         self.clock = clock;
     }

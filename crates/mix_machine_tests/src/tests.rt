@@ -15,7 +15,7 @@ mod transfers;
 
 use self::alike::is_alike;
 use self::decks::{has_fault, is_dealt, is_filled, is_refused, is_typed};
-use self::packed::{are_cells_packed, are_mixed_packed, is_no_value, is_packed};
+use self::packed::{are_cells_packed, are_mixed_packed, are_said, is_packed};
 use self::steps::{is_right, is_right_change};
 use self::transfers::are_conflicts;
 use std::test::Fail;
@@ -118,9 +118,9 @@ fn cells_with_a_location_are_packed(rt: HostRuntime) {
 }
 
 #[test]
-fn ill_units_are_no_value(rt: HostRuntime) {
-    for row in rows::packed::NONE.lines() {
-        assert_eq!(rt; is_no_value(rt.alloc(), row), Some(true), "{row}");
+fn units_say_values(rt: HostRuntime) {
+    for row in rows::packed::SAID.lines() {
+        assert_eq!(rt; are_said(rt.alloc(), row), Some(true), "{row}");
     }
 }
 

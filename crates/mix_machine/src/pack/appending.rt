@@ -25,8 +25,8 @@ pub(crate) fn append(value: Old, units: &mut Vec<u32>)
         Old::Clock(time) => clock(time, units),
         Old::Reg(reg, word) => register(reg, word, units),
         Old::Cell(place, word) => cell(place, word, units),
-        Old::Over(on) => one(Kind::Overflow, u32::from(on), units),
-        Old::Cmp(cmp) => one(Kind::Comparison, number_of(cmp), units),
+        Old::Over(on) => one(Kind::Indicator, u32::from(on), units),
+        Old::Cmp(cmp) => one(Kind::Indicator, 2 + number_of(cmp), units),
         Old::Break(place, on) => breakpoint(place, on, units),
         Old::At(unit, place) => unit_place(unit, place, units),
         Old::Len(unit, length) => unit_length(unit, length, units),
@@ -74,9 +74,9 @@ fn long_register(reg: Reg, word: Word, units: &mut Vec<u32>)
     two(Kind::LongRegister, number, long_bits(word), units);
 }
 
-// A cell makes a row longer that ends one place before it.
+/// Appends a cell, which makes a row longer that ends one place before it.
 #[inline]
-fn cell(place: Place, word: Word, units: &mut Vec<u32>)
+pub(crate) fn cell(place: Place, word: Word, units: &mut Vec<u32>)
     requires { vec_len units.old + 3 ≤ vec_capacity units.old }
     ensures said { (a : Anchor) → said a units.new.items ≡ said a units.old.items ++ old.Cell place word ∷ [] }
     ensures len { vec_len units.new ≤ vec_len units.old + 3 }

@@ -1,13 +1,13 @@
 //! The headers of what a step keeps, which are read by the anchor after it.
-ghost use Rattle.std.specs.Prelude.{◌≡◌, ◌-◌, ◌≤◌, ◌<◌, ◌^◌, [], ◌∷◌, IfSome, IsTrue};
+ghost use Rattle.std.specs.Prelude.{ℕ, ◌≡◌, ◌-◌, ◌≤◌, ◌<◌, ◌^◌, [], ◌∷◌, IfSome, IsTrue};
 ghost use Rattle.mix_machine.specs.declared.old.Old.TheVariants as old;
 ghost use Rattle.mix_word.specs.declared.register.Reg.TheVariants as registers;
-ghost use Rattle.mix_machine.specs.Pack.{Says};
+ghost use Rattle.mix_machine.specs.Pack.{Says, SaysWith, long_word};
 
 use crate::pack::anchor::Anchor;
 use crate::pack::kind::Kind;
 use crate::pack::step::bits_below;
-use mix_word::{Reg, Word};
+use mix_word::{Place, Reg, Word};
 
 /// Whether two anchors are the same.
 #[inline(always)]
@@ -60,6 +60,18 @@ fn short_header(reg: Reg, word: Word, time: u32, from: Anchor, to: Anchor) -> u3
 {
     let bits = bits_below(0x40_0000, word);
     Kind::Short.header(bits * 32 + (time - 1) * 8 + u32::from(reg.number()))
+}
+
+/// The header of a store, if it goes on to the next location and takes 2 u.
+#[inline(always)]
+pub(crate) fn store_header(place: Place, from: Anchor, to: Anchor) -> Option<u32>
+    requires { from.loc ≤ 4000 }
+    ensures { IfSome result (λ header. (w : ℕ) → SaysWith w header to from (old.Cell place (long_word w) ∷ old.Loc from.loc ∷ old.Clock from.clock ∷ [])) }
+{
+    if elapsed(from, to) != 2 || to.loc != from.loc + 1 {
+        return None;
+    }
+    Some(Kind::Store.header(u32::from(place.number()) * 2))
 }
 
 /// The time of a step, where it is below 65,536 u.

@@ -2,10 +2,10 @@
 ghost use Rattle.std.specs.Prelude.{◌≡◌, ◌<◌, ◌^◌, ◌/◌, MatchOption};
 ghost use Rattle.mix_machine.specs.Pack.{header_of, kind_of};
 
-/// What a header says of its values: the location, the clock, a register, a row of cells, the overflow toggle, the comparison indicator, a
+/// What a header says of its values: the location, the clock, a register, a row of cells, the overflow toggle or the comparison indicator, a
 /// breakpoint, or of an input-output unit its place, its length, a word of it or its time. A long register is one whose word takes more than
-/// 23 bits. What a step keeps last is read by the anchor: a moment is its location and its time; a jump says rJ too, and a short step a
-/// register of few bits, at the place before and one or two u earlier. A whole moment says the clock itself, and the anchor before.
+/// 23 bits. What a step keeps last is read by the anchor: a moment is its location and its time; a jump says rJ too, a short step a
+/// register of few bits, at the place before and one or two u earlier, and a store the cell whose word stands before it, two u earlier. A whole moment says the clock itself, and the anchor before.
 #[derive(Clone, Copy)]
 pub(crate) enum Kind {
     Location,
@@ -14,8 +14,8 @@ pub(crate) enum Kind {
     Row,
     Moment,
     LongRegister,
-    Overflow,
-    Comparison,
+    Indicator,
+    Store,
     Breakpoint,
     UnitPlace,
     UnitLength,
@@ -40,8 +40,8 @@ impl Kind {
             3 => Some(Kind::Row),
             4 => Some(Kind::Moment),
             5 => Some(Kind::LongRegister),
-            6 => Some(Kind::Overflow),
-            7 => Some(Kind::Comparison),
+            6 => Some(Kind::Indicator),
+            7 => Some(Kind::Store),
             8 => Some(Kind::Breakpoint),
             9 => Some(Kind::UnitPlace),
             10 => Some(Kind::UnitLength),

@@ -140,9 +140,9 @@ fn append_with(
     append_moment(from, to, units, anchor);
 }
 
-// The location and the clock: in one header, where it is known what stood there before and the header has the bits.
+/// Appends the location and the clock: in one header, where it is known what stood there before and the header has the bits.
 #[inline(always)]
-fn append_moment(from: Anchor, to: Anchor, units: &mut Vec<u32>, anchor: &mut Anchor)
+pub(crate) fn append_moment(from: Anchor, to: Anchor, units: &mut Vec<u32>, anchor: &mut Anchor)
     requires loc { from.loc ≤ 4000 }
     requires room { vec_len units.old + 6 ≤ vec_capacity units.old }
     ensures said { said anchor.new units.new.items ≡ said anchor.old units.old.items ++ old.Loc from.loc ∷ old.Clock from.clock ∷ [] }

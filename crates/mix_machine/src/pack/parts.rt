@@ -2,7 +2,7 @@
 ghost use Rattle.std.specs.Prelude.{◌≡◌, ◌<◌, ◌^◌, Some, None, cond, nat_lt, slice_get};
 ghost use Rattle.mix_word.specs.Register.{all_registers};
 ghost use Rattle.mix_word.specs.Uses.{unit_count};
-ghost use Rattle.mix_machine.specs.Pack.{comparison_of, short_word, long_word, time_of, register_value, breakpoint_value};
+ghost use Rattle.mix_machine.specs.Pack.{comparison_of, indicator_value, short_word, long_word, time_of, register_value, breakpoint_value};
 
 use crate::old::Old;
 use crate::time::Time;
@@ -108,14 +108,16 @@ fn reg(number: u32) -> Option<Reg>
     }
 }
 
-/// The comparison indicator of a number.
-pub(crate) fn comparison(number: u32) -> Cmp
-    ensures { result ≡ comparison_of number }
+/// The overflow toggle or the comparison indicator.
+pub(crate) fn indicator(payload: u32) -> Old
+    ensures { result ≡ indicator_value payload }
 {
-    match number {
-        0 => Cmp::Less,
-        1 => Cmp::Equal,
-        _ => Cmp::Greater,
+    match payload {
+        0 => Old::Over(false),
+        1 => Old::Over(true),
+        2 => Old::Cmp(Cmp::Less),
+        3 => Old::Cmp(Cmp::Equal),
+        _ => Old::Cmp(Cmp::Greater),
     }
 }
 

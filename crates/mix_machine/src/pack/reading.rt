@@ -10,8 +10,8 @@ use crate::old::Old;
 use crate::pack::anchor::Anchor;
 use crate::pack::kind::Kind;
 use crate::pack::last::{alone, last_two, with_more};
-use crate::pack::parts::{breakpoint, comparison, long, register, short, time, unit_of};
-use crate::pack::step::{before_jump, before_moment, before_short, wide_bits};
+use crate::pack::parts::{breakpoint, indicator, long, register, short, time, unit_of};
+use crate::pack::step::{before_jump, before_moment, before_short, before_store, wide_bits};
 use crate::time::Time;
 use mix_word::Place;
 use undo_core::Last;
@@ -55,6 +55,7 @@ pub(crate) fn last_before(header: u32, before: &[u32], anchor: Anchor) -> Option
         Kind::Moment => Some(moment(payload, before, anchor)),
         Kind::Jump => Some(jump(payload, before, anchor)),
         Kind::Short => Some(short_step(payload, before, anchor)),
+        Kind::Store => Some(store(payload, before, anchor)),
         kind => rare(kind, payload, before, anchor),
     }
 }
@@ -115,6 +116,21 @@ fn short_step(payload: u32, before: &[u32], anchor: Anchor) -> Last<Old, Anchor>
     )
 }
 
+// The clock of a store, or its location: its cell is left.
+fn store(payload: u32, before: &[u32], anchor: Anchor) -> Last<Old, Anchor>
+    requires { payload < 2 ^ 28 }
+    ensures is { Some (seen before.now result) ≡ value_by kind.Store payload anchor (reverse before.now) }
+    ensures left { result.left ≡ length before.now }
+{
+    if payload % 2 == 0 {
+        let earlier = before_store(anchor);
+        let value = Old::Clock(Time::of(earlier.clock));
+        return with_more(value, before, Kind::Store.header(payload + 1), earlier);
+    }
+    let row = Kind::Row.header(4096 + payload / 2 % 4096);
+    with_more(Old::Loc(anchor.loc), before, row, anchor)
+}
+
 // The same of the other kinds.
 #[inline(never)]
 fn rare(kind: Kind, payload: u32, before: &[u32], anchor: Anchor) -> Option<Last<Old, Anchor>>
@@ -124,14 +140,13 @@ fn rare(kind: Kind, payload: u32, before: &[u32], anchor: Anchor) -> Option<Last
     ensures within { IfSome result (λ last. last.left ≤ length before.now) }
 {
     match kind {
-        Kind::Location | Kind::Register | Kind::Row | Kind::Moment | Kind::Jump | Kind::Short =>
-            unreachable!(),
+        Kind::Location | Kind::Register | Kind::Row | Kind::Moment => unreachable!(),
+        Kind::Jump | Kind::Short | Kind::Store => unreachable!(),
         Kind::LongRegister => {
             let (bits, rest) = before.split_last()?;
             Some(alone(register(payload, long(*bits))?, rest, anchor))
         }
-        Kind::Overflow => Some(alone(Old::Over(payload == 1), before, anchor)),
-        Kind::Comparison => Some(alone(Old::Cmp(comparison(payload)), before, anchor)),
+        Kind::Indicator => Some(alone(indicator(payload), before, anchor)),
         Kind::Breakpoint => Some(alone(breakpoint(payload)?, before, anchor)),
         Kind::UnitPlace => {
             let unit = unit_of(payload / 65536)?;

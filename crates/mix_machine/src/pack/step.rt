@@ -2,7 +2,7 @@
 ghost use Rattle.std.specs.Prelude.{◌≡◌, ◌<◌, ◌≤◌, ◌*◌, ◌%◌, ◌^◌, Some, slice_get};
 ghost use Rattle.mix_word.specs.Register.{all_registers};
 ghost use Rattle.mix_word.specs.Word.{word};
-ghost use Rattle.mix_machine.specs.Pack.{before_moment, before_jump, before_short, short_word, wide_bits};
+ghost use Rattle.mix_machine.specs.Pack.{before_moment, before_jump, before_next, before_short, before_store, short_word, wide_bits};
 
 use crate::pack::anchor::Anchor;
 use mix_word::{Reg, Sign, Word};
@@ -34,9 +34,25 @@ pub(crate) fn before_jump(payload: u32, anchor: Anchor) -> Anchor
 pub(crate) fn before_short(payload: u32, anchor: Anchor) -> Anchor
     ensures { result ≡ before_short payload anchor }
 {
+    before_next(payload / 8 % 2 + 1, anchor)
+}
+
+/// The anchor before a store.
+#[inline(always)]
+pub(crate) fn before_store(anchor: Anchor) -> Anchor
+    ensures { result ≡ before_store anchor }
+{
+    before_next(2, anchor)
+}
+
+// The anchor before a step that goes on to the next location and takes so many u.
+#[inline(always)]
+fn before_next(time: u32, anchor: Anchor) -> Anchor
+    ensures { result ≡ before_next time anchor }
+{
     Anchor {
         loc: anchor.loc.saturating_sub(1),
-        clock: anchor.clock.saturating_sub(u64::from(payload / 8 % 2 + 1)),
+        clock: anchor.clock.saturating_sub(u64::from(time)),
     }
 }
 

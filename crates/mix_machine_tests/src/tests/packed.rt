@@ -197,11 +197,50 @@ fn cell_or_location(text: &str) -> Option<Old> {
     }
 }
 
-/// Whether these units say no value.
-pub fn is_no_value(alloc: Global, row: &str) -> Option<bool> {
+/// Whether the units of a row say its values, the last one first, and no more, in either way.
+pub fn are_said(alloc: Global, row: &str) -> Option<bool> {
+    let (numbers, values) = row.split_once('|')?;
+    let mut units = units_of(alloc, numbers)?;
+    Some(are_said_before(&units, values)? && are_taken_off(&mut units, values)?)
+}
+
+fn units_of(alloc: Global, numbers: &str) -> Option<Vec<u32>> {
     let mut units = Vec::new(alloc);
-    for number in row.split_whitespace() {
+    for number in numbers.split_whitespace() {
         units.push(number.parse::<u32>().ok()?).ok()?;
     }
-    Some(Old::last(&units, None, Old::anchor()).is_none() && taken(&mut units).is_none())
+    Some(units)
+}
+
+fn are_said_before(units: &[u32], values: &str) -> Option<bool> {
+    let (mut left, mut more, mut anchor) = (units.len(), None, Old::anchor());
+    for text in values.split_whitespace() {
+        let last = Old::last(units.get(..left)?, more, anchor)?;
+        if last.value != cell_or_value(text)? {
+            return Some(false);
+        }
+        left = last.left;
+        more = last.more;
+        anchor = last.anchor;
+    }
+    Some(Old::last(units.get(..left)?, more, anchor).is_none())
+}
+
+fn are_taken_off(units: &mut Vec<u32>, values: &str) -> Option<bool> {
+    let mut anchor = Old::anchor();
+    for text in values.split_whitespace() {
+        if Old::take(units, &mut anchor)? != cell_or_value(text)? {
+            return Some(false);
+        }
+    }
+    Some(Old::take(units, &mut anchor).is_none())
+}
+
+// A value, of a cell by its number.
+fn cell_or_value(text: &str) -> Option<Old> {
+    let (key, held) = text.split_once('=')?;
+    match place(key) {
+        Some(place) => Some(Old::Cell(place, word(held)?)),
+        None => value(text, 0),
+    }
 }

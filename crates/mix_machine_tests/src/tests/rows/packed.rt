@@ -98,19 +98,33 @@ pub const PLACES: &str = "5 6 6 5 loc 6 7 9";
 /// The same backwards.
 pub const BACK: &str = "9 7 6 loc 5 6 6 5";
 
-/// Units that end in no value: none, too few units, or a number out of its range.
-pub const NONE: &str = "\
-
-1
-7 1
-3
-5
-7 11
-7 12
-7 13
-7 7 7 13
-146
-0 64003
-22020105
-0 0 348
+/// Units, and the values that they say, the last one first, where the machine is at its beginning after them. A store is the word of its cell
+/// and a header of kind 7, and a header of kind 13 has before it the clock of the anchor and the one that it says, each in two units. The first
+/// rows end in no value: no units, too few, or a number out of its range.
+pub const SAID: &str = "\
+|
+1 |
+7 1 |
+3 |
+5 |
+7 11 |
+7 12 |
+7 13 |
+7 7 7 13 |
+146 |
+0 64003 |
+22020105 |
+0 0 348 |
+5 3207 | clock=0 loc=0 100=+5
+1073741829 7 | clock=0 loc=0 0=-5
+1073741824 127975 | clock=0 loc=0 3999=-0
+2147483647 3207 | clock=0 loc=0 100=-1073741823
+5 3223 | loc=0 100=+5
+3207 | clock=0 loc=0
+5 128007 | clock=0 loc=0
+1073741829 3207 4 0 20 0 196765 | clock=20 loc=9 clock=2 loc=2 100=-5
+5 3207 6 3239 4 0 20 0 196765 | clock=20 loc=9 clock=2 loc=2 101=+6 clock=0 loc=1 100=+5
+5 3207 6 3207 65684 | clock=0 loc=9 clock=0 loc=8 100=+6 clock=0 loc=7 100=+5
+7 69699 6 3239 | clock=0 loc=0 101=+6 260=+7
+6 22 38 54 70 | cmp=greater cmp=equal cmp=less over=on over=off
 ";

@@ -5,6 +5,10 @@ ENTA 5, INCA 7, STA 100, HLT | *4 +5,0,2,48 +7,0,0,48 +100,0,5,24 +0,0,2,5 | | o
 ENTA 4095, INCA 1 | *2 +4095,0,2,48 +1,0,0,48 | | ok A=+4096 at=2 clock=2 kept=7
 STA 1 over ENTA 5 | *2 +1,0,5,24 +5,0,2,48 | | ok 1=+0 at=2 clock=3 kept=5
 ENTA -5, STA 100 | *2 -5,0,2,48 +100,0,5,24 | | ok A=-5 100=-5 at=2 clock=3 kept=6
+ENTA 5, STA 100, STA 101, STZ 100 | *4 +5,0,2,48 +100,0,5,24 +101,0,5,24 +100,0,5,33 | 100=-7 | ok A=+5 100=+0 101=+5 at=4 clock=7 kept=12
+ENTA 5, STA 100, STA 101, two taken back | *3 <2 +5,0,2,48 +100,0,5,24 +101,0,5,24 | 100=-7 | ok A=+5 at=1 clock=1 kept=3
+STA over a word of 30 bits, and back | *2 <1 +5,0,2,48 +100,0,5,24 | 100=-1073741823 | ok A=+5 at=1 clock=1 kept=3
+ENTA 5, and STA 0 in the last cell | @3998 *2 +5,0,2,48 +0,0,5,24 | | ok A=+5 0=+5 at=4000 clock=3 kept=6
 NOP in the last cell | @3999 *2 +0,0,0,0 | | M15 at=4000 clock=1 kept=2
 ENTA -5, ADD 5, JAN 9, JAZ 9 | *4 -5,0,2,48 +4,0,5,1 +9,0,0,40 +9,0,1,40 | 4=+5 | ok A=-0 J=+4 at=9 clock=5 kept=13
 INCA 1, JNOV 9 | *2 +1,0,0,48 +9,0,3,39 | A=+1073741823 | ok A=+0 at=2 clock=2 kept=8

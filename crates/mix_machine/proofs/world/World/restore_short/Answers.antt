@@ -21,7 +21,7 @@ go_to-requires-clause-loc c =
     let more = c.takes_three.ensures.most c.if-not-takes_three.false in
     let is : said a (units ++ c.args.header ∷ []) ≡ said b units ++ short_said c.short_register-reg.result n a = ap (λ h. said a (units ++ h ∷ [])) c.requires.kind ∙ short-says n c.short_register-reg.result a test c.short_register-reg.ensures units in
     let fit = header-fits _ (said b units) (short_said c.short_register-reg.result n a) c.args.most c.args.self.now is (omega (arith, more)) c.requires.within c.requires.fits in
-    let put = three-put c.args.self.now c.short_register-reg.result (short_word (wide_bits (2 ^ 22) (n / 32))) b.loc b.clock fit in
+    let put = three-put c.args.self.now (old.Reg c.short_register-reg.result (short_word (wide_bits (2 ^ 22) (n / 32)))) b.loc b.clock fit in
     rw c.before_short.ensures put.two.loc
 
 pub go_to-requires-clause-clock : goal.go_to-requires-clause-clock
@@ -34,7 +34,7 @@ go_to-requires-clause-clock c =
     let more = c.takes_three.ensures.most c.if-not-takes_three.false in
     let is : said a (units ++ c.args.header ∷ []) ≡ said b units ++ short_said c.short_register-reg.result n a = ap (λ h. said a (units ++ h ∷ [])) c.requires.kind ∙ short-says n c.short_register-reg.result a test c.short_register-reg.ensures units in
     let fit = header-fits _ (said b units) (short_said c.short_register-reg.result n a) c.args.most c.args.self.now is (omega (arith, more)) c.requires.within c.requires.fits in
-    let put = three-put c.args.self.now c.short_register-reg.result (short_word (wide_bits (2 ^ 22) (n / 32))) b.loc b.clock fit in
+    let put = three-put c.args.self.now (old.Reg c.short_register-reg.result (short_word (wide_bits (2 ^ 22) (n / 32)))) b.loc b.clock fit in
     rw c.before_short.ensures put.two.clock
 
 pub set_value-requires : goal.set_value-requires
@@ -47,8 +47,8 @@ set_value-requires c =
     let more = c.takes_three.ensures.most c.if-not-takes_three.false in
     let is : said a (units ++ c.args.header ∷ []) ≡ said b units ++ short_said c.short_register-reg.result n a = ap (λ h. said a (units ++ h ∷ [])) c.requires.kind ∙ short-says n c.short_register-reg.result a test c.short_register-reg.ensures units in
     let fit = header-fits _ (said b units) (short_said c.short_register-reg.result n a) c.args.most c.args.self.now is (omega (arith, more)) c.requires.within c.requires.fits in
-    let put = three-put c.args.self.now c.short_register-reg.result (short_word (wide_bits (2 ^ 22) (n / 32))) b.loc b.clock fit in
-    rw (c.short-word.ensures, c.wide_bits.ensures.is) put.register
+    let put = three-put c.args.self.now (old.Reg c.short_register-reg.result (short_word (wide_bits (2 ^ 22) (n / 32)))) b.loc b.clock fit in
+    rw (c.short-word.ensures, c.wide_bits.ensures.is) put.value
 
 pub returns-clause-restored : goal.returns-clause-restored
 returns-clause-restored c =
@@ -60,7 +60,7 @@ returns-clause-restored c =
     let more = c.takes_three.ensures.most c.if-not-takes_three.false in
     let is : said a (units ++ c.args.header ∷ []) ≡ said b units ++ short_said c.short_register-reg.result n a = ap (λ h. said a (units ++ h ∷ [])) c.requires.kind ∙ short-says n c.short_register-reg.result a test c.short_register-reg.ensures units in
     let fit = header-fits _ (said b units) (short_said c.short_register-reg.result n a) c.args.most c.args.self.now is (omega (arith, more)) c.requires.within c.requires.fits in
-    let put = three-put c.args.self.now c.short_register-reg.result (short_word (wide_bits (2 ^ 22) (n / 32))) b.loc b.clock fit in
+    let put = three-put c.args.self.now (old.Reg c.short_register-reg.result (short_word (wide_bits (2 ^ 22) (n / 32)))) b.loc b.clock fit in
     let held = c.short-word.ensures ∙ ap short_word c.wide_bits.ensures.is in
     let there = set_value (set_value c.args.self.now (old.Clock b.clock)) (old.Loc b.loc) in
     let state = c.set_value.ensures ∙ ap (λ (s : WorldState). set_value s (old.Reg c.short_register-reg.result c.short-word.result)) (rw c.before_short.ensures at c.go_to.ensures)
