@@ -1,10 +1,9 @@
 -- What units say ends in the value of their header, and the units before it say the others.
-use Rattle.std.proofs.Common.{Bool, cond, nat_eq, IsSome, IsTrue, ℕ, zero, suc, true, false, nat_lt, slice_get, ◌≡◌, ◌+◌, ◌-◌, ◌*◌, ◌/◌, ◌%◌, ◌<◌, ◌≤◌, ◌^◌, List, [], ◌∷◌, ◌++◌, length, length-append, take, drop, reverse, Option, Some, None, MatchOption, refl, sym, ap, ◌∙◌, subst, arith}
+use Rattle.std.proofs.Common.{Bool, IsSome, IsTrue, ℕ, true, false, nat_lt, slice_get, ◌≡◌, ◌+◌, ◌-◌, ◌*◌, ◌/◌, ◌%◌, ◌<◌, ◌≤◌, List, [], ◌∷◌, ◌++◌, length, take, reverse, Option, Some, None, MatchOption, refl, sym, ap, ◌∙◌, subst, arith}
 use Rattle.std.specs.Bool.{then_some}
-use Rattle.std.specs.Option.{option_map, option_map_or, option_and_then}
+use Rattle.std.specs.Option.{option_map}
 use Rattle.std.proofs.lemmas.Bool.Decides.{nat_tests}
-use Rattle.std.proofs.Math.Seq.{take-append_seam, drop-append_seam}
-use Rattle.std.proofs.lemmas.List.{length-reverse, reverse-append, reverse-reverse, append-nil, take-append-le}
+use Rattle.std.proofs.lemmas.List.{reverse-append, reverse-reverse, append-nil, take-append-le}
 use Rattle.std.proofs.lemmas.Nat.{mod-mul-add, div-mul-add}
 use Rattle.mix_word.specs.Word.{WordValue}
 use Rattle.mix_word.specs.Register.{all_registers}

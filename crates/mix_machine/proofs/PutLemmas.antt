@@ -1,5 +1,5 @@
 -- What a step keeps put back: the clock, the location, and another value.
-use Rattle.std.proofs.Common.{Bool, ℕ, true, false, nat_le, IsSome, IsTrue, ◌≡◌, ◌≤◌, ◌∙◌, List, [], ◌∷◌, Option, Some, None, MatchOption, refl, sym, ap, subst, arith}
+use Rattle.std.proofs.Common.{Bool, ℕ, true, false, nat_le, IsSome, IsTrue, ◌≡◌, ◌≤◌, ◌∙◌, [], ◌∷◌, Option, Some, None, MatchOption, refl, sym, ap, subst, arith}
 use Rattle.std.specs.Bool.{then_some}
 use Rattle.std.specs.Option.{option_and_then}
 use Rattle.std.proofs.lemmas.Bool.Decides.{nat_tests}

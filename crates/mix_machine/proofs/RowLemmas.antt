@@ -1,12 +1,12 @@
 -- A row of cells says the values of its cells, and putting its words back puts these back.
-use Rattle.std.proofs.Common.{ℕ, zero, suc, true, nat_lt, ◌≡◌, ◌+◌, ◌-◌, ◌*◌, ◌/◌, ◌%◌, ◌<◌, ◌≤◌, ◌∙◌, List, [], ◌∷◌, ◌++◌, length, length-append, append_assoc, take, drop, get_or, reverse, Option, None, Some, IsSome, IsTrue, ap, subst, sym, refl, arith}
+use Rattle.std.proofs.Common.{ℕ, zero, suc, true, nat_lt, ◌≡◌, ◌+◌, ◌-◌, ◌*◌, ◌%◌, ◌<◌, ◌≤◌, ◌∙◌, List, [], ◌∷◌, ◌++◌, length, length-append, append_assoc, take, drop, get_or, reverse, Option, None, Some, IsSome, ap, subst, sym, refl, arith}
 use Rattle.std.specs.Option.{option_and_then}
 use Rattle.std.proofs.lemmas.Bool.Decides.{nat_tests}
 use Rattle.std.proofs.lemmas.List.{drop-append-le, length-take-le, length-drop, length-map, reverse-append, take-append-drop, take_all, take_more, take_at, drop_at, map_push}
 use Rattle.undo_core.specs.Replay.{put_back}
 use Rattle.mix_word.specs.Word.{WordValue}
 use Rattle.mix_machine.specs.World.{WorldState}
-use Rattle.mix_machine.specs.Write.{put_value, set_value, fits}
+use Rattle.mix_machine.specs.Write.{put_value, set_value}
 use Rattle.mix_machine.specs.Cells.{cell_values, words_of, with_words, IsRow}
 use Rattle.mix_machine.specs.law.Restored.{Restored}
 use Rattle.mix_machine.specs.declared.old.Old.{Old}

@@ -1,7 +1,7 @@
 -- How old values stand in units of 32 bits. Most take one to three of them, and the last is its header: the kind of the value in the
 -- lowest four bits, and 28 bits of the value itself, the payload. So units are read from the last one backwards. What a step keeps last, its
 -- location and its clock, may be said by how far they are from those after the step, the anchor: then one header says two values or three.
-use Rattle.std.specs.Prelude.{ℕ, ◌≡◌, ◌≤◌, ◌+◌, ◌-◌, ◌*◌, ◌/◌, ◌%◌, ◌^◌, Bool, true, false, cond, nat_eq, nat_lt, zero, suc, List, [], ◌∷◌, ◌++◌, length, take, reverse, Option, None, Some, slice_get}
+use Rattle.std.specs.Prelude.{ℕ, ◌≡◌, ◌+◌, ◌-◌, ◌*◌, ◌/◌, ◌%◌, ◌^◌, Bool, true, false, cond, nat_eq, nat_lt, zero, suc, List, [], ◌∷◌, ◌++◌, length, take, reverse, Option, None, Some, slice_get}
 use Rattle.std.specs.Option.{option_map, option_map_or, option_and_then}
 use Rattle.mix_word.specs.Word.{WordValue, word}
 use Rattle.mix_word.specs.Register.{all_registers}

@@ -4,8 +4,9 @@ ghost use Rattle.mix_machine.specs.Pack.{header_of, kind_of};
 
 /// What a header says of its values: the location, the clock, a register, a row of cells, the overflow toggle or the comparison indicator, a
 /// breakpoint, or of an input-output unit its place, its length, a word of it or its time. A long register is one whose word takes more than
-/// 23 bits. What a step keeps last is read by the anchor: a moment is its location and its time; a jump says rJ too, a short step a
-/// register of few bits, at the place before and one or two u earlier, and a store the cell whose word stands before it, two u earlier. A whole moment says the clock itself, and the anchor before.
+/// 23 bits. What a step keeps last is read by the anchor: a moment is its location and its time; a jump says rJ too; a short step a register of
+/// few bits, at the place before and one or two u earlier; and a store, two u earlier, the place of a cell, whose word is the unit before it. A
+/// whole moment says the clock itself, and the anchor before.
 #[derive(Clone, Copy)]
 pub(crate) enum Kind {
     Location,

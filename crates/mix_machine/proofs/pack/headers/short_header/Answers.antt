@@ -1,5 +1,4 @@
-use Rattle.std.proofs.Common.{◌+◌, ◌-◌, ◌*◌, ◌∙◌, ap, slice_get}
-use Rattle.mix_word.specs.Register.{all_registers}
+use Rattle.std.proofs.Common.{◌+◌, ◌-◌, ◌*◌, ap}
 use Rattle.mix_machine.proofs.StepLemmas.{short-made}
 use Rattle.mix_machine.proofs.pack.headers.short_header.Goals as goal
 

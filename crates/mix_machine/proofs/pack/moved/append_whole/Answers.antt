@@ -1,4 +1,4 @@
-use Rattle.std.proofs.Common.{ℕ, ◌≡◌, ◌+◌, ◌*◌, ◌∙◌, ap}
+use Rattle.std.proofs.Common.{◌+◌, ◌*◌, ◌∙◌, ap}
 use Rattle.mix_machine.proofs.StepLemmas.{whole-made}
 use Rattle.mix_machine.proofs.pack.moved.append_whole.Goals as goal
 

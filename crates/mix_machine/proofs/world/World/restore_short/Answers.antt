@@ -1,7 +1,6 @@
 -- The header says the register, the location and the clock.
 use Rattle.std.proofs.Common.{◌≡◌, ◌/◌, ◌%◌, ◌^◌, nat_eq, true, ◌++◌, ◌∷◌, [], ◌∙◌, ap, sym, refl, arith, Some}
 use Rattle.mix_word.specs.Word.{WordValue}
-use Rattle.mix_word.specs.declared.register.Reg.TheVariants as reg
 use Rattle.mix_machine.specs.World.{WorldState}
 use Rattle.mix_machine.specs.Write.{set_value}
 use Rattle.mix_machine.specs.declared.old.Old.TheVariants as old
