@@ -21,7 +21,7 @@ NAMES = ["LIST", "LOOP", "LAST"]
 COMPLETED = [
     ("", 1, COMMANDS, 1, 0), ("  ", 3, COMMANDS, 3, 0), ("s", 2, ["step", "set", "show"], 1, 1), ("S", 2, ["step", "set", "show"], 1, 1), ("step", 5, ["step"], 1, 4),
     ("fly", 4, [], 1, 3), ("fly ", 5, [], 5, 0), ("step ", 6, [], 6, 0), ("trace ", 7, [], 7, 0), ("goto ", 6, [], 6, 0), ("*", 2, [], 1, 1),
-    ("run ", 5, [], 5, 0), ("run 5 ", 7, ["until"], 7, 0), ("run 5 until ", 13, [*PARTS, "unit"], 13, 0), ("RUN 5 UNTIL C", 14, ["cell", "cmp"], 13, 1),
+    ("run ", 5, [], 5, 0), ("run 5 ", 7, ["until"], 7, 0), ("run 5 until ", 13, [*PARTS, "unit", "conflict"], 13, 0), ("RUN 5 UNTIL C", 14, ["cell", "cmp", "conflict"], 13, 1),
     ("run 5 at ", 10, [], 10, 0), ("run 5 until cell l", 19, NAMES, 18, 1), ("run 5 until A ", 15, [], 15, 0), ("run 5 until unit ", 18, [], 18, 0),
     ("back ", 6, ["all", "break", "until"], 6, 0), ("back until loc lo", 18, ["LOOP"], 16, 2), ("back all ", 10, [], 10, 0), ("back 3 ", 8, [], 8, 0),
     ("forth ", 7, ["all", "until"], 7, 0), ("forth until o", 14, ["over"], 13, 1), ("forth all ", 11, [], 11, 0),

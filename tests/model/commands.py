@@ -100,7 +100,7 @@ def ran(session, limit, stops, cond=None, traces=False):
                 lines.append(history.told(len(session.changes), ("step",), before, session.world))
             if name == "HLT":
                 end = "halt"
-            elif cond and history.reached(cond, before, session.world):
+            elif cond and history.reached(cond, before, session.world, len(session.changes)):
                 end = "until"
                 lines.append(history.told(len(session.changes), ("step",), before, session.world))
             elif stops and session.world.loc in session.world.breaks:

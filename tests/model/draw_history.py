@@ -15,7 +15,7 @@ back until/back until break/back 1 until A/back until cell 4000/back until unit 
 forth until break/trace 0/trace 1 2/trace all/trace 1000001/show last/show last 0/show last -1/show diff/show diff X/show diff 9999/show counts 1/show conflicts 1/show conflict
 show writes/show writes 3/show writes A 1/show writes A or X/show writes cell 4000/show writes unit x/show writes loc/run 0 until unit 1+1/run 1000001 until A/run 3 until unit 20/back until over 1/run 3 until loc -1/run 3 until cmp L
 run 9 until A or/run 9 until or A/back until A or or X/forth until A X/run 9 until A and X/back until cell 4000 or Q/back until cell 4000 or A
-run 9 until A or unit 21/forth until cell or A/run 9 until loc or or over/run 0 until A or X""".replace(b"\n", b"/").split(b"/")
+run 3 until conflict 1/back until conflicts/forth until A conflict/show writes conflict A/run 9 until A or unit 21/forth until cell or A/run 9 until loc or or over/run 0 until A or X""".replace(b"\n", b"/").split(b"/")
 LONG = [b" JMP */ END 0", b" ENT2 0/LOOP INC2 1/ ST2 7/ ENT1 300,2/ MOVE 0(9)/ J2P LOOP/ END 0", b"LOOP OUT 200(8)/ IN 300(8)/ OUT 100(19)/ INCX 1/ JMP LOOP/ END 0"]
 FAR = b"A X I1 I2 J over".split() + [b"cell 7", b"cell 300", b"cell 310", b"cell 900", b"unit 8", b"unit 19", b"loc 0", b"loc 3", b"loc 9"]
 
@@ -27,7 +27,7 @@ def cond(r):
 
 
 def one(r):
-    kind = r.randrange(12)
+    kind = r.randrange(13)
     if kind < 3:
         return r.choice((b"A", b"A", r.choice(REGISTERS)))
     if kind < 4:
@@ -36,6 +36,8 @@ def one(r):
         return b"cell %s" % others.place(r)
     if kind < 9:
         return b"unit %s" % r.choice(UNITS)
+    if kind < 10:
+        return b"conflict"
     return b"loc %s" % (b"%d" % r.randrange(11) if r.randrange(2) else others.place(r))
 
 

@@ -7,7 +7,7 @@ from machine import do, instruction, replay
 from operations import FLOATING, NEEDS_FIELD, REGISTERS, TABLE
 from parts import has
 from texts import Fault
-from transfers import conflicts
+from transfers import conflict, conflicts
 from units import UNITS, characters
 from words import FIELDS, bytes_of, written
 
@@ -137,6 +137,19 @@ MOST = 8  # conditions of one command
 OPERANDS = (b"CELL", b"LOC", b"UNIT")  # are followed by a word, whichever it is
 
 
+class Conflicts:
+    """Which changes of a session conflict with a transfer under way, asked by their numbers."""
+
+    def __init__(self, session):
+        self.session, self.worlds = session, [session.loaded]
+
+    def at(self, n):
+        every = self.session.changes + self.session.ahead
+        while len(self.worlds) < n:
+            self.worlds.append(do(self.worlds[-1], every[len(self.worlds) - 1])[0])
+        return conflict(self.worlds, every, n - 1) is not None
+
+
 def condition(session, words):
     """The words behind `until`, conditions with OR between them: all read before one is tested for its range."""
     conditions = []
@@ -156,6 +169,8 @@ def one_condition(session, words):
         return ("register", words[0].decode())
     if words in ([b"OVER"], [b"CMP"]):
         return (words[0].decode().lower(), None)
+    if words == [b"CONFLICT"]:
+        return ("conflict", lambda: Conflicts(session))
     if len(words) == 2 and words[0] in (b"CELL", b"LOC"):
         word = expression_in(session, words[1])
         return (words[0].decode().lower(), lambda: place_in_range(word))
@@ -175,12 +190,14 @@ def unit_in_range(n):
     return n
 
 
-def reached(cond, v, w):
-    """Of a move from one world to another, either way: whether one of the conditions is."""
-    return any(reaches(kind, which, v, w) for kind, which in cond)
+def reached(cond, v, w, n):
+    """Of a move from one world to another, either way, by the change of a number: whether one of the conditions is."""
+    return any(reaches(kind, which, v, w, n) for kind, which in cond)
 
 
-def reaches(kind, which, v, w):
+def reaches(kind, which, v, w, n):
+    if kind == "conflict":
+        return which.at(n)
     if kind == "loc":
         return w.loc == which
     if kind == "register":
@@ -197,7 +214,7 @@ def back_until(session, words):
     cond = in_range(condition(session, words))
     found = None
     for n, change, before, after in moves(session.loaded, session.changes):
-        if reached(cond, after, before):
+        if reached(cond, after, before, n):
             found = n, told(n, change, before, after)
     if found is None:
         raise Fault("C6")
@@ -207,7 +224,7 @@ def back_until(session, words):
 def forth_until(session, words):
     cond = in_range(condition(session, words))
     for k, change, before, after in moves(session.world, session.ahead):
-        if reached(cond, before, after):
+        if reached(cond, before, after, len(session.changes) + k):
             return told(len(session.changes) + k, change, before, after), k
     raise Fault("C6")
 
@@ -324,7 +341,9 @@ def last(session, number):
 
 
 def writes(session, cond):
-    return "".join(told(*move) for move in moves(session.loaded, session.changes) if reached(cond, move[2], move[3]))
+    if cond[0][0] == "conflict":
+        return clashing(session)
+    return "".join(told(*move) for move in moves(session.loaded, session.changes) if reached(cond, move[2], move[3], move[0]))
 
 
 def clashing(session):

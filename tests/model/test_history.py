@@ -12,6 +12,35 @@ from testing import bundle, is_so, replies, with_parts, word
 from words import joined
 
 ROWS = """
+== a conflict
+ OUT 2000(18)
+ NUM
+ STZ 2000
+ HLT
+ END 0
+%DEVICES
+%UNIT 18 delay 11
+$ run 9 until conflict
+      3  0002  STZ 2000             2u
+ran 3 to 0003 clock 13: until
+$ run 9 until A or conflict
+ran 1 to 0004 clock 23: halt
+$ back until conflict
+      3  0002  STZ 2000             2u
+back 2 to 0002 clock 11
+$ forth until A or conflict
+      3  0002  STZ 2000             2u
+forth 1 to 0003 clock 13
+$ forth until conflict
+? C6 no such change
+$ show writes conflict
+      3  0002  STZ 2000             2u  cell 2000, unit 18 until 12
+$ goto 0
+back 3 to 0000 clock 0
+$ set loc 1
+ok
+$ run 9 until conflict
+ran 3 to 0004 clock 22: halt
 == who wrote it
  ENTA 5
  INCA 7

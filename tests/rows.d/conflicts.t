@@ -27,6 +27,19 @@ What stopped the run comes last.
   stderr: line.mixal:3: steps used up at 0002 clock 3
   [3]
 
+A session goes from one to the next, and back to before the last.
+
+  $ printf '%%UNIT 18 delay 10\n' >printer
+  $ printf 'run 99 until conflict\nrun 99 until conflict\nrun 99 until conflict\nback until conflict\n' >script
+  $ mixrev debug line.mixal script --devices printer
+        2  0001  STZ 9                2u  0009 + 08 24 13 13 16 -> + 00 00 00 00 00
+  ran 2 to 0002 clock 3: until
+        3  0002  STZ 10               2u
+  ran 1 to 0003 clock 5: until
+  ran 9 to 0006 clock 24: halt
+        3  0002  STZ 10               2u
+  back 10 to 0002 clock 3
+
 A card that is not there yet; the units of a strict run are kept.
 
   $ printf ' LDA 9\n IN 9(16)\n LDA 9\n HLT\n END 0\n' >card.mixal

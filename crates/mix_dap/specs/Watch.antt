@@ -8,7 +8,7 @@ use Rattle.mix_machine.specs.declared.part.Part.TheVariants as part
 use Rattle.mix_session.specs.Client.{condition_at}
 use Rattle.mix_session.specs.Session.{SessionState}
 use Rattle.mix_session.specs.declared.condition.Condition.{Condition}
-use Rattle.mix_session.specs.declared.condition.Condition.TheVariants.{Alters, At}
+use Rattle.mix_session.specs.declared.condition.Condition.TheVariants.{Alters, At, Conflicts}
 use Rattle.mix_session.specs.declared.fault.Refusal.{Refusal}
 use Rattle.dap_message.specs.Request.{text_of, number_of}
 use Rattle.dap_message.specs.declared.request.Request.{Request}
@@ -18,10 +18,11 @@ use Rattle.mix_dap.specs.declared.fault.Fault.TheVariants as fault
 use Rattle.mix_dap.specs.declared.scope.Scope.{Scope}
 use Rattle.mix_dap.specs.declared.scope.Scope.TheVariants as scope
 
--- the part that is waited for; a location is none
+-- the part that is waited for; a location and a conflict are none
 abbrev pub part_until : Result Condition Refusal → Option Part
 part_until (Ok (Alters part)) = Some part
 part_until (Ok (At place)) = None
+part_until (Ok Conflicts) = None
 part_until (Err refusal) = None
 
 -- the part that a text names after `until`

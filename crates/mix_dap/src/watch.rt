@@ -21,7 +21,7 @@ pub(crate) fn part_named(session: &Session, name: &str) -> Option<Part>
 {
     match session.condition(name.as_bytes()) {
         Ok(Condition::Alters(part)) => Some(part),
-        Ok(Condition::At(_)) | Err(_) => None,
+        Ok(Condition::At(_)) | Ok(Condition::Conflicts) | Err(_) => None,
     }
 }
 

@@ -9,7 +9,7 @@ use Rattle.mix_machine.specs.declared.old.Change.{Change}
 use Rattle.mix_machine.specs.declared.old.Change.TheVariants.{Step}
 use Rattle.mix_machine.specs.declared.fault.MixFault.{MixFault}
 use Rattle.mix_session.specs.Timeline.{Timeline, world_of, begins_with_step, with_change, back_by, forth_by, moved_once, moved}
-use Rattle.mix_session.specs.Command.{effect_of_run, effect_of_change, effect_of_result, refusal_effect, change_stage, count_of_run, least_below, is_met_by, is_halt_done, end_there, end_of_move, end_of_last, end_of_more, end_at, fault_end, after, Begun}
+use Rattle.mix_session.specs.Command.{effect_of_run, effect_of_change, effect_of_result, refusal_effect, change_stage, count_of_run, least_below, is_met_by, move_conflicts, is_halt_done, end_there, end_of_move, end_of_last, end_of_more, end_at, fault_end, after, Begun}
 use Rattle.mix_session.specs.Stops.{is_at_stop, is_awaited}
 use Rattle.mix_session.specs.Stops.{StopsState}
 use Rattle.mix_session.specs.declared.fault.Refusal.TheVariants.{RefusedByMachine}
@@ -56,7 +56,7 @@ moved-back t (suc k) within =
 
 -- how one change more ends a run
 pub end_of_last-next : (way : Way) (stops : StopsState) (t : Timeline) (k : ℕ) (old now : WorldState) → world_of (moved way t k) ≡ old →
-    world_of (moved way t (k + 1)) ≡ now → end_of_last way stops t (k + 1) ≡ end_of_move way stops old now
+    world_of (moved way t (k + 1)) ≡ now → end_of_last way stops t (k + 1) ≡ end_of_move (move_conflicts way (moved way t k) (moved way t (k + 1))) way stops old now
 end_of_last-next way stops t k old now e f = let next : world_of (moved way t (suc k)) ≡ now = rw add-one at f in rw (add-one, e, next) refl
 
 pub end_at-last : (way : Way) (stops : StopsState) (t : Timeline) (n k : ℕ) (end : End) → end_of_last way stops t k ≡ Some end → end_at way stops t n k ≡ Some end
@@ -136,15 +136,16 @@ not_limit-there stops w =
     not_limit-if (is_at_stop stops w) (Some Break) (if is_awaited stops.location w then Some Arrived else None) tt
     (not_limit-if (is_awaited stops.location w) (Some Arrived) None tt tt)
 
-not_limit-move : (way : Way) (stops : StopsState) (old now : WorldState) → NotLimit (end_of_move way stops old now)
-not_limit-move way stops old now =
-    let met = option_map Until (position (is_met_by way old now) stops.watched) in
+not_limit-move : (conflicts : Bool) (way : Way) (stops : StopsState) (old now : WorldState) → NotLimit (end_of_move conflicts way stops old now)
+not_limit-move conflicts way stops old now =
+    let met = option_map Until (position (is_met_by conflicts way old now) stops.watched) in
     not_limit-if (is_halt_done way old) (Some Halt) (option_or met (end_there stops now)) tt
-    (not_limit-or met (end_there stops now) (not_limit-until (position (is_met_by way old now) stops.watched)) (not_limit-there stops now))
+    (not_limit-or met (end_there stops now) (not_limit-until (position (is_met_by conflicts way old now) stops.watched)) (not_limit-there stops now))
 
 not_limit-last : (way : Way) (stops : StopsState) (t : Timeline) (k : ℕ) → NotLimit (end_of_last way stops t k)
 not_limit-last way stops t zero = tt
-not_limit-last way stops t (suc k) = not_limit-move way stops (world_of (moved way t k)) (world_of (moved way t (suc k)))
+not_limit-last way stops t (suc k) =
+    not_limit-move (move_conflicts way (moved way t k) (moved way t (suc k))) way stops (world_of (moved way t k)) (world_of (moved way t (suc k)))
 
 not_limit-fault : (r : Result WorldState MixFault) → NotLimit (fault_end r)
 not_limit-fault (Ok world) = tt

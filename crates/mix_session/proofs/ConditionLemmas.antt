@@ -1,5 +1,5 @@
 -- Whether a condition is met is seen by the marks of the part that is watched.
-use Rattle.std.proofs.Common.{◌≡◌, ◌+◌, ◌-◌, ◌<◌, ◌∙◌, ◌++◌, ℕ, Bool, not, List, [], ◌∷◌, length, take, get_or, Some, Ok, Err, Option, refl, ap, sym, subst, arith}
+use Rattle.std.proofs.Common.{◌≡◌, ◌+◌, ◌-◌, ◌<◌, ◌∙◌, ◌++◌, ℕ, Bool, true, false, ◌||◌, not, List, [], ◌∷◌, length, take, get_or, Some, Ok, Err, Option, refl, ap, sym, subst, arith}
 use Rattle.std.proofs.lemmas.List.{take_more}
 use Rattle.std.proofs.Math.Seq.{take-length}
 use Rattle.std.specs.Option.{option_and_then}
@@ -15,11 +15,13 @@ use Rattle.mix_machine.specs.declared.old.Change.TheVariants.{Step}
 use Rattle.mix_machine.specs.declared.part.Part.{Part}
 use Rattle.mix_machine.specs.declared.part.Mark.{Mark}
 use Rattle.mix_session.specs.Command.{is_met_by}
-use Rattle.mix_session.specs.Condition.{is_reached, watched, is_met}
+use Rattle.mix_session.specs.Condition.{is_reached, watched, is_met, is_conflict}
+use Rattle.mix_session.specs.Conflicts.{last_conflicts}
+use Rattle.mix_session.specs.Known.{has_conflict, Tells}
 use Rattle.mix_session.specs.Timeline.{Timeline, world_of, back_by}
 use Rattle.mix_session.specs.declared.command.stops.Way.TheVariants.{Back}
 use Rattle.mix_session.specs.declared.condition.Condition.{Condition}
-use Rattle.mix_session.specs.declared.condition.Condition.TheVariants.{Alters, At}
+use Rattle.mix_session.specs.declared.condition.Condition.TheVariants.{Alters, At, Conflicts}
 
 -- a change alters a part exactly where it alters its mark
 abbrev pub AlteredLaw : Type 0
@@ -36,12 +38,28 @@ BeforeLaw =
 abbrev pub WorldLaw : Type 0
 WorldLaw = (olds : List Old) (w v : WorldState) → IsWorld w → put_back put_value olds w ≡ Some v → IsWorld v
 
-pub reached_by_marks : AlteredLaw → (condition : Condition) (before after now : WorldState) (c : Change) → IsPart (watched condition) → IsWorld before →
+pub reached_by_marks : AlteredLaw → (condition : Condition) (conflicts : Bool) (before after now : WorldState) (c : Change) → IsPart (watched condition) → IsWorld before →
     does before c ≡ Ok after →
-    is_reached condition before after now
-    ≡ is_met condition (mark_of before (watched condition)) (mark_of after (watched condition)) (mark_of now (watched condition))
-reached_by_marks law (Alters part) before after now c real world given = law before after c part world real given
-reached_by_marks law (At place) before after now c real world given = refl
+    is_reached condition conflicts before after now
+    ≡ is_met condition conflicts (mark_of before (watched condition)) (mark_of after (watched condition)) (mark_of now (watched condition))
+reached_by_marks law (Alters part) conflicts before after now c real world given = law before after c part world real given
+reached_by_marks law (At place) conflicts before after now c real world given = refl
+reached_by_marks law Conflicts conflicts before after now c real world given = refl
+
+-- what is told of a conflict matters only where one is waited for
+pub met_told : (condition : Condition) (told conflicts : Bool) (before after now : Mark) → (is_conflict condition ≡ true → told ≡ conflicts) →
+    is_met condition told before after now ≡ is_met condition conflicts before after now
+met_told (Alters part) told conflicts before after now tells = refl
+met_told (At place) told conflicts before after now tells = refl
+met_told Conflicts told conflicts before after now tells = tells refl
+
+pub tells_first : (condition : Condition) (conditions : List Condition) (told conflicts : Bool) → Tells (condition ∷ conditions) told conflicts →
+    is_conflict condition ≡ true → told ≡ conflicts
+tells_first condition conditions told conflicts tells is = tells (rw is refl)
+
+pub tells_rest : (condition : Condition) (conditions : List Condition) (told conflicts : Bool) → Tells (condition ∷ conditions) told conflicts → Tells conditions told conflicts
+tells_rest condition conditions told conflicts tells some =
+    tells (elim (is_conflict condition) as (λ b. (b || has_conflict conditions) ≡ true) [ true ↦ refl | false ↦ some ])
 
 -- what was done once more was given by the state before
 pub replay-given : {o p : Option WorldState} (v w : WorldState) (P : WorldState → WorldState → Type 0)
@@ -80,7 +98,7 @@ last-given s cs n v w below e f =
 
 -- whether taking back one change more than k meets a condition
 abbrev pub is_met_back : Condition → Timeline → ℕ → Bool
-is_met_back condition t k = is_met_by Back (world_of (back_by t k)) (world_of (back_by t (k + 1))) condition
+is_met_back condition t k = is_met_by (last_conflicts (back_by t k)) Back (world_of (back_by t k)) (world_of (back_by t (k + 1))) condition
 
 -- What is known after k changes are looked at from the last one on: the state before them, and its mark.
 pub record IsSeen (t : Timeline) (condition : Condition) (k : ℕ) (mark : Mark) (w : WorldState) : Type 0 where
@@ -101,11 +119,11 @@ seen-none t condition mark w led world marked =
 
 -- one more is looked at, whose values take it back
 pub seen-next : AlteredLaw → BeforeLaw → WorldLaw → (t : Timeline) (condition : Condition) (k : ℕ) (mark before : Mark) (is_met_now : Bool) (values : List Old) (w : WorldState) →
-    k < length t.changes → IsPart (watched condition) → IsSeen t condition k mark w →
+    k < length t.changes → is_conflict condition ≡ false → IsPart (watched condition) → IsSeen t condition k mark w →
     TakesBack does put_value t.first t.changes (length t.changes - 1 - k) values →
-    before ≡ mark_before values (watched condition) mark → is_met_now ≡ is_met condition before mark before →
+    before ≡ mark_before values (watched condition) mark → is_met_now ≡ is_met condition false before mark before →
     (v : WorldState) × IsSeen t condition (k + 1) before v × (is_met_now ≡ is_met_back condition t k)
-seen-next altered before_law world_law t condition k mark before is_met_now values w below real seen back is met =
+seen-next altered before_law world_law t condition k mark before is_met_now values w below other real seen back is met =
     let n = length t.changes - 1 - k in
     let more : n + 1 ≡ length t.changes - k = omega arith in
     let fewer : length t.changes - (k + 1) ≡ n = omega arith in
@@ -118,6 +136,11 @@ seen-next altered before_law world_law t condition k mark before is_met_now valu
     let led : replay does t.first (take (length t.changes - (k + 1)) t.changes) ≡ Some v = rw fewer taken.2 in
     let after_is : world_of (back_by t k) ≡ w = back-state t k w seen.led in
     let before_is : world_of (back_by t (k + 1)) ≡ v = back-state t (k + 1) v led in
-    let reached : is_reached condition v w v ≡ is_met_now =
-    reached_by_marks altered condition v w v given.0 real world given.1 ∙ sym (met ∙ rw (marked, seen.marked) refl) in
+    let conflicts = last_conflicts (back_by t k) in
+    let told : is_met condition false before mark before ≡ is_met condition conflicts before mark before =
+    met_told condition false conflicts before mark before (λ is_one. absurd (cc)) in
+    let by_marks : is_met_now ≡ is_met condition conflicts (mark_of v (watched condition)) (mark_of w (watched condition)) (mark_of v (watched condition)) =
+    met ∙ told ∙ rw (marked, seen.marked) refl in
+    let reached : is_reached condition conflicts v w v ≡ is_met_now =
+    reached_by_marks altered condition conflicts v w v given.0 real world given.1 ∙ sym by_marks in
     (v, record { led = led; world = world; marked = marked }, rw (after_is, before_is) (sym reached))

@@ -4,6 +4,7 @@ mod CommandLemmas
 mod CompletionLemmas
 mod ConditionLemmas
 mod ConflictLemmas
+mod KnownLemmas
 mod MoveLemmas
 mod PathLemmas
 mod PlacesLemmas

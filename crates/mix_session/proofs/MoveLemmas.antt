@@ -11,7 +11,8 @@ use Rattle.mix_machine.specs.Do.{does}
 use Rattle.mix_machine.specs.declared.old.Change.{Change}
 use Rattle.mix_machine.specs.declared.old.Change.TheVariants.{Step}
 use Rattle.mix_machine.specs.declared.fault.MixFault.{MixFault}
-use Rattle.mix_session.specs.Command.{end_of_last, fault_end, is_halt_done}
+use Rattle.mix_session.specs.Command.{end_of_last, fault_end, is_halt_done, move_conflicts}
+use Rattle.mix_session.specs.Known.{KnownState, Knows, LooksOn, Tells}
 use Rattle.mix_session.specs.Marks.{HasMoved, AreMarks, end_by_marks}
 use Rattle.mix_session.specs.Stops.{StopsState}
 use Rattle.mix_session.specs.Timeline.{Timeline, world_of, begins_with_step, moved, back_by, forth_by}
@@ -20,10 +21,11 @@ use Rattle.mix_session.specs.declared.command.stops.Way.TheVariants.{New, Again,
 use Rattle.mix_session.specs.declared.reply.End.{End}
 use Rattle.mix_session.specs.declared.reply.End.TheVariants.{Start, Fault}
 use Rattle.mix_machine.specs.declared.part.Mark.{Mark}
-use Rattle.mix_session.proofs.TimelineLemmas.{timeline-is, world_of-is, holds_now, back_by-none, back_by-next}
+use Rattle.mix_session.proofs.TimelineLemmas.{timeline-is, world_of-is, holds_now, back_by-none, back_by-next, first-step}
 use Rattle.mix_session.proofs.CommandLemmas.{moved-next}
 use Rattle.mix_session.proofs.ConditionLemmas.{AlteredLaw, replay-given, replay-one, last-given}
-use Rattle.mix_session.proofs.RunLemmas.{last_by_marks}
+use Rattle.mix_session.proofs.KnownLemmas.{one_known}
+use Rattle.mix_session.proofs.RunLemmas.{last_by_marks, goes_on, AreMarks-length}
 
 -- a new step is done
 pub HasMoved-new : (t next : Timeline) → IsSome (replay does t.first t.changes) → next.first ≡ t.first → next.changes ≡ t.changes ++ Step ∷ [] → next.ahead ≡ [] →
@@ -36,11 +38,6 @@ HasMoved-new t next stands first changes ahead given =
 pub HasMoved-fault : (t next : Timeline) (fault : MixFault) → IsSome (replay does t.first t.changes) → next ≡ t →
     HoldsOfState does t (λ s. does s Step ≡ Err fault) → HasMoved New t next (Some (Fault fault))
 HasMoved-fault t next fault stands same given = (same, ap fault_end (holds_now t stands given))
-
-first-step : (ahead : List Change) → begins_with_step ahead ≡ true → take 1 ahead ≡ Step ∷ []
-first-step [] begins = absurd (cc)
-first-step (Step ∷ rest) begins = refl
-first-step (other ∷ rest) begins = absurd (cc)
 
 -- the step that stands ahead is done again
 pub HasMoved-again : (t next : Timeline) (v w : WorldState) → begins_with_step t.ahead ≡ true → next.first ≡ t.first → next.changes ≡ t.changes ++ take 1 t.ahead →
@@ -94,16 +91,22 @@ pub begins-none : (done ahead : List Change) (n : ℕ) → n ≡ length done →
 begins-none done [] n count within = refl
 begins-none done (d ∷ rest) n count within = absurd (omega (arith, length-append done (d ∷ rest)))
 
--- one change more: the timeline after it, why the run then ends, and the marks
-pub one_more : AlteredLaw → (way : Way) (stops : StopsState) (t now next : Timeline) (k : ℕ) (v w : WorldState) (halts : Bool) (before after : List Mark) →
-    now ≡ moved way t k → replay does now.first now.changes ≡ Some v → replay does next.first next.changes ≡ Some w → HasMoved way now next None →
-    AreMarks stops.watched before (world_of now) → AreMarks stops.watched after w → halts ≡ is_halt_done way v →
-    (next ≡ moved way t (k + 1)) × (end_of_last way stops t (k + 1) ≡ end_by_marks halts stops before w) × AreMarks stops.watched after (world_of next)
-one_more law way stops t now next k v w halts before after same here there has marks_before marks_after halted =
+-- one change more: the timeline after it, why the run then ends, the marks, and what is known of conflicts
+pub one_more : AlteredLaw → (way : Way) (stops : StopsState) (t now next : Timeline) (k : ℕ) (v w : WorldState) (halts told : Bool) (before after : List Mark)
+    (old new : KnownState) → now ≡ moved way t k → replay does now.first now.changes ≡ Some v → replay does next.first next.changes ≡ Some w →
+    HasMoved way now next None → AreMarks stops.watched before (world_of now) → AreMarks stops.watched after w → halts ≡ is_halt_done way v →
+    Knows stops.watched way old now → new.waits ≡ old.waits → new.last ≡ old.last → (old.waits ≡ true → LooksOn way now old new told) →
+    (next ≡ moved way t (k + 1)) × (end_of_last way stops t (k + 1) ≡ end_by_marks halts told stops before w) × AreMarks stops.watched after (world_of next)
+    × (end_by_marks halts told stops before w ≡ None → Knows stops.watched way new next)
+one_more law way stops t now next k v w halts told before after old new same here there has marks_before marks_after halted knows waits last looks =
     let led = moved-next way t now next k same has.0 in
-    let old = world_of-is (moved way t k) now v same here in
-    let new = world_of-is (moved way t (k + 1)) next w led there in (
+    let state = world_of-is (moved way t k) now v same here in
+    let next_state = world_of-is (moved way t (k + 1)) next w led there in
+    let known = one_known stops.watched way now next v old new told knows has.0 has.1 here waits last looks in
+    let tells : Tells stops.watched told (move_conflicts way (moved way t k) (moved way t (k + 1))) = rw (← same, ← led) known.0 in
+    let marks_here : AreMarks stops.watched before v = rw (world_of-is now now v refl here) at marks_before in (
       led,
-      last_by_marks law way stops t k v w halts before after old new (has.2 v w here there) (rw (world_of-is now now v refl here) at marks_before) marks_after halted,
+      last_by_marks law way stops t k v w halts told before after state next_state (has.2 v w here there) tells marks_here marks_after halted,
       rw (world_of-is next next w refl there) marks_after,
+      λ going. known.1 (goes_on stops halts told before w (AreMarks-length stops.watched before v marks_here) going),
     )

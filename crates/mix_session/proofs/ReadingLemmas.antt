@@ -33,6 +33,8 @@ too_many names here (until.Set set.Location) (x ∷ y ∷ ys) e is = cc
 too_many names here until.Unit [] e is = absurd (cc)
 too_many names here until.Unit (x ∷ []) e is = absurd (cc)
 too_many names here until.Unit (x ∷ y ∷ ys) e is = cc
+too_many names here until.Conflict [] e is = absurd (cc)
+too_many names here until.Conflict (x ∷ xs) e is = cc
 
 left_over : (more : List (List ℕ)) (e : Refusal) → no_word more ≡ Err e → ◌≡◌ {A = Result Condition Refusal} (Err e) (Err BadArgument)
 left_over [] e is = absurd (cc)

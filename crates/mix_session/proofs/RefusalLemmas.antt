@@ -1,14 +1,15 @@
 -- A request that is refused leaves the timeline as it was, whichever it is.
-use Rattle.std.proofs.Common.{◌≡◌, ◌+◌, ◌-◌, Bool, true, false, length, ltb, Some, None, Result, Ok, Err, sym, ◌∙◌, refl}
+use Rattle.std.proofs.Common.{◌≡◌, ◌+◌, ◌-◌, ℕ, Bool, true, false, length, ltb, Some, None, Result, Ok, Err, sym, ◌∙◌, refl}
 use Rattle.std.specs.Prelude.{IfOk, IfSome, if◌then◌else◌}
 use Rattle.mix_refused.specs.declared.refused.Memory.{Memory}
 use Rattle.mix_machine.specs.Do.{does}
 use Rattle.mix_machine.specs.World.{WorldState}
 use Rattle.mix_machine.specs.declared.fault.MixFault.{MixFault}
 use Rattle.mix_machine.specs.declared.old.Change.{Change}
-use Rattle.mix_session.specs.Timeline.{Timeline, world_of, back_by, forth_by}
-use Rattle.mix_session.specs.Command.{Effect, after, at_once, refusal_effect, sought, count_back, count_forth, effect_of, effect_of_run, effect_of_back, effect_of_forth, effect_of_forth_within, effect_of_back_until, effect_of_forth_until, effect_of_change, effect_of_result, effect_of_show, is_there, HasEffect}
+use Rattle.mix_session.specs.Timeline.{Timeline, world_of, forth_by}
+use Rattle.mix_session.specs.Command.{Effect, after, at_once, taken_back, refusal_effect, sought, count_back, count_forth, effect_of, effect_of_run, effect_of_back, effect_of_forth, effect_of_forth_within, effect_of_back_until, effect_of_forth_until, effect_of_change, effect_of_result, effect_of_show, is_there, HasEffect}
 use Rattle.mix_session.specs.Answer.{refusal_of}
+use Rattle.mix_session.specs.Known.{has_conflict}
 use Rattle.mix_session.specs.declared.answer.Answer.{Answer}
 use Rattle.mix_session.specs.declared.answer.Answer.TheVariants as answers
 use Rattle.mix_session.specs.declared.fault.Refusal.TheVariants.{TooFewChanges, NoSuchChange}
@@ -31,6 +32,10 @@ of_result t change (Err fault) = refl
 of_show : (t : Timeline) (shown : Topic) → Spares t (effect_of_show t shown)
 of_show t shown = either (is_there t shown) t (at_once t (answers.Shows shown)) (refusal_effect t TooFewChanges) tt refl
 
+of_taken : (b : Bool) (t : Timeline) (n : ℕ) → Spares t (taken_back b t n)
+of_taken true t n = tt
+of_taken false t n = tt
+
 pub spares : (t : Timeline) (r : Request) → Spares t (effect_of t r)
 unfolding effect_of effect_of_run effect_of_back_until effect_of_forth_until effect_of_change
 spares t ask.Nothing = tt
@@ -43,7 +48,8 @@ spares t ask.BackAll = tt
 spares t ask.BackBreak = tt
 spares t (ask.BackUntil conditions) =
     let k = count_back conditions t in
-    either (ltb k (length t.changes)) t (at_once (back_by t (k + 1)) (answers.BackUntil (k + 1))) (refusal_effect t NoSuchChange) tt refl
+    let waits = has_conflict conditions in
+    either (ltb k (length t.changes)) t (taken_back waits t (k + 1)) (refusal_effect t NoSuchChange) (of_taken waits t (k + 1)) refl
 spares t (ask.Forth n) = either (ltb (length t.ahead) n) t (refusal_effect t TooFewChanges) (effect_of_forth t n) refl tt
 spares t ask.ForthAll = tt
 spares t (ask.ForthUntil conditions) =

@@ -1,5 +1,5 @@
 -- Facts of the timeline, over plain variables: one change more done, taken back, or done again.
-use Rattle.std.proofs.Common.{◌≡◌, ℕ, ◌+◌, ◌-◌, ◌<◌, ◌≤◌, List, ◌++◌, length, take, drop, None, Some, refl, ap, sym, ◌∙◌, arith, append_assoc, IsSome, unwrap_or}
+use Rattle.std.proofs.Common.{◌≡◌, ℕ, ◌+◌, ◌-◌, ◌<◌, ◌≤◌, true, List, [], ◌∷◌, ◌++◌, length, take, drop, None, Some, refl, ap, sym, ◌∙◌, arith, append_assoc, IsSome, unwrap_or}
 use Rattle.std.proofs.lemmas.List.{append-nil, take-take, take-append-drop, drop-drop, drop-append-le, length-take-le, length-drop}
 use Rattle.std.proofs.Math.Seq.{take-add, take-length, drop-length, drop-append_seam, take-append_seam}
 use Rattle.undo_core.specs.History.{HoldsOfState}
@@ -7,7 +7,8 @@ use Rattle.undo_core.specs.Replay.{replay}
 use Rattle.mix_machine.specs.World.{WorldState}
 use Rattle.mix_machine.specs.Do.{does}
 use Rattle.mix_machine.specs.declared.old.Change.{Change}
-use Rattle.mix_session.specs.Timeline.{Timeline, world_of, back_by, forth_by}
+use Rattle.mix_machine.specs.declared.old.Change.TheVariants.{Step}
+use Rattle.mix_session.specs.Timeline.{Timeline, world_of, back_by, forth_by, begins_with_step}
 
 -- a timeline by its parts
 pub timeline-is : (t : Timeline) (first : WorldState) (changes ahead : List Change) → t.first ≡ first → t.changes ≡ changes → t.ahead ≡ ahead →
@@ -91,3 +92,9 @@ forth-back t n within =
     ap (λ k. take m t.changes ++ take k (back ++ t.ahead)) len ∙ rw take-append_seam (take-append-drop m t.changes) in
     let ahead : drop n (back ++ t.ahead) ≡ t.ahead = ap (λ k. drop k (back ++ t.ahead)) len ∙ drop-append_seam back t.ahead in
     sym (timeline-is t t.first (take m t.changes ++ take n (back ++ t.ahead)) (drop n (back ++ t.ahead)) refl (sym done) (sym ahead))
+
+-- a step stands ahead
+pub first-step : (ahead : List Change) → begins_with_step ahead ≡ true → take 1 ahead ≡ Step ∷ []
+first-step [] begins = absurd (cc)
+first-step (Step ∷ rest) begins = refl
+first-step (other ∷ rest) begins = absurd (cc)

@@ -9,10 +9,13 @@ use Rattle.mix_refused.specs.declared.refused.Memory.{Memory}
 use Rattle.undo_core.specs.Replay.{replay}
 use Rattle.mix_machine.specs.World.{WorldState}
 use Rattle.mix_machine.specs.Do.{does}
+use Rattle.mix_machine.specs.Part.{mark_of}
 use Rattle.mix_machine.specs.declared.old.Change.{Change}
 use Rattle.mix_machine.specs.declared.part.Mark.{Mark}
-use Rattle.mix_session.specs.Command.{is_met_by, is_reached_back, is_reached_forth, count_back, count_forth, effect_of_back_until, effect_of_forth_until, least_below, refusal_effect, at_once, sought, Effect, Begun, HasEffect}
-use Rattle.mix_session.specs.Condition.{is_reached}
+use Rattle.mix_session.specs.Command.{is_met_by, is_reached_back, is_reached_forth, count_back, count_forth, effect_of_back_until, effect_of_forth_until, least_below, refusal_effect, taken_back, sought, Effect, Begun, HasEffect}
+use Rattle.mix_session.specs.Condition.{is_reached, watched}
+use Rattle.mix_session.specs.Conflicts.{last_conflicts}
+use Rattle.mix_session.specs.Known.{has_conflict, Tells}
 use Rattle.mix_session.specs.Marks.{AreMarks, first_met, is_met_from}
 use Rattle.mix_session.specs.Timeline.{Timeline, world_of, back_by, forth_by}
 use Rattle.mix_session.specs.declared.answer.Answer.{Answer}
@@ -21,7 +24,7 @@ use Rattle.mix_session.specs.declared.command.stops.Way.TheVariants.{Again, Back
 use Rattle.mix_session.specs.declared.condition.Condition.{Condition}
 use Rattle.mix_session.specs.declared.fault.Refusal.TheVariants.{NoSuchChange}
 use Rattle.mix_session.proofs.CommandLemmas.{least_below-is, least_below-beyond}
-use Rattle.mix_session.proofs.ConditionLemmas.{AlteredLaw, ahead-given, is_met_back, reached_by_marks}
+use Rattle.mix_session.proofs.ConditionLemmas.{AlteredLaw, ahead-given, is_met_back, reached_by_marks, met_told, tells_first, tells_rest}
 use Rattle.mix_session.proofs.TimelineLemmas.{timeline-is, world_of-is, forth_by-none, forth_by-next}
 
 -- no condition is met
@@ -71,13 +74,28 @@ count_back-more t conditions i c n next below at is more =
     let here : take (i + 1) conditions ≡ before ++ c ∷ [] = take_more conditions i c below ∙ ap (λ d. before ++ d ∷ []) (sym at) in
     let either = least_below-either (length t.changes) (is_reached_back before t) (is_met_back c t) in
     let all = least_below-same (length t.changes) (λ k. is_reached_back before t k || is_met_back c t k) (is_reached_back (before ++ c ∷ []) t)
-    (λ k. any_more (is_met_by Back (world_of (back_by t k)) (world_of (back_by t (k + 1)))) before c) in
+    (λ k. any_more (is_met_by (last_conflicts (back_by t k)) Back (world_of (back_by t k)) (world_of (back_by t (k + 1)))) before c) in
     more ∙ ap (λ m. least_below m (is_met_back c t)) is ∙ either ∙ all ∙ ap (λ cs. least_below (length t.changes) (is_reached_back cs t)) (sym here)
 
 pub back_until-found : (conditions : List Condition) (t : Timeline) (k : ℕ) → k ≡ count_back conditions t → k < length t.changes →
-    effect_of_back_until conditions t ≡ at_once (back_by t (k + 1)) (BackUntil (k + 1))
+    effect_of_back_until conditions t ≡ taken_back (has_conflict conditions) t (k + 1)
 unfolding effect_of_back_until
 back_until-found conditions t k is below = let some : ltb k (length t.changes) ≡ true = grind (arith, nat_tests) in rw (← is, some) refl
+
+-- so many are taken back
+pub taken-effect : (b : Bool) (t new : Timeline) (n : ℕ) → new ≡ back_by t n → HasEffect (taken_back b t n) t new (Ok (BackUntil n))
+taken-effect false t new n led = (ap (λ (h : Timeline). h.first) led, led, refl)
+taken-effect true t new n led = (ap (λ (h : Timeline). h.first) led, led, refl)
+
+-- where a conflict is waited for, none may be taken back for want of memory
+pub Begun-back : (conditions : List Condition) (t : Timeline) → has_conflict conditions ≡ true → Begun (effect_of_back_until conditions t) t
+unfolding effect_of_back_until
+Begun-back conditions t waits =
+    let k = count_back conditions t in
+    rw waits (elim (ltb k (length t.changes)) as (λ b. Begun (if b then taken_back true t (k + 1) else refusal_effect t NoSuchChange) t) [
+      | true ↦ (0, omega arith, refl)
+      | false ↦ (0, omega arith, refl)
+    ])
 
 pub back_until-none : (conditions : List Condition) (t : Timeline) (k : ℕ) → k ≡ count_back conditions t → length t.changes ≤ k →
     effect_of_back_until conditions t ≡ refusal_effect t NoSuchChange
@@ -89,11 +107,14 @@ pub forth_by-one : (t : Timeline) (k : ℕ) → forth_by (forth_by t k) 1 ≡ fo
 forth_by-one t k = forth_by-next t (forth_by t k) (forth_by (forth_by t k) 1) k refl refl refl refl
 
 pub reached_forth-at : (conditions : List Condition) (t : Timeline) (k : ℕ) → is_reached_forth conditions (forth_by t k) 0 ≡ is_reached_forth conditions t k
-reached_forth-at conditions t k = rw (← forth_by-none (forth_by t k), forth_by-one t k) refl
+reached_forth-at conditions t k =
+    let now = forth_by t k in
+    ap (λ (s : Timeline). list_any (is_met_by (last_conflicts (forth_by now 1)) Again (world_of s) (world_of (forth_by now 1))) conditions) (sym (forth_by-none now))
+    ∙ ap (λ (s : Timeline). list_any (is_met_by (last_conflicts s) Again (world_of now) (world_of s)) conditions) (forth_by-one t k)
 
 -- by the states before and after the next change ahead
 pub reached_forth-is : (conditions : List Condition) (t : Timeline) (v w : WorldState) → world_of t ≡ v → world_of (forth_by t 1) ≡ w →
-    is_reached_forth conditions t 0 ≡ list_any (is_met_by Again v w) conditions
+    is_reached_forth conditions t 0 ≡ list_any (is_met_by (last_conflicts (forth_by t 1)) Again v w) conditions
 reached_forth-is conditions t v w e f = rw (← forth_by-none t, e, f) refl
 
 -- what is done again and taken back is as it was
@@ -129,6 +150,11 @@ forth_until-none conditions t k all before =
 pub sought-end : (t : Timeline) → t ≡ sought t (length t.ahead)
 sought-end t = let none : ltb (length t.ahead) (length t.ahead) ≡ false = grind (arith, nat_tests) in rw none refl
 
+-- at its beginning too
+sought-none : (t : Timeline) → t ≡ sought t 0
+sought-none t =
+    elim (ltb 0 (length t.ahead)) as (λ b. t ≡ (if b then forth_by t 0 else t)) [ true ↦ forth_by-none t | false ↦ refl ]
+
 -- so many are done again, and no more for want of memory
 pub Begun-forth : (conditions : List Condition) (t now : Timeline) (k : ℕ) → k < length t.ahead → now ≡ forth_by t k →
     ((j : ℕ) → j < k → is_reached_forth conditions t j ≡ false) → Begun (effect_of_forth_until conditions t) now
@@ -144,31 +170,46 @@ Begun-forth conditions t now k below is before =
       | false ↦ (k, omega (arith, below), on_way)
     ]
 
+-- none is done again
+pub Begun-forth_none : (conditions : List Condition) (t : Timeline) → Begun (effect_of_forth_until conditions t) t
+unfolding effect_of_forth_until count_forth
+Begun-forth_none conditions t =
+    let n = least_below (length t.ahead) (is_reached_forth conditions t) in
+    elim (ltb n (length t.ahead)) as (λ b. Begun (if b then record { stage = forth_by t; last = n + 1; answer = ForthUntil (n + 1) }
+    else record { stage = sought t; last = length t.ahead; answer = Refused NoSuchChange }) t) [
+      | true ↦ (0, omega arith, forth_by-none t)
+      | false ↦ (0, omega arith, sought-none t)
+    ]
+
 -- a first condition is found exactly where one is met
 found_met : (b : Bool) (i : ℕ) (found : Option ℕ) (others : Bool) → is_some found ≡ others → is_some (if b then Some i else found) ≡ b || others
 found_met true i found others same = refl
 found_met false i found others same = same
 
-met_by_marks : AlteredLaw → (v w : WorldState) (change : Change) → does v change ≡ Ok w → (i : ℕ) (conditions : List Condition) (marks : List Mark) →
-    AreMarks conditions marks v → is_some (first_met i conditions marks w) ≡ list_any (is_met_by Again v w) conditions
-met_by_marks law v w change given i [] [] are = refl
-met_by_marks law v w change given i [] (m ∷ ms) are = absurd are
-met_by_marks law v w change given i (c ∷ cs) [] are = absurd are
-met_by_marks law v w change given i (c ∷ cs) (m ∷ ms) are =
-    let met : is_met_from m w c ≡ is_reached c v w w = rw are.0 (sym (reached_by_marks law c v w w change are.1 are.2 given)) in
-    rw met (found_met (is_reached c v w w) i (first_met (i + 1) cs ms w) (list_any (is_met_by Again v w) cs) (met_by_marks law v w change given (i + 1) cs ms are.3))
+met_by_marks : AlteredLaw → (v w : WorldState) (change : Change) (told conflicts : Bool) → does v change ≡ Ok w → (i : ℕ) (conditions : List Condition) (marks : List Mark) →
+    Tells conditions told conflicts → AreMarks conditions marks v → is_some (first_met told i conditions marks w) ≡ list_any (is_met_by conflicts Again v w) conditions
+met_by_marks law v w change told conflicts given i [] [] tells are = refl
+met_by_marks law v w change told conflicts given i [] (m ∷ ms) tells are = absurd are
+met_by_marks law v w change told conflicts given i (c ∷ cs) [] tells are = absurd are
+met_by_marks law v w change told conflicts given i (c ∷ cs) (m ∷ ms) tells are =
+    let one = met_told c told conflicts m (mark_of w (watched c)) (mark_of w (watched c)) (tells_first c cs told conflicts tells) in
+    let met : is_met_from told m w c ≡ is_reached c conflicts v w w = one ∙ rw are.0 (sym (reached_by_marks law c conflicts v w w change are.1 are.2 given)) in
+    let more = met_by_marks law v w change told conflicts given (i + 1) cs ms (tells_rest c cs told conflicts tells) are.3 in
+    rw met (found_met (is_reached c conflicts v w w) i (first_met told (i + 1) cs ms w) (list_any (is_met_by conflicts Again v w) cs) more)
 
 -- the next change ahead, done again, by the marks before and after it
-pub forth_by_marks : AlteredLaw → (conditions : List Condition) (t next : Timeline) (v w : WorldState) (marks : List Mark) (found : Option ℕ) → 0 < length t.ahead →
-    next.first ≡ t.first → next.changes ≡ t.changes ++ take 1 t.ahead → next.ahead ≡ drop 1 t.ahead → replay does t.first t.changes ≡ Some v →
-    replay does next.first next.changes ≡ Some w → AreMarks conditions marks (world_of t) → found ≡ first_met 0 conditions marks w →
-    is_some found ≡ is_reached_forth conditions t 0
-forth_by_marks law conditions t next v w marks found some first changes ahead here there are is =
-    let led : next ≡ forth_by t 1 = timeline-is next t.first (t.changes ++ take 1 t.ahead) (drop 1 t.ahead) first changes ahead in
-    let given = ahead-given t.first t.changes t.ahead v w some here (rw (first, changes) at there) in
+pub forth_by_marks : AlteredLaw → (conditions : List Condition) (t next : Timeline) (v w : WorldState) (told : Bool) (marks : List Mark) (found : Option ℕ) → 0 < length t.ahead →
+    next ≡ forth_by t 1 → replay does t.first t.changes ≡ Some v → replay does next.first next.changes ≡ Some w → Tells conditions told (last_conflicts next) →
+    AreMarks conditions marks (world_of t) → found ≡ first_met told 0 conditions marks w → is_some found ≡ is_reached_forth conditions t 0
+forth_by_marks law conditions t next v w told marks found some led here there tells are is =
+    let given = ahead-given t.first t.changes t.ahead v w some here (rw led at there) in
     let before : world_of t ≡ v = world_of-is t t v refl here in
-    ap is_some is ∙ met_by_marks law v w given.0 given.1 0 conditions marks (rw before at are)
+    ap is_some is ∙ met_by_marks law v w given.0 told (last_conflicts (forth_by t 1)) given.1 0 conditions marks (rw led at tells) (rw before at are)
     ∙ sym (reached_forth-is conditions t v w before (world_of-is (forth_by t 1) next w led there))
+
+-- the timeline after it
+pub forth_by-led : (t next : Timeline) → next.first ≡ t.first → next.changes ≡ t.changes ++ take 1 t.ahead → next.ahead ≡ drop 1 t.ahead → next ≡ forth_by t 1
+forth_by-led t next first changes ahead = timeline-is next t.first (t.changes ++ take 1 t.ahead) (drop 1 t.ahead) first changes ahead
 
 -- the marks after it
 pub marks_after : (conditions : List Condition) (next : Timeline) (w : WorldState) (marks : List Mark) → replay does next.first next.changes ≡ Some w →

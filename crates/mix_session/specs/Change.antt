@@ -1,5 +1,5 @@
 -- The line of a change: its number, where it was done, what it did, how long it took, and what it altered.
-use Rattle.std.specs.Prelude.{ℕ, ◌+◌, ◌-◌, List, [], ◌∷◌, ◌++◌, codes, take, get_or, length, unwrap_or, nat_lt, Bool, true, Option, None, Some, if◌then◌else◌}
+use Rattle.std.specs.Prelude.{ℕ, ◌+◌, ◌-◌, List, [], ◌∷◌, ◌++◌, codes, take, get_or, length, unwrap_or, nat_lt, Bool, true, false, Option, None, Some, if◌then◌else◌}
 use Rattle.std.specs.Fmt.{decimal}
 use Rattle.undo_core.specs.Replay.{replay}
 use Rattle.mix_word.specs.Instruction.{instruction_text}
@@ -65,16 +65,16 @@ change_line_at t n = change_line n (change_at t n) (world_at t (n - 1)) (world_a
 abbrev pub last_lines : Timeline → ℕ → List ℕ
 last_lines t n = texts (change_line_at t) (length t.changes - n + 1) (length t.changes + 1)
 
--- whether a change from one state to another is chosen: each is, or those that meet a condition
+-- whether a change from one state to another is chosen: each is, or those that meet a condition on the two states
 abbrev pub is_chosen : Option Condition → WorldState → WorldState → Bool
 is_chosen None v w = true
-is_chosen (Some condition) v w = is_reached condition v w w
+is_chosen (Some condition) v w = is_reached condition false v w w
 
 -- the line of the change of a number, if it is chosen
 abbrev pub chosen_line_at : Option Condition → Timeline → ℕ → List ℕ
 chosen_line_at chosen t n = if is_chosen chosen (world_at t (n - 1)) (world_at t n) then change_line_at t n else []
 
--- the reply of `show writes`: the lines of the changes done that meet a condition
+-- the lines of the changes done that meet a condition on the states before and after them
 abbrev pub writes_text : Condition → Timeline → List ℕ
 writes_text condition t = texts (chosen_line_at (Some condition) t) 1 (length t.changes + 1)
 

@@ -14,7 +14,8 @@ use Rattle.mix_machine.specs.declared.fault.MixFault.{MixFault}
 use Rattle.mix_session.specs.Timeline.{Timeline, world_of, with_change, back_by, forth_by, moved}
 use Rattle.mix_session.specs.Stops.{StopsState, no_stops, at_breaks, at_breaks_or, is_at_stop, is_awaited}
 use Rattle.mix_session.specs.Change.{all_changes}
-use Rattle.mix_session.specs.Condition.{is_reached}
+use Rattle.mix_session.specs.Condition.{is_reached, is_conflict}
+use Rattle.mix_session.specs.Conflicts.{last_conflicts}
 use Rattle.mix_session.specs.Request.{request_of}
 use Rattle.mix_session.specs.Answer.{text_of}
 use Rattle.mix_session.specs.declared.fault.Refusal.{Refusal}
@@ -51,10 +52,16 @@ abbrev pub least_below : ℕ → (ℕ → Bool) → ℕ
 least_below zero passes = 0
 least_below (suc n) passes = if passes 0 then 0 else suc (least_below n (λ k. passes (suc k)))
 
--- whether the change by which a run went from one state to another meets a condition: it leads from the one to the other, or is taken back
-abbrev pub is_met_by : Way → WorldState → WorldState → Condition → Bool
-is_met_by way.Back old now condition = is_reached condition now old now
-is_met_by other old now condition = is_reached condition old now now
+-- whether the change by which a run went from one state to another meets a condition: it leads from the one to the other, or is taken back; and it
+-- conflicts with a transfer, or not
+abbrev pub is_met_by : Bool → Way → WorldState → WorldState → Condition → Bool
+is_met_by conflicts way.Back old now condition = is_reached condition conflicts now old now
+is_met_by conflicts other old now condition = is_reached condition conflicts old now now
+
+-- whether the change by which a run goes from one timeline to the next conflicts with a transfer: it is the last one done, here or there
+abbrev pub move_conflicts : Way → Timeline → Timeline → Bool
+move_conflicts way.Back old now = last_conflicts old
+move_conflicts other old now = last_conflicts now
 
 -- whether that change is a halt that is done
 abbrev pub is_halt_done : Way → WorldState → Bool
@@ -67,15 +74,18 @@ end_there stops w = if is_at_stop stops w then Some Break else if is_awaited sto
 
 -- Why a run ends after a change by which it went from one state to another, if it does: the change was a halt; or it met what is watched, of which
 -- the first is told; or it came to a cell where the run stops; or to the location that is waited for.
-abbrev pub end_of_move : Way → StopsState → WorldState → WorldState → Option End
-end_of_move way stops old now =
+abbrev pub end_of_move : Bool → Way → StopsState → WorldState → WorldState → Option End
+end_of_move conflicts way stops old now =
     if is_halt_done way old then Some Halt else
-    option_or (option_map Until (position (is_met_by way old now) stops.watched)) (end_there stops now)
+    option_or (option_map Until (position (is_met_by conflicts way old now) stops.watched)) (end_there stops now)
 
 -- why a run ends after k changes, by the last of them
 abbrev pub end_of_last : Way → StopsState → Timeline → ℕ → Option End
 end_of_last way stops t zero = None
-end_of_last way stops t (suc k) = end_of_move way stops (world_of (moved way t k)) (world_of (moved way t (suc k)))
+end_of_last way stops t (suc k) =
+    let old = moved way t k in
+    let now = moved way t (suc k) in
+    end_of_move (move_conflicts way old now) way stops (world_of old) (world_of now)
 
 -- the fault of a step, if it is one
 abbrev pub fault_end : Result WorldState MixFault → Option End
@@ -132,21 +142,33 @@ effect_of_back_break t = effect_of_back t (count_of_run way.Back at_breaks t (le
 
 -- whether taking back one change more than k meets one of the conditions
 abbrev pub is_reached_back : List Condition → Timeline → ℕ → Bool
-is_reached_back conditions t k = list_any (is_met_by way.Back (world_of (back_by t k)) (world_of (back_by t (k + 1)))) conditions
+is_reached_back conditions t k =
+    list_any (is_met_by (last_conflicts (back_by t k)) way.Back (world_of (back_by t k)) (world_of (back_by t (k + 1)))) conditions
 
 -- how many changes `back until` takes back but one: the least number at which one more meets one of the conditions
 unfoldable pub count_back : List Condition → Timeline → ℕ
 count_back conditions t = least_below (length t.changes) (is_reached_back conditions t)
 
+-- before something that is done at once, and after it
+abbrev pub before_or_after : Timeline → Timeline → ℕ → Timeline
+before_or_after old now zero = old
+before_or_after old now (suc k) = now
+
+-- what is taken back at once; where a conflict is waited for, only after memory was asked for
+abbrev pub taken_back : Bool → Timeline → ℕ → Effect
+taken_back false t n = at_once (back_by t n) (answers.BackUntil n)
+taken_back true t n = record { stage = before_or_after t (back_by t n); last = 1; answer = answers.BackUntil n }
+
 -- `back until`: nothing is taken back where no change meets one of the conditions
 unfoldable pub effect_of_back_until : List Condition → Timeline → Effect
 effect_of_back_until conditions t =
     let k = count_back conditions t in
-    if nat_lt k (length t.changes) then at_once (back_by t (k + 1)) (answers.BackUntil (k + 1)) else refusal_effect t NoSuchChange
+    if nat_lt k (length t.changes) then taken_back (list_any is_conflict conditions) t (k + 1) else refusal_effect t NoSuchChange
 
 -- whether doing again one change more than k meets one of the conditions
 abbrev pub is_reached_forth : List Condition → Timeline → ℕ → Bool
-is_reached_forth conditions t k = list_any (is_met_by way.Again (world_of (forth_by t k)) (world_of (forth_by t (k + 1)))) conditions
+is_reached_forth conditions t k =
+    list_any (is_met_by (last_conflicts (forth_by t (k + 1))) way.Again (world_of (forth_by t k)) (world_of (forth_by t (k + 1)))) conditions
 
 -- how many changes `forth until` does again but one
 unfoldable pub count_forth : List Condition → Timeline → ℕ

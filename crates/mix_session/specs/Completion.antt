@@ -50,7 +50,7 @@ abbrev pub two_values : List (List ℕ) → Next
 two_values [] = next.Value
 two_values (word ∷ more) = one_value more
 
--- `REG`, `over`, `cmp`, `cell E`, `unit N`, `loc E`
+-- `REG`, `over`, `cmp`, `cell E`, `unit N`, `loc E`, `conflict`
 abbrev pub after_until_word : UntilWord → List (List ℕ) → Next
 after_until_word (until.Set (set.Register r)) words = next.Nothing
 after_until_word (until.Set set.Cell) words = one_value words
@@ -58,6 +58,7 @@ after_until_word (until.Set set.Location) words = one_value words
 after_until_word (until.Set set.Toggle) words = next.Nothing
 after_until_word (until.Set set.Indicator) words = next.Nothing
 after_until_word until.Unit words = next.Nothing
+after_until_word until.Conflict words = next.Nothing
 
 abbrev pub after_until_named : Option UntilWord → List (List ℕ) → Next
 after_until_named None words = next.Nothing

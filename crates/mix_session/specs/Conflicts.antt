@@ -1,12 +1,14 @@
 -- Which changes conflict with a transfer under way, and what `show conflicts` writes of them.
-use Rattle.std.specs.Prelude.{ℕ, zero, suc, ◌+◌, ◌-◌, List, [], ◌∷◌, ◌++◌, codes, length, Option, None, Some}
+use Rattle.std.specs.Prelude.{ℕ, zero, suc, ◌+◌, ◌-◌, List, [], ◌∷◌, ◌++◌, codes, length, Bool, Option, None, Some, is_some}
 use Rattle.std.specs.Fmt.{decimal}
 use Rattle.mix_word.specs.Text.{location_text}
 use Rattle.mix_machine.specs.Transfers.{TransfersState, no_transfers, transfers_after, conflict_of}
 use Rattle.mix_machine.specs.declared.transfers.Conflict.{Conflict}
-use Rattle.mix_session.specs.Change.{world_at, change_at, change_front}
+use Rattle.mix_session.specs.Change.{world_at, change_at, change_front, writes_text}
 use Rattle.mix_session.specs.Each.{texts}
 use Rattle.mix_session.specs.Timeline.{Timeline}
+use Rattle.mix_session.specs.declared.condition.Condition.{Condition}
+use Rattle.mix_session.specs.declared.condition.Condition.TheVariants as condition
 
 -- the transfers under way after the first n of all changes
 abbrev pub transfers_at : Timeline → ℕ → TransfersState
@@ -16,6 +18,10 @@ transfers_at t (suc n) = transfers_after (transfers_at t n) (world_at t n) (chan
 -- with which cell of which transfer under way before it the change of a number conflicts, counted from 1
 unfoldable pub conflict_at : Timeline → ℕ → Option Conflict
 conflict_at t n = conflict_of (transfers_at t (n - 1)) (world_at t (n - 1)) (change_at t n)
+
+-- whether the last change done conflicts with one
+abbrev pub last_conflicts : Timeline → Bool
+last_conflicts t = is_some (conflict_at t (length t.changes))
 
 -- the last column: the cell, the unit, and when its transfer ends
 unfoldable pub conflict_column : Conflict → List ℕ
@@ -33,3 +39,9 @@ conflict_line_at t n = conflict_line (change_front n (change_at t n) (world_at t
 -- the reply of `show conflicts`: the lines of the changes done that conflict
 abbrev pub conflicts_text : Timeline → List ℕ
 conflicts_text t = texts (conflict_line_at t) 1 (length t.changes + 1)
+
+-- the reply of `show writes`: the lines of the changes done that meet a condition; where that is a conflict, they say with what
+abbrev pub met_text : Condition → Timeline → List ℕ
+met_text (condition.Alters part) t = writes_text (condition.Alters part) t
+met_text (condition.At place) t = writes_text (condition.At place) t
+met_text condition.Conflicts t = conflicts_text t

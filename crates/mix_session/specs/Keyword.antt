@@ -68,13 +68,14 @@ set_name Indicator = codes "cmp"
 abbrev pub all_sets : List SetWord
 all_sets = map Register all_registers ++ Cell ∷ Location ∷ Toggle ∷ Indicator ∷ []
 
--- what a command may wait for: a unit, or what `set` names
+-- what a command may wait for: a unit, a conflict, or what `set` names
 abbrev pub until_name : UntilWord → List ℕ
 until_name (until.Set word) = set_name word
 until_name until.Unit = codes "unit"
+until_name until.Conflict = codes "conflict"
 
 abbrev pub all_untils : List UntilWord
-all_untils = map until.Set all_sets ++ until.Unit ∷ []
+all_untils = map until.Set all_sets ++ until.Unit ∷ until.Conflict ∷ []
 
 -- the overflow toggle
 abbrev pub toggle_name : Bool → List ℕ

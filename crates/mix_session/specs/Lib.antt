@@ -13,6 +13,7 @@ pub mod Differences
 pub mod Each
 pub mod Fault
 pub mod Keyword
+pub mod Known
 pub mod Marks
 pub mod Names
 pub mod Operand

@@ -39,17 +39,17 @@ AreMarks (condition ∷ conditions) (mark ∷ marks) w =
     (mark ≡ mark_of w (watched condition)) × IsPart (watched condition) × IsWorld w × AreMarks conditions marks w
 
 -- whether a condition is met, by the mark before
-abbrev pub is_met_from : Mark → WorldState → Condition → Bool
-is_met_from mark now condition = is_met condition mark (mark_of now (watched condition)) (mark_of now (watched condition))
+abbrev pub is_met_from : Bool → Mark → WorldState → Condition → Bool
+is_met_from conflicts mark now condition = is_met condition conflicts mark (mark_of now (watched condition)) (mark_of now (watched condition))
 
 -- the first condition that is met, by the marks before; they are counted from a number
-abbrev pub first_met : ℕ → List Condition → List Mark → WorldState → Option ℕ
-first_met i [] marks now = None
-first_met i (condition ∷ conditions) [] now = None
-first_met i (condition ∷ conditions) (mark ∷ marks) now =
-    if is_met_from mark now condition then Some i else first_met (i + 1) conditions marks now
+abbrev pub first_met : Bool → ℕ → List Condition → List Mark → WorldState → Option ℕ
+first_met conflicts i [] marks now = None
+first_met conflicts i (condition ∷ conditions) [] now = None
+first_met conflicts i (condition ∷ conditions) (mark ∷ marks) now =
+    if is_met_from conflicts mark now condition then Some i else first_met conflicts (i + 1) conditions marks now
 
 -- why a run ends after a change, by the marks before it
-abbrev pub end_by_marks : Bool → StopsState → List Mark → WorldState → Option End
-end_by_marks halts stops marks now =
-    if halts then Some Halt else option_or (option_map Until (first_met 0 stops.watched marks now)) (end_there stops now)
+abbrev pub end_by_marks : Bool → Bool → StopsState → List Mark → WorldState → Option End
+end_by_marks halts conflicts stops marks now =
+    if halts then Some Halt else option_or (option_map Until (first_met conflicts 0 stops.watched marks now)) (end_there stops now)

@@ -10,7 +10,7 @@ use Rattle.mix_machine.specs.declared.old.Change.TheVariants.{SetReg, SetCell, S
 use Rattle.mix_session.specs.Keyword.{set_name, all_sets, until_name, all_untils, toggle_name, all_toggles, indicator_name, all_indicators}
 use Rattle.mix_session.specs.Operand.{no_word, one_word, two_words, keyword_in, first_keyword, word_in, expression_in, place_of, one_place, one_unit}
 use Rattle.mix_session.specs.declared.condition.Condition.{Condition}
-use Rattle.mix_session.specs.declared.condition.Condition.TheVariants.{Alters, At}
+use Rattle.mix_session.specs.declared.condition.Condition.TheVariants.{Alters, At, Conflicts}
 use Rattle.mix_session.specs.declared.fault.Refusal.{Refusal}
 use Rattle.mix_session.specs.declared.fault.Refusal.TheVariants.{BadArgument}
 use Rattle.mix_session.specs.declared.keyword.SetWord.{SetWord}
@@ -38,8 +38,9 @@ condition_of names here (until.Set set.Location) words = do
 condition_of names here until.Unit words = do
   unit ← one_unit words
   Ok (Alters (part.Unit unit))
+condition_of names here until.Conflict words = condition_alone Conflicts words
 
--- `REG`, `over`, `cmp`, `cell E`, `unit N`, `loc E`
+-- `REG`, `over`, `cmp`, `cell E`, `unit N`, `loc E`, `conflict`
 unfoldable pub condition_in : NamesValue → WordValue → List (List ℕ) → Result Condition Refusal
 condition_in names here words = do
   first ← first_keyword until_name all_untils words

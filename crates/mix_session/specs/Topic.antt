@@ -7,9 +7,9 @@ use Rattle.mix_session.specs.ShowUnit.{unit_text}
 use Rattle.mix_session.specs.ShowCode.{codes_text}
 use Rattle.mix_session.specs.ShowValue.{value_line, values_text, cell_values_text}
 use Rattle.mixal_asm.specs.Listing.{symbols_text}
-use Rattle.mix_session.specs.Change.{last_lines, writes_text, diff_text}
+use Rattle.mix_session.specs.Change.{last_lines, diff_text}
 use Rattle.mix_session.specs.Counts.{counts_text}
-use Rattle.mix_session.specs.Conflicts.{conflicts_text}
+use Rattle.mix_session.specs.Conflicts.{conflicts_text, met_text}
 use Rattle.mix_session.specs.declared.request.topics.Topic.{Topic}
 use Rattle.mix_session.specs.declared.request.topics.Topic.TheVariants.{Registers, Cells, Clock, Breaks, Changes, Unit, All, Code, Value, Values, CellValues, Symbols, Last, Writes, Diff, Counts, Conflicts}
 
@@ -28,7 +28,7 @@ topic_text Values program t = values_text (world_of t)
 topic_text (CellValues first last) program t = cell_values_text (world_of t) first last
 topic_text Symbols program t = symbols_text program.names
 topic_text (Last n) program t = last_lines t n
-topic_text (Writes condition) program t = writes_text condition t
+topic_text (Writes condition) program t = met_text condition t
 topic_text (Diff n) program t = diff_text t n
 topic_text Counts program t = counts_text program t
 topic_text Conflicts program t = conflicts_text t

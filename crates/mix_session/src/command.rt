@@ -15,11 +15,16 @@ use crate::command::until::{back_until, forth_until};
 use crate::fault::Refusal;
 use crate::request::{Request, Topic};
 use mix_machine::{Change, World};
+use std::alloc::Global;
 use undo_core::{Journal, Memory, Refused};
 
 /// Does what a request asks for.
 #[tactic(auto, unfolding(crate::specs::Command::effect_of))]
-pub(crate) fn execute(journal: &mut Journal<World>, request: Request) -> Result<Answer, Memory>
+pub(crate) fn execute(
+    alloc: Global,
+    journal: &mut Journal<World>,
+    request: Request,
+) -> Result<Answer, Memory>
     ensures { HasEffect (effect_of journal.old request) journal.old journal.new result }
 {
     match request {
@@ -27,20 +32,20 @@ pub(crate) fn execute(journal: &mut Journal<World>, request: Request) -> Result<
         Request::Step(count) => step(journal, count),
         Request::Trace(count) => trace(journal, count),
         Request::Run(count) => run(journal, count),
-        Request::RunUntil(count, conditions) => run_until(journal, count, &conditions),
+        Request::RunUntil(count, conditions) => run_until(alloc, journal, count, &conditions),
         Request::Back(count) => Ok(back(journal, count)),
         Request::BackAll => {
             let count = journal.done();
             Ok(take_back(journal, count))
         }
         Request::BackBreak => Ok(back_break(journal)),
-        Request::BackUntil(conditions) => Ok(back_until(journal, &conditions)),
+        Request::BackUntil(conditions) => back_until(alloc, journal, &conditions),
         Request::Forth(count) => forth(journal, count),
         Request::ForthAll => {
             let count = journal.ahead();
             do_again(journal, count)
         }
-        Request::ForthUntil(conditions) => forth_until(journal, &conditions),
+        Request::ForthUntil(conditions) => forth_until(alloc, journal, &conditions),
         Request::Goto(number) => go_to(journal, number),
         Request::Change(change) => change_by(journal, change),
         Request::Show(topic) => Ok(show(journal, topic)),

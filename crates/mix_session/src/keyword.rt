@@ -191,11 +191,12 @@ impl Keyword for SetWord {
     ghost named = { set_named };
 }
 
-/// What a command may wait for: a unit, or what `set` names.
+/// What a command may wait for: a unit, a conflict, or what `set` names.
 #[derive(Clone, Copy)]
 pub(crate) enum UntilWord {
     Set(SetWord),
     Unit,
+    Conflict,
 }
 
 impl Keyword for UntilWord {
@@ -207,6 +208,7 @@ impl Keyword for UntilWord {
         match self {
             UntilWord::Set(word) => word.name(),
             UntilWord::Unit => "unit",
+            UntilWord::Conflict => "conflict",
         }
     }
 
@@ -226,6 +228,7 @@ impl Keyword for UntilWord {
             UntilWord::Set(SetWord::Toggle),
             UntilWord::Set(SetWord::Indicator),
             UntilWord::Unit,
+            UntilWord::Conflict,
         ]
     }
 

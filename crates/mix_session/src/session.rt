@@ -14,6 +14,7 @@ use crate::answer::{Answer, answer_text};
 use crate::command::execute;
 use crate::command::runs::run_on;
 use crate::command::stops::{Stops, Way, marks_of};
+use crate::conflicts::known_of;
 use crate::fault::Refusal;
 use crate::reply::{End, Told};
 use crate::request::{Request, read_request};
@@ -116,7 +117,7 @@ impl Session {
         ensures effect { HasEffect (effect_of self.old.timeline request) self.old.timeline self.new.timeline result }
         ensures refused { IfOk result (λ answer. IfSome (refusal_of answer) (λ _. self.new.timeline ≡ self.old.timeline)) }
     {
-        execute(&mut self.journal, request)
+        execute(self.alloc, &mut self.journal, request)
     }
 
     /// Makes changes, at most so many, until one of the ends holds: how many it made, and the end. Out of memory: of steps those done stand, of
@@ -131,12 +132,14 @@ impl Session {
         ensures limit { IfOk result (λ ran. ran.1 ≡ End.Limit → ran.0 ≡ most) }
     {
         let mut marks = marks_of(self.alloc, stops.watched, self.world())?;
+        let mut known = known_of(self.alloc, &self.journal, stops.watched)?;
         let (made, end) = run_on(
             &mut self.journal,
             way,
             most as usize,
             stops,
             marks.as_mut_slice(),
+            &mut known,
         )?;
         Ok((made as u32, end))
     }

@@ -3,6 +3,7 @@
 ghost use Rattle.std.specs.Prelude.{◌≡◌, Some, IfOk, string_bytes, flat_map};
 ghost use Rattle.mix_word.specs.Register.{all_registers};
 ghost use Rattle.mix_session.specs.Show.{value_text, register_line, flags_text, registers_text, cells_text, clock_text, breaks_text, changes_text};
+ghost use Rattle.mix_session.specs.Conflicts.{met_text};
 ghost use Rattle.mix_session.specs.Topic.{topic_text};
 
 pub(crate) mod all;
@@ -20,6 +21,7 @@ pub(crate) mod unit;
 mod values;
 pub(crate) mod words;
 
+use crate::condition::Condition;
 use crate::keyword::Keyword;
 use crate::reply::position_of;
 use crate::request::Topic;
@@ -65,10 +67,24 @@ pub(crate) fn topic_lines(
         Topic::CellValues(first, last) => Ok(cell_value_lines(alloc, world, first, last)?),
         Topic::Symbols => program.symbols_text(alloc),
         Topic::Last(count) => last_lines(alloc, journal, count),
-        Topic::Writes(condition) => write_lines(alloc, journal, condition),
+        Topic::Writes(condition) => met_lines(alloc, journal, condition),
         Topic::Diff(number) => diff_lines(alloc, journal, number),
         Topic::Counts => count_lines(alloc, program, journal),
         Topic::Conflicts => conflict_lines(alloc, journal),
+    }
+}
+
+// The lines of the changes done that meet a condition.
+fn met_lines(
+    alloc: Global,
+    journal: &Journal<World>,
+    condition: Condition,
+) -> Result<Vec<u8>, Memory>
+    ensures { IfOk result (λ text. text.items ≡ met_text condition journal.now) }
+{
+    match condition {
+        Condition::Alters(_) | Condition::At(_) => write_lines(alloc, journal, condition),
+        Condition::Conflicts => conflict_lines(alloc, journal),
     }
 }
 

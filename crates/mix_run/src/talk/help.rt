@@ -83,7 +83,7 @@ show takes regs, all, cells E E, unit N, code, value W, values, last N, writes C
 counts, conflicts, clock, breaks, changes or symbols
 ";
 
-const WATCH_TAKES: &str = "watch takes COND: a register, over, cmp, cell E, unit N or loc E\n";
+const WATCH_TAKES: &str = "watch takes COND: a register, over, cmp, cell E, unit N, loc E or conflict\n";
 
 const QUIT: &str = "\
 quit             ends the session, as the end of the input does
@@ -124,8 +124,9 @@ If FILE can't be read, nothing is done. In FILE source itself can't be used.
 const LIST: &str = "list takes the number of a line, a symbol, or nothing\n";
 
 const UNTIL: &str = "\
-COND is a register, over, cmp, cell E, unit N or loc E: a change reaches it by altering what it names,
-or by leading to location E. As: run 1000 until A, back until cell 100. Up to eight may be joined
+COND is a register, over, cmp, cell E, unit N, loc E or conflict: a change reaches it by altering
+what it names, by leading to location E, or by a conflict with a transfer under way. As:
+run 1000 until A, back until cell 100, run 1000 until conflict. Up to eight may be joined
 by or: run 1000 until A or loc LOOP ends with the first step that reaches one of them.
 ";
 

@@ -37,3 +37,4 @@ until_named (until.Set Location) = refl
 until_named (until.Set Toggle) = refl
 until_named (until.Set Indicator) = refl
 until_named until.Unit = refl
+until_named until.Conflict = refl

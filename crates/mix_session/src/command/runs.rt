@@ -5,13 +5,16 @@ ghost use Rattle.mix_session.specs.Timeline.{world_of, begins_with_step, moved};
 ghost use Rattle.mix_session.specs.Command.{effect_of_run, effect_of_trace, effect_of_back_break, is_halt_done, end_at, Begun, HasEffect};
 ghost use Rattle.mix_session.specs.Stops.{no_stops, at_breaks, at_breaks_or};
 ghost use Rattle.mix_session.specs.Marks.{AreMarks, HasMoved};
+ghost use Rattle.mix_session.specs.Known.{Knows};
 
 use crate::answer::Answer;
 use crate::command::stops::{Stops, Way, end_of_move, marks_at};
 use crate::condition::Condition;
 use crate::conditions::Conditions;
+use crate::conflicts::{Known, known_of};
 use crate::reply::End;
 use mix_machine::{Change, Mark, World, mark_law};
+use std::alloc::Global;
 use undo_core::{Journal, Memory, Refused};
 
 // New steps, which something may stop. (Inlined, so that the loop of a command asks only for what stops that command.)
@@ -21,11 +24,13 @@ fn ran(
     count: u32,
     stops: &Stops<'_>,
     marks: &mut [Mark],
+    known: &mut Known,
 ) -> Result<Answer, Memory>
-    requires { AreMarks stops.now.watched marks.old (world_of journal.old) }
+    requires marks { AreMarks stops.now.watched marks.old (world_of journal.old) }
+    requires known { Knows stops.now.watched Way.New known.old journal.old }
     ensures { HasEffect (effect_of_run Way.New stops.now journal.old count) journal.old journal.new result }
 {
-    let (done, end) = run_on(journal, Way::New, count as usize, stops, marks)?;
+    let (done, end) = run_on(journal, Way::New, count as usize, stops, marks, known)?;
     Ok(Answer::Ran(done as u32, end))
 }
 
@@ -33,35 +38,47 @@ fn ran(
 pub(crate) fn step(journal: &mut Journal<World>, count: u32) -> Result<Answer, Memory>
     ensures { HasEffect (effect_of_run Way.New no_stops journal.old count) journal.old journal.new result }
 {
-    ran(journal, count, &stops_at(false, &[]), &mut [])
+    let (stops, mut known) = (stops_at(false, &[]), Known::nothing());
+    ran(journal, count, &stops, &mut [], &mut known)
 }
 
 /// `run N`.
 pub(crate) fn run(journal: &mut Journal<World>, count: u32) -> Result<Answer, Memory>
     ensures { HasEffect (effect_of_run Way.New at_breaks journal.old count) journal.old journal.new result }
 {
-    ran(journal, count, &stops_at(true, &[]), &mut [])
+    let (breaks, mut known) = (stops_at(true, &[]), Known::nothing());
+    ran(journal, count, &breaks, &mut [], &mut known)
 }
 
 /// `run N until COND`, with one condition or several.
 pub(crate) fn run_until(
+    alloc: Global,
     journal: &mut Journal<World>,
     count: u32,
     conditions: &Conditions,
 ) -> Result<Answer, Memory>
     ensures { HasEffect (effect_of_run Way.New (at_breaks_or conditions.now) journal.old count) journal.old journal.new result }
 {
+    let watched = conditions.as_slice();
+    let mut known = known_of(alloc, journal, watched)?;
     let mut marks = marks_at(conditions, journal.state());
-    let stops = stops_at(true, conditions.as_slice());
-    ran(journal, count, &stops, &mut marks[..conditions.len()])
+    let marks = &mut marks[..conditions.len()];
+    ran(journal, count, &stops_at(true, watched), marks, &mut known)
 }
 
 /// `trace N`.
 pub(crate) fn trace(journal: &mut Journal<World>, count: u32) -> Result<Answer, Memory>
     ensures { HasEffect (effect_of_trace journal.old count) journal.old journal.new result }
 {
-    let stops = stops_at(false, &[]);
-    let (done, end) = run_on(journal, Way::New, count as usize, &stops, &mut [])?;
+    let (stops, mut known) = (stops_at(false, &[]), Known::nothing());
+    let (done, end) = run_on(
+        journal,
+        Way::New,
+        count as usize,
+        &stops,
+        &mut [],
+        &mut known,
+    )?;
     Ok(Answer::Traced(done as u32, end))
 }
 
@@ -70,7 +87,8 @@ pub(crate) fn back_break(journal: &mut Journal<World>) -> Answer
     ensures { HasEffect (effect_of_back_break journal.old) journal.old journal.new (Ok result) }
 {
     let all = journal.done();
-    match run_on(journal, Way::Back, all, &stops_at(true, &[]), &mut []) {
+    let (stops, mut known) = (stops_at(true, &[]), Known::nothing());
+    match run_on(journal, Way::Back, all, &stops, &mut [], &mut known) {
         Ok((count, _)) => Answer::Back(count),
         Err(Memory) => unreachable!(),
     }
@@ -89,7 +107,7 @@ fn stops_at<'a>(breaks: bool, watched: &'a [Condition]) -> Stops<'a>
     }
 }
 
-/// Changes until one of the ends holds, and how many were made. The marks before are those of what is watched.
+/// Changes until one of the ends holds, and how many were made. The marks before are those of what is watched, and what is known of conflicts too.
 #[inline(always)]
 pub(crate) fn run_on(
     journal: &mut Journal<World>,
@@ -97,8 +115,10 @@ pub(crate) fn run_on(
     most: usize,
     stops: &Stops<'_>,
     marks: &mut [Mark],
+    known: &mut Known,
 ) -> Result<(usize, End), Memory>
-    requires { AreMarks stops.now.watched marks.old (world_of journal.old) }
+    requires marks { AreMarks stops.now.watched marks.old (world_of journal.old) }
+    requires known { Knows stops.now.watched way known.old journal.old }
     ensures first { journal.new.first ≡ journal.old.first }
     ensures moved { IfOk result (λ r. journal.new ≡ moved way journal.old r.0) }
     ensures within { IfOk result (λ r. r.0 ≤ most) }
@@ -110,12 +130,13 @@ pub(crate) fn run_on(
     mark_law();
     for done in 0..most {
         let halts = is_halt_done(way, journal.state());
+        let conflicts = known.look_on(way, journal);
         match move_once(journal, way) {
             Ok(None) => {}
             Ok(Some(end)) => return Ok((done, end)),
             Err(Memory) => return Err(Memory),
         }
-        match end_of_move(halts, stops, marks, journal.state()) {
+        match end_of_move(halts, conflicts, stops, marks, journal.state()) {
             Some(end) => return Ok((done + 1, end)),
             None => {}
         }

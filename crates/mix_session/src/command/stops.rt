@@ -75,19 +75,20 @@ pub(crate) fn marks_at(conditions: &Conditions, world: &World) -> [Mark; Conditi
     marks
 }
 
-/// Why a run ends after a change, if it does, by the marks before it, which are made those after it.
+/// Why a run ends after a change, if it does, by whether it conflicts and by the marks before it, which are made those after it.
 #[inline(always)]
 pub(crate) fn end_of_move(
     halts: bool,
+    conflicts: bool,
     stops: &Stops<'_>,
     marks: &mut [Mark],
     world: &World,
 ) -> Option<End>
     requires { length stops.now.watched ≡ length marks.old }
-    ensures end { result ≡ end_by_marks halts stops.now marks.old world.now }
+    ensures end { result ≡ end_by_marks halts conflicts stops.now marks.old world.now }
     ensures marks { AreMarks stops.now.watched marks.new world.now }
 {
-    let met = first_met(stops.watched, marks, world);
+    let met = first_met(conflicts, stops.watched, marks, world);
     if halts {
         return Some(End::Halt);
     }
@@ -149,18 +150,24 @@ fn is_awaited(location: Option<u16>, world: &World) -> bool
     }
 }
 
-/// The first of the conditions that a change meets, by the marks before it, which are made those after it.
+/// The first of the conditions that a change meets, by whether it conflicts and by the marks before it, which are made those after it.
 #[inline(always)]
-pub(crate) fn first_met(watched: &[Condition], marks: &mut [Mark], world: &World) -> Option<usize>
+pub(crate) fn first_met(
+    conflicts: bool,
+    watched: &[Condition],
+    marks: &mut [Mark],
+    world: &World,
+) -> Option<usize>
     requires { length watched.now ≡ length marks.old }
-    ensures first { result ≡ first_met 0 watched.now marks.old world.now }
+    ensures first { result ≡ first_met conflicts 0 watched.now marks.old world.now }
     ensures marks { AreMarks watched.now marks.new world.now }
 {
     let mut found = None;
     for index in 0..watched.len() {
         let condition = watched[index];
         let now = world.mark(condition.watched());
-        found = first_of(found, condition.is_met(&marks[index], &now, &now), index);
+        let is_met = condition.is_met(conflicts, &marks[index], &now, &now);
+        found = first_of(found, is_met, index);
         marks[index] = now;
     }
     found

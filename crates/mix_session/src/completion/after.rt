@@ -147,7 +147,8 @@ fn after_until_word(word: UntilWord, words: &mut Words) -> Next
         UntilWord::Set(SetWord::Register(_))
         | UntilWord::Set(SetWord::Toggle)
         | UntilWord::Set(SetWord::Indicator)
-        | UntilWord::Unit => Next::Nothing,
+        | UntilWord::Unit
+        | UntilWord::Conflict => Next::Nothing,
     }
 }
 

@@ -144,6 +144,7 @@ fn read_operand<N: Names>(
         }
         UntilWord::Set(SetWord::Location) => Ok(Condition::At(next_place(words, names, here)?)),
         UntilWord::Unit => Ok(Condition::Alters(Part::Unit(next_unit(words)?))),
+        UntilWord::Conflict => Ok(Condition::Conflicts),
     }
 }
 

@@ -28,7 +28,7 @@ pub(crate) fn last_lines(
     lines_after(alloc, journal, first, None)
 }
 
-/// The lines of the changes done that meet a condition.
+/// The lines of the changes done that meet a condition on the machines before and after them.
 pub(crate) fn write_lines(
     alloc: Global,
     journal: &Journal<World>,
@@ -135,7 +135,7 @@ fn is_chosen(chosen: Option<Condition>, worlds: Worlds<'_>) -> bool
         Some(condition) => {
             let before = worlds.before.mark(condition.watched());
             let after = worlds.after.mark(condition.watched());
-            condition.is_met(&before, &after, &after)
+            condition.is_met(false, &before, &after, &after)
         }
     }
 }

@@ -23,8 +23,9 @@ returns-in-Err-clause-memory c =
 pub returns-in-Some-clause-end : goal.returns-in-Some-clause-end
 returns-in-Some-clause-end c =
     let has = rw c.in-Ok-None.field-0-is at c.in-Ok-None.ensures.moved in
-    let more = one_more c.mark_law.ensures.altered c.args.way c.args.stops.now c.args.journal.now c.loop-done.journal c.move_once.new.journal c.loop-done.done _ _ _ _ _
-    c.loop-done.invariant.moved c.state.ensures c.state-in-loop-done.ensures has c.loop-done.invariant.marks c.end_of_move.ensures.marks c.is_halt_done-halts.ensures in
+    let more = one_more c.mark_law.ensures.altered c.args.way c.args.stops.now c.args.journal.now c.loop-done.journal c.move_once.new.journal c.loop-done.done _ _ _ _ _ _ _ _
+    c.loop-done.invariant.moved c.state.ensures c.state-in-loop-done.ensures has c.loop-done.invariant.marks c.end_of_move.ensures.marks c.is_halt_done-halts.ensures
+    c.loop-done.invariant.knows c.look_on-conflicts.ensures.waits c.look_on-conflicts.ensures.last c.look_on-conflicts.ensures.looks in
     end_at-last c.args.way c.args.stops.now c.args.journal.now c.args.most (c.loop-done.done + 1) _ (more.1 ∙ sym c.end_of_move.ensures.end ∙ c.in-Some.is)
 
 pub returns-in-Some-clause-least : goal.returns-in-Some-clause-least
@@ -36,8 +37,9 @@ returns-in-Some-clause-least c =
 pub loop-done-preserved : goal.loop-done-preserved
 loop-done-preserved c =
     let has = rw c.in-Ok-None.field-0-is at c.in-Ok-None.ensures.moved in
-    let more = one_more c.mark_law.ensures.altered c.args.way c.args.stops.now c.args.journal.now c.loop-done.journal c.move_once.new.journal c.loop-done.done _ _ _ _ _
-    c.loop-done.invariant.moved c.state.ensures c.state-in-loop-done.ensures has c.loop-done.invariant.marks c.end_of_move.ensures.marks c.is_halt_done-halts.ensures in
+    let more = one_more c.mark_law.ensures.altered c.args.way c.args.stops.now c.args.journal.now c.loop-done.journal c.move_once.new.journal c.loop-done.done _ _ _ _ _ _ _ _
+    c.loop-done.invariant.moved c.state.ensures c.state-in-loop-done.ensures has c.loop-done.invariant.marks c.end_of_move.ensures.marks c.is_halt_done-halts.ensures
+    c.loop-done.invariant.knows c.look_on-conflicts.ensures.waits c.look_on-conflicts.ensures.last c.look_on-conflicts.ensures.looks in
     record {
       first = ap (λ (t : Timeline). t.first) has.0 ∙ moved_once-first c.args.way c.loop-done.journal ∙ c.loop-done.invariant.first;
       moved = more.0;
@@ -45,6 +47,7 @@ loop-done-preserved c =
       before = none_before-next c.args.way c.args.stops.now c.args.journal.now c.loop-done.journal c.args.most c.loop-done.done c.loop-done.invariant.going c.loop-done-test.true
           c.loop-done.invariant.moved has.1 c.loop-done.invariant.before;
       marks = more.2;
+      knows = more.3 (sym c.end_of_move.ensures.end ∙ c.in-None.is);
     }
 
 pub returns-clause-end : goal.returns-clause-end

@@ -1,9 +1,21 @@
--- The marks are those of the machine before the first step.
-use Rattle.mix_session.proofs.UntilLemmas.{marks_there}
+-- The marks are those of the machine before the first step, and what is known of conflicts is of the changes done.
+use Rattle.std.proofs.Common.{refl}
+use Rattle.mix_session.specs.Stops.{at_breaks_or}
+use Rattle.mix_session.specs.declared.command.stops.Way.TheVariants.{New}
+use Rattle.mix_session.proofs.CommandLemmas.{Begun-none}
+use Rattle.mix_session.proofs.UntilLemmas.{effect-err, marks_there}
 use Rattle.mix_session.proofs.command.runs.run_until.Goals as goal
 
-pub ran-requires : goal.ran-requires
-ran-requires c =
-    rw c.stops_at-stops.ensures
-    (marks_there c.args.journal.now c.state.result.now c.args.conditions.now c.as_slice.result.now c.marks_at-marks.result c.len.result c.state.ensures c.as_slice.ensures.is
-    c.len.ensures.is c.marks_at-marks.ensures)
+pub returns-in_err-known : goal.returns-in_err-known
+returns-in_err-known c =
+    effect-err _ c.args.journal.now c.args.journal.now _ c.from_residual.ensures.0 refl
+    (Begun-none New (at_breaks_or c.args.conditions.now) c.args.journal.now c.args.count)
+
+pub ran-requires-clause-marks : goal.ran-requires-clause-marks
+ran-requires-clause-marks c =
+    rw c.stops_at.ensures
+    (marks_there c.args.journal.now c.state.result.now c.args.conditions.now c.as_slice-watched.result.now c.marks_at-marks.result c.len.result c.state.ensures
+    c.as_slice-watched.ensures.is c.len.ensures.is c.marks_at-marks.ensures)
+
+pub ran-requires-clause-known : goal.ran-requires-clause-known
+ran-requires-clause-known c = rw c.stops_at.ensures (c.in_ok-known.ensures.known New)

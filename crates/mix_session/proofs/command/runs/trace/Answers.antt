@@ -1,9 +1,12 @@
--- The answer is made of the steps that were done.
-use Rattle.std.proofs.Common.{refl}
+-- The answer is made of the steps that were done, and nothing is waited for.
+use Rattle.std.proofs.Common.{[], refl}
 use Rattle.mix_session.specs.Stops.{no_stops}
 use Rattle.mix_session.specs.declared.command.stops.Way.TheVariants.{New}
 use Rattle.mix_session.proofs.CommandLemmas.{effect_of_run-is}
 use Rattle.mix_session.proofs.command.runs.trace.Goals as goal
+
+pub run_on-requires-clause-known : goal.run_on-requires-clause-known
+run_on-requires-clause-known c = rw c.stops_at-stops.ensures (c.nothing-known.ensures [] New c.args.journal.now refl)
 
 pub returns : goal.returns
 returns c =

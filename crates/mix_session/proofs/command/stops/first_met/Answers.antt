@@ -12,8 +12,8 @@ loop-index-preserved c =
     let within_old : c.loop-index.index < length c.args.marks.now = omega arith in
     record {
       found = looked_at c.args.watched.now c.args.marks.now c.loop-index.marks c.args.world.now c.loop-index.index c.index-watched-index.result c.index-marks-index.result
-          c.mark-now.result c.watched.result _ _ _ below within_old c.index-watched-index.is c.index-marks-index.is (c.loop-index.invariant.rest _ _ (omega arith))
-          c.loop-index.invariant.found c.watched.ensures c.mark-now.ensures.is c.is_met.ensures c.first_of-found.ensures;
+          c.mark-now.result c.watched.result _ _ c.args.conflicts _ below within_old c.index-watched-index.is c.index-marks-index.is (c.loop-index.invariant.rest _ _ (omega arith))
+          c.loop-index.invariant.found c.watched.ensures c.mark-now.ensures.is c.is_met-is_met.ensures c.first_of-found.ensures;
       seen = rw (add-one, take-suc-set c.loop-index.marks c.loop-index.index c.mark-now.result within)
           (AreMarks-push c.args.watched.now _ c.args.world.now c.loop-index.index c.index-watched-index.result c.mark-now.result below c.index-watched-index.is
           c.loop-index.invariant.seen (c.mark-now.ensures.is ∙ ap (mark_of c.args.world.now) c.watched.ensures)

@@ -17,9 +17,9 @@ loop-count-init c =
 pub returns-then-is_met : goal.returns-then-is_met
 returns-then-is_met c =
     let all : c.done-all.result ≡ length c.args.journal.now.changes = c.done-all.ensures.count in
-    let below : c.loop-count.count < length c.args.journal.now.changes = omega (arith, c.requires, c.loop-count-test.true) in
+    let below : c.loop-count.count < length c.args.journal.now.changes = omega (arith, c.requires.within, c.loop-count-test.true) in
     let seen = c.loop-count.invariant.seen in
-    let next = seen-next c.mark_law.ensures.altered c.mark_law.ensures.before c.mark_law.ensures.world c.args.journal.now c.args.condition.now c.loop-count.count c.loop-count.mark c.step_back-before.result.0 c.step_back-before.result.1 c.earlier-kept.result seen.0 below
+    let next = seen-next c.mark_law.ensures.altered c.mark_law.ensures.before c.mark_law.ensures.world c.args.journal.now c.args.condition.now c.loop-count.count c.loop-count.mark c.step_back-before.result.0 c.step_back-before.result.1 c.earlier-kept.result seen.0 below c.requires.marked
     c.loop-count.invariant.real seen.1 (rw all at c.earlier-kept.ensures.back) c.step_back-before.ensures.before c.step_back-before.ensures.met in
     sym (least_below-is c.args.most c.loop-count.count (is_met_back c.args.condition.now c.args.journal.now) (omega (arith, c.loop-count-test.true))
     (λ _. sym next.2 ∙ c.if-is_met.true) c.loop-count.invariant.none)
@@ -27,9 +27,9 @@ returns-then-is_met c =
 pub loop-count-preserved : goal.loop-count-preserved
 loop-count-preserved c =
     let all : c.done-all.result ≡ length c.args.journal.now.changes = c.done-all.ensures.count in
-    let below : c.loop-count.count < length c.args.journal.now.changes = omega (arith, c.requires, c.loop-count-test.true) in
+    let below : c.loop-count.count < length c.args.journal.now.changes = omega (arith, c.requires.within, c.loop-count-test.true) in
     let seen = c.loop-count.invariant.seen in
-    let next = seen-next c.mark_law.ensures.altered c.mark_law.ensures.before c.mark_law.ensures.world c.args.journal.now c.args.condition.now c.loop-count.count c.loop-count.mark c.step_back-before.result.0 c.step_back-before.result.1 c.earlier-kept.result seen.0 below
+    let next = seen-next c.mark_law.ensures.altered c.mark_law.ensures.before c.mark_law.ensures.world c.args.journal.now c.args.condition.now c.loop-count.count c.loop-count.mark c.step_back-before.result.0 c.step_back-before.result.1 c.earlier-kept.result seen.0 below c.requires.marked
     c.loop-count.invariant.real seen.1 (rw all at c.earlier-kept.ensures.back) c.step_back-before.ensures.before c.step_back-before.ensures.met in
     record {
       real = c.loop-count.invariant.real;

@@ -1,8 +1,17 @@
--- The marks are those of the machine before the first change.
-use Rattle.mix_session.proofs.UntilLemmas.{marks_there}
+-- The marks are those of the machine before the first change, and what is known of conflicts is of the changes done.
+use Rattle.std.proofs.Common.{refl}
+use Rattle.mix_session.specs.declared.command.stops.Way.TheVariants.{Again}
+use Rattle.mix_session.proofs.UntilLemmas.{Begun-forth_none, effect-err, marks_there}
 use Rattle.mix_session.proofs.command.until.forth_until.Goals as goal
 
-pub seek_forth-requires : goal.seek_forth-requires
-seek_forth-requires c =
-    marks_there c.args.journal.now c.state.result.now c.args.conditions.now c.as_slice.result.now c.marks_at-marks.result c.len.result c.state.ensures c.as_slice.ensures.is
-    c.len.ensures.is c.marks_at-marks.ensures
+pub returns-in_err-known : goal.returns-in_err-known
+returns-in_err-known c =
+    effect-err _ c.args.journal.now c.args.journal.now _ c.from_residual.ensures.0 refl (Begun-forth_none c.args.conditions.now c.args.journal.now)
+
+pub seek_forth-requires-clause-marks : goal.seek_forth-requires-clause-marks
+seek_forth-requires-clause-marks c =
+    marks_there c.args.journal.now c.state.result.now c.args.conditions.now c.as_slice-watched.result.now c.marks_at-marks.result c.len.result c.state.ensures
+    c.as_slice-watched.ensures.is c.len.ensures.is c.marks_at-marks.ensures
+
+pub seek_forth-requires-clause-known : goal.seek_forth-requires-clause-known
+seek_forth-requires-clause-known c = c.in_ok-known.ensures.known Again

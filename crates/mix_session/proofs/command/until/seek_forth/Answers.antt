@@ -7,7 +7,7 @@ use Rattle.mix_session.proofs.UntilLemmas.{ahead-left, back-forth, forth_by-one,
 use Rattle.mix_session.proofs.command.until.seek_forth.Goals as goal
 
 pub loop-done-init : goal.loop-done-init
-loop-done-init c = record { forth = forth_by-none c.args.journal.now; none = λ j below. absurd (omega (arith, below)); marks = c.requires }
+loop-done-init c = record { forth = forth_by-none c.args.journal.now; none = λ j below. absurd (omega (arith, below)); marks = c.requires.marks; knows = c.requires.known }
 
 pub step_forth-requires-clause-some : goal.step_forth-requires-clause-some
 step_forth-requires-clause-some c = ahead-left c.args.journal.now _ c.loop-done.done (omega (arith, c.ahead-all.ensures, c.loop-done-test.true)) c.loop-done.invariant.forth
@@ -34,6 +34,7 @@ loop-done-preserved c =
       none = below_more (λ j. is_reached_forth c.args.watched.now c.args.journal.now j ≡ false) c.loop-done.done c.loop-done.invariant.none
           (sym here ∙ sym c.in_ok-step_forth.ensures.met ∙ c.if-branch.false);
       marks = c.in_ok-step_forth.ensures.after;
+      knows = c.in_ok-step_forth.ensures.knows;
     }
 
 pub go_back-requires : goal.go_back-requires
