@@ -13,14 +13,12 @@ use Rattle.dap_stream.specs.Hearing.{HearsAs}
 use Rattle.dap_stream.specs.Sent.{SendsAll}
 use Rattle.dap_stream.specs.Serving.{IsUnclear, Phase, going, over, Pieces, SendsMore, SendsPieces, Steps, Takes, WhileBusy, max_pieces}
 use Rattle.dap_stream.specs.Talk.{Talks}
-use Rattle.dap_stream.specs.Talked.{Ended, IsEnd, LeftTo, Stuck, TalkedAs, TurnAs}
+use Rattle.dap_stream.specs.Talked.{Ended, IsEnd, Stuck, TalkedAs, TurnAs}
 use Rattle.dap_stream.specs.declared.broken.Broken.{Broken}
 use Rattle.dap_stream.specs.declared.broken.Broken.TheVariants as broken
 use Rattle.dap_stream.specs.declared.hear.Heard.TheVariants as heard
 use Rattle.dap_stream.specs.declared.serves.Turn.{Turn}
 use Rattle.dap_stream.specs.declared.serves.Turn.TheVariants as turn
-use Rattle.dap_stream.specs.declared.talk.Talked.{Talked}
-use Rattle.dap_stream.specs.declared.talk.Talked.TheVariants as talked
 use Rattle.dap_stream.proofs.BrokenLemmas.{broken-after}
 use Rattle.dap_stream.proofs.SendLemmas.{sends-none, sends-then}
 use Rattle.dap_stream.proofs.Talking.{talks-none, talks-one, talks-then}
@@ -132,20 +130,6 @@ module _ {S : Type 0} (serves : S → Request → List Data → Turn → S → T
     end = refl;
   }
 
-  pub went-left : (s t : S) (request : Request) (first : List Data) (old new told : Option (List ℕ))
-      → (message : Data) × IsRequest request message × Hears old (Some message ∷ []) new
-      → serves s request first turn.Left t → LeftTo serves step request s t old new told told first
-  went-left s t request first old new told heard serves = record {
-    state = s;
-    count = 0;
-    rest = old;
-    talks = talks-none step (going s) old told;
-    message = heard.0;
-    asks = heard.1;
-    hears = heard.2;
-    left = serves;
-  }
-
   pub at-end : (s : S) (old new told : Option (List ℕ)) → HearsAs (Ok heard.End) old new → Ended step s s old new told told
   at-end s old new told is = record {
     phase = going s;
@@ -160,26 +144,26 @@ module _ {S : Type 0} (serves : S → Request → List Data → Turn → S → T
   stuck why s old new told is = record { state = s; count = 0; rest = old; talks = talks-none step (going s) old told; breaks = is }
 
   -- what breaks it off before anything is sent
-  pub broken-first : (why : Broken) (s t : S) (old new told : Option (List ℕ)) (waiting : List Data) → HearsAs (Err why) old new
-      → TurnAs serves busy works rests (Err why) s t old new told told waiting
-  broken-first broken.Cut s t old new told waiting is = stuck broken.Cut s old new told is
-  broken-first broken.TooLong s t old new told waiting is = stuck broken.TooLong s old new told is
-  broken-first broken.Read s t old new told waiting is = stuck broken.Read s old new told is
-  broken-first broken.Write s t old new told waiting is = absurd is
-  broken-first broken.Memory s t old new told waiting is = inl (stuck broken.Memory s old new told is)
+  pub broken-first : (why : Broken) (s t : S) (old new told : Option (List ℕ)) → HearsAs (Err why) old new
+      → TurnAs serves busy works rests (Err why) s t old new told told
+  broken-first broken.Cut s t old new told is = stuck broken.Cut s old new told is
+  broken-first broken.TooLong s t old new told is = stuck broken.TooLong s old new told is
+  broken-first broken.Read s t old new told is = stuck broken.Read s old new told is
+  broken-first broken.Write s t old new told is = absurd is
+  broken-first broken.Memory s t old new told is = inl (stuck broken.Memory s old new told is)
 
   -- and after that
-  pub broken-later : (why : Broken) (s t : S) (old new told now : Option (List ℕ)) (waiting : List Data) → IsMemoryOrWrite why
-      → BrokenOff serves busy works rests s old new told now → TurnAs serves busy works rests (Err why) s t old new told now waiting
-  broken-later broken.Cut s t old new told now waiting is off = absurd is
-  broken-later broken.TooLong s t old new told now waiting is off = absurd is
-  broken-later broken.Read s t old new told now waiting is off = absurd is
-  broken-later broken.Write s t old new told now waiting is off = off
-  broken-later broken.Memory s t old new told now waiting is off = inr off
+  pub broken-later : (why : Broken) (s t : S) (old new told now : Option (List ℕ)) → IsMemoryOrWrite why
+      → BrokenOff serves busy works rests s old new told now → TurnAs serves busy works rests (Err why) s t old new told now
+  broken-later broken.Cut s t old new told now is off = absurd is
+  broken-later broken.TooLong s t old new told now is off = absurd is
+  broken-later broken.Read s t old new told now is off = absurd is
+  broken-later broken.Write s t old new told now is off = off
+  broken-later broken.Memory s t old new told now is off = inr off
 
   -- ---- after a part of a talk
 
-  ended-then : (s m t : S) (count : ℕ) (a b c told mid now : Option (List ℕ)) → Talks step (going s) (going m) count a b told mid
+  pub ended-then : (s m t : S) (count : ℕ) (a b c told mid now : Option (List ℕ)) → Talks step (going s) (going m) count a b told mid
       → Ended step m t b c mid now → Ended step s t a c told now
   ended-then s m t count a b c told mid now part end = record {
     phase = end.phase;
@@ -194,20 +178,6 @@ module _ {S : Type 0} (serves : S → Request → List Data → Turn → S → T
     end-then (going v) more left new (inr is) = inr (omega (arith, is.0), is.1)
     end-then (over v) more left new is = is
 
-  left-then : (request : Request) (s m t : S) (count : ℕ) (a b c told mid now : Option (List ℕ)) (waiting : List Data)
-      → Talks step (going s) (going m) count a b told mid → LeftTo serves step request m t b c mid now waiting
-      → LeftTo serves step request s t a c told now waiting
-  left-then request s m t count a b c told mid now waiting part end = record {
-    state = end.state;
-    count = count + end.count;
-    rest = end.rest;
-    talks = talks-then step (going s) (going m) (going end.state) count end.count a b end.rest told mid now part end.talks;
-    message = end.message;
-    asks = end.asks;
-    hears = end.hears;
-    left = end.left;
-  }
-
   stuck-then : (why : Broken) (s m : S) (count : ℕ) (a b c told mid now : Option (List ℕ)) → Talks step (going s) (going m) count a b told mid
       → Stuck step why m b c mid now → Stuck step why s a c told now
   stuck-then why s m count a b c told mid now part end = record {
@@ -218,21 +188,15 @@ module _ {S : Type 0} (serves : S → Request → List Data → Turn → S → T
     breaks = end.breaks;
   }
 
-  pub talked-then : (end : Talked) (s m t : S) (count : ℕ) (a b c told mid now : Option (List ℕ)) (waiting : List Data)
-      → Talks step (going s) (going m) count a b told mid → TurnAs serves busy works rests (Ok (Some end)) m t b c mid now waiting
-      → TalkedAs serves busy works rests (Ok end) s t a c told now waiting
-  talked-then talked.Done s m t count a b c told mid now waiting part end = ended-then s m t count a b c told mid now part end
-  talked-then (talked.Left request) s m t count a b c told mid now waiting part end = left-then request s m t count a b c told mid now waiting part end
-
-  pub broken-then : (why : Broken) (s m t : S) (count : ℕ) (a b c told mid now : Option (List ℕ)) (waiting : List Data)
-      → Talks step (going s) (going m) count a b told mid → TurnAs serves busy works rests (Err why) m t b c mid now waiting
-      → TalkedAs serves busy works rests (Err why) s t a c told now waiting
-  broken-then broken.Cut s m t count a b c told mid now waiting part end = stuck-then broken.Cut s m count a b c told mid now part end
-  broken-then broken.TooLong s m t count a b c told mid now waiting part end = stuck-then broken.TooLong s m count a b c told mid now part end
-  broken-then broken.Read s m t count a b c told mid now waiting part end = stuck-then broken.Read s m count a b c told mid now part end
-  broken-then broken.Write s m t count a b c told mid now waiting part end = broken-after serves busy works rests s m count a b c told mid now part end
-  broken-then broken.Memory s m t count a b c told mid now waiting part (inl end) = inl (stuck-then broken.Memory s m count a b c told mid now part end)
-  broken-then broken.Memory s m t count a b c told mid now waiting part (inr end) =
+  pub broken-then : (why : Broken) (s m t : S) (count : ℕ) (a b c told mid now : Option (List ℕ))
+      → Talks step (going s) (going m) count a b told mid → TurnAs serves busy works rests (Err why) m t b c mid now
+      → TalkedAs serves busy works rests (Err why) s t a c told now
+  broken-then broken.Cut s m t count a b c told mid now part end = stuck-then broken.Cut s m count a b c told mid now part end
+  broken-then broken.TooLong s m t count a b c told mid now part end = stuck-then broken.TooLong s m count a b c told mid now part end
+  broken-then broken.Read s m t count a b c told mid now part end = stuck-then broken.Read s m count a b c told mid now part end
+  broken-then broken.Write s m t count a b c told mid now part end = broken-after serves busy works rests s m count a b c told mid now part end
+  broken-then broken.Memory s m t count a b c told mid now part (inl end) = inl (stuck-then broken.Memory s m count a b c told mid now part end)
+  broken-then broken.Memory s m t count a b c told mid now part (inr end) =
       inr (broken-after serves busy works rests s m count a b c told mid now part end)
 
   pub talk-next : (s m t : S) (count : ℕ) (a b c told mid now : Option (List ℕ)) → Talks step (going s) (going m) count a b told mid

@@ -1,10 +1,8 @@
 -- How a talk came to its end.
-use Rattle.std.specs.Prelude.{◌≡◌, ◌⊎◌, ◌≤◌, ◌-◌, ◌^◌, ℕ, List, [], ◌∷◌, Bool, Option, None, Some, Result, Ok, Err}
+use Rattle.std.specs.Prelude.{◌≡◌, ◌⊎◌, ◌≤◌, ◌-◌, ◌^◌, ℕ, List, Bool, Option, Result, Ok, Err}
 use Rattle.serde_json.specs.Data.{Data}
 use Rattle.dap_message.specs.declared.request.Request.{Request}
-use Rattle.dap_stream.specs.Asked.{IsRequest}
 use Rattle.dap_stream.specs.BrokenOff.{BrokenOff}
-use Rattle.dap_stream.specs.Heard.{Hears}
 use Rattle.dap_stream.specs.Hearing.{HearsAs}
 use Rattle.dap_stream.specs.Serving.{Phase, going, over, Steps}
 use Rattle.dap_stream.specs.Talk.{Talks}
@@ -13,8 +11,6 @@ use Rattle.dap_stream.specs.declared.broken.Broken.TheVariants as broken
 use Rattle.dap_stream.specs.declared.hear.Heard.TheVariants as heard
 use Rattle.dap_stream.specs.declared.serves.Turn.{Turn}
 use Rattle.dap_stream.specs.declared.serves.Turn.TheVariants as turn
-use Rattle.dap_stream.specs.declared.talk.Talked.{Talked}
-use Rattle.dap_stream.specs.declared.talk.Talked.TheVariants as talked
 
 -- the client is done, or its input is at its end, or it had as many exchanges as are counted
 abbrev pub IsEnd : {S : Type 0} → Phase S → ℕ → Option (List ℕ) → Option (List ℕ) → Type 0
@@ -35,18 +31,6 @@ pub record Ended {S : Type 0} (step : Phase S → Option Data → List Data → 
   pub state : state_in phase ≡ t
   pub end : IsEnd phase count rest new
 
--- A talk was had up to a request that was heard, and that another answers: nothing of its answer is sent, and these messages wait.
-pub record LeftTo {S : Type 0} (serves : S → Request → List Data → Turn → S → Type 0) (step : Phase S → Option Data → List Data → Phase S → Type 0)
-    (request : Request) (s t : S) (old new told now : Option (List ℕ)) (waiting : List Data) : Type 0 where
-  pub state : S
-  pub count : ℕ
-  pub rest : Option (List ℕ)
-  pub talks : Talks step (going s) (going state) count old rest told now
-  pub message : Data
-  pub asks : IsRequest request message
-  pub hears : Hears rest (Some message ∷ []) new
-  pub left : serves state request waiting turn.Left t
-
 -- A talk was had up to where the bytes that are still to be heard break it off, or reading them does: all frames that were heard are answered.
 pub record Stuck {S : Type 0} (step : Phase S → Option Data → List Data → Phase S → Type 0) (why : Broken) (s : S) (old new told now : Option (List ℕ)) : Type 0 where
   pub state : S
@@ -58,20 +42,18 @@ pub record Stuck {S : Type 0} (step : Phase S → Option Data → List Data → 
 -- How it came to this result. Where a read fails, all frames that were heard are answered; where a write fails, all but the last one, and of what is told
 -- for that one a beginning is sent; where memory is refused, it is the one or the other.
 abbrev pub TalkedAs : {S : Type 0} → (S → Request → List Data → Turn → S → Type 0) → (S → Bool) → (S → List Data → S → Type 0) → (S → List Data → S → Type 0)
-    → Result Talked Broken → S → S → Option (List ℕ) → Option (List ℕ) → Option (List ℕ) → Option (List ℕ) → List Data → Type 0
-TalkedAs serves busy works rests (Ok talked.Done) s t old new told now waiting = Ended (Steps serves busy works rests) s t old new told now
-TalkedAs serves busy works rests (Ok (talked.Left request)) s t old new told now waiting =
-    LeftTo serves (Steps serves busy works rests) request s t old new told now waiting
-TalkedAs serves busy works rests (Err broken.Cut) s t old new told now waiting = Stuck (Steps serves busy works rests) broken.Cut s old new told now
-TalkedAs serves busy works rests (Err broken.TooLong) s t old new told now waiting = Stuck (Steps serves busy works rests) broken.TooLong s old new told now
-TalkedAs serves busy works rests (Err broken.Read) s t old new told now waiting = Stuck (Steps serves busy works rests) broken.Read s old new told now
-TalkedAs serves busy works rests (Err broken.Write) s t old new told now waiting = BrokenOff serves busy works rests s old new told now
-TalkedAs serves busy works rests (Err broken.Memory) s t old new told now waiting =
+    → Result Unit Broken → S → S → Option (List ℕ) → Option (List ℕ) → Option (List ℕ) → Option (List ℕ) → Type 0
+TalkedAs serves busy works rests (Ok done) s t old new told now = Ended (Steps serves busy works rests) s t old new told now
+TalkedAs serves busy works rests (Err broken.Cut) s t old new told now = Stuck (Steps serves busy works rests) broken.Cut s old new told now
+TalkedAs serves busy works rests (Err broken.TooLong) s t old new told now = Stuck (Steps serves busy works rests) broken.TooLong s old new told now
+TalkedAs serves busy works rests (Err broken.Read) s t old new told now = Stuck (Steps serves busy works rests) broken.Read s old new told now
+TalkedAs serves busy works rests (Err broken.Write) s t old new told now = BrokenOff serves busy works rests s old new told now
+TalkedAs serves busy works rests (Err broken.Memory) s t old new told now =
     Stuck (Steps serves busy works rests) broken.Memory s old new told now ⊎ BrokenOff serves busy works rests s old new told now
 
 -- the same of one frame: it is one exchange, after which the talk goes on, or the end
 abbrev pub TurnAs : {S : Type 0} → (S → Request → List Data → Turn → S → Type 0) → (S → Bool) → (S → List Data → S → Type 0) → (S → List Data → S → Type 0)
-    → Result (Option Talked) Broken → S → S → Option (List ℕ) → Option (List ℕ) → Option (List ℕ) → Option (List ℕ) → List Data → Type 0
-TurnAs serves busy works rests (Ok None) s t old new told now waiting = Talks (Steps serves busy works rests) (going s) (going t) 1 old new told now
-TurnAs serves busy works rests (Ok (Some end)) s t old new told now waiting = TalkedAs serves busy works rests (Ok end) s t old new told now waiting
-TurnAs serves busy works rests (Err why) s t old new told now waiting = TalkedAs serves busy works rests (Err why) s t old new told now waiting
+    → Result Turn Broken → S → S → Option (List ℕ) → Option (List ℕ) → Option (List ℕ) → Option (List ℕ) → Type 0
+TurnAs serves busy works rests (Ok turn.On) s t old new told now = Talks (Steps serves busy works rests) (going s) (going t) 1 old new told now
+TurnAs serves busy works rests (Ok turn.Over) s t old new told now = TalkedAs serves busy works rests (Ok tt) s t old new told now
+TurnAs serves busy works rests (Err why) s t old new told now = TalkedAs serves busy works rests (Err why) s t old new told now

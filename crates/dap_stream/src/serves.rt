@@ -14,8 +14,6 @@ pub enum Turn {
     On,
     /// The client is done.
     Over,
-    /// The request waits for another that answers it.
-    Left,
 }
 
 /// What answers a client. Each of its messages is sent before the next request is heard; so is what each piece tells of the work that a request began.
@@ -23,7 +21,7 @@ pub trait Serves {
     ghost use Rattle.dap_message.specs.declared.request.Request.{Request};
     ghost use Rattle.dap_stream.specs.declared.serves.Turn.{Turn};
 
-    // These messages answer a request, or stand before the answer that another gives; and so the talk goes on.
+    // These messages answer a request, and so the talk goes on.
     ghost serves: { Self → Request → List Data → Turn → Self → Type 0 };
 
     // Whether work is under way.

@@ -1,6 +1,6 @@
 //! A talk with a client: frame by frame it is heard, and what answers it is sent.
 
-ghost use Rattle.std.specs.Prelude.{◌≡◌, ◌<◌, ◌-◌, ◌^◌, [], Ok, Err, None, IfErr, OnErr, OnOk};
+ghost use Rattle.std.specs.Prelude.{◌≡◌, ◌<◌, ◌-◌, ◌^◌, [], Ok, Err, IfErr, OnErr, OnOk};
 ghost use Rattle.mix_stream.specs.Stream.{CountsFailure};
 ghost use Rattle.dap_message.specs.Message.{waits};
 ghost use Rattle.dap_frame.specs.Frame.{first_frame, partial};
@@ -10,12 +10,13 @@ ghost use Rattle.dap_stream.specs.Hearing.{kept, unheard};
 ghost use Rattle.dap_stream.specs.Serving.{IsUnclear, SendsMore, SendsPieces, max_pieces};
 ghost use Rattle.dap_stream.specs.Talked.{TalkedAs, TurnAs};
 ghost use Rattle.dap_stream.specs.declared.broken.Broken.TheVariants as broken;
+ghost use Rattle.dap_stream.specs.declared.serves.Turn.TheVariants as turn;
 
 use crate::broken::Broken;
 use crate::hear::{Ear, Heard};
 use crate::sending::send;
 use crate::serves::{Serves, Turn};
-use dap_message::{MessageFault, Outbox, Request};
+use dap_message::{MessageFault, Outbox};
 use mix_refused::Memory;
 use mix_stream::{In, Out};
 use std::alloc::Global;
@@ -33,15 +34,6 @@ pub struct Talk {
     pub outbox: Outbox,
 }
 
-/// How a talk with one that answers came to its end.
-#[derive(Drop)]
-pub enum Talked {
-    /// The client is done, or its input is at its end.
-    Done,
-    /// This request waits for another that answers it.
-    Left(Request),
-}
-
 impl Talk {
     /// Nothing is read yet, and no message waits.
     pub fn new(alloc: Global) -> Talk
@@ -55,19 +47,19 @@ impl Talk {
         }
     }
 
-    /// A client is heard and answered until it is done, its input is at its end, or a request is left to another. After 2^64 - 1 frames it ends too.
+    /// A client is heard and answered until it is done or its input is at its end. After 2^64 - 1 frames it ends too.
     /// Where a read fails, each frame that was read whole is answered; where a write fails, of the answers to the frames a beginning is written.
     pub fn with<S: Serves, R: In, W: Out>(
         &mut self,
         served: &mut S,
         input: &mut R,
         out: &mut W,
-    ) -> Result<Talked, Broken>
+    ) -> Result<(), Broken>
         requires none { waits self.old.outbox ≡ [] }
         requires read { R.failed input.old < 2 ^ 64 - 1 }
         requires written { W.failed out.old < 2 ^ 64 - 1 }
         ensures talked { TalkedAs S.serves S.busy S.works S.rests result served.old served.new
-            (unheard self.old.ear (R.rest input.old)) (unheard self.new.ear (R.rest input.new)) (W.told out.old) (W.told out.new) (waits self.new.outbox) }
+            (unheard self.old.ear (R.rest input.old)) (unheard self.new.ear (R.rest input.new)) (W.told out.old) (W.told out.new) }
         ensures read { CountsFailure (result ≡ Err broken.Read) (R.failed input.old) (R.failed input.new) }
         ensures written { CountsFailure (result ≡ Err broken.Write) (W.failed out.old) (W.failed out.new) }
         ensures partial { result ≡ Err broken.Read → first_frame (kept self.new.ear) ≡ partial }
@@ -75,11 +67,11 @@ impl Talk {
         let mut turns = 0;
         'turns: while turns < u64::MAX {
             match self.turn(served, input, out)? {
-                Some(talked) => return Ok(talked),
-                None => turns += 1,
+                Turn::On => turns += 1,
+                Turn::Over => return Ok(()),
             }
         }
-        Ok(Talked::Done)
+        Ok(())
     }
 
     // One frame is heard and answered, if the talk goes on after it.
@@ -89,31 +81,30 @@ impl Talk {
         served: &mut S,
         input: &mut R,
         out: &mut W,
-    ) -> Result<Option<Talked>, Broken>
+    ) -> Result<Turn, Broken>
         requires none { waits self.old.outbox ≡ [] }
         requires read { R.failed input.old < 2 ^ 64 - 1 }
         requires written { W.failed out.old < 2 ^ 64 - 1 }
         ensures talked { TurnAs S.serves S.busy S.works S.rests result served.old served.new
-            (unheard self.old.ear (R.rest input.old)) (unheard self.new.ear (R.rest input.new)) (W.told out.old) (W.told out.new) (waits self.new.outbox) }
-        ensures none { result ≡ Ok None → waits self.new.outbox ≡ [] }
+            (unheard self.old.ear (R.rest input.old)) (unheard self.new.ear (R.rest input.new)) (W.told out.old) (W.told out.new) }
+        ensures none { result ≡ Ok turn.On → waits self.new.outbox ≡ [] }
         ensures read { CountsFailure (result ≡ Err broken.Read) (R.failed input.old) (R.failed input.new) }
         ensures written { CountsFailure (result ≡ Err broken.Write) (W.failed out.old) (W.failed out.new) }
         ensures partial { result ≡ Err broken.Read → first_frame (kept self.new.ear) ≡ partial }
     {
         match self.ear.hear(input)? {
-            Heard::End => return Ok(Some(Talked::Done)),
+            Heard::End => return Ok(Turn::Over),
             Heard::Unclear(fault) => tell_unclear(&mut self.outbox, fault)?,
             Heard::Request(request) => match served.serve(&request, &mut self.outbox)? {
                 Turn::On => {}
                 Turn::Over => {
                     send(self.alloc, &mut self.outbox, out)?;
-                    return Ok(Some(Talked::Done));
+                    return Ok(Turn::Over);
                 }
-                Turn::Left => return Ok(Some(Talked::Left(request))),
             },
         }
         send_on(self.alloc, served, &mut self.outbox, out)?;
-        Ok(None)
+        Ok(Turn::On)
     }
 }
 

@@ -1,6 +1,6 @@
-mod BeforeLemmas
+mod ServedLemmas
+mod StageLemmas
 mod DialogueLemmas
-mod LaunchLemmas
 mod AsksLemmas
 mod TalkLemmas
 pub mod AskedLemmas

@@ -1,5 +1,5 @@
 -- What a piece of a run tells: that it goes on, why it has ended, or that memory was refused for it.
-use Rattle.std.proofs.Common.{◌≡◌, ◌⊎◌, inl, inr, ℕ, List, Option, None, true, false}
+use Rattle.std.proofs.Common.{◌≡◌, ◌⊎◌, inl, inr, List, Option, None, true, false}
 use Rattle.serde_json.specs.Data.{Data}
 use Rattle.mix_machine.specs.declared.fault.MixFault.{MixFault}
 use Rattle.mix_session.specs.Timeline.{Timeline}

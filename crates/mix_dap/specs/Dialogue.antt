@@ -1,5 +1,5 @@
 -- A dialogue of the adapter with its client.
-use Rattle.std.specs.Prelude.{◌≡◌, ◌⊎◌, ◌≤◌, ◌-◌, ◌^◌, ◌++◌, ℕ, List, [], ◌∷◌, codes, Bool, true, false, Option, None, Some, Result, Ok, Err, IsErr, is_some}
+use Rattle.std.specs.Prelude.{◌≡◌, ◌⊎◌, ◌≤◌, ◌-◌, ◌^◌, ◌++◌, ℕ, List, [], ◌∷◌, codes, false, Option, None, Some, Result, Ok, Err, IsErr, is_some}
 use Rattle.std.specs.Io.KnownBytes.{Appends, prepend_known}
 use Rattle.serde_json.specs.Data.{Data}
 use Rattle.dap_message.specs.Request.{command_of}
@@ -117,25 +117,20 @@ pub record BreaksOff (from : Stage) (old new told now : Option (List ℕ)) : Typ
   pub begins : StageBegins stage frame messages
   pub sends : SendsFront messages before now
 
--- How a dialogue came to this result from a stage of it. Frames that end it are told of. Where a read fails, all frames that were heard are answered; where a
--- write fails, all but the last one, and of what is told for that one a beginning is sent; where memory is refused, it is the one or the other.
-abbrev pub GoesAs : Stage → Result Unit Broken → Option (List ℕ) → Option (List ℕ) → Option (List ℕ) → Option (List ℕ) → Type 0
-GoesAs from (Ok ended) old new told now =
-    (stage : Stage) × (count : ℕ) × (left : Option (List ℕ)) × Talks StageSteps from stage count old left told now × EndsAs stage count left new
-GoesAs from (Err broken.Cut) old new told now =
-    (stage : Stage) × (count : ℕ) × (left : Option (List ℕ)) × Talks StageSteps from stage count old left told now × HearsAs (Err broken.Cut) left new
-GoesAs from (Err broken.TooLong) old new told now =
-    (stage : Stage) × (count : ℕ) × (left : Option (List ℕ)) × Talks StageSteps from stage count old left told now × HearsAs (Err broken.TooLong) left new
-GoesAs from (Err broken.Read) old new told now = Halts broken.Read from old new told now
-GoesAs from (Err broken.Write) old new told now = BreaksOff from old new told now
-GoesAs from (Err broken.Memory) old new told now = Halts broken.Memory from old new told now ⊎ BreaksOff from old new told now
+-- How a dialogue was broken off. Frames that end it are told of. Where a read fails, all frames that were heard are answered; where a write fails, all but
+-- the last one, and of what is told for that one a beginning is sent; where memory is refused, it is the one or the other.
+abbrev pub Breaks : Broken → Stage → Option (List ℕ) → Option (List ℕ) → Option (List ℕ) → Option (List ℕ) → Type 0
+Breaks broken.Cut from old new told now = Halts broken.Cut from old new told now
+Breaks broken.TooLong from old new told now = Halts broken.TooLong from old new told now
+Breaks broken.Read from old new told now = Halts broken.Read from old new told now
+Breaks broken.Write from old new told now = BreaksOff from old new told now
+Breaks broken.Memory from old new told now = Halts broken.Memory from old new told now ⊎ BreaksOff from old new told now
 
--- A part of it, from where a launch of a client is waited for, came to this result: the dialogue is over, or a launch was refused and another is waited for.
-abbrev pub PartAs : Client → Result Bool Broken → Client → Option (List ℕ) → Option (List ℕ) → Option (List ℕ) → Option (List ℕ) → Type 0
-PartAs client (Ok true) next old new told now = GoesAs (waiting client) (Ok tt) old new told now
-PartAs client (Ok false) next old new told now =
-    (count : ℕ) × (1 ≤ count) × Talks StageSteps (waiting client) (waiting next) count old new told now
-PartAs client (Err why) next old new told now = GoesAs (waiting client) (Err why) old new told now
+-- How a dialogue came to this result from a stage of it, and where it is then: one that was broken off is over.
+abbrev pub GoesAs : Stage → Result Unit Broken → Stage → Option (List ℕ) → Option (List ℕ) → Option (List ℕ) → Option (List ℕ) → Type 0
+GoesAs from (Ok ended) to old new told now =
+    (count : ℕ) × (left : Option (List ℕ)) × Talks StageSteps from to count old left told now × EndsAs to count left new
+GoesAs from (Err why) to old new told now = (to ≡ done) × Breaks why from old new told now
 
 -- where a read failed, no frame is whole of what was read and not heard
 abbrev pub HeardAll : Result Unit Broken → List ℕ → Type 0
@@ -146,7 +141,10 @@ HeardAll (Err broken.Memory) kept = Unit {0}
 HeardAll (Err broken.Cut) kept = Unit {0}
 HeardAll (Err broken.TooLong) kept = Unit {0}
 
--- A whole dialogue: it begins where a launch of a client is waited for that has said nothing, with the input as it is, and of the input what is left at its end was not read, or read and
--- not heard.
+-- A dialogue goes on from a stage, with the input as it is, and of the input what is left at its end was not read, or read and not heard.
+abbrev pub GoesOnAs : Stage → Result Unit Broken → Stage → Option (List ℕ) → Option (List ℕ) → Option (List ℕ) → Option (List ℕ) → Type 0
+GoesOnAs from result to old new told now = (kept : List ℕ) × HeardAll result kept × GoesAs from result to old (prepend_known kept new) told now
+
+-- A whole dialogue: it begins where a launch of a client is waited for that has said nothing.
 abbrev pub DialogueAs : Result Unit Broken → Option (List ℕ) → Option (List ℕ) → Option (List ℕ) → Option (List ℕ) → Type 0
-DialogueAs result old new told now = (kept : List ℕ) × HeardAll result kept × GoesAs (waiting unknown_client) result old (prepend_known kept new) told now
+DialogueAs result old new told now = (to : Stage) × GoesOnAs (waiting unknown_client) result to old new told now

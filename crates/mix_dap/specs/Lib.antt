@@ -31,6 +31,7 @@ pub mod Replies
 pub mod Runs
 pub mod Scope
 pub mod Served
+pub mod Stage
 pub mod State
 pub mod Stays
 pub mod Stopped

@@ -1,6 +1,6 @@
 -- Runs of a client: what stops them, and what a piece of one leaves. Where a run comes to breakpoints that don't stop it, it goes on past them, in a leg
 -- of its own.
-use Rattle.std.specs.Prelude.{◌≡◌, ◌⊎◌, ◌-◌, ℕ, zero, suc, Bool, true, false, List, Option, None, Some, if◌then◌else◌}
+use Rattle.std.specs.Prelude.{◌≡◌, ◌⊎◌, ◌-◌, ℕ, zero, suc, Bool, true, false, Option, None, Some, if◌then◌else◌}
 use Rattle.mix_machine.specs.World.{WorldState}
 use Rattle.mix_machine.specs.declared.fault.MixFault.{MixFault}
 use Rattle.mix_session.specs.Command.{Effect, after, effect_of_run, Begun}

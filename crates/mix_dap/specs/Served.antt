@@ -1,5 +1,5 @@
--- How a client is answered, before a program is launched and after that, and what runs tell it.
-use Rattle.std.specs.Prelude.{◌≡◌, ℕ, List, [], false, Option, Some, is_some}
+-- How the client of a launched program is answered, and what runs tell it.
+use Rattle.std.specs.Prelude.{◌≡◌, List, [], false, is_some}
 use Rattle.serde_json.specs.Data.{Data}
 use Rattle.dap_message.specs.Request.{command_of}
 use Rattle.dap_message.specs.Told.{Answers, Events, response_to}
@@ -7,37 +7,16 @@ use Rattle.dap_message.specs.declared.request.Request.{Request}
 use Rattle.dap_stream.specs.declared.serves.Turn.{Turn}
 use Rattle.dap_stream.specs.declared.serves.Turn.TheVariants as turn
 use Rattle.mix_dap.specs.Answer.{answer_to}
-use Rattle.mix_dap.specs.Before.{AskedShows, Asks, client_after}
 use Rattle.mix_dap.specs.Events.{AddsAnswer, AddsEvents, Sends, rested}
 use Rattle.mix_dap.specs.Leaves.{FlowLeaves}
 use Rattle.mix_dap.specs.Prints.{AdvancePrints, flow_events, flow_printed, printed_by}
 use Rattle.mix_dap.specs.Replies.{answer_message}
 use Rattle.mix_dap.specs.Runs.{Advances}
 use Rattle.mix_dap.specs.Stays.{AdvanceTells, GoesOn, Keeps, KeepsSaid, RestTells}
-use Rattle.mix_dap.specs.Texts.{Known}
 use Rattle.mix_dap.specs.Told.{outcome_of}
 use Rattle.mix_dap.specs.declared.adapter.Adapter.{Adapter}
 use Rattle.mix_dap.specs.declared.adapter.Flow.{Flow}
 use Rattle.mix_dap.specs.declared.adapter.Flow.TheVariants as flow
-use Rattle.mix_dap.specs.declared.capabilities.Client.{Client}
-use Rattle.mix_dap.specs.declared.launch.Texts.{Texts}
-use Rattle.mix_dap.specs.declared.waiting.Asked.{Asked}
-use Rattle.mix_dap.specs.declared.waiting.Asked.TheVariants as asked
-
--- whether the talk goes on; the texts of a launch are kept, and it waits for its answer
-abbrev pub Becomes : Asked → Turn → Option Texts → Type 0
-Becomes asked.Answered next texts = next ≡ turn.On
-Becomes asked.Over next texts = next ≡ turn.Over
-Becomes (asked.Launch launched) next texts = (next ≡ turn.Left) × (texts ≡ Some launched)
-
--- a request of a client before a program is launched, and what is known of the client then
-pub record WaitingServes (client : Client) (request : Request) (told : List Data) (next : Turn) (texts : Option Texts) (now : Client) : Type 0 where
-  pub asked : Asked
-  pub asks : Asks asked (command_of request) request [] told
-  pub becomes : Becomes asked next texts
-  pub client_is : now ≡ client_after (command_of request) request client
-  pub knows : List ℕ → Known
-  pub shows : Sends told (λ old new. AskedShows knows (command_of request) asked request old new)
 
 abbrev pub turn_of : Flow → Turn
 turn_of flow.On = turn.On

@@ -1,5 +1,5 @@
 -- `mix/writes`: the changes that altered a part of the machine, and what it held before and after each.
-use Rattle.std.specs.Prelude.{ℕ, List, codes, length, map, min, nat_lt, take, Result, Ok, Err, ok_or, option_and_then, unwrap_or, if◌then◌else◌}
+use Rattle.std.specs.Prelude.{ℕ, List, codes, length, map, min, nat_lt, take, Result, Ok, Err, ok_or, unwrap_or, if◌then◌else◌}
 use Rattle.serde_json.specs.Data.{Data, Members, boolean, number, string, unsigned, object, no_members, put}
 use Rattle.mixal_text.specs.Steps.{◌>>=◌}
 use Rattle.mix_machine.specs.declared.part.Mark.{Mark}

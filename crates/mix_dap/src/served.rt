@@ -1,9 +1,17 @@
 //! What answers the client of a dialogue: before a program is launched, and after that.
 #![tactic(auto, using(crate::proofs::EventLemmas::sending))]
 
-ghost use Rattle.std.specs.Prelude.{◌≡◌, [], false, is_some, None};
-ghost use Rattle.mix_dap.specs.Capabilities.{unknown_client};
-ghost use Rattle.mix_dap.specs.Served.{AdapterServes, AdapterWorks, AdapterRests, WaitingServes};
+ghost use Rattle.std.specs.Prelude.{◌≡◌, [], IfNone, IfOk, IfSome, IsErr, OnOk};
+ghost use Rattle.dap_message.specs.Message.{waits};
+ghost use Rattle.dap_message.specs.Told.{response_to, Answers};
+ghost use Rattle.mix_dap.specs.Answer.{launch_shown};
+ghost use Rattle.mix_dap.specs.Dialogue.{BeginsAs, debugs, waiting};
+ghost use Rattle.mix_dap.specs.Events.{AddsAnswer};
+ghost use Rattle.mix_dap.specs.Launched.{launched_of};
+ghost use Rattle.mix_dap.specs.Prints.{launch_events};
+ghost use Rattle.mix_dap.specs.Replies.{answer_message};
+ghost use Rattle.mix_dap.specs.Told.{outcome_of_launch};
+ghost use Rattle.mix_dap.specs.Stage.{StageServes, StageWorks, StageRests, is_busy_at, stage_of};
 
 use crate::adapter::{Adapter, Flow};
 use crate::launch::{Library, Texts};
@@ -12,98 +20,156 @@ use dap_message::{Outbox, Request};
 use dap_stream::{Serves, Turn};
 use mix_refused::Memory;
 use std::alloc::Global;
+use std::mem::replace;
 
-/// An adapter without a launched program, and where the texts are found that a launch names.
-pub(crate) struct Before<'l, L: Library> {
-    library: &'l L,
-    pub(crate) waiting: Waiting,
-    /// The texts of the launch that was left last.
-    pub(crate) texts: Option<Texts>,
+/// What a dialogue holds.
+#[derive(Drop)]
+pub(crate) enum Holds {
+    /// A launch is waited for.
+    Waiting(Waiting),
+    /// A program is debugged.
+    Program(Adapter),
+    /// The client is done.
+    Nothing,
 }
 
-impl<L: Library> Drop for Before<'_, L> {
+/// What a dialogue holds, and where the texts are found that a launch names.
+pub(crate) struct Served<'l, L: Library> {
+    alloc: Global,
+    library: &'l L,
+    pub(crate) holds: Holds,
+}
+
+impl<L: Library> Drop for Served<'_, L> {
     fn drop(self) {
-        let Before {
+        let Served {
+            alloc: _,
             library: _,
-            waiting: _,
-            texts: _,
+            holds: _,
         } = self;
     }
 }
 
-impl<'l, L: Library> Before<'l, L> {
-    /// No request was heard yet.
-    pub(crate) fn new(alloc: Global, library: &'l L) -> Before<'l, L>
-        ensures texts { result.texts ≡ None }
-        ensures client { result.waiting.client ≡ unknown_client }
+impl<'l, L: Library> Served<'l, L> {
+    pub(crate) fn of(alloc: Global, library: &'l L, holds: Holds) -> Served<'l, L>
+        ensures { result.holds ≡ holds }
     {
-        Before {
+        Served {
+            alloc,
             library,
-            waiting: Waiting::new(alloc),
-            texts: None,
+            holds,
         }
+    }
+
+    pub(crate) fn into_holds(self) -> Holds
+        ensures { result ≡ self.entry.holds }
+    {
+        let Served {
+            alloc: _,
+            library: _,
+            holds,
+        } = self;
+        holds
     }
 }
 
-impl<L: Library> Serves for Before<'_, L> {
-    ghost serves = { λ b request told next c. WaitingServes b.waiting.client request told next c.texts c.waiting.client };
+impl<L: Library> Serves for Served<'_, L> {
+    ghost serves = { λ s request told next t. StageServes (stage_of s.holds) request told next (stage_of t.holds) };
 
-    // There is no work before a launch, nor while one waits.
-    ghost busy = { λ b. is_some b.texts };
+    ghost busy = { λ s. is_busy_at (stage_of s.holds) };
 
-    ghost works = { λ b told c. (c ≡ b) × (told ≡ []) };
+    ghost works = { λ s told t. StageWorks (stage_of s.holds) told (stage_of t.holds) };
 
-    ghost rests = { λ b told c. (c ≡ b) × (told ≡ []) };
+    ghost rests = { λ s told t. StageRests (stage_of s.holds) told (stage_of t.holds) };
 
     fn serve(&mut self, request: &Request, outbox: &mut Outbox) -> Result<Turn, Memory> {
-        match self.waiting.receive(self.library, request, outbox)? {
-            Asked::Answered => Ok(Turn::On),
-            Asked::Over => Ok(Turn::Over),
-            Asked::Launch(texts) => {
-                self.texts = Some(texts);
-                Ok(Turn::Left)
+        match replace(&mut self.holds, Holds::Nothing) {
+            Holds::Waiting(before) => {
+                let (turn, holds) = ask_before(self.alloc, self.library, before, request, outbox)?;
+                self.holds = holds;
+                Ok(turn)
             }
+            Holds::Program(adapter) => {
+                let (turn, holds) = ask_program(adapter, request, outbox)?;
+                self.holds = holds;
+                Ok(turn)
+            }
+            Holds::Nothing => Ok(Turn::Over),
         }
     }
 
     fn is_busy(&self) -> bool {
-        self.texts.is_some()
-    }
-
-    fn work(&mut self, _outbox: &mut Outbox) -> Result<(), Memory> {
-        Ok(())
-    }
-
-    fn break_off(&mut self, _outbox: &mut Outbox) -> Result<(), Memory> {
-        Ok(())
-    }
-}
-
-impl Serves for Adapter {
-    ghost serves = { AdapterServes };
-
-    ghost busy = { λ a. is_some a.way };
-
-    ghost works = { AdapterWorks };
-
-    ghost rests = { AdapterRests };
-
-    fn serve(&mut self, request: &Request, outbox: &mut Outbox) -> Result<Turn, Memory> {
-        match self.receive(request, outbox)? {
-            Flow::On | Flow::Refused(_) => Ok(Turn::On),
-            Flow::Over => Ok(Turn::Over),
+        match &self.holds {
+            Holds::Program(adapter) => adapter.is_running(),
+            Holds::Waiting(_) | Holds::Nothing => false,
         }
-    }
-
-    fn is_busy(&self) -> bool {
-        self.is_running()
     }
 
     fn work(&mut self, outbox: &mut Outbox) -> Result<(), Memory> {
-        self.advance(outbox)
+        match &mut self.holds {
+            Holds::Program(adapter) => adapter.advance(outbox),
+            Holds::Waiting(_) | Holds::Nothing => Ok(()),
+        }
     }
 
     fn break_off(&mut self, outbox: &mut Outbox) -> Result<(), Memory> {
-        self.rest(outbox)
+        match &mut self.holds {
+            Holds::Program(adapter) => adapter.rest(outbox),
+            Holds::Waiting(_) | Holds::Nothing => Ok(()),
+        }
+    }
+}
+
+// A request before a program is launched, or the one to launch it.
+fn ask_before<L: Library>(
+    alloc: Global,
+    library: &L,
+    before: Waiting,
+    request: &Request,
+    outbox: &mut Outbox,
+) -> Result<(Turn, Holds), Memory>
+    requires { waits outbox.old ≡ [] }
+    ensures { IfOk result (λ r. StageServes (waiting before.client) request.now (waits outbox.new) r.0 (stage_of r.1)) }
+{
+    let mut before = before;
+    match before.receive(library, request, outbox)? {
+        Asked::Answered => Ok((Turn::On, Holds::Waiting(before))),
+        Asked::Over => Ok((Turn::Over, Holds::Nothing)),
+        Asked::Launch(texts) => match opened(alloc, &before, texts, request, outbox)? {
+            None => Ok((Turn::On, Holds::Waiting(before))),
+            Some(adapter) => Ok((Turn::On, Holds::Program(adapter))),
+        },
+    }
+}
+
+// The program of a launch, with what a dialogue has to know of it.
+fn opened(
+    alloc: Global,
+    before: &Waiting,
+    texts: Texts,
+    request: &Request,
+    outbox: &mut Outbox,
+) -> Result<Option<Adapter>, Memory>
+    ensures begins { IfOk result (λ o. IfSome o (λ a. BeginsAs a texts before.now.client)) }
+    ensures refused { IfOk result (λ o. IfNone o (IsErr (launched_of texts))) }
+    ensures prints { OnOk result (AddsAnswer (answer_message request.now (launch_shown (launched_of texts))) (launch_events (launched_of texts)) outbox.old outbox.new) }
+    ensures answers { OnOk result (Answers (response_to request.now (outcome_of_launch (launched_of texts))) (waits outbox.old) (waits outbox.new)) }
+{
+    Adapter::open(alloc, before, texts, request, outbox)
+}
+
+// A request of a launched program.
+fn ask_program(
+    adapter: Adapter,
+    request: &Request,
+    outbox: &mut Outbox,
+) -> Result<(Turn, Holds), Memory>
+    requires { waits outbox.old ≡ [] }
+    ensures { IfOk result (λ r. StageServes (debugs adapter) request.now (waits outbox.new) r.0 (stage_of r.1)) }
+{
+    let mut adapter = adapter;
+    match adapter.receive(request, outbox)? {
+        Flow::On | Flow::Refused(_) => Ok((Turn::On, Holds::Program(adapter))),
+        Flow::Over => Ok((Turn::Over, Holds::Nothing)),
     }
 }

@@ -1,1 +1,3 @@
+mod EngineLemmas
 mod TalkLemmas
+mod Words

@@ -1,18 +1,114 @@
-//! The debug adapter as one function of bytes, which a page calls as a module of WebAssembly.
+//! The debug adapter for a page, which calls it as a module of WebAssembly: as one function of bytes, and as an engine that stays between two calls.
 #![tactic(auto)]
 
-ghost use Rattle.std.specs.Prelude.{◌≡◌, ◌≢◌, ◌↔◌, ◌⊎◌, ◌+◌, ◌++◌, ◌<◌, ◌≤◌, true, false, length, take, drop};
+ghost use Rattle.std.specs.Prelude.{◌≡◌, ◌≢◌, ◌↔◌, ◌⊎◌, ◌+◌, ◌++◌, ◌<◌, ◌≤◌, None, Some, true, false, length, take, drop};
 ghost use Rattle.dap_stream.specs.Broken.{broken_text};
 ghost use Rattle.dap_stream.specs.declared.broken.Broken.TheVariants as broken;
 ghost use Rattle.mix_dap.specs.Dialogue.{line_of};
+ghost use Rattle.page.specs.Engine.{Answered, Closed, Closes, Waits, opened, status_of};
 ghost use Rattle.page.specs.Talk.{IsServed, IsBroken, TalksAs, TalksFor, reported_by};
 
+mod engine;
+mod handle;
+mod held;
+
+use dap_stream::Broken;
+use engine::Engine;
+use handle::Handle;
 use mix_dap::{NoLibrary, serve_from};
 use mix_stream::Counted;
 use std::alloc::Global;
+use std::mem::replace;
+
+/// The status of what is done.
+const DONE: usize = 0;
+
+/// The status where memory is refused.
+const MEMORY: usize = 1;
+
+/// The status where messages are no whole frames.
+const NO_FRAMES: usize = 2;
 
 /// The status where what there is to give is longer than the room for it.
 const NO_ROOM: usize = 3;
+
+/// The status where no engine is open.
+const CLOSED: usize = 4;
+
+/// Opens an engine, in which nothing was heard yet. One that was open is closed first. The status is 0, or 1 where memory is refused: then none is open.
+#[unsafe(no_mangle)]
+pub extern "C" fn engine_open(alloc: Global, handle: &mut Handle) -> usize
+    ensures done { result ≡ 0 → handle.new.held.value ≡ Some opened }
+    ensures none { result ≢ 0 → handle.new.held.value ≡ None }
+    ensures status { (result ≡ 0) ⊎ (result ≡ 1) }
+{
+    *handle = Handle::none(alloc);
+    match Box::new(alloc, Engine::new(alloc)) {
+        Ok(engine) => {
+            *handle = Handle::of(engine);
+            DONE
+        }
+        Err(_) => MEMORY,
+    }
+}
+
+/// Answers messages of the client, each in its frame, where the dialogue of the engine is; it is kept for the next call. Status 0: what the client is
+/// sent stands at the beginning of `out`, its length in `count`. Status 3: it is longer than the room, which stays as it was; it waits, and a call
+/// without messages and with room for it gives it. Status 1 or 2: memory is refused, or the messages end within a frame or have one that is too long;
+/// what was sent until then is given if there is room, and the engine is closed. Status 4: no engine is open.
+#[unsafe(no_mangle)]
+pub extern "C" fn engine_ask(
+    alloc: Global,
+    handle: &mut Handle,
+    messages: &[u8],
+    out: &mut [u8],
+    count: &mut usize,
+) -> usize
+    ensures answered { result ≡ 0 → Answered handle.old.held.value handle.new.held.value messages.now out.old out.new count.new }
+    ensures waits { result ≡ 3 → Waits handle.old.held.value handle.new.held.value messages.now out.old out.new count.new }
+    ensures broken { (result ≡ 1) ⊎ (result ≡ 2) → Closes result handle.old.held.value handle.new.held.value messages.now out.old out.new count.new }
+    ensures closed { result ≡ 4 → Closed handle.old.held.value handle.new.held.value out.old out.new count.new }
+    ensures status { result ≤ 4 }
+{
+    match replace(handle, Handle::none(alloc)).into_box() {
+        Some(mut engine) => {
+            let asked = engine.ask(messages);
+            let given = engine.give(out, count);
+            match asked {
+                Ok(()) => {
+                    if given {
+                        engine.clear();
+                    }
+                    *handle = Handle::of(engine);
+                    if given { DONE } else { NO_ROOM }
+                }
+                Err(broken) => status_of(broken),
+            }
+        }
+        None => {
+            *count = 0;
+            CLOSED
+        }
+    }
+}
+
+// The status of a call in which the dialogue was broken off.
+fn status_of(broken: Broken) -> usize
+    ensures { result ≡ status_of broken }
+{
+    match broken {
+        Broken::Memory | Broken::Write | Broken::Read => MEMORY,
+        Broken::TooLong | Broken::Cut => NO_FRAMES,
+    }
+}
+
+/// Closes the engine, if one is open.
+#[unsafe(no_mangle)]
+pub extern "C" fn engine_close(alloc: Global, handle: &mut Handle)
+    ensures { handle.new.held.value ≡ None }
+{
+    drop(replace(handle, Handle::none(alloc)));
+}
 
 /// Answers all that a client sends, as `mixrev dap` does with a file that holds it: the same requests, from the first one on, with no files. What the
 /// client is sent stands at the beginning of `out`, its length in `count`, and behind it what is told on the error output, its length in `told`. The

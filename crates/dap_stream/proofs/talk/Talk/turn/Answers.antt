@@ -5,7 +5,7 @@ use Rattle.dap_message.specs.Message.{waits}
 use Rattle.dap_stream.specs.Hearing.{HearsAs, unheard}
 use Rattle.dap_stream.specs.declared.talk.Talk.{Talk}
 use Rattle.dap_stream.proofs.BrokenLemmas.{broken-over}
-use Rattle.dap_stream.proofs.ServingLemmas.{at-end, broken-later, joined-on, joined-unclear, went-left, went-over}
+use Rattle.dap_stream.proofs.ServingLemmas.{at-end, broken-later, joined-on, joined-unclear, went-over}
 use Rattle.dap_stream.proofs.TurnLemmas.{turn-on, turn-unclear, turn-unsent}
 use Rattle.dap_stream.proofs.talk.Talk.turn.Goals as goal
 use Rattle.dap_stream.proofs.talk.Talk.turn.Goals.{in-Unclear+in_ok-tell_unclear-in-Unclear, in-Request+in_ok-serve-in-Request+in-On+in-String-1, in-Request+in_ok-serve-in-Request+in-On+in-Array-1, in-Request+in_ok-serve-in-Request+in-On+in-Object-1, in-Request+in_ok-serve-in-Request+in-On+in-Null-1}
@@ -21,12 +21,6 @@ returns-in-Over-clause-talked g c =
     (subst (λ h. HearsAs (Ok h) (unheard c.args.self.now.ear (g.R.In.rest c.args.input.now)) (unheard c.hear.new.self (g.R.In.rest c.hear.new.input))) c.in-Request.is c.in_ok-hear.ensures.heard)
     (subst (λ n. g.S.Serves.serves c.args.served.now c.in-Request.request (waits c.serve.new.outbox) n c.serve.new.self) c.in-Over.is c.in_ok-serve-in-Request.ensures)
     c.in_ok-send-in-Over.ensures.sent
-
-pub returns-in-Left-clause-talked : goal.returns-in-Left-clause-talked
-returns-in-Left-clause-talked g c =
-    went-left g.S.Serves.serves g.S.Serves.busy g.S.Serves.works g.S.Serves.rests c.args.served.now c.serve.new.self c.in-Request.request (waits c.serve.new.outbox) _ _ _
-    (subst (λ h. HearsAs (Ok h) (unheard c.args.self.now.ear (g.R.In.rest c.args.input.now)) (unheard c.hear.new.self (g.R.In.rest c.hear.new.input))) c.in-Request.is c.in_ok-hear.ensures.heard)
-    (subst (λ n. g.S.Serves.serves c.args.served.now c.in-Request.request (waits c.serve.new.outbox) n c.serve.new.self) c.in-Left.is c.in_ok-serve-in-Request.ensures)
 
 pub returns-clause-talked : goal.returns-clause-talked
 returns-clause-talked g c = elim c.match-branch-2.branch [
@@ -75,7 +69,7 @@ pub returns-in_err-tell_unclear-in-Unclear-clause-talked : goal.returns-in_err-t
 returns-in_err-tell_unclear-in-Unclear-clause-talked g c =
     let p = err_from_is_err_and c.from_residual-in_err-tell_unclear-in-Unclear.result c.from_residual-in_err-tell_unclear-in-Unclear.ensures.1 in
     rw (p.1, p.2)
-    (turn-unsent g.S.Serves.serves g.S.Serves.busy g.S.Serves.works g.S.Serves.rests c.args.served.now c.args.served.now _ _ _ _ (waits c.tell_unclear.new.outbox)
+    (turn-unsent g.S.Serves.serves g.S.Serves.busy g.S.Serves.works g.S.Serves.rests c.args.served.now c.args.served.now _ _ _ _
     (subst (λ h. HearsAs (Ok h) (unheard c.args.self.now.ear (g.R.In.rest c.args.input.now)) (unheard c.hear.new.self (g.R.In.rest c.hear.new.input))) c.in-Unclear.is c.in_ok-hear.ensures.heard))
 
 pub returns-in_err-serve-in-Request-clause-talked : goal.returns-in_err-serve-in-Request-clause-talked
@@ -83,7 +77,7 @@ returns-in_err-serve-in-Request-clause-talked g c =
     let p = err_from_is_err_and c.from_residual-in_err-serve-in-Request.result c.from_residual-in_err-serve-in-Request.ensures.1 in
     let heard =
     (subst (λ h. HearsAs (Ok h) (unheard c.args.self.now.ear (g.R.In.rest c.args.input.now)) (unheard c.hear.new.self (g.R.In.rest c.hear.new.input))) c.in-Request.is c.in_ok-hear.ensures.heard) in
-    rw (p.1, p.2) (turn-unsent g.S.Serves.serves g.S.Serves.busy g.S.Serves.works g.S.Serves.rests c.args.served.now c.serve.new.self (Some heard.0) _ _ _ (waits c.serve.new.outbox) heard.2)
+    rw (p.1, p.2) (turn-unsent g.S.Serves.serves g.S.Serves.busy g.S.Serves.works g.S.Serves.rests c.args.served.now c.serve.new.self (Some heard.0) _ _ _ heard.2)
 
 pub returns-in_err-send-in-Over-clause-talked : goal.returns-in_err-send-in-Over-clause-talked
 returns-in_err-send-in-Over-clause-talked g c =
@@ -91,7 +85,7 @@ returns-in_err-send-in-Over-clause-talked g c =
     let heard =
     (subst (λ h. HearsAs (Ok h) (unheard c.args.self.now.ear (g.R.In.rest c.args.input.now)) (unheard c.hear.new.self (g.R.In.rest c.hear.new.input))) c.in-Request.is c.in_ok-hear.ensures.heard) in
     rw (p.1, p.2)
-    (broken-later g.S.Serves.serves g.S.Serves.busy g.S.Serves.works g.S.Serves.rests _ c.args.served.now c.serve.new.self _ _ _ _ _
+    (broken-later g.S.Serves.serves g.S.Serves.busy g.S.Serves.works g.S.Serves.rests _ c.args.served.now c.serve.new.self _ _ _ _
     c.in_err-send-in-Over.ensures.only
     (broken-over g.S.Serves.serves g.S.Serves.busy g.S.Serves.works g.S.Serves.rests c.args.served.now c.serve.new.self (Some heard.0) (waits c.serve.new.outbox) _ _ _ _ heard.2 (
       c.in-Request.request,
@@ -107,7 +101,7 @@ returns-in_err-send_on-clause-talked g c =
       | in-Unclear+in_ok-tell_unclear-in-Unclear w ↦
           turn-unclear g.S.Serves.serves g.S.Serves.busy g.S.Serves.works g.S.Serves.rests _ c.args.served.now c.match-branch-2.served _ (waits w.tell_unclear.new.outbox)
           (waits c.match-branch-2.self.outbox) (unheard c.args.self.now.ear (g.R.In.rest c.args.input.now)) (unheard c.hear.new.self (g.R.In.rest c.hear.new.input))
-          (unheard c.match-branch-2.self.ear (g.R.In.rest c.hear.new.input)) (g.W.Out.told c.args.out.now) (g.W.Out.told c.send_on.new.out) _
+          (unheard c.match-branch-2.self.ear (g.R.In.rest c.hear.new.input)) (g.W.Out.told c.args.out.now) (g.W.Out.told c.send_on.new.out)
           c.in_err-send_on.ensures.only w.served-is (ap (λ (t : Talk). waits t.outbox) w.self-is)
           (ap (λ (t : Talk). unheard t.ear (g.R.In.rest c.hear.new.input)) w.self-is)
           (subst (λ h. HearsAs (Ok h) (unheard c.args.self.now.ear (g.R.In.rest c.args.input.now)) (unheard c.hear.new.self (g.R.In.rest c.hear.new.input))) w.in-Unclear.is c.in_ok-hear.ensures.heard)
@@ -115,7 +109,7 @@ returns-in_err-send_on-clause-talked g c =
       | in-Request+in_ok-serve-in-Request+in-On+in-String-1 w ↦
           turn-on g.S.Serves.serves g.S.Serves.busy g.S.Serves.works g.S.Serves.rests _ c.args.served.now w.serve.new.self c.match-branch-2.served _ w.in-Request.request
           (waits w.serve.new.outbox) (waits c.match-branch-2.self.outbox) (unheard c.args.self.now.ear (g.R.In.rest c.args.input.now)) (unheard c.hear.new.self (g.R.In.rest c.hear.new.input))
-          (unheard c.match-branch-2.self.ear (g.R.In.rest c.hear.new.input)) (g.W.Out.told c.args.out.now) (g.W.Out.told c.send_on.new.out) _
+          (unheard c.match-branch-2.self.ear (g.R.In.rest c.hear.new.input)) (g.W.Out.told c.args.out.now) (g.W.Out.told c.send_on.new.out)
           c.in_err-send_on.ensures.only w.served-is (ap (λ (t : Talk). waits t.outbox) w.self-is)
           (ap (λ (t : Talk). unheard t.ear (g.R.In.rest c.hear.new.input)) w.self-is)
           (subst (λ h. HearsAs (Ok h) (unheard c.args.self.now.ear (g.R.In.rest c.args.input.now)) (unheard c.hear.new.self (g.R.In.rest c.hear.new.input))) w.in-Request.is c.in_ok-hear.ensures.heard)
@@ -124,7 +118,7 @@ returns-in_err-send_on-clause-talked g c =
       | in-Request+in_ok-serve-in-Request+in-On+in-Array-1 w ↦
           turn-on g.S.Serves.serves g.S.Serves.busy g.S.Serves.works g.S.Serves.rests _ c.args.served.now w.serve.new.self c.match-branch-2.served _ w.in-Request.request
           (waits w.serve.new.outbox) (waits c.match-branch-2.self.outbox) (unheard c.args.self.now.ear (g.R.In.rest c.args.input.now)) (unheard c.hear.new.self (g.R.In.rest c.hear.new.input))
-          (unheard c.match-branch-2.self.ear (g.R.In.rest c.hear.new.input)) (g.W.Out.told c.args.out.now) (g.W.Out.told c.send_on.new.out) _
+          (unheard c.match-branch-2.self.ear (g.R.In.rest c.hear.new.input)) (g.W.Out.told c.args.out.now) (g.W.Out.told c.send_on.new.out)
           c.in_err-send_on.ensures.only w.served-is (ap (λ (t : Talk). waits t.outbox) w.self-is)
           (ap (λ (t : Talk). unheard t.ear (g.R.In.rest c.hear.new.input)) w.self-is)
           (subst (λ h. HearsAs (Ok h) (unheard c.args.self.now.ear (g.R.In.rest c.args.input.now)) (unheard c.hear.new.self (g.R.In.rest c.hear.new.input))) w.in-Request.is c.in_ok-hear.ensures.heard)
@@ -133,7 +127,7 @@ returns-in_err-send_on-clause-talked g c =
       | in-Request+in_ok-serve-in-Request+in-On+in-Object-1 w ↦
           turn-on g.S.Serves.serves g.S.Serves.busy g.S.Serves.works g.S.Serves.rests _ c.args.served.now w.serve.new.self c.match-branch-2.served _ w.in-Request.request
           (waits w.serve.new.outbox) (waits c.match-branch-2.self.outbox) (unheard c.args.self.now.ear (g.R.In.rest c.args.input.now)) (unheard c.hear.new.self (g.R.In.rest c.hear.new.input))
-          (unheard c.match-branch-2.self.ear (g.R.In.rest c.hear.new.input)) (g.W.Out.told c.args.out.now) (g.W.Out.told c.send_on.new.out) _
+          (unheard c.match-branch-2.self.ear (g.R.In.rest c.hear.new.input)) (g.W.Out.told c.args.out.now) (g.W.Out.told c.send_on.new.out)
           c.in_err-send_on.ensures.only w.served-is (ap (λ (t : Talk). waits t.outbox) w.self-is)
           (ap (λ (t : Talk). unheard t.ear (g.R.In.rest c.hear.new.input)) w.self-is)
           (subst (λ h. HearsAs (Ok h) (unheard c.args.self.now.ear (g.R.In.rest c.args.input.now)) (unheard c.hear.new.self (g.R.In.rest c.hear.new.input))) w.in-Request.is c.in_ok-hear.ensures.heard)
@@ -142,7 +136,7 @@ returns-in_err-send_on-clause-talked g c =
       | in-Request+in_ok-serve-in-Request+in-On+in-Null-1 w ↦
           turn-on g.S.Serves.serves g.S.Serves.busy g.S.Serves.works g.S.Serves.rests _ c.args.served.now w.serve.new.self c.match-branch-2.served _ w.in-Request.request
           (waits w.serve.new.outbox) (waits c.match-branch-2.self.outbox) (unheard c.args.self.now.ear (g.R.In.rest c.args.input.now)) (unheard c.hear.new.self (g.R.In.rest c.hear.new.input))
-          (unheard c.match-branch-2.self.ear (g.R.In.rest c.hear.new.input)) (g.W.Out.told c.args.out.now) (g.W.Out.told c.send_on.new.out) _
+          (unheard c.match-branch-2.self.ear (g.R.In.rest c.hear.new.input)) (g.W.Out.told c.args.out.now) (g.W.Out.told c.send_on.new.out)
           c.in_err-send_on.ensures.only w.served-is (ap (λ (t : Talk). waits t.outbox) w.self-is)
           (ap (λ (t : Talk). unheard t.ear (g.R.In.rest c.hear.new.input)) w.self-is)
           (subst (λ h. HearsAs (Ok h) (unheard c.args.self.now.ear (g.R.In.rest c.args.input.now)) (unheard c.hear.new.self (g.R.In.rest c.hear.new.input))) w.in-Request.is c.in_ok-hear.ensures.heard)

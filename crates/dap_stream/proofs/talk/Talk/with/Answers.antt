@@ -1,34 +1,33 @@
 -- One exchange more, or the end after those that were had.
 use Rattle.std.proofs.Common.{Ok, ap, subst, ◌∙◌, arith}
 use Rattle.std.proofs.lemmas.Result.{err_from_is_err_and}
-use Rattle.dap_message.specs.Message.{waits}
 use Rattle.dap_stream.specs.Hearing.{unheard}
 use Rattle.dap_stream.specs.Talked.{TurnAs}
-use Rattle.dap_stream.proofs.ServingLemmas.{broken-then, counted-out, talk-next, talked-then}
+use Rattle.dap_stream.proofs.ServingLemmas.{broken-then, counted-out, ended-then, talk-next}
 use Rattle.dap_stream.proofs.talk.Talk.with.Goals as goal
 
-pub returns-in_err-talked-clause-talked : goal.returns-in_err-talked-clause-talked
-returns-in_err-talked-clause-talked g c =
+pub returns-in_err-turn-clause-talked : goal.returns-in_err-turn-clause-talked
+returns-in_err-turn-clause-talked g c =
     let p = err_from_is_err_and c.from_residual.result c.from_residual.ensures.1 in
     rw (p.1, p.2)
-    (broken-then g.S.Serves.serves g.S.Serves.busy g.S.Serves.works g.S.Serves.rests _ c.args.served.now c.turns.served c.turn.new.served c.turns.turns _ _ _ _ _ _ _
-    c.turns.invariant.talks c.in_err-talked.ensures.talked)
+    (broken-then g.S.Serves.serves g.S.Serves.busy g.S.Serves.works g.S.Serves.rests _ c.args.served.now c.turns.served c.turn.new.served c.turns.turns _ _ _ _ _ _
+    c.turns.invariant.talks c.in_err-turn.ensures.talked)
 
-pub returns-in-Some-clause-talked : goal.returns-in-Some-clause-talked
-returns-in-Some-clause-talked g c =
-    talked-then g.S.Serves.serves g.S.Serves.busy g.S.Serves.works g.S.Serves.rests _ c.args.served.now c.turns.served c.turn.new.served c.turns.turns _ _ _ _ _ _ _
+pub returns-in-Over-clause-talked : goal.returns-in-Over-clause-talked
+returns-in-Over-clause-talked g c =
+    ended-then g.S.Serves.serves g.S.Serves.busy g.S.Serves.works g.S.Serves.rests c.args.served.now c.turns.served c.turn.new.served c.turns.turns _ _ _ _ _ _
     c.turns.invariant.talks
-    (subst (λ o. TurnAs g.S.Serves.serves g.S.Serves.busy g.S.Serves.works g.S.Serves.rests (Ok o) c.turns.served c.turn.new.served (unheard c.turns.self.ear (g.R.In.rest c.turns.input)) (unheard c.turn.new.self.ear (g.R.In.rest c.turn.new.input)) (g.W.Out.told c.turns.out) (g.W.Out.told c.turn.new.out) (waits c.turn.new.self.outbox)) c.in-Some.is c.in_ok-talked.ensures.talked)
+    (subst (λ o. TurnAs g.S.Serves.serves g.S.Serves.busy g.S.Serves.works g.S.Serves.rests (Ok o) c.turns.served c.turn.new.served (unheard c.turns.self.ear (g.R.In.rest c.turns.input)) (unheard c.turn.new.self.ear (g.R.In.rest c.turn.new.input)) (g.W.Out.told c.turns.out) (g.W.Out.told c.turn.new.out)) c.in-Over.is c.in_ok-turn.ensures.talked)
 
 pub turns-preserved : goal.turns-preserved
 turns-preserved g c = record {
   talks =
       talk-next g.S.Serves.serves g.S.Serves.busy g.S.Serves.works g.S.Serves.rests c.args.served.now c.turns.served c.turn.new.served c.turns.turns _ _ _ _ _ _
       c.turns.invariant.talks
-      (subst (λ o. TurnAs g.S.Serves.serves g.S.Serves.busy g.S.Serves.works g.S.Serves.rests (Ok o) c.turns.served c.turn.new.served (unheard c.turns.self.ear (g.R.In.rest c.turns.input)) (unheard c.turn.new.self.ear (g.R.In.rest c.turn.new.input)) (g.W.Out.told c.turns.out) (g.W.Out.told c.turn.new.out) (waits c.turn.new.self.outbox)) c.in-None.is c.in_ok-talked.ensures.talked);
-  none = c.in_ok-talked.ensures.none (ap Ok c.in-None.is);
-  read = c.in_ok-talked.ensures.read.1 (λ e. cc) ∙ c.turns.invariant.read;
-  written = c.in_ok-talked.ensures.written.1 (λ e. cc) ∙ c.turns.invariant.written;
+      (subst (λ o. TurnAs g.S.Serves.serves g.S.Serves.busy g.S.Serves.works g.S.Serves.rests (Ok o) c.turns.served c.turn.new.served (unheard c.turns.self.ear (g.R.In.rest c.turns.input)) (unheard c.turn.new.self.ear (g.R.In.rest c.turn.new.input)) (g.W.Out.told c.turns.out) (g.W.Out.told c.turn.new.out)) c.in-On.is c.in_ok-turn.ensures.talked);
+  none = c.in_ok-turn.ensures.none (ap Ok c.in-On.is);
+  read = c.in_ok-turn.ensures.read.1 (λ e. cc) ∙ c.turns.invariant.read;
+  written = c.in_ok-turn.ensures.written.1 (λ e. cc) ∙ c.turns.invariant.written;
 }
 
 pub returns-clause-talked : goal.returns-clause-talked

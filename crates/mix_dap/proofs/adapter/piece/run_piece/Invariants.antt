@@ -1,6 +1,6 @@
 -- So many legs went on, one after the other.
 use Rattle.std.proofs.Common.{◌≡◌, ℕ}
-use Rattle.mix_dap.specs.Runs.{Leg, Passes, first_leg}
+use Rattle.mix_dap.specs.Runs.{Passes, first_leg}
 use Rattle.mix_dap.proofs.adapter.piece.run_piece.Given as goal
 
 abbrev pub invariant-legs : goal.invariant-legs

@@ -1,5 +1,5 @@
 -- One breakpoint more is counted.
-use Rattle.std.proofs.Common.{◌<◌, length, arith}
+use Rattle.std.proofs.Common.{arith}
 use Rattle.mix_dap.specs.Breakpoint.{with_arrival}
 use Rattle.mix_dap.proofs.PointLemmas.{made_too}
 use Rattle.mix_dap.proofs.points.breakpoint.count_all.Goals as goal

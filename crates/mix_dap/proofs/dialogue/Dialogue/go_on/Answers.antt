@@ -1,0 +1,26 @@
+-- The talk over what the dialogue holds is a part of it, with nothing read before.
+use Rattle.std.proofs.Common.{Err, ap, sym, ◌∙◌}
+use Rattle.std.proofs.lemmas.Result.{err_from_is_err_and}
+use Rattle.dap_stream.specs.Hearing.{kept}
+use Rattle.mix_dap.specs.Stage.{stage_of}
+use Rattle.mix_dap.proofs.DialogueLemmas.{goes-broken, goes-done, goes-over}
+use Rattle.mix_dap.proofs.dialogue.Dialogue.go_on.Goals as goal
+
+pub returns-then-is_over-clause-dialogue : goal.returns-then-is_over-clause-dialogue
+returns-then-is_over-clause-dialogue g c = goes-over c.args.self.now _ _ (sym c.is_over.ensures ∙ c.if-is_over.true)
+
+pub returns-in_err-with-clause-dialogue : goal.returns-in_err-with-clause-dialogue
+returns-in_err-with-clause-dialogue g c =
+    let p = err_from_is_err_and c.from_residual.result c.from_residual.ensures.1 in
+    rw (p.1, p.2)
+    (goes-broken _ c.of-served.result c.with.new.served c.args.self.now _ _ (kept c.new.result) (kept c.with.new.self.ear) (g.R.In.rest c.args.input.now) (g.R.In.rest c.with.new.input)
+    (g.W.Out.told c.args.out.now) (g.W.Out.told c.with.new.out) c.in_err-with.ensures.talked
+    (ap stage_of (c.of-served.ensures ∙ c.replace-holds.ensures.value) ∙ c.self.view_is) (sym c.is_over.ensures ∙ c.if-is_over.false) c.new.ensures
+    (ap stage_of c.replace-holds.ensures.after) (λ e. c.in_err-with.ensures.partial (ap Err e)))
+
+pub returns-clause-dialogue : goal.returns-clause-dialogue
+returns-clause-dialogue g c =
+    goes-done _ c.of-served.result c.with.new.served c.args.self.now _ (kept c.new.result) (kept c.with.new.self.ear) (g.R.In.rest c.args.input.now) (g.R.In.rest c.with.new.input)
+    (g.W.Out.told c.args.out.now) (g.W.Out.told c.with.new.out) c.in_ok-with.ensures.talked
+    (ap stage_of (c.of-served.ensures ∙ c.replace-holds.ensures.value) ∙ c.self.view_is) (sym c.is_over.ensures ∙ c.if-is_over.false) c.new.ensures
+    (ap stage_of c.into_holds.ensures)
