@@ -1,10 +1,9 @@
 // The page: what a person asks for, by buttons, keys, commands and the slider.
 
-import { $, counted, fourDigits } from "./dom.js";
+import { $, counted, fourDigits, on } from "./dom.js";
 import { cardsApart, isBundle, keptIn, partsOf, scriptOf } from "./bundle.js";
 import { Desk } from "./desk.js";
 import { move } from "./moves.js";
-import { LONG } from "./session.js";
 import { Talk } from "./talk.js";
 import { Time } from "./time.js";
 import { Who } from "./who.js";
@@ -13,36 +12,14 @@ const PAUSE = 200; // milliseconds without a key before a text is assembled
 
 export class App extends Desk {
   constructor(machine, grammar) {
-    super(machine, grammar, {
-      edited: () => this.edited(),
-      toggled: (line) => this.toggle(line),
-      ask: (part, name) => this.enqueue(() => this.who.open(part, name, this.view)).then(() => this.views.map.watch(part)),
-      slide: (moment) => this.slide(moment),
-    });
+    super(machine, grammar);
     this.agreed = ""; // what was asked for once, and is done when it is asked for again
     this.wanted = undefined; // the moment that the slider asks for
-    this.talk = new Talk({
-      given: (command) => this.given(command),
-      script: (count) => this.enqueue(() => this.actScript(this.talk.first(count))),
-    });
-    this.time = new Time({
-      go: (name) => this.go(name),
-      preview: (moment) => this.preview(moment),
-      slide: (moment) => this.slide(moment),
-      goto: (moment) => this.enqueue(() => this.act(`goto ${moment}`)),
-      breakpoint: () => this.toggle(this.listing.source.caretLine),
-      explain: () => this.tell(this.listing.source.caretExplained || "The cursor is at no operation."),
-      swap: () => this.swap(),
-      stop: () => this.machine.stop(),
-    });
-    this.who = new Who({
-      session: () => this.session,
-      go: (command) => this.enqueue(() => this.act(command)),
-      enqueue: (work) => this.enqueue(work),
-      lineOf: (cell) => this.listing.lineOf.get(cell),
-    });
-    for (const id of ["cards", "deck"]) $(id).addEventListener("input", () => this.edited());
-    $("anew").addEventListener("click", () => this.queue.add(() => this.begin()));
+    this.talk = new Talk(this);
+    this.time = new Time(this);
+    this.who = new Who(this);
+    for (const id of ["cards", "deck"]) on(id, "input", () => this.edited());
+    on("anew", "click", () => this.queue.add(() => this.begin()));
   }
 
   // From the source to the line for commands, and back.
@@ -64,23 +41,33 @@ export class App extends Desk {
     clearTimeout(this.timer);
     this.timer = setTimeout(() => {
       this.timer = 0;
-      this.enqueue(
-        () => undefined,
-        () => undefined,
-      );
+      this.enqueue(() => undefined, () => undefined);
     }, PAUSE);
     this.busy();
   }
 
-  acted(before, { reply, view }) {
+  // Shows what something did with the session, perhaps when it is done.
+  async did(found, before = this.view) {
+    const { answer, view } = await found;
     this.isEdited = true;
     this.time.isDragged = false;
     this.agreed = "";
-    this.show(view, reply, before);
+    this.show(view, answer, before);
   }
 
-  async act(command, before = this.view) {
-    this.acted(before, await this.session.act(command));
+  // Does a command, after all that was asked for before.
+  go(command) {
+    return this.enqueue(() => this.did(this.session.act([command])));
+  }
+
+  // Goes to a moment by the slider or by a picture.
+  slide(moment) {
+    this.enqueue(() => this.did(this.session.slide(moment)));
+  }
+
+  // Asks who wrote a part: what comes after `until` in a command, and its name.
+  ask(part, name) {
+    this.enqueue(() => this.who.open(part, name)).then(() => this.views.map.watch(part));
   }
 
   // A command that was typed. A `set` that would drop what is ahead is done when it is given twice.
@@ -92,22 +79,20 @@ export class App extends Desk {
         this.talk.answer(command, `This drops ${counted(ahead, "change")} ahead. Press Enter again to do it.`);
         return undefined;
       }
-      return this.act(command);
+      return this.did(this.session.act([command]));
     };
     this.enqueue(work, () => this.talk.answer(command, `Not done, since the text is refused. ${this.refusal}.`));
   }
 
-  // Does lines of the script; where that fails, they are still to be done.
+  // Does the first lines of the script; where that fails, they are still to be done.
   async actScript(lines) {
-    const before = this.view;
-    const view = await this.session.actAll(lines);
-    this.talk.drop(lines.length);
-    const { log } = this.session;
-    this.acted(before, { view, reply: lines.length > 0 ? log[log.length - 1].reply : "" });
+    const found = await this.session.act(lines);
+    this.talk.setScript(this.talk.lines.slice(lines.length));
+    return this.did(found);
   }
 
   // What a button asks for. A key that is held down does not pile up what it asks for, and behind a halt it goes on when it is asked twice.
-  go(name) {
+  press(name) {
     if (this.queue.left > 2) return;
     this.enqueue(() => {
       const { session, listing } = this;
@@ -119,13 +104,8 @@ export class App extends Desk {
         return undefined;
       }
       const before = this.view;
-      return move(name, session, listing.breakCells, (command) => this.act(command, before));
+      return move(name, session, listing.breakCells, (command) => this.did(session.act([command]), before));
     });
-  }
-
-  // Goes to a moment by the slider or the strip.
-  slide(moment) {
-    this.enqueue(async () => this.acted(this.view, await this.session.slide(moment)));
   }
 
   // Shows a moment while the slider is dragged; where more come than can be shown, the last.
@@ -135,12 +115,11 @@ export class App extends Desk {
     if (isUnderWay) return;
     this.enqueue(async () => {
       const { session } = this;
-      while (this.wanted !== undefined && this.time.isDragged) {
-        const seen = this.wanted;
-        const view = await session.look(seen, seen < LONG);
+      for (let seen; seen !== this.wanted && this.time.isDragged; ) {
+        seen = this.wanted;
+        const { view } = await session.look(seen, true);
         if (session !== this.session) break;
-        this.show(view, "");
-        if (this.wanted === seen) break;
+        this.show(view);
       }
     }).then(() => {
       this.wanted = undefined;
@@ -188,7 +167,7 @@ export class App extends Desk {
 
   // The parts of the bundle of what is here: the commands that were done, and what the page keeps beside them.
   partsFor(lesson) {
-    const { source, deck } = this.texts();
+    const { source, deck } = this.texts;
     const done = this.session ? this.session.log.map(({ command }) => command) : [];
     const breaks = [...this.listing.breaks].sort((a, b) => a - b);
     return { source, deck, script: scriptOf({ done, left: this.talk.lines, breaks, bars: this.views.bars.kept, lesson }) };

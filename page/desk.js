@@ -6,17 +6,15 @@ import { showRefusal } from "./faults.js";
 import { Listing } from "./listing.js";
 import { Broken } from "./machine.js";
 import { Queue } from "./queue.js";
-import { Session, load } from "./session.js";
+import { Session } from "./session.js";
 import { toldOf } from "./told.js";
 import { Views } from "./views.js";
 
 const SESSIONS = 5; // sessions of other texts that can come back
 
-const keyOf = (texts) => JSON.stringify([texts.source, texts.deck, texts.cards]);
-
 // What is below the buttons. It needs a `talk` and a `time`, which who extends it has.
 export class Desk {
-  constructor(machine, grammar, { edited, toggled, ask, slide }) {
+  constructor(machine, grammar) {
     this.machine = machine;
     this.session = null; // none while the texts are refused
     this.kept = new Map(); // the last sessions of other texts in which something was done, by their texts
@@ -26,32 +24,13 @@ export class Desk {
     this.isEdited = false;
     this.onShown = () => {}; // called when a moment is shown
     this.timer = 0; // runs while a text is not assembled yet
-    this.queue = new Queue({
-      changed: () => this.busy(),
-      slow: () => {
-        $("stop").hidden = false;
-        this.tell("Working …");
-      },
-      ended: () => {
-        $("stop").hidden = true;
-      },
-      failed: (fault) => this.failed(fault),
-    });
-    this.listing = new Listing({ grammar, edited, toggled, refused: (reason) => this.tell(`The text was not taken: ${reason}.`, true) });
-    this.views = new Views({
-      ask,
-      look: () => this.enqueue(async () => this.show(await this.session.look(this.session.done), "")),
-      values: (expressions) => this.enqueue(() => this.session.values(expressions)),
-      listing: this.listing,
-      copy: (text, name) => this.copy(text, name),
-      session: () => this.session,
-      enqueue: (work) => this.enqueue(work),
-      go: slide,
-    });
+    this.queue = new Queue(this);
+    this.listing = new Listing(this, grammar);
+    this.views = new Views(this);
   }
 
   // What is to be assembled and loaded. Cards of which one looks like a header go apart, so that they are refused as cards.
-  texts() {
+  get texts() {
     const [source, deck, cards] = [this.listing.text, $("deck").value, $("cards").value];
     return /^%/m.test(cards) ? { source, deck, cards } : { source, deck: withCards(deck, cards) };
   }
@@ -68,50 +47,55 @@ export class Desk {
     document.querySelector("main").setAttribute("aria-busy", String(this.queue.left > 0 || this.timer !== 0));
   }
 
+  // Whether what is done takes long, so that it may be stopped.
+  slow(isSlow) {
+    $("stop").hidden = !isSlow;
+    if (isSlow) this.tell("Working …");
+  }
+
   // Tells what went wrong. The text, the breakpoints and the commands are as they were, and the last view is shown again.
   failed(fault) {
     this.time.isDragged = false;
-    const isStopped = fault instanceof Broken && fault.isStopped;
     const isEngine = fault instanceof Broken;
     if (!isEngine) console.error(fault);
     if (this.session && this.view) this.time.show(this.session, this.view.state);
     this.talk.show(this.session ? this.session.log : []);
     const rest = "The text, the breakpoints and the commands are as they were.";
-    if (isStopped) this.tell(`Stopped. ${rest}`);
+    if (isEngine && fault.isStopped) this.tell(`Stopped. ${rest}`);
     else this.tell(isEngine ? `Not done: ${fault.message}. ${rest}` : `The page itself has a fault: ${fault}`, true);
   }
 
   // A session of the texts as they are now. One of the last that were left for other texts comes back when its texts do.
   async assemble() {
-    const texts = this.texts();
-    const key = keyOf(texts);
+    const { texts } = this;
+    const key = JSON.stringify([texts.source, texts.deck, texts.cards]);
     if (key === this.assembled) return;
-    const { found, refusal, program, view } = await load(this.machine, texts);
-    const left = this.session && this.session.log.length > 0;
-    if (left) this.kept.set(this.assembled, this.session);
+    const back = this.kept.get(key);
+    const session = back || new Session(this.machine, texts, () => this.views.units.requests);
+    const { found, refusal, program, view } = await session.begin();
+    const isLeft = this.session && this.session.log.length > 0;
+    if (isLeft) this.kept.set(this.assembled, this.session);
     if (this.kept.size > SESSIONS) this.kept.delete(this.kept.keys().next().value);
-    this.assembled = key;
-    this.session = null;
+    this.kept.delete(key);
+    Object.assign(this, { assembled: key, session: null });
     this.listing.setProgram(program);
     this.refusal = showRefusal(refusal, found, texts, this.listing);
-    this.views.setStale(Boolean(refusal));
+    document.querySelector("main").classList.toggle("stale", Boolean(refusal)); // what is seen is that of an older program
     if (refusal) {
       this.time.hide();
       this.tell(`${this.refusal}.`, true);
       return;
     }
-    this.views.setProgram(program, this.listing.lines);
-    const isBack = this.kept.has(key);
-    this.session = isBack ? this.kept.get(key) : new Session(this.machine, texts, () => this.views.requests);
-    this.kept.delete(key);
-    this.show(isBack ? await this.session.look(this.session.done) : view, "");
-    if (isBack) this.tell(`The text is as it was, and what was done with it is back: ${counted(this.session.log.length, "command")}.`);
-    else if (left) this.tell("The text is another, so it begins anew. Undo the edit, and what was done comes back.");
-    else if (this.views.warning) this.tell(this.views.warning);
+    const warning = this.views.setProgram(program);
+    this.session = session;
+    this.show(view);
+    if (back) this.tell(`The text is as it was, and what was done with it is back: ${counted(session.log.length, "command")}.`);
+    else if (isLeft) this.tell("The text is another, so it begins anew. Undo the edit, and what was done comes back.");
+    else if (warning) this.tell(warning);
   }
 
-  // Shows a moment of the machine, and why it is this one; `before` is the view from which a command led here.
-  show(view, reply, before = null) {
+  // Shows a moment of the machine, and why it is this one: `answer` is that to the command which led here from the moment of the view `before`.
+  show(view, answer = null, before = null) {
     const { session, listing } = this;
     const { state, change } = view;
     this.view = view;
@@ -125,8 +109,7 @@ export class Desk {
       () => this.talk.show(session.log),
       () => listing.reveal(line),
       () => {
-        const isBreak = listing.breakCells.includes(state.location);
-        const { did, next, isFault, last } = toldOf({ reply, before, view, isBreak, lineOf: listing.lineOf, lines: listing.lines });
+        const { did, next, isFault, last } = toldOf({ answer, before, view, listing });
         view.did = last;
         this.tell(did, isFault, next);
       },
@@ -148,9 +131,8 @@ export class Desk {
 
   // Begins anew with the texts as they are.
   begin() {
-    this.session = null;
     this.kept.clear();
-    this.assembled = "";
+    Object.assign(this, { session: null, assembled: "" });
     return this.assemble();
   }
 }

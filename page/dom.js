@@ -2,6 +2,9 @@
 
 export const $ = (id) => document.getElementById(id);
 
+// Does something whenever an event comes to an element.
+export const on = (id, event, work) => $(id).addEventListener(event, work);
+
 // A new element with attributes and children; a child that is a text stays a text.
 export function make(name, given = {}, ...children) {
   const element = document.createElement(name);

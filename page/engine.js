@@ -1,13 +1,13 @@
-// The proved engine as a module of WebAssembly: what a client of the debug adapter sends goes in as bytes, what it is sent comes out as bytes.
-// Nothing is kept between two calls, and nothing here knows what a request does.
+// The proved engine as a module of WebAssembly. It holds one session of the debug adapter from call to call: what a client sends goes in as bytes, what
+// it is sent comes out as bytes. Nothing here knows what a request does.
 
-const NO_ROOM = 3; // the status where the room for the answer was too small
+const [DONE, MEMORY, NO_ROOM] = [0, 1, 3]; // statuses of a call
 const FIRST_ROOM = 1 << 18;
-const LARGE = 1 << 28; // an instance with more memory than this is not kept for the next call
+const LARGE = 1 << 28; // an instance with more memory than this is not kept for another session
 
-// What no call answers: `kind` is "memory" where memory is refused, and "trap" where the module stopped in the middle.
+// What ends a session: `kind` is "memory" where memory is refused, and "trap" where the module stopped in the middle.
 export class EngineFault extends Error {
-  constructor(kind, message) {
+  constructor(kind, message = "T1 out of memory") {
     super(message);
     this.name = "EngineFault";
     this.kind = kind;
@@ -17,7 +17,7 @@ export class EngineFault extends Error {
 export class Engine {
   #module;
   #exports = null;
-  #wanted = FIRST_ROOM;
+  #handle = 0n; // of 16 bytes in the module's memory, by which it knows the session
 
   constructor(module) {
     this.#module = module;
@@ -30,19 +30,40 @@ export class Engine {
     return new Engine(await WebAssembly.compile(bytes));
   }
 
-  // The status, 0 or 2; the bytes that the client is sent; the bytes that are told on the error output, which say why a status is 2; and how many
-  // bytes of memory it took. After a fault the instance is thrown away, and the next call has a new one.
-  talk(frames) {
-    try {
-      return this.#talk(frames);
-    } catch (fault) {
-      this.#exports = null;
-      this.#wanted = FIRST_ROOM;
-      if (fault instanceof EngineFault) throw fault;
-      throw new EngineFault("trap", String(fault && fault.message));
-    } finally {
+  // Begins a session, in which nothing was heard yet, in the place of the one before.
+  open() {
+    this.#safely(() => {
       if (this.memory > LARGE) this.#exports = null;
-    }
+      if (!this.#exports) {
+        this.#exports = new WebAssembly.Instance(this.#module).exports;
+        this.#handle = this.#room(16);
+        this.#bytes(this.#handle, 16).fill(0);
+      }
+      if (Number(this.#exports.engine_open(this.#handle)) !== DONE) throw new EngineFault("memory");
+    });
+  }
+
+  // The bytes that answer some frames, after all that the session has heard before. After a fault the session is lost, and `open` begins another one.
+  ask(frames) {
+    return this.#safely(() => {
+      const [input, count] = [this.#room(frames.length), this.#room(8)];
+      this.#bytes(input, frames.length).set(frames);
+      let [length, size] = [frames.length, FIRST_ROOM];
+      for (;;) {
+        const out = this.#room(size);
+        const status = Number(this.#exports.engine_ask(this.#handle, input, BigInt(length), out, BigInt(size), count));
+        if (status === MEMORY) throw new EngineFault("memory");
+        if (status !== DONE && status !== NO_ROOM) throw new EngineFault("trap", `status ${status}`);
+        const sent = Number(new BigUint64Array(this.#exports.memory.buffer, Number(count), 1)[0]);
+        const answer = status === DONE ? this.#bytes(out, sent).slice() : null;
+        this.#exports.leave(out);
+        if (!answer) [length, size] = [0, sent]; // it waits for the room that it needs
+        else {
+          for (const place of [count, input]) this.#exports.leave(place);
+          return answer;
+        }
+      }
+    });
   }
 
   // The bytes of memory that the instance has; 0 where it was thrown away.
@@ -50,32 +71,19 @@ export class Engine {
     return this.#exports ? this.#exports.memory.buffer.byteLength : 0;
   }
 
-  #talk(frames) {
-    this.#exports ??= new WebAssembly.Instance(this.#module).exports;
-    const input = this.#room(frames.length);
-    this.#bytes(input, frames.length).set(frames);
-    const lengths = this.#room(16); // the two lengths that a call tells
-    for (;;) {
-      const size = this.#wanted;
-      const out = this.#room(size);
-      const status = Number(this.#exports.talk(input, BigInt(frames.length), out, BigInt(size), lengths, lengths + 8n));
-      const [count, told] = new BigUint64Array(this.#exports.memory.buffer, Number(lengths), 2);
-      const sent = Number(count);
-      const all = sent + Number(told);
-      const given = status === NO_ROOM ? null : this.#bytes(out, all).slice();
-      this.#wanted = Math.max(FIRST_ROOM, given ? all + (all >> 2) : all);
-      this.#exports.leave(out);
-      if (given) {
-        this.#exports.leave(lengths);
-        this.#exports.leave(input);
-        return { status, bytes: given.subarray(0, sent), errors: given.subarray(sent), memory: this.memory };
-      }
+  // Does something with the instance, which is thrown away where it fails.
+  #safely(work) {
+    try {
+      return work();
+    } catch (fault) {
+      this.#exports = null;
+      throw fault instanceof EngineFault ? fault : new EngineFault("trap", String(fault && fault.message));
     }
   }
 
   #room(size) {
     const place = this.#exports.room(BigInt(size));
-    if (place === 0n) throw new EngineFault("memory", "out of memory");
+    if (place === 0n) throw new EngineFault("memory");
     return place;
   }
 

@@ -4,7 +4,7 @@ import { $, copied, make, put, saved } from "./dom.js";
 import { bundleOf, keptIn, partsOf } from "./bundle.js";
 import { bundleIn, fragmentOf } from "./share.js";
 import { tooLarge } from "./source.js";
-import { momentOf } from "./moment.js";
+import { momentOf } from "./registers.js";
 import { fillMenu, showNotes } from "./notes.js";
 
 const LONG_LINK = 2000; // letters; mail and chats may cut what is longer
@@ -128,7 +128,7 @@ export class Keep {
   // What is printed above the listing: the lesson, the moment, the day.
   get heading() {
     const { session } = this.app;
-    const moment = session ? `, change ${session.done} of ${session.changes.total}` : "";
+    const moment = session ? `, change ${session.done} of ${session.total}` : "";
     return `${this.lesson ? this.lesson.title : "A program"}${moment}, ${new Date().toISOString().slice(0, 10)}`;
   }
 

@@ -6,9 +6,8 @@ import { Source } from "./source.js";
 const NO_WORD = "+ 00 00 00 00 00";
 
 export class Listing {
-  // `edited` is called when the text was changed, `toggled` when a line's breakpoint is asked for, `refused` when a text is too large.
-  constructor({ grammar, edited, toggled, refused }) {
-    this.toggled = toggled;
+  constructor(app, grammar) {
+    this.app = app;
     this.rows = [];
     this.boxes = []; // of each line where it begins, and its height
     this.breaks = new Set();
@@ -18,11 +17,11 @@ export class Listing {
     this.found = []; // lines with a fault or a warning, each with its band
     this.source = new Source({
       grammar,
-      refused,
+      refused: (reason) => app.tell(`The text was not taken: ${reason}.`, true),
       changed: (old, now) => {
         this.breaks = moved(this.breaks, old, now);
         this.fit();
-        edited();
+        app.edited();
       },
       resized: () => this.place(),
     });
@@ -194,7 +193,7 @@ export class Listing {
     const index = this.rows.findIndex(({ row }) => row.contains(event.target));
     if (index < 0) return;
     this.focus(index);
-    this.toggled(index + 1);
+    this.app.toggle(index + 1);
   }
 
   // Arrow keys walk from line to line.

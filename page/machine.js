@@ -1,15 +1,15 @@
-// The engine as the page sees it: requests go in, answers come out, one call after another, and the page never waits for it.
+// The engine as the page sees it: requests go in, answers come out, and the page never waits for it.
 
 import { answersOf, framesOf } from "./dap.js";
 
-// What makes a call fail that is no answer of the adapter: no memory, a trap, or that it was stopped.
+const STOPPED = "it was stopped";
+
+// What makes a call fail that is no answer of the adapter: no memory, a trap, or that it was stopped. The session of the engine is lost then.
 export class Broken extends Error {
   get isStopped() {
     return this.message === STOPPED;
   }
 }
-
-const STOPPED = "it was stopped";
 
 export class Machine {
   // The text of the worker's program, and the bytes of the module.
@@ -17,7 +17,7 @@ export class Machine {
     this.url = URL.createObjectURL(new Blob([program], { type: "text/javascript" }));
     this.module = module;
     this.worker = null;
-    this.last = Promise.resolve();
+    this.holder = null; // whose session the engine holds
     this.drop = null;
   }
 
@@ -26,28 +26,24 @@ export class Machine {
     this.worker.postMessage({ module: this.module });
   }
 
-  // The answers to requests, in their order, after all calls before this one.
-  ask(requests) {
-    const asked = this.last.then(() => this.call(requests));
-    this.last = asked.catch(() => {});
-    return asked;
-  }
-
-  async call(requests) {
+  // The answers to requests of a holder, in their order. Where the engine does not hold its session, they begin a new one.
+  async ask(holder, requests) {
     if (!this.worker) this.start();
-    const worker = this.worker;
-    const { status, bytes, errors, fault } = await new Promise((resolve) => {
+    const { worker } = this;
+    const isNew = this.holder !== holder;
+    this.holder = null;
+    const { bytes, fault } = await new Promise((resolve) => {
       this.drop = () => resolve({ fault: STOPPED });
       worker.onmessage = ({ data }) => resolve(data);
       worker.onerror = (event) => resolve({ fault: event.message || "the engine does not start" });
       const frames = framesOf(requests);
-      worker.postMessage({ frames }, [frames.buffer]);
+      worker.postMessage({ isNew, frames }, [frames.buffer]);
     });
     this.drop = null;
     if (fault !== undefined) throw new Broken(fault);
-    if (status !== 0) throw new Broken(new TextDecoder().decode(errors).replace(/^mixrev: /, "").trim());
-    const answers = answersOf(bytes).slice(1);
+    const answers = answersOf(bytes);
     if (answers.length < requests.length) throw new Broken("it has answered too little");
+    this.holder = holder;
     return answers;
   }
 

@@ -1,23 +1,26 @@
 // Cells of the memory: those around M, the cell that the next step uses; those that are not zero; or a range.
 
-import { $, fourDigits, keepRows, make, mark, note, walked } from "./dom.js";
+import { $, fourDigits, keepRows, mark, note, on, walked } from "./dom.js";
 import { CELLS, CellRange, upTo } from "./range.js";
-import { beforeOf, showWord, wordCells } from "./registers.js";
+import { beforeOf, showWord, wordRow } from "./registers.js";
 import { ZERO, instructionAt } from "./sentence.js";
 
 const CELLS_SHOWN = 500; // rows
 
 export class Memory {
-  constructor(asked, values) {
-    this.asked = asked;
-    this.view = null;
+  constructor(app) {
+    this.app = app;
     this.middle = 0; // the cell around which cells are shown
     this.current = 0; // the cell that the tab key comes to
     this.shownCells = [];
-    this.range = new CellRange("cells", { isWanted: () => $("cells-which").value === "range", values, taken: () => this.shown() });
-    $("cells-form").addEventListener("submit", (event) => event.preventDefault());
-    $("cells-which").addEventListener("change", () => this.chosen());
-    $("cell-rows").addEventListener("keydown", (event) => this.walked(event));
+    this.range = new CellRange(app, "cells", () => this.which === "range", () => this.shown());
+    on("cells-form", "submit", (event) => event.preventDefault());
+    on("cells-which", "change", () => this.chosen());
+    on("cell-rows", "keydown", (event) => this.walked(event));
+  }
+
+  get which() {
+    return $("cells-which").value;
   }
 
   forget() {
@@ -25,13 +28,13 @@ export class Memory {
   }
 
   chosen() {
-    $("cells-range").hidden = $("cells-which").value !== "range";
+    $("cells-range").hidden = this.which !== "range";
     this.range.ask();
     this.shown();
   }
 
   shown() {
-    if (this.view) this.show(this.view);
+    if (this.app.view) this.show(this.app.view);
   }
 
   // Shows the cells from a symbol on.
@@ -41,44 +44,29 @@ export class Memory {
     this.chosen();
   }
 
-  show(view) {
-    this.view = view;
-    const { state, change } = view;
+  show({ state, change }) {
     const cells = new Map(state.cells.map((cell) => [cell.cell, cell]));
     const { row, m } = instructionAt(state);
     const used = row && row.uses === "cell" && m >= 0 && m < CELLS ? m : null;
     if (used !== null) this.middle = used;
     else if (this.middle < 0) this.middle = Math.min(state.location, CELLS - 1);
-    const which = $("cells-which").value;
-    const all = this.cells(which, cells);
+    const all = { filled: [...cells.keys()], near: upTo(Math.max(0, this.middle - 8), this.middle + 16), range: this.range.cells }[this.which];
     const shown = all.slice(0, CELLS_SHOWN);
     this.shownCells = shown;
     const altered = new Set(state.altered);
     const before = beforeOf(change);
     if (!shown.includes(this.current)) this.current = shown.includes(this.middle) ? this.middle : shown[0];
-    keepRows($("cell-rows"), shown, (cell) => cell, (cell) => this.row(cell), (element, cell) => {
+    const fresh = (cell) => wordRow(`cell ${cell}`, fourDigits(cell), () => this.app.ask(`cell ${cell}`, `cell ${cell}`));
+    keepRows($("cell-rows"), shown, (cell) => cell, fresh, (element, cell) => {
       const isAltered = altered.has(`cell ${cell}`);
-      showWord(element, cells.get(cell) || ZERO, isAltered, before.get(`cell ${cell}`), [isAltered ? "altered" : "", cell === used ? "M" : ""].filter(Boolean).join(", "));
+      showWord(element, cells.get(cell) || ZERO, isAltered, before.get(`cell ${cell}`), [isAltered && "altered", cell === used && "M"].filter(Boolean).join(", "));
       element.classList.toggle("here", cell === used);
+      mark(element, "data-cell", cell);
       mark(element.querySelector("button"), "tabindex", cell === this.current ? "0" : "-1");
     });
     const more = all.length - shown.length;
     note("cells-more", more > 0 ? `${more} more are not shown: choose a range.` : all.length === 0 ? "All cells are zero." : "");
-    const written = state.altered.find((part) => part.startsWith("cell "));
-    this.reveal(written && shown.includes(Number(written.slice(5))) ? Number(written.slice(5)) : used);
-  }
-
-  // The cells to show.
-  cells(which, filled) {
-    if (which === "filled") return [...filled.keys()];
-    if (which === "near") return upTo(Math.max(0, this.middle - 8), this.middle + 16);
-    return this.range.cells;
-  }
-
-  row(cell) {
-    const button = make("button", { type: "button", "aria-label": `cell ${cell}: who wrote it?` }, fourDigits(cell));
-    const head = make("th", { scope: "row" }, button, make("span", { class: "unseen" }));
-    return make("tr", { "data-cell": cell, click: () => this.asked(`cell ${cell}`, `cell ${cell}`) }, head, ...wordCells());
+    this.reveal(shown.find((cell) => altered.has(`cell ${cell}`)) ?? used);
   }
 
   // Arrow keys walk from cell to cell.
@@ -97,9 +85,6 @@ export class Memory {
   reveal(cell) {
     const row = $("cell-rows").querySelector(`[data-cell="${cell}"]`);
     const box = $("cells-box");
-    if (!row) return;
-    if (row.offsetTop < box.scrollTop || row.offsetTop + row.offsetHeight > box.scrollTop + box.clientHeight) {
-      box.scrollTop = row.offsetTop - box.clientHeight / 3;
-    }
+    if (row && (row.offsetTop < box.scrollTop || row.offsetTop + row.offsetHeight > box.scrollTop + box.clientHeight)) box.scrollTop = row.offsetTop - box.clientHeight / 3;
   }
 }

@@ -1,38 +1,22 @@
-// How the buttons become commands of the script. Breakpoints are the page's: where one is met is found by trying, and what is kept are the steps.
+// How the buttons become commands of the script. Breakpoints are the page's: the engine says where one is met, and what is kept are the steps.
 
-import { STEPS } from "./changes.js";
-
-// The least number of changes that one of some commands would go over; 0 where none is accepted.
-async function nearest(session, commands) {
-  if (commands.length === 0) return 0;
-  const found = await session.ponder(commands);
-  const counts = found.filter(({ reply }) => !reply.startsWith("?")).map(({ done }) => Math.abs(done - session.done));
-  return counts.reduce((least, count) => (count > 0 && (least === 0 || count < least) ? count : least), 0);
-}
+export const STEPS = 1000000; // the most steps of one command
 
 async function run(session, cells, act) {
   if (session.ahead > 0) {
-    const count = await nearest(session, cells.map((cell) => `forth until loc ${cell}`));
-    if (count > 0) return act(`forth ${count}`);
+    const met = await session.next(cells.map((cell) => `loc ${cell}`));
+    if (met) return act(`forth ${met - session.done}`);
     await act("forth all");
-    if (session.changes.halts) return undefined;
+    if (session.isHalted) return undefined;
   }
   if (cells.length === 0) return act(`run ${STEPS}`);
-  const { reply, done } = await session.imagine([...cells.map((cell) => `break ${cell}`), `run ${STEPS}`]);
-  // The breakpoints are changes too. One step more meets the fault, so that it is told.
-  const steps = done - session.done - cells.length;
-  return act(`run ${steps + (faultOf(reply) ? 1 : 0)}`);
+  const { done, reason } = await session.stop("continue", cells);
+  return act(`run ${done - session.done + (reason === "exception" ? 1 : 0)}`); // one step more meets the fault, so that it is told
 }
 
 async function toBreak(session, cells, act) {
-  const count = await nearest(session, cells.map((cell) => `back until loc ${cell}`));
-  return act(count > 0 ? `back ${count}` : "back all");
-}
-
-// The fault that a reply tells.
-export function faultOf(reply) {
-  const found = /: fault (M\d+ .*)$/m.exec(reply);
-  return found ? found[1] : "";
+  const { done, reason } = await session.stop("reverseContinue", cells);
+  return act(reason === "entry" ? "back all" : `back ${session.done - done}`);
 }
 
 // Does what a button asks for on a session with breakpoints at some cells; `act` does a command.

@@ -3,9 +3,8 @@
 const SLOW = 400; // milliseconds before a stop is offered
 
 export class Queue {
-  // `changed` is called when more or less is to be done, `slow` when something takes long, `ended` when it is over, `failed` with what went wrong.
-  constructor({ changed, slow, ended, failed }) {
-    Object.assign(this, { changed, slow, ended, failed });
+  constructor(app) {
+    this.app = app;
     this.last = Promise.resolve();
     this.left = 0; // so much still has to be done
     this.generation = 0;
@@ -13,13 +12,13 @@ export class Queue {
 
   // Does something after all that was asked for before; what it gives, or nothing where it fails or was dropped.
   add(work) {
-    const { generation } = this;
+    const { app, generation } = this;
     this.left += 1;
-    this.changed();
+    app.busy();
     const done = this.last.then(() => (generation === this.generation ? this.run(work, generation) : undefined));
     this.last = done.then(() => {
       this.left -= 1;
-      this.changed();
+      app.busy();
     });
     return done;
   }
@@ -30,15 +29,15 @@ export class Queue {
   }
 
   async run(work, generation) {
-    const timer = setTimeout(this.slow, SLOW);
+    const timer = setTimeout(() => this.app.slow(true), SLOW);
     try {
       return await work();
     } catch (fault) {
-      if (generation === this.generation) this.failed(fault);
+      if (generation === this.generation) this.app.failed(fault);
       return undefined;
     } finally {
       clearTimeout(timer);
-      this.ended();
+      this.app.slow(false);
     }
   }
 }

@@ -1,27 +1,22 @@
 // A range of cells, whose ends a person writes as W-values: numbers, or symbols of the program.
 
-import { $, mark, note } from "./dom.js";
-import { numberOf } from "./sentence.js";
+import { $, mark, note, on } from "./dom.js";
 
 export const CELLS = 4000;
 
 export function upTo(from, to) {
-  const cells = [];
-  for (let cell = from; cell <= Math.min(to, CELLS - 1); cell += 1) cells.push(cell);
-  return cells;
+  const last = Math.min(to, CELLS - 1);
+  return Array.from({ length: Math.max(0, last - from + 1) }, (_, index) => from + index);
 }
 
 export class CellRange {
-  // The ids of its fields begin with `name`. It is asked for while `isWanted` says so: `values` gives the words of W-values, or nothing for one that is
-  // refused. `taken` is called when it is another range.
-  constructor(name, { isWanted, values, taken }) {
-    Object.assign(this, { isWanted, values, taken });
-    this.fault = `${name}-fault`;
-    this.fields = [$(`${name}-from`), $(`${name}-to`)];
+  // The ids of its fields begin with `name`. It is asked for while `isWanted` says so, and `taken` is called when it is another range.
+  constructor(app, name, isWanted, taken) {
+    Object.assign(this, { app, isWanted, taken, fault: `${name}-fault`, fields: [$(`${name}-from`), $(`${name}-to`)] });
     this.isAsked = false; // whether the ends are to be asked for once more
     this.isAsking = false;
     this.cells = [];
-    for (const field of this.fields) field.addEventListener("input", () => this.ask());
+    for (const end of ["from", "to"]) on(`${name}-${end}`, "input", () => this.ask());
   }
 
   get ends() {
@@ -42,8 +37,8 @@ export class CellRange {
     while (this.isAsked) {
       this.isAsked = false;
       const { ends } = this;
-      const words = await this.values(ends);
-      if (words) this.take(ends, words.map(numberIn));
+      const numbers = await this.app.enqueue(() => this.app.session.values(ends));
+      if (numbers) this.take(ends, numbers);
     }
     this.isAsking = false;
   }
@@ -54,8 +49,8 @@ export class CellRange {
       const isCell = numbers[index] >= 0 && numbers[index] < CELLS;
       mark(this.fields[index], "aria-invalid", !isCell);
       if (isCell) return [];
-      const what = end || "nothing";
-      return [Number.isNaN(numbers[index]) ? `“${what}” has no value: write a number or a symbol of the program, as TABLE+1` : `“${what}” is ${numbers[index]}, and cells are 0 to 3999`];
+      const what = `“${end || "nothing"}”`;
+      return [Number.isNaN(numbers[index]) ? `${what} has no value: write a number or a symbol of the program, as TABLE+1` : `${what} is ${numbers[index]}, and cells are 0 to 3999`];
     });
     if (faults.length === 0 && numbers[0] > numbers[1]) faults.push(`the range ends at ${numbers[1]}, before it begins at ${numbers[0]}`);
     note(this.fault, faults.length > 0 ? `Not shown: ${faults[0]}.` : "");
@@ -64,6 +59,3 @@ export class CellRange {
     this.taken();
   }
 }
-
-// The number of a word; NaN where there is none.
-export const numberIn = (word) => (word === null ? NaN : Number(numberOf(word)));

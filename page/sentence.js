@@ -21,14 +21,13 @@ const told = (word) => (/^[+-]( \d\d)+$/.test(word) && Math.abs(Number(numberOf(
 export function fieldOf(word, f) {
   const [left, right] = [f >> 3, f & 7];
   const [sign, ...bytes] = word.split(" ");
-  const chosen = bytes.slice(Math.max(left, 1) - 1, right);
-  return numberOf([left === 0 ? sign : "+", ...chosen].join(" "));
+  return numberOf([left === 0 ? sign : "+", ...bytes.slice(Math.max(left, 1) - 1, right)].join(" "));
 }
 
 // The parts of the instruction in a cell: its row of the table, its index register, M, F. No row where it is none.
 export function instructionIn({ word, text }, registers) {
   const [sign, a, b, index, f] = word.split(" ");
-  const row = OPERATIONS.get((/^[A-Z0-9]+/.exec(text) || [""])[0]);
+  const row = OPERATIONS.get(text.split(" ")[0]);
   const register = registers.find(({ name }) => name === `I${Number(index)}`);
   const address = (Number(a) * 64 + Number(b)) * (sign === "-" ? -1 : 1);
   return { row, text, index: register ? register.name : "", m: address + (register ? Number(register.number) : 0), f: Number(f) };
@@ -37,37 +36,36 @@ export function instructionIn({ word, text }, registers) {
 // That at the location.
 export const instructionAt = ({ location, cells, registers }) => instructionIn(cells.find(({ cell }) => cell === location) || ZERO, registers);
 
-const isCell = (m) => m >= 0 && m < 4000;
-const fieldName = (f) => (f === 5 ? "" : `(${f >> 3}:${f & 7})`);
+// Whether a change was a command, and no step.
+export const isCommand = ({ text }) => /^(set|break|clear) /i.test(text);
 
-// What stands in the source at a line: operation and address, if the operation is this one.
-function sourceOf(line, text, lines) {
-  const found = line && /^\S*[ \t]+(\S+)(?:[ \t]+(\S+))?/.exec(lines[line - 1] || "");
-  const name = text.split(" ")[0];
-  if (!found || found[1].toUpperCase() !== name) return text;
-  const isBare = ["HLT", "NUM", "CHAR", "NOP"].includes(name);
-  return isBare || !found[2] ? found[1] : `${found[1]} ${found[2]}`;
+const fieldName = (f) => (f === 5 ? "" : `(${f >> 3}:${f & 7})`);
+const whereIs = (location, lineOf) => (lineOf.get(location) ? `line ${lineOf.get(location)}` : `location ${fourDigits(location)}`);
+
+// An instruction at a location: its line, and operation and address as they are in the source, if they come from there.
+function named(location, text, { lineOf, lines }) {
+  const line = lineOf.get(location);
+  const [, operation, address = ""] = (lines[line - 1] || "").split(/[ \t]+/);
+  const isBare = ["HLT", "NUM", "CHAR", "NOP"].includes(text.split(" ")[0]);
+  const isThere = operation && operation.toUpperCase() === text.split(" ")[0];
+  return `${line || fourDigits(location)} ${isThere ? `${operation} ${isBare ? "" : address}`.trimEnd() : text}`;
 }
 
-const named = (line, location, text) => `${line || fourDigits(location)} ${text}`;
-
 // What the next step will do.
-export function nextOf(state, lineOf, lines) {
+export function nextOf(state, listing) {
   const { location, cells } = state;
   if (location > 3999) return "there is no cell 4000: a step would be a fault";
   const { row, text, m, f } = instructionAt(state);
-  const line = lineOf.get(location);
-  const name = named(line, location, sourceOf(line, text, lines));
+  const name = named(location, text, listing);
   if (!row) return `${name}: this word is no instruction`;
-  if (row.uses === "cell" && !isCell(m)) return `${name}: there is no cell ${m}, so it will be a fault`;
-  const word = (cells.find(({ cell }) => cell === m) || ZERO).word;
-  const target = lineOf.get(m);
+  if (row.uses === "cell" && (m < 0 || m > 3999)) return `${name}: there is no cell ${m}, so it will be a fault`;
+  const { word } = cells.find(({ cell }) => cell === m) || ZERO;
   const given = {
     r: row.register,
     M: row.uses === "number" && m < 0 ? `(${m})` : String(m),
     V: `${fieldOf(word, f)} (cell ${m}${fieldName(f)})`,
     cell: `cell ${m}${fieldName(f)}`,
-    line: target ? `line ${target}` : `location ${fourDigits(m)}`,
+    line: whereIs(m, listing.lineOf),
     F: String(f),
   };
   return `${name}: ${filled(row.sentence, given)}`;
@@ -79,29 +77,19 @@ function alterationOf({ part, what, before, after, block }) {
   if (part === "cmp") return `the comparison goes from ${COMPARED[before]} to ${COMPARED[after]}`;
   if (part.startsWith("unit ")) {
     if (block !== undefined) return `${part}: block ${block} is written`;
-    if (what === "output") return `${part} writes row ${after}`;
-    if (what === "place") return `${part} goes to block ${after}`;
-    return "";
+    return { output: `${part} writes row ${after}`, place: `${part} goes to block ${after}` }[what] || "";
   }
   if (part.startsWith("break ")) return `breakpoint ${part.slice(6)} ${after}`;
-  const name = /^(A|X|J|I\d)$/.test(part) ? `r${part}` : part;
-  return `${name} from ${told(before)} to ${told(after)}`;
+  return `${/^(A|X|J|I\d)$/.test(part) ? `r${part}` : part} from ${told(before)} to ${told(after)}`;
 }
 
 // What the last change did, after which the machine is at a location; its line is that of where it was done.
-export function didOf(change, { location, cmp }, lineOf, lines) {
-  const at = change.location;
-  const line = lineOf.get(at);
-  const isCommand = /^(set|break|clear) /i.test(change.text);
-  const name = isCommand ? change.text : named(line, at, sourceOf(line, change.text, lines));
-  const row = isCommand ? undefined : OPERATIONS.get(change.text.split(" ")[0]);
+export function didOf(change, { location, cmp }, listing) {
   const parts = change.items.map(alterationOf).filter(Boolean);
-  if (row && row.uses === "jump") {
-    const to = lineOf.get(location) ? `line ${lineOf.get(location)}` : `location ${fourDigits(location)}`;
-    parts.unshift(location === at + 1 && parts.length === 0 ? "does not jump" : `jumps to ${to}`);
-  }
+  const row = isCommand(change) ? undefined : OPERATIONS.get(change.text.split(" ")[0]);
+  if (row && row.uses === "jump") parts.unshift(location === change.location + 1 && parts.length === 0 ? "does not jump" : `jumps to ${whereIs(location, listing.lineOf)}`);
   if (row && row.name.startsWith("CMP") && parts.length === 0) parts.push(`the comparison stays ${COMPARED[cmp]}`);
   if (row && row.name === "HLT") parts.push("halts");
-  if (parts.length === 0) parts.push("nothing is altered");
-  return `${name}: ${parts.join(", ")}${isCommand ? "" : ` (${change.time} u)`}`;
+  const did = parts.join(", ") || "nothing is altered";
+  return isCommand(change) ? `${change.text}: ${did}` : `${named(change.location, change.text, listing)}: ${did} (${change.time} u)`;
 }

@@ -1,222 +1,156 @@
-// A session: a program with its units, the changes that were done on it, and at which of them one is. The engine keeps nothing between two calls,
-// so each call launches the program, does the changes again, and then looks. Every command that was given is kept with its reply.
+// A session: a program with its units, and the commands that were given to it, each with its reply. The engine holds the session; where it was lost,
+// or holds that of another text, it does the commands again.
 
 import { replyOf } from "./dap.js";
-import { Changes } from "./changes.js";
 
-const LOOKS = [
-  ["mix/state", { cells: [], nonzero: true }],
-  ["mix/counts", {}],
-  ["mix/units", {}],
-];
-const WHERE = ["mix/state", { cells: [], nonzero: false }]; // how many changes are done
+const LONG = 200000; // changes after which the counts are left out while the slider is dragged
 const NO_LOOK = ["threads", {}]; // in the place of a look that is left out
-
-export const LONG = 200000; // changes after which the counts are left out while the slider is dragged, and what a run did last
+const WHERE = ["mix/state", { cells: [], nonzero: false }]; // how many changes are done
 
 const repl = (expression) => ["evaluate", { expression, context: "repl" }];
-const lookAtChange = (number) => (number > 0 ? ["mix/change", { number }] : NO_LOOK);
-const verbOf = (command) => command.trim().toLowerCase().split(/[ \t]+/);
 
 function openingOf({ deck, cards, source }) {
-  const given = { program: "program.mixal", sourceText: source, devicesText: deck, stopOnEntry: true };
-  if (cards !== undefined) given.cardsText = cards;
   return [
     ["initialize", { adapterID: "mixrev", clientID: "page", linesStartAt1: true }],
-    ["launch", given],
+    ["launch", { program: "program.mixal", sourceText: source, devicesText: deck, cardsText: cards, stopOnEntry: true }],
     ["configurationDone", {}],
   ];
-}
-
-// What the answers to looks say; of the blocks that were asked for, those that are there.
-function viewOf(looks, [state, counts, units, ...more]) {
-  const blocks = new Map();
-  looks.slice(LOOKS.length).forEach(([, { unit, block }], index) => {
-    if (more[index].success) blocks.set(`${unit} ${block}`, more[index].body.units[0].block);
-  });
-  return { state: state.body, counts: counts.body.cells || [], units: units.body, blocks, change: null };
-}
-
-// Assembles a program and loads it: its faults and warnings, and its rows and what the loaded machine looks like, or the refusal.
-export async function load(machine, texts) {
-  const opening = openingOf(texts);
-  const answers = await machine.ask([...opening, ["mix/check", { source: texts.source }], ["mix/program", {}], ...LOOKS]);
-  const launched = answers[1];
-  const [check, program, ...looks] = answers.slice(opening.length);
-  const found = check.body.diagnostics;
-  return launched.success ? { found, program: program.body, view: viewOf(LOOKS, looks) } : { found, refusal: launched.body.error };
 }
 
 export class Session {
   // `blocks` gives the requests for blocks of tapes and disks, which are looked at too.
   constructor(machine, texts, blocks) {
-    this.machine = machine;
-    this.texts = texts;
-    this.opening = openingOf(texts);
-    this.blocks = blocks;
-    this.changes = new Changes();
-    this.done = 0; // so many of the changes are done; the others are ahead
+    Object.assign(this, { machine, texts, blocks });
+    this.launched = null; // the answer to the launch
     this.log = []; // each command with its reply
+    this.state = { done: 0, ahead: 0 }; // that after the last command
+    this.at = 0; // so many changes are done in the engine
+    this.changes = {}; // another object whenever the list of changes may be another one
+  }
+
+  get done() {
+    return this.state.done;
   }
 
   get ahead() {
-    return this.changes.total - this.done;
+    return this.state.ahead;
+  }
+
+  get total() {
+    return this.done + this.ahead;
   }
 
   // Whether the last change was a HLT and nothing is ahead of it.
   get isHalted() {
-    return this.ahead === 0 && this.changes.halts;
+    return this.ahead === 0 && this.state.halted;
   }
 
-  get looks() {
-    return [...LOOKS, ...this.blocks()];
+  // The answers to requests, of which the first finds so many changes done.
+  async ask(requests, at = this.done) {
+    const isLost = this.machine.holder !== this;
+    const way = isLost ? [...openingOf(this.texts), ...this.log.map(({ command }) => repl(command))] : [];
+    if (at !== (isLost ? this.done : this.at)) way.push(repl(`goto ${at}`));
+    const answers = await this.machine.ask(this, [...way, ...requests]);
+    if (isLost) [, this.launched] = answers;
+    this.at = at;
+    return answers.slice(way.length);
   }
 
-  // The requests that lead to where one is, with at least so many of the changes known to the machine.
-  path(known) {
-    const upto = Math.max(known, this.done);
-    const moves = this.changes.first(upto);
-    if (upto > this.done) moves.push(`goto ${this.done}`);
-    return [...this.opening, ...moves.map(repl)];
+  // The answers to requests, and what the machine looks like after them, with the last change.
+  async see(requests, at = this.done, isDragged = false) {
+    const blocks = this.blocks();
+    const looks = [["mix/state", { cells: [], nonzero: true }], ["mix/units", {}], isDragged && at >= LONG ? NO_LOOK : ["mix/counts", {}], ...blocks];
+    const answers = await this.ask([...requests, ...looks], at);
+    const [state, units, counts, ...found] = answers.slice(requests.length).map(({ body }) => body);
+    this.at = state.done;
+    const words = blocks.flatMap(([, { unit, block }], index) => (found[index].units ? [[`${unit} ${block}`, found[index].units[0].block]] : []));
+    const [change] = state.done > 0 ? await this.ask([["mix/change", { number: state.done }]], state.done) : [{ body: null }];
+    return { answers, view: { state, units, counts: counts.cells || [], blocks: new Map(words), change: change.body } };
   }
 
-  // How many changes a command asks for, and how many will be done after it, if it is one that says so; else NaN.
-  asks(command) {
-    const [verb, number, ...more] = verbOf(command);
-    const count = number === undefined ? 1 : /^\d{1,10}$/.test(number) && more.length === 0 ? Number(number) : NaN;
-    const after = { step: this.done + count, run: this.done + count, forth: this.done + count, back: this.done - count, goto: count }[verb];
-    return after === undefined ? NaN : after;
+  // Begins it: what was found in the source, with the refusal, or with the program and what the machine looks like.
+  async begin() {
+    const [check, program] = await this.ask([["mix/check", { source: this.texts.source }], ["mix/program", {}]]);
+    const found = check.body.diagnostics;
+    if (!this.launched.success) return { found, refusal: this.launched.body.error };
+    const { view } = await this.look();
+    this.state = view.state;
+    return { found, program: program.body, view };
   }
 
-  // How many of the changes a command can ask for. What it can't reach need not be done again.
-  reach(command) {
-    const [verb, what] = verbOf(command);
-    if (["step", "run", "trace", "set", "break", "clear", "back"].includes(verb)) return this.done;
-    if (verb === "show" && what !== "diff") return this.done;
-    const upto = ["goto", "forth"].includes(verb) ? this.asks(command) : NaN;
-    return upto <= this.changes.total ? upto : this.changes.total;
+  // What the machine looks like after so many changes.
+  look(at = this.done, isDragged = false) {
+    return this.see([], at, isDragged);
   }
 
-  // The answers to requests where one is, with at least so many of the changes known, and what the machine looks like after them.
-  async after(known, requests) {
-    const [path, looks] = [this.path(known), this.looks];
-    const answers = (await this.machine.ask([...path, ...requests, ...looks])).slice(path.length);
-    return { answers, view: viewOf(looks, answers.slice(requests.length)) };
-  }
-
-  // Does a command, and gives its reply and what the machine looks like then, with the last change.
-  async act(command) {
-    const guess = Math.max(0, this.asks(command)) || 0;
-    const { answers, view } = await this.after(this.reach(command), [repl(command), lookAtChange(guess)]);
-    const reply = replyOf(answers[0]);
-    this.took(command, reply, view.state);
-    const isGuessed = guess === this.done && guess > 0 && answers[1].success;
-    view.change = isGuessed ? answers[1].body : await this.changeAt(this.done);
-    return { reply, view };
+  // Does commands one after another: the answer to the last of them, and what the machine looks like then. One that is only tried is not kept if it is
+  // refused.
+  async act(commands, { from = this.done, isTried = false } = {}) {
+    const { answers, view } = await this.see(commands.map(repl), from);
+    const { done, ahead } = view.state;
+    const answer = answers[commands.length - 1];
+    if (isTried && !answer.success) return { view, answer };
+    if (commands.length > 1 || done + ahead !== this.total || (done > this.done && ahead === 0)) this.changes = {};
+    this.log.push(...commands.map((command, index) => ({ command, reply: replyOf(answers[index]) })));
+    this.state = view.state;
+    return { view, answer };
   }
 
   // Goes to a moment by the slider. It takes the place of a slide before it, so that a way along the slider is one command.
   async slide(moment) {
     const last = this.log[this.log.length - 1];
-    const slide = last && last.slidFrom !== undefined ? this.log.pop() : null;
-    const from = slide ? slide.slidFrom : this.done;
-    const was = this.done;
-    this.done = from;
-    try {
-      const found = await this.act(`goto ${moment}`);
-      this.log[this.log.length - 1].slidFrom = from;
-      return found;
-    } catch (fault) {
-      this.done = was;
-      if (slide) this.log.push(slide);
-      throw fault;
+    const isSlide = last && last.slidFrom !== undefined;
+    const from = isSlide ? last.slidFrom : this.done;
+    const found = await this.act([`goto ${moment}`], { from });
+    if (isSlide) this.log.splice(-2, 1);
+    this.log[this.log.length - 1].slidFrom = from;
+    return found;
+  }
+
+  // Where and why the program stops that runs from here, by `continue` or by `reverseContinue`, with breakpoints at some cells. None of it is kept.
+  async stop(way, cells) {
+    let requests = [["setInstructionBreakpoints", { breakpoints: cells.map((cell) => ({ instructionReference: String(6 * cell) })) }]];
+    for (let at = this.done; ; at = this.at) {
+      const [{ stopped }, { body }] = (await this.ask([...requests, [way, { threadId: 1 }], WHERE], at)).slice(requests.length);
+      this.at = body.done;
+      if (stopped.reason !== "pause" || way === "continue") return { done: body.done, reason: stopped.reason };
+      requests = [];
     }
   }
 
-  // A change that is done; nothing where there is none, or where it takes too long to find.
-  async changeAt(number) {
-    if (number < 1 || number > LONG) return null;
-    const path = this.path(number);
-    const answer = (await this.machine.ask([...path, lookAtChange(number)]))[path.length];
-    return answer.success ? answer.body : null;
+  // The first of the moments ahead at which a condition of `until` holds; none where it holds at none of them.
+  async next(conditions) {
+    const asked = conditions.flatMap((condition) => [repl(`forth until ${condition}`), WHERE, repl(`goto ${this.done}`)]);
+    const moments = (await this.ask(asked)).filter((_, index) => index % 3 === 1).map(({ body }) => body.done).filter((done) => done > this.done);
+    return moments.length > 0 ? Math.min(...moments) : undefined;
   }
 
-  // Does commands one after another, in one call.
-  async actAll(commands) {
-    const asked = commands.flatMap((command) => [repl(command), WHERE]);
-    const { answers, view } = await this.after(this.changes.total, asked);
-    commands.forEach((command, index) => {
-      this.took(command, replyOf(answers[2 * index]), answers[2 * index + 1].body);
-    });
-    view.change = await this.changeAt(this.done);
-    return view;
-  }
-
-  // Keeps what a command did.
-  took(command, reply, { done, halted }) {
-    this.log.push({ command, reply });
-    const [verb] = verbOf(command);
-    if (["step", "run", "trace"].includes(verb) && done > this.done) {
-      this.changes.cut(this.done);
-      this.changes.addSteps(done - this.done, halted);
-    } else if (["set", "break", "clear"].includes(verb) && done > this.done) {
-      this.changes.cut(this.done);
-      this.changes.addCommand(command);
-    }
-    this.done = done;
-  }
-
-  // What commands would do, each from where one is now: the reply, and how many changes are done then. Nothing is kept of them.
-  async ponder(commands) {
-    const path = this.path(this.changes.total);
-    const asked = commands.flatMap((command) => [repl(command), WHERE, repl(`goto ${this.done}`)]);
-    const answers = (await this.machine.ask([...path, ...asked])).slice(path.length);
-    return commands.map((_, index) => ({ reply: replyOf(answers[3 * index]), done: answers[3 * index + 1].body.done }));
-  }
-
-  // What the last of some commands would do, done one after another; nothing is kept of them.
-  async imagine(commands) {
-    const answers = await this.machine.ask([...this.path(this.done), ...commands.map(repl), WHERE]);
-    return { reply: replyOf(answers[answers.length - 2]), done: answers[answers.length - 1].body.done };
-  }
-
-  // The words of W-values, where one is; nothing for one that is refused.
+  // The numbers that W-values are where one is; NaN for one that is refused.
   async values(expressions) {
-    const path = this.path(this.done);
-    const asked = expressions.map((expression) => ["evaluate", { expression, context: "watch" }]);
-    const answers = (await this.machine.ask([...path, ...asked])).slice(path.length);
-    return answers.map((answer) => (answer.success ? (/^[+-]( \d\d)+/.exec(answer.body.result) || [null])[0] : null));
+    const answers = await this.ask(expressions.map((expression) => ["evaluate", { expression, context: "watch" }]));
+    return answers.map(({ success, body }) => (success ? Number(body.result.split(" = ")[1]) : NaN));
   }
 
   // What cells hold after each of some numbers of changes.
   async cellsAt(moments, cells) {
-    const path = this.path(this.changes.total);
-    const asked = moments.flatMap((moment) => [repl(`goto ${moment}`), ["mix/state", { cells: [[cells[0], cells[cells.length - 1]]], nonzero: false }]]);
-    const answers = (await this.machine.ask([...path, ...asked])).slice(path.length);
+    const range = [cells[0], cells[cells.length - 1]];
+    const answers = await this.ask(moments.flatMap((moment) => [repl(`goto ${moment}`), ["mix/state", { cells: [range], nonzero: false }]]));
+    this.at = moments[moments.length - 1];
     return moments.map((_, index) => answers[2 * index + 1].body.cells);
   }
 
   // The columns of all changes, with what was executed in each, and of each of some parts the changes that wrote it, the first one first.
   async mapOf(columns, parts) {
-    const way = [...this.opening, ...this.changes.first(this.changes.total).map(repl)];
     const asked = [["mix/path", { columns }], ...parts.map((part) => ["mix/writes", { part }])];
-    const [found, ...writes] = (await this.machine.ask([...way, ...asked])).slice(way.length);
+    const [found, ...writes] = await this.ask(asked, this.total);
     return { columns: found.body.columns, writes: writes.map(({ body }) => body.writes.reverse()) };
   }
 
-  // The last changes of all that wrote a part, with what it held before and after each, the first one first.
+  // Of a part: the last changes of all that wrote it, the first one first; the last one that is done, with its line; the first one that is ahead.
   async writesOf(part) {
-    const { writes } = await this.mapOf(0, [part]);
-    return writes[0];
-  }
-
-  // What the machine looks like after the first n changes, with or without the counts.
-  async look(n, counts = true) {
-    const looks = counts ? this.looks : this.looks.map((look) => (look[0] === "mix/counts" ? NO_LOOK : look));
-    const path = [...this.opening, ...this.changes.first(n).map(repl)];
-    const [change, ...answers] = (await this.machine.ask([...path, counts ? lookAtChange(n) : NO_LOOK, ...looks])).slice(path.length);
-    const view = viewOf(looks, answers);
-    if (counts && n > 0 && change.success) view.change = change.body;
-    return view;
+    const asked = [["mix/writes", { part }], ["mix/writes", { part, count: 1, until: this.done }]];
+    const [all, { body: { writes: [last] } }] = await this.ask(asked, this.total);
+    const [change, line] = last ? await this.ask([["mix/change", { number: last.number }], repl("show last 1")], last.number) : [{}, {}];
+    return { writes: all.body.writes.reverse(), last: change.body, line: last ? line.body.result.trim() : "", next: await this.next([part]) };
   }
 }

@@ -3,16 +3,14 @@
 import { $, make } from "./dom.js";
 
 export class Symbols {
-  // `show` is called with a symbol whose cell is to be shown.
-  constructor(show) {
-    this.showCell = show;
+  constructor(app) {
+    this.app = app;
   }
 
-  // Shows the symbols of a program with these lines, or of none; a warning of those that nobody defined.
-  show(program, lines) {
-    const symbols = program ? program.symbols : [];
-    const inserted = new Map((program ? program.rows : []).filter(({ line }) => !line).map(({ cell }) => [cell, true]));
-    const written = new Set(lines.map((line) => (/^([A-Za-z0-9]+)[ \t]/.exec(line) || ["", ""])[1].toUpperCase()));
+  // Shows the symbols of a program; a warning of those that nobody defined.
+  show({ symbols, rows }) {
+    const inserted = new Set(rows.filter(({ line }) => !line).map(({ cell }) => cell));
+    const written = new Set(this.app.listing.lines.map((line) => line.split(/[ \t]/)[0].toUpperCase()));
     const isUndefined = ({ name, number }) => inserted.has(Number(number)) && !written.has(name);
     $("no-symbols").hidden = symbols.length > 0;
     $("symbol-table").hidden = symbols.length === 0;
@@ -21,10 +19,11 @@ export class Symbols {
     return missing.length > 0 ? `Warning: ${missing.join("; ")}.` : "";
   }
 
+  // A row of a symbol; a click on one that may be a cell shows the cells from there on.
   row({ name, value, number }, isUndefined) {
     const isCell = Number(number) >= 0 && Number(number) < 4000;
-    const label = isCell ? make("button", { type: "button", "aria-label": `${name}: show the cells from there on`, click: () => this.showCell(name) }, name) : name;
-    const said = isUndefined ? "not defined" : "";
-    return make("tr", { class: isUndefined && "wrong" }, make("th", { scope: "row" }, label), make("td", { class: "number" }, number), make("td", { class: "word" }, value), make("td", {}, said));
+    const show = { type: "button", "aria-label": `${name}: show the cells from there on`, click: () => this.app.views.memory.showFrom(name) };
+    const cells = Object.entries({ number, word: value, "": isUndefined ? "not defined" : "" }).map(([kind, text]) => make("td", { class: kind || null }, text));
+    return make("tr", { class: isUndefined && "wrong" }, make("th", { scope: "row" }, isCell ? make("button", show, name) : name), ...cells);
   }
 }

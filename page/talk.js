@@ -1,30 +1,27 @@
 // The commands with their replies, the line for one more, and the script that came with a program.
 
-import { $, make, note } from "./dom.js";
+import { $, make, note, on } from "./dom.js";
 
 const LETTERS_SHOWN = 200000; // letters of a reply that are shown
 
 export class Talk {
-  // `given` is called with a command that was typed, `script` where so many commands of the lesson's script are to be done.
-  constructor({ given, script }) {
+  constructor(app) {
     this.lines = []; // the commands of the script that are still to be done
     this.shown = [];
     this.typed = []; // what was typed, for the arrow keys
     this.at = 0;
-    $("command-form").addEventListener("submit", (event) => {
+    on("command-form", "submit", (event) => {
       event.preventDefault();
       const command = $("command").value;
       $("command").value = "";
       this.answer("", "");
       if (command.trim() === "") return;
-      this.typed.push(command);
-      this.at = this.typed.length;
+      this.at = this.typed.push(command);
       $("log").setAttribute("aria-live", "polite");
-      given(command);
+      app.given(command);
     });
-    $("command").addEventListener("keydown", (event) => this.recall(event));
-    $("script-next").addEventListener("click", () => script(1));
-    $("script-all").addEventListener("click", () => script(Infinity));
+    on("command", "keydown", (event) => this.recall(event));
+    for (const [id, count] of [["script-next", 1], ["script-all", Infinity]]) on(id, "click", () => app.enqueue(() => app.actScript(this.first(count))));
   }
 
   recall(event) {
@@ -50,11 +47,6 @@ export class Talk {
     return this.lines.slice(0, end);
   }
 
-  // So many of its lines were done.
-  drop(lines) {
-    this.setScript(this.lines.slice(lines));
-  }
-
   setScript(lines) {
     this.lines = lines;
     $("script").hidden = lines.length === 0;
@@ -64,15 +56,10 @@ export class Talk {
   // Shows the commands that were given, with their replies. Only what was typed is read out from here; the rest is told by the status.
   show(log) {
     const box = $("log");
-    const isSame = this.shown.length <= log.length && this.shown.every((entry, index) => entry === log[index]);
-    if (!isSame) {
-      box.replaceChildren();
-      this.shown = [];
-    }
-    const more = log.slice(this.shown.length);
-    for (const { command, reply } of more) {
-      box.append(make("p", {}, command), make("pre", {}, shortened(reply.replace(/\n$/, ""))));
-    }
+    const isMore = this.shown.every((entry, index) => entry === log[index]);
+    if (!isMore) box.replaceChildren();
+    const more = isMore ? log.slice(this.shown.length) : log;
+    box.append(...more.flatMap(({ command, reply }) => [make("p", {}, command), make("pre", {}, shortened(reply.replace(/\n$/, "")))]));
     this.shown = [...log];
     if (more.length > 0) box.scrollTop = box.scrollHeight;
     setTimeout(() => box.setAttribute("aria-live", "off"));

@@ -1,31 +1,33 @@
 // Buttons, keys and the slider: ways through the changes.
 
-import { $, put } from "./dom.js";
+import { $, on, put } from "./dom.js";
 
 const KEYS = { F7: "back", F8: "step", "Shift+F7": "to-break", "Shift+F8": "run", "Control+F7": "to-start", "Control+F8": "to-end" };
 
 export class Time {
-  // `go` is called with the name of a button, `preview` with a moment while the slider is dragged, `slide` with the one where it is let go, `goto`
-  // with one that was typed; the others by keys of their own.
-  constructor({ go, preview, slide, goto, breakpoint, explain, swap, stop }) {
-    this.others = { F9: breakpoint, F1: explain, "Control+Enter": swap };
+  constructor(app) {
+    this.others = {
+      F9: () => app.toggle(app.listing.source.caretLine),
+      F1: () => app.tell(app.listing.source.caretExplained || "The cursor is at no operation."),
+      "Control+Enter": () => app.swap(),
+    };
     this.isDragged = false;
-    for (const id of Object.values(KEYS)) $(id).addEventListener("click", () => go(id));
-    $("slider").addEventListener("input", () => {
+    for (const id of Object.values(KEYS)) on(id, "click", () => app.press(id));
+    on("slider", "input", () => {
       this.isDragged = true;
       $("moment").value = $("slider").value;
-      preview(Number($("slider").value));
+      app.preview(Number($("slider").value));
     });
-    $("slider").addEventListener("change", () => {
+    on("slider", "change", () => {
       this.isDragged = false;
-      slide(Number($("slider").value));
+      app.slide(Number($("slider").value));
     });
-    $("moment").addEventListener("change", () => {
+    on("moment", "change", () => {
       const n = $("moment").value.trim();
-      if (/^\d{1,10}$/.test(n)) goto(Number(n));
+      if (/^\d{1,10}$/.test(n)) app.go(`goto ${Number(n)}`);
       else $("moment").value = $("slider").value;
     });
-    $("stop").addEventListener("click", stop);
+    on("stop", "click", () => app.machine.stop());
     document.addEventListener("keydown", (event) => this.pressed(event));
   }
 
@@ -40,20 +42,18 @@ export class Time {
   }
 
   // Where one is in a session: so many changes done, of so many; what can't be done is disabled.
-  show({ done, changes: { total } }, state) {
+  show({ done, ahead, total }, state) {
     if (!this.isDragged) {
       $("slider").max = total;
-      $("slider").value = done;
-      $("moment").value = done;
+      for (const id of ["slider", "moment"]) $(id).value = done;
     }
     $("moment").size = Math.max(4, String(total).length);
     put($("total"), String(total));
     $("slider").setAttribute("aria-valuetext", `change ${state.done} of ${total}, location ${state.location}, clock ${state.clock}`);
     for (const id of ["back", "to-break", "to-start"]) this.enable(id, done > 0);
-    this.enable("to-end", done < total);
+    this.enable("to-end", ahead > 0);
     for (const id of ["step", "run"]) this.enable(id, true);
-    $("slider").disabled = total === 0;
-    $("moment").disabled = total === 0;
+    for (const id of ["slider", "moment"]) $(id).disabled = total === 0;
   }
 
   // A button that has the focus keeps it: it is only marked.
@@ -66,8 +66,6 @@ export class Time {
 
   // No program is loaded, so nothing can be done.
   hide() {
-    for (const id of Object.values(KEYS)) $(id).disabled = true;
-    $("slider").disabled = true;
-    $("moment").disabled = true;
+    for (const id of [...Object.values(KEYS), "slider", "moment"]) $(id).disabled = true;
   }
 }

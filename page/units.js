@@ -5,9 +5,8 @@ import { $, keepRows, make } from "./dom.js";
 const CARDS_SHOWN = 200; // cards
 
 export class Units {
-  // `look` is called when a block is to be shown, so that its words are asked for.
-  constructor(look) {
-    this.look = look;
+  constructor(app) {
+    this.app = app;
     this.open = new Set(); // the blocks that are shown, as "8 0"
     this.drawn = new Map(); // of each unit what is shown
   }
@@ -81,6 +80,7 @@ export class Units {
     if (isOpen === this.open.has(key)) return;
     if (isOpen) this.open.add(key);
     else this.open.delete(key);
-    if (isOpen) this.look();
+    const { app } = this;
+    if (isOpen) app.enqueue(async () => app.show((await app.session.look()).view));
   }
 }

@@ -10,22 +10,18 @@ import { TimeMap } from "./timemap.js";
 import { Units } from "./units.js";
 
 export class Views {
-  // `ask` is called with a part of the machine and its name when somebody asks who wrote it, `look` when more is to be seen of the same moment,
-  // `values` with W-values, of which it gives the words; the others are for the pictures.
-  constructor({ ask, look, values, listing, ...others }) {
-    this.registers = new Registers(ask);
-    this.memory = new Memory(ask, values);
-    this.bars = new Bars({ asked: ask, values, ...others });
-    this.map = new TimeMap({ listing, ...others });
+  constructor(app) {
+    this.registers = new Registers(app);
+    this.memory = new Memory(app);
+    this.bars = new Bars(app);
+    this.map = new TimeMap(app);
     this.output = new Output();
-    this.units = new Units(look);
-    this.symbols = new Symbols((name) => this.memory.showFrom(name));
-    this.warning = "";
+    this.units = new Units(app);
+    this.symbols = new Symbols(app);
     for (const tab of document.querySelectorAll("#tabs button")) tab.addEventListener("click", () => this.choose(tab.dataset.tab));
     this.choose("program");
     // The bar of time stays at the top, and what is scrolled to comes below it.
-    const heights = { "--bar": $("time"), "--head": document.querySelector("header") };
-    for (const [name, element] of Object.entries(heights)) {
+    for (const [name, element] of [["--bar", $("time")], ["--head", document.querySelector("header")]]) {
       onResize(element, () => document.documentElement.style.setProperty(name, `${element.offsetHeight}px`));
     }
   }
@@ -36,17 +32,9 @@ export class Views {
     for (const tab of document.querySelectorAll("#tabs button")) tab.setAttribute("aria-pressed", String(tab.dataset.tab === name));
   }
 
-  get requests() {
-    return this.units.requests;
-  }
-
   // Another program was opened.
   forget() {
-    this.units.forget();
-    this.output.forget();
-    this.memory.forget();
-    this.bars.forget();
-    this.map.forget();
+    for (const part of [this.units, this.output, this.memory, this.bars, this.map]) part.forget();
   }
 
   // The cells that are shown, in a list or as bars, each once.
@@ -54,15 +42,11 @@ export class Views {
     return [...new Set([...this.memory.shownCells, ...this.bars.cells])].sort((a, b) => a - b);
   }
 
-  setProgram(program, lines) {
-    this.warning = this.symbols.show(program, lines);
+  // Shows what belongs to a program; a warning of symbols that nobody defined.
+  setProgram(program) {
     this.memory.range.ask();
     this.bars.setProgram(program);
-  }
-
-  // Whether what is seen is that of an older program, since the text is refused now.
-  setStale(isStale) {
-    document.querySelector("main").classList.toggle("stale", isStale);
+    return this.symbols.show(program);
   }
 
   show(view) {

@@ -3,15 +3,17 @@
 
 let engine = null;
 
-self.onmessage = async ({ data }) => {
-  if (data.module) {
-    engine = Engine.load(data.module);
+self.onmessage = async ({ data: { module, isNew, frames } }) => {
+  if (module) {
+    engine = Engine.load(module);
     engine.catch(() => {});
     return;
   }
   try {
-    self.postMessage((await engine).talk(data.frames));
+    const loaded = await engine;
+    if (isNew) loaded.open();
+    self.postMessage({ bytes: await loaded.ask(frames) });
   } catch (fault) {
-    self.postMessage({ fault: fault.kind === "memory" ? "out of memory" : `it stopped in the middle: ${fault.message}` });
+    self.postMessage({ fault: fault.kind === "memory" ? fault.message : `it stopped in the middle: ${fault.message}` });
   }
 };
