@@ -19,13 +19,13 @@ export class App extends Desk {
     this.time = new Time(this);
     this.who = new Who(this);
     for (const id of ["cards", "deck"]) on(id, "input", () => this.edited());
-    on("anew", "click", () => this.queue.add(() => this.begin()));
+    on("anew", "click", () => this.add(() => this.begin()));
   }
 
   // From the source to the line for commands, and back.
   swap() {
     const isCommand = document.activeElement === $("command");
-    this.views.choose(isCommand ? "program" : "talk");
+    this.choose(isCommand ? "program" : "talk");
     $(isCommand ? "text" : "command").focus();
   }
 
@@ -67,7 +67,7 @@ export class App extends Desk {
 
   // Asks who wrote a part: what comes after `until` in a command, and its name.
   ask(part, name) {
-    this.enqueue(() => this.who.open(part, name)).then(() => this.views.map.watch(part));
+    this.enqueue(() => this.who.open(part, name)).then(() => this.map.watch(part));
   }
 
   // A command that was typed. A `set` that would drop what is ahead is done when it is given twice.
@@ -93,7 +93,7 @@ export class App extends Desk {
 
   // What a button asks for. A key that is held down does not pile up what it asks for, and behind a halt it goes on when it is asked twice.
   press(name) {
-    if (this.queue.left > 2) return;
+    if (this.left > 2) return;
     this.enqueue(() => {
       const { session, listing } = this;
       const asked = `${name} ${session.done}`;
@@ -142,24 +142,21 @@ export class App extends Desk {
 
   // Puts a program in, with its deck; does the lines of the script that are done, and shows those that are left.
   open({ source, deck }, { done, left, breaks, bars }) {
-    clearTimeout(this.timer);
-    this.timer = 0;
-    this.queue.drop();
-    this.machine.stop();
-    return this.queue.add(async () => {
+    this.drop();
+    return this.add(async () => {
       const { deck: others, cards } = cardsApart(deck);
       this.time.isDragged = false;
       this.listing.text = source;
       $("cards").value = cards;
       $("deck").value = others;
       $("given").open = deck !== "";
-      this.views.forget();
-      this.views.choose("program");
+      for (const part of this.parts) part.forget?.();
+      this.choose("program");
       for (const line of breaks) this.listing.breaks.add(line);
       this.talk.setScript([...done, ...left]);
       this.talk.show([]);
       await this.begin();
-      if (this.session) this.views.bars.open(bars, [...done, ...left]);
+      if (this.session) this.bars.open(bars, [...done, ...left]);
       if (this.session && done.length > 0) await this.actScript(done);
       this.isEdited = false;
     });
@@ -170,6 +167,6 @@ export class App extends Desk {
     const { source, deck } = this.texts;
     const done = this.session ? this.session.log.map(({ command }) => command) : [];
     const breaks = [...this.listing.breaks].sort((a, b) => a - b);
-    return { source, deck, script: scriptOf({ done, left: this.talk.lines, breaks, bars: this.views.bars.kept, lesson }) };
+    return { source, deck, script: scriptOf({ done, left: this.talk.lines, breaks, bars: this.bars.kept, lesson }) };
   }
 }

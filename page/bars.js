@@ -1,11 +1,10 @@
 // A range of cells as bars, with the index registers that point into it, at each moment. All of it comes from the view of the moment.
 
 import { $, counted, mark, note, on } from "./dom.js";
-import { keepsPictures } from "./picture.js";
+import { Strip, keepsPictures } from "./pictures.js";
 import { CellRange } from "./range.js";
-import { beforeOf } from "./registers.js";
+import { beforeOf } from "./memory.js";
 import { ZERO, fieldOf, instructionIn } from "./sentence.js";
-import { Strip } from "./strip.js";
 import { barsOf } from "./svg.js";
 
 const MAX_BARS = 120;

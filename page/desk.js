@@ -1,16 +1,19 @@
-// The texts, the session of what they say, and the views of where it is. What is asked for is done one after another.
+// The texts, the session of what they say, and what is seen of where it is. What is asked for is done one after another.
 
-import { $, copied, counted, doAll, put } from "./dom.js";
+import { Bars } from "./bars.js";
 import { withCards } from "./bundle.js";
+import { $, copied, counted, doAll, onResize, put } from "./dom.js";
 import { showRefusal } from "./faults.js";
 import { Listing } from "./listing.js";
 import { Broken } from "./machine.js";
-import { Queue } from "./queue.js";
+import { Memory, Registers, showSymbols } from "./memory.js";
+import { TimeMap } from "./pictures.js";
 import { Session } from "./session.js";
 import { toldOf } from "./told.js";
-import { Views } from "./views.js";
+import { Output, Units } from "./units.js";
 
 const SESSIONS = 5; // sessions of other texts that can come back
+const SLOW = 400; // milliseconds before a stop is offered
 
 // What is below the buttons. It needs a `talk` and a `time`, which who extends it has.
 export class Desk {
@@ -24,9 +27,22 @@ export class Desk {
     this.isEdited = false;
     this.onShown = () => {}; // called when a moment is shown
     this.timer = 0; // runs while a text is not assembled yet
-    this.queue = new Queue(this);
+    this.last = Promise.resolve(); // of what is to be done
+    this.left = 0; // so much still has to be done
+    this.generation = 0;
     this.listing = new Listing(this, grammar);
-    this.views = new Views(this);
+    this.memory = new Memory(this);
+    this.bars = new Bars(this);
+    this.map = new TimeMap(this);
+    this.output = new Output();
+    this.units = new Units(this);
+    this.parts = [new Registers(this), this.memory, this.bars, this.map, this.output, this.units];
+    for (const tab of document.querySelectorAll("#tabs button")) tab.addEventListener("click", () => this.choose(tab.dataset.tab));
+    this.choose("program");
+    // The bar of time stays at the top, and what is scrolled to comes below it.
+    for (const [name, element] of [["--bar", $("time")], ["--head", document.querySelector("header")]]) {
+      onResize(element, () => document.documentElement.style.setProperty(name, `${element.offsetHeight}px`));
+    }
   }
 
   // What is to be assembled and loaded. Cards of which one looks like a header go apart, so that they are refused as cards.
@@ -35,16 +51,46 @@ export class Desk {
     return /^%/m.test(cards) ? { source, deck, cards } : { source, deck: withCards(deck, cards) };
   }
 
+  // Does something after all that was asked for before; what it gives, or nothing where it fails or was dropped. Whatever fails is told.
+  add(work) {
+    const { generation } = this;
+    this.left += 1;
+    this.busy();
+    this.last = this.last.then(async () => {
+      const timer = setTimeout(() => this.slow(true), SLOW);
+      try {
+        return generation === this.generation ? await work() : undefined;
+      } catch (fault) {
+        if (generation === this.generation) this.failed(fault);
+        return undefined;
+      } finally {
+        clearTimeout(timer);
+        this.slow(false);
+        this.left -= 1;
+        this.busy();
+      }
+    });
+    return this.last;
+  }
+
+  // What waits is not done any more, and of what is under way nothing is told.
+  drop() {
+    clearTimeout(this.timer);
+    this.timer = 0;
+    this.generation += 1;
+    this.machine.stop();
+  }
+
   // Does something on the session of the texts as they are; where they are refused, `unready` answers.
   enqueue(work, unready = () => this.tell(`${this.refusal}. Nothing was done.`, true)) {
-    return this.queue.add(async () => {
+    return this.add(async () => {
       await this.assemble();
       return this.session ? work() : unready();
     });
   }
 
   busy() {
-    document.querySelector("main").setAttribute("aria-busy", String(this.queue.left > 0 || this.timer !== 0));
+    document.querySelector("main").setAttribute("aria-busy", String(this.left > 0 || this.timer !== 0));
   }
 
   // Whether what is done takes long, so that it may be stopped.
@@ -71,7 +117,7 @@ export class Desk {
     const key = JSON.stringify([texts.source, texts.deck, texts.cards]);
     if (key === this.assembled) return;
     const back = this.kept.get(key);
-    const session = back || new Session(this.machine, texts, () => this.views.units.requests);
+    const session = back || new Session(this.machine, texts, () => this.units.requests);
     const { found, refusal, program, view } = await session.begin();
     const isLeft = this.session && this.session.log.length > 0;
     if (isLeft) this.kept.set(this.assembled, this.session);
@@ -86,7 +132,9 @@ export class Desk {
       this.tell(`${this.refusal}.`, true);
       return;
     }
-    const warning = this.views.setProgram(program);
+    this.memory.range.ask();
+    this.bars.setProgram(program);
+    const warning = showSymbols(program, this);
     this.session = session;
     this.show(view);
     if (back) this.tell(`The text is as it was, and what was done with it is back: ${counted(session.log.length, "command")}.`);
@@ -97,17 +145,13 @@ export class Desk {
   // Shows a moment of the machine, and why it is this one: `answer` is that to the command which led here from the moment of the view `before`.
   show(view, answer = null, before = null) {
     const { session, listing } = this;
-    const { state, change } = view;
     this.view = view;
-    let line = 0;
     doAll([
-      () => {
-        line = listing.show(view, state.halted ? (change ? change.location : state.location - 1) : state.location);
-      },
-      () => this.views.show(view),
-      () => this.time.show(session, state),
+      () => listing.show(view),
+      ...this.parts.map((part) => () => part.show(view)),
+      () => this.time.show(session, view.state),
       () => this.talk.show(session.log),
-      () => listing.reveal(line),
+      () => listing.reveal(listing.marked),
       () => {
         const { did, next, isFault, last } = toldOf({ answer, before, view, listing });
         view.did = last;
@@ -115,6 +159,12 @@ export class Desk {
       },
     ]);
     this.onShown();
+  }
+
+  // Shows one of the tabs, in a window that is too narrow for all.
+  choose(name) {
+    document.querySelector("main").dataset.tab = name;
+    for (const tab of document.querySelectorAll("#tabs button")) tab.setAttribute("aria-pressed", String(tab.dataset.tab === name));
   }
 
   tell(did, isFault = false, next = "") {

@@ -12,7 +12,7 @@ export function make(name, given = {}, ...children) {
     if (typeof value === "function") element.addEventListener(key, value);
     else if (value !== null && value !== undefined && value !== false) element.setAttribute(key, value === true ? "" : value);
   }
-  element.append(...children.filter((child) => child !== null));
+  element.append(...children);
   return element;
 }
 
@@ -34,14 +34,14 @@ export function note(id, text) {
 
 // Does all of some works, also where one of them has a fault; the first fault is thrown then.
 export function doAll(works) {
-  const faults = works.flatMap((work) => {
+  const faults = [];
+  for (const work of works) {
     try {
       work();
-      return [];
     } catch (fault) {
-      return [fault];
+      faults.push(fault);
     }
-  });
+  }
   if (faults.length > 0) throw faults[0];
 }
 
@@ -87,15 +87,10 @@ export function onResize(element, work) {
 // element of a new one, and `update` shows what it holds now. Where the focus was in a row that is gone, it goes to the box.
 export function keepRows(box, items, keyOf, create, update) {
   const keys = new Set(items.map((item) => String(keyOf(item))));
-  const rows = new Map();
-  let isLost = false;
-  for (const row of [...box.children]) {
-    if (keys.has(row.dataset.key)) rows.set(row.dataset.key, row);
-    else {
-      isLost ||= row.contains(document.activeElement);
-      row.remove();
-    }
-  }
+  const gone = [...box.children].filter((row) => !keys.has(row.dataset.key));
+  const isLost = gone.some((row) => row.contains(document.activeElement));
+  for (const row of gone) row.remove();
+  const rows = new Map([...box.children].map((row) => [row.dataset.key, row]));
   let at = box.firstElementChild;
   for (const item of items) {
     const key = String(keyOf(item));

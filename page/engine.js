@@ -5,14 +5,8 @@ const [DONE, MEMORY, NO_ROOM] = [0, 1, 3]; // statuses of a call
 const FIRST_ROOM = 1 << 18;
 const LARGE = 1 << 28; // an instance with more memory than this is not kept for another session
 
-// What ends a session: `kind` is "memory" where memory is refused, and "trap" where the module stopped in the middle.
-export class EngineFault extends Error {
-  constructor(kind, message = "T1 out of memory") {
-    super(message);
-    this.name = "EngineFault";
-    this.kind = kind;
-  }
-}
+// What is said where memory is refused.
+const NO_MEMORY = "T1 out of memory";
 
 export class Engine {
   #module;
@@ -23,10 +17,8 @@ export class Engine {
     this.#module = module;
   }
 
-  // The engine of a module's bytes, or of a promise of them, or of the answer to fetching them.
-  static async load(source) {
-    const given = await source;
-    const bytes = typeof Response === "function" && given instanceof Response ? await given.arrayBuffer() : given;
+  // The engine of a module's bytes.
+  static async load(bytes) {
     return new Engine(await WebAssembly.compile(bytes));
   }
 
@@ -39,29 +31,24 @@ export class Engine {
         this.#handle = this.#room(16);
         this.#bytes(this.#handle, 16).fill(0);
       }
-      if (Number(this.#exports.engine_open(this.#handle)) !== DONE) throw new EngineFault("memory");
+      if (Number(this.#exports.engine_open(this.#handle)) !== DONE) throw new Error(NO_MEMORY);
     });
   }
 
-  // The bytes that answer some frames, after all that the session has heard before. After a fault the session is lost, and `open` begins another one.
+  // The bytes that answer some frames, after all that the session has heard before.
   ask(frames) {
     return this.#safely(() => {
       const [input, count] = [this.#room(frames.length), this.#room(8)];
       this.#bytes(input, frames.length).set(frames);
-      let [length, size] = [frames.length, FIRST_ROOM];
-      for (;;) {
+      for (let [length, size] = [frames.length, FIRST_ROOM]; ; ) {
         const out = this.#room(size);
         const status = Number(this.#exports.engine_ask(this.#handle, input, BigInt(length), out, BigInt(size), count));
-        if (status === MEMORY) throw new EngineFault("memory");
-        if (status !== DONE && status !== NO_ROOM) throw new EngineFault("trap", `status ${status}`);
+        if (status !== DONE && status !== NO_ROOM) throw new Error(status === MEMORY ? NO_MEMORY : `it has the status ${status}`);
         const sent = Number(new BigUint64Array(this.#exports.memory.buffer, Number(count), 1)[0]);
         const answer = status === DONE ? this.#bytes(out, sent).slice() : null;
-        this.#exports.leave(out);
-        if (!answer) [length, size] = [0, sent]; // it waits for the room that it needs
-        else {
-          for (const place of [count, input]) this.#exports.leave(place);
-          return answer;
-        }
+        for (const place of answer ? [out, count, input] : [out]) this.#exports.leave(place);
+        if (answer) return answer;
+        [length, size] = [0, sent]; // it waits for the room that it needs
       }
     });
   }
@@ -71,19 +58,19 @@ export class Engine {
     return this.#exports ? this.#exports.memory.buffer.byteLength : 0;
   }
 
-  // Does something with the instance, which is thrown away where it fails.
+  // Does something with the instance. Where it fails, the instance is thrown away with its session, and `open` makes another one.
   #safely(work) {
     try {
       return work();
     } catch (fault) {
       this.#exports = null;
-      throw fault instanceof EngineFault ? fault : new EngineFault("trap", String(fault && fault.message));
+      throw fault.message === NO_MEMORY ? fault : new Error(`it stopped in the middle: ${fault.message}`);
     }
   }
 
   #room(size) {
     const place = this.#exports.room(BigInt(size));
-    if (place === 0n) throw new EngineFault("memory");
+    if (place === 0n) throw new Error(NO_MEMORY);
     return place;
   }
 

@@ -1,13 +1,14 @@
 // Lessons, opening, saving and sharing.
 
-import { $, copied, make, put, saved } from "./dom.js";
+import { $, copied, make, on, put, saved } from "./dom.js";
 import { bundleOf, keptIn, partsOf } from "./bundle.js";
 import { bundleIn, fragmentOf } from "./share.js";
 import { tooLarge } from "./source.js";
-import { momentOf } from "./registers.js";
+import { momentOf } from "./memory.js";
 import { fillMenu, showNotes } from "./notes.js";
 
 const LONG_LINK = 2000; // letters; mail and chats may cut what is longer
+const FRESH = "* What the program does\n        ORIG 1000\nSTART   ENTA 5            put 5 into rA\n        HLT\n        END  START\n";
 export const IN_FRAME = new URLSearchParams(window.location.search).has("embed"); // the page shows the program, the buttons and one picture
 
 // The address of the page with a fragment; `search` is what is between both.
@@ -19,16 +20,16 @@ export class Keep {
     this.lessons = lessons;
     this.lesson = null;
     fillMenu(lessons);
-    $("lessons").addEventListener("change", () => this.choose());
-    $("open").addEventListener("click", () => $("file").click());
-    $("file").addEventListener("change", () => this.openFile());
-    $("save").addEventListener("click", () => this.save());
-    $("share").addEventListener("click", () => this.share());
-    $("new").addEventListener("click", () => this.openNew());
-    for (const name of ["link", "frame"]) $(`${name}-copy`).addEventListener("click", () => this.copy(`${name}-text`));
-    $("moment-copy").addEventListener("click", () => this.copyMoment());
-    $("answer-open").addEventListener("click", () => this.openAnswer());
-    $("help").addEventListener("click", () => $("help-box").showModal());
+    on("lessons", "change", () => this.choose());
+    on("open", "click", () => $("file").click());
+    on("file", "change", () => this.openFile());
+    on("save", "click", () => this.save());
+    on("share", "click", () => this.share());
+    on("new", "click", () => this.openLesson(null, FRESH));
+    for (const name of ["link", "frame"]) on(`${name}-copy`, "click", () => this.copy(`${name}-text`));
+    on("moment-copy", "click", () => this.copyMoment());
+    on("answer-open", "click", () => this.openLesson(this.lesson, this.lesson.solution));
+    on("help", "click", () => $("help-box").showModal());
     window.addEventListener("beforeprint", () => put($("on-paper"), this.heading));
     window.addEventListener("hashchange", () => this.openLink());
     window.addEventListener("beforeunload", (event) => {
@@ -50,40 +51,30 @@ export class Keep {
     });
   }
 
-  // The lesson that is here is the one that the menu shows.
+  // The lesson that is here, or none, is the one that the menu shows.
   setLesson(lesson) {
     this.lesson = lesson;
-    $("lessons").value = lesson ? String(this.lessons.indexOf(lesson)) : "";
+    this.showLesson();
     showNotes(lesson || undefined);
+  }
+
+  showLesson() {
+    $("lessons").value = this.lesson ? String(this.lessons.indexOf(this.lesson)) : "";
   }
 
   async choose() {
     const lesson = this.lessons[$("lessons").value];
-    if (lesson && (await this.isFree())) await this.openLesson(lesson);
-    else this.setLessonAgain();
+    if (lesson) await this.openLesson(lesson);
+    this.showLesson();
   }
 
-  setLessonAgain() {
-    $("lessons").value = this.lesson ? String(this.lessons.indexOf(this.lesson)) : "";
-  }
-
-  // Opens a lesson, or its solution; the script waits.
+  // Opens a lesson, or its solution, or a program of none; the script waits.
   async openLesson(lesson, bundle = lesson.bundle) {
+    if (!(await this.isFree())) return;
     this.setLesson(lesson);
     const parts = partsOf(bundle);
     const { done, left } = keptIn(parts.script);
     await this.app.open(parts, { done: [], left: [...done, ...left], breaks: [], bars: "" });
-  }
-
-  async openAnswer() {
-    if (this.lesson && (await this.isFree())) await this.openLesson(this.lesson, this.lesson.solution);
-  }
-
-  async openNew() {
-    if (!(await this.isFree())) return;
-    this.setLesson(null);
-    const source = "* What the program does\n        ORIG 1000\nSTART   ENTA 5            put 5 into rA\n        HLT\n        END  START\n";
-    await this.app.open({ source, deck: "" }, { done: [], left: [], breaks: [], bars: "" });
   }
 
   // Opens a bundle that was saved or shared: what was done is done, the rest waits.
@@ -110,12 +101,11 @@ export class Keep {
 
   // Opens what the link holds; whether it is a link of the page.
   async openLink() {
-    let bundle = null;
     let reason = "";
     try {
-      bundle = await bundleIn(window.location.hash);
-      if (bundle === null || !(await this.isFree())) return bundle !== null;
-      await this.openBundle(bundle);
+      const bundle = await bundleIn(window.location.hash);
+      if (bundle === null) return false;
+      if (await this.isFree()) await this.openBundle(bundle);
       return true;
     } catch (fault) {
       reason = fault instanceof RangeError ? `This link is not opened: ${fault.message}.` : "This link is cut or was changed: it holds no program.";
@@ -125,11 +115,14 @@ export class Keep {
     return true;
   }
 
+  get title() {
+    return this.lesson ? this.lesson.title : "A program";
+  }
+
   // What is printed above the listing: the lesson, the moment, the day.
   get heading() {
     const { session } = this.app;
-    const moment = session ? `, change ${session.done} of ${session.total}` : "";
-    return `${this.lesson ? this.lesson.title : "A program"}${moment}, ${new Date().toISOString().slice(0, 10)}`;
+    return `${this.title}${session ? `, change ${session.done} of ${session.total}` : ""}, ${new Date().toISOString().slice(0, 10)}`;
   }
 
   get bundle() {
@@ -152,7 +145,7 @@ export class Keep {
     const fragment = await fragmentOf(this.bundle);
     const link = addressOf(fragment);
     $("link-text").value = link;
-    $("frame-text").value = make("iframe", { src: addressOf(fragment, "?embed"), title: this.lesson ? this.lesson.title : "A program of MIX", width: 800, height: 500 }).outerHTML;
+    $("frame-text").value = make("iframe", { src: addressOf(fragment, "?embed"), title: this.lesson ? this.title : "A program of MIX", width: 800, height: 500 }).outerHTML;
     const notes = [];
     if (window.location.protocol === "file:") notes.push("This page is a file, so the link leads to this file. Behind another address of the page the # and what follows do the same.");
     if (link.length > LONG_LINK) notes.push(`The link has ${link.length.toLocaleString("en")} letters: mail and chats may cut it, so try it or send the file.`);
@@ -163,9 +156,10 @@ export class Keep {
 
   // The moment as a text, with what it is of, as on paper.
   copyMoment() {
-    const { session, view, views, listing, refusal } = this.app;
+    const { session, view, memory, bars, listing, refusal } = this.app;
+    const cells = [...new Set([...memory.shownCells, ...bars.cells])].sort((a, b) => a - b);
     if (!session) this.app.tell(`${refusal}. Nothing was copied.`, true);
-    else this.app.copy(`${this.heading}\n${momentOf(view, views.cells, listing.lineOf)}`, "The moment, as a text,");
+    else this.app.copy(`${this.heading}\n${momentOf(view, cells, listing.lineOf)}`, "The moment, as a text,");
   }
 
   async copy(id) {

@@ -1,8 +1,43 @@
-// The engine as the page sees it: requests go in, answers come out, and the page never waits for it.
-
-import { answersOf, framesOf } from "./dap.js";
+// The engine as the page sees it: requests of the debug adapter go in, answers come out, and the page never waits for it. Nothing here knows what a
+// request does.
 
 const STOPPED = "it was stopped";
+const BRACE = 123; // with which the body of a frame begins; a header has none
+const HEADER = "Content-Length: ";
+const [writer, reader] = [new TextEncoder(), new TextDecoder()];
+
+// The frames of requests, each a pair of a command and its arguments; they are numbered from 1.
+function framesOf(requests) {
+  const frames = requests.map(([command, given], index) => {
+    const body = JSON.stringify({ seq: index + 1, type: "request", command, arguments: given });
+    return `${HEADER}${writer.encode(body).length}\r\n\r\n${body}`;
+  });
+  return writer.encode(frames.join(""));
+}
+
+// The answers in some frames, in their order. Where the program has stopped after one, it has the event that tells why as `stopped`.
+function answersOf(bytes) {
+  const answers = [];
+  for (let at = 0; at < bytes.length; ) {
+    const begin = bytes.indexOf(BRACE, at);
+    const end = begin + Number(reader.decode(bytes.subarray(at + HEADER.length, begin)));
+    const message = JSON.parse(reader.decode(bytes.subarray(begin, end)));
+    at = end;
+    if (message.type === "response") answers.push(message);
+    else if (message.event === "stopped") answers[answers.length - 1].stopped = message.body;
+  }
+  return answers;
+}
+
+// The text of a refusal; nothing where a request was done.
+export const refusalOf = ({ success, body, message }) => (success ? "" : body && body.error ? body.error.format : message);
+
+// The reply to a command of the script: that of the machine, or the line of its refusal.
+export function replyOf(answer) {
+  if (answer.success) return answer.body.result;
+  const number = answer.body && answer.body.error ? answer.body.error.id : 0;
+  return `${number >= 200 && number < 300 ? "?" : "??"} ${refusalOf(answer)}\n`;
+}
 
 // What makes a call fail that is no answer of the adapter: no memory, a trap, or that it was stopped. The session of the engine is lost then.
 export class Broken extends Error {
@@ -21,23 +56,20 @@ export class Machine {
     this.drop = null;
   }
 
-  start() {
-    this.worker = new Worker(this.url);
-    this.worker.postMessage({ module: this.module });
-  }
-
   // The answers to requests of a holder, in their order. Where the engine does not hold its session, they begin a new one.
   async ask(holder, requests) {
-    if (!this.worker) this.start();
-    const { worker } = this;
+    if (!this.worker) {
+      this.worker = new Worker(this.url);
+      this.worker.postMessage({ module: this.module });
+    }
     const isNew = this.holder !== holder;
     this.holder = null;
     const { bytes, fault } = await new Promise((resolve) => {
       this.drop = () => resolve({ fault: STOPPED });
-      worker.onmessage = ({ data }) => resolve(data);
-      worker.onerror = (event) => resolve({ fault: event.message || "the engine does not start" });
+      this.worker.onmessage = ({ data }) => resolve(data);
+      this.worker.onerror = (event) => resolve({ fault: event.message || "the engine does not start" });
       const frames = framesOf(requests);
-      worker.postMessage({ isNew, frames }, [frames.buffer]);
+      this.worker.postMessage({ isNew, frames }, [frames.buffer]);
     });
     this.drop = null;
     if (fault !== undefined) throw new Broken(fault);

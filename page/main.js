@@ -1,10 +1,10 @@
 // The beginning: the engine, the lessons and the grammar are in the page itself, in blocks that `assemble` has put there.
 
 import { App } from "./app.js";
-import { fillCard } from "./card.js";
 import { Grammar } from "./colours.js";
 import { IN_FRAME, Keep } from "./keep.js";
 import { Machine } from "./machine.js";
+import { fillCard } from "./operations.js";
 import { bytesOfBlock, textOfBlock } from "./share.js";
 import { NO_TOUR, Tour } from "./tour.js";
 
@@ -16,7 +16,7 @@ async function begin() {
   window.addEventListener("error", ({ message }) => told(message));
   fillCard();
   const keep = new Keep(app, JSON.parse(lessons));
-  const tour = new Tour((name) => app.views.choose(name));
+  const tour = new Tour(app);
   if (await keep.openLink()) return;
   await keep.openLesson(keep.lessons[0]);
   if (!IN_FRAME && window.location.hash !== NO_TOUR) tour.go(0);

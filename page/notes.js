@@ -5,16 +5,14 @@ import { $, make } from "./dom.js";
 function piecesOfText(text) {
   return text.split(/(\*\*[^*]+\*\*|`[^`]+`)/).map((piece) => {
     if (piece.startsWith("**")) return make("b", {}, piece.slice(2, -2));
-    if (piece.startsWith("`")) return make("code", {}, piece.slice(1, -1));
-    return piece;
+    return piece.startsWith("`") ? make("code", {}, piece.slice(1, -1)) : piece;
   });
 }
 
 // A paragraph, or a list where each line begins with a number or a dash.
 function blockOf(text) {
-  const marks = { "1.": "ol", "-": "ul" };
-  const kind = marks[(/^(1\.|-) /.exec(text) || [])[1]];
-  if (!kind) return make("p", {}, ...piecesOfText(text.replace(/\n/g, " ")));
+  const kind = text.startsWith("1. ") ? "ol" : text.startsWith("- ") ? "ul" : "p";
+  if (kind === "p") return make("p", {}, ...piecesOfText(text.replace(/\n/g, " ")));
   const items = text.split(/\n(?=\d+\. |- )/).map((item) => item.replace(/^(\d+\.|-) +/, "").replace(/\n\s*/g, " "));
   return make(kind, {}, ...items.map((item) => make("li", {}, ...piecesOfText(item))));
 }
@@ -23,22 +21,17 @@ const blocksOf = (notes) => notes.split(/\n\s*\n/).filter((text) => text.trim() 
 
 // Shows the notes of a lesson beside the listing, or none. The answer of its exercise is shown only when it is asked for.
 export function showNotes({ title = "", notes = "", answer = "", solution = "" } = {}) {
-  $("notes").hidden = !notes;
-  $("no-notes").hidden = Boolean(notes);
+  const isHidden = { notes: !notes, "no-notes": notes, answer: !answer && !solution, "answer-open": !solution };
+  for (const [id, is] of Object.entries(isHidden)) $(id).hidden = Boolean(is);
   $("notes-title").textContent = title;
   $("notes-text").replaceChildren(...blocksOf(notes));
-  $("answer").hidden = !answer && !solution;
   $("answer").open = false;
   $("answer-text").replaceChildren(...blocksOf(answer));
-  $("answer-open").hidden = !solution;
 }
 
 // Fills the menu of lessons, in its groups.
 export function fillMenu(lessons) {
-  const groups = new Map();
-  lessons.forEach(({ group, title }, index) => {
-    if (!groups.has(group)) groups.set(group, make("optgroup", { label: group }));
-    groups.get(group).append(make("option", { value: String(index) }, title));
-  });
+  const groups = new Map(lessons.map(({ group }) => [group, make("optgroup", { label: group })]));
+  lessons.forEach(({ group, title }, index) => groups.get(group).append(make("option", { value: String(index) }, title)));
   $("lessons").append(...groups.values());
 }

@@ -4,6 +4,8 @@
 // In a sentence {r} is the register, {V} the value of field F of cell M, {cell} the field of the cell that is written, {M} the address, {line} the
 // place that is jumped to, {F} the field F as a number.
 
+import { $, make, on } from "./dom.js";
+
 // Name, C, F, time, what M is: a cell, a place that is jumped to, or a number; the sentence. A small r stands for A, 1 to 6 and X.
 const TABLE = `
 NOP 0 - 1 - does nothing
@@ -63,29 +65,22 @@ ALF a cell with these five characters
 END the end of the program; it begins at this location
 `;
 
-const LETTERS = ["A", "1", "2", "3", "4", "5", "6", "X"];
-const registerOf = (letter) => (/\d/.test(letter) ? `rI${letter}` : `r${letter}`);
-
-function rowOf(line) {
-  const [, name, code, f, time, uses, sentence] = /^(\S+) (\d+) (\S+) (\S+) (\S+) (.*)$/.exec(line);
-  return { name, code: Number(code), f: f === "-" ? null : Number(f), time, uses, sentence };
-}
-
 const linesOfTable = (table) => table.trim().split("\n");
 
 // The rows as they are printed: those of eight registers are one.
-export const CARD = linesOfTable(TABLE).map(rowOf);
+export const CARD = linesOfTable(TABLE).map((line) => {
+  const [name, code, f, time, uses, ...words] = line.split(" ");
+  return { name, code: Number(code), f: f === "-" ? null : Number(f), time, uses, sentence: words.join(" ") };
+});
 
 // Each operation by its name, with its register.
-export const OPERATIONS = new Map(
-  CARD.flatMap((row) => {
-    if (!row.name.includes("r")) return [[row.name, { ...row, register: "" }]];
-    return LETTERS.map((letter, index) => {
-      const name = row.name.replace("r", letter);
-      return [name, { ...row, name, code: row.code + index, register: registerOf(letter) }];
-    });
-  }),
-);
+export const OPERATIONS = new Map(CARD.flatMap((row) => {
+  if (!row.name.includes("r")) return [[row.name, { ...row, register: "" }]];
+  return [..."A123456X"].map((letter, index) => {
+    const name = row.name.replace("r", letter);
+    return [name, { ...row, name, code: row.code + index, register: /\d/.test(letter) ? `rI${letter}` : `r${letter}` }];
+  });
+}));
 
 export const PSEUDO = new Map(linesOfTable(WORDS).map((line) => [line.split(" ")[0], line.slice(line.indexOf(" ") + 1)]));
 
@@ -102,4 +97,20 @@ export function explained(word) {
   if (!row) return PSEUDO.has(name) ? `${name}: ${PSEUDO.get(name)}.` : "";
   const sentence = filled(row.sentence, row.register ? { r: row.register } : {});
   return `${name}: ${sentence}. C = ${row.code}${row.f === null ? "" : `, F = ${row.f}`}, ${row.time} u.`;
+}
+
+// Fills the card of operations, to look at and to print.
+export function fillCard() {
+  const rows = CARD.map(({ name, code, f, time, sentence }) => [name, `${code}${name.includes("r") ? "+r" : ""}`, f === null ? "" : String(f), time, filled(sentence, {})]);
+  const words = [...PSEUDO].map(([name, text]) => [name, "", "", "", text]);
+  $("card-rows").replaceChildren(...[...rows, ...words].map((texts) => make("tr", {}, ...texts.map((text) => make("td", {}, text)))));
+  on("card-open", "click", () => {
+    $("help-box").close();
+    $("card").showModal();
+  });
+  on("card-print", "click", () => {
+    document.body.classList.add("card-alone");
+    window.print();
+    document.body.classList.remove("card-alone");
+  });
 }

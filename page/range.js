@@ -13,8 +13,6 @@ export class CellRange {
   // The ids of its fields begin with `name`. It is asked for while `isWanted` says so, and `taken` is called when it is another range.
   constructor(app, name, isWanted, taken) {
     Object.assign(this, { app, isWanted, taken, fault: `${name}-fault`, fields: [$(`${name}-from`), $(`${name}-to`)] });
-    this.isAsked = false; // whether the ends are to be asked for once more
-    this.isAsking = false;
     this.cells = [];
     for (const end of ["from", "to"]) on(`${name}-${end}`, "input", () => this.ask());
   }
@@ -29,18 +27,12 @@ export class CellRange {
     });
   }
 
-  // Asks the engine which cells the ends are; while it answers, what is typed meanwhile waits for one more question.
+  // Asks the engine which cells the ends are.
   async ask() {
-    this.isAsked = this.isWanted();
-    if (this.isAsking) return;
-    this.isAsking = true;
-    while (this.isAsked) {
-      this.isAsked = false;
-      const { ends } = this;
-      const numbers = await this.app.enqueue(() => this.app.session.values(ends));
-      if (numbers) this.take(ends, numbers);
-    }
-    this.isAsking = false;
+    if (!this.isWanted()) return;
+    const { app, ends } = this;
+    const numbers = await app.enqueue(() => app.session.values(ends));
+    if (numbers) this.take(ends, numbers);
   }
 
   // Takes a range of which the ends have these numbers, or says why it is none.

@@ -1,7 +1,7 @@
 // A session: a program with its units, and the commands that were given to it, each with its reply. The engine holds the session; where it was lost,
 // or holds that of another text, it does the commands again.
 
-import { replyOf } from "./dap.js";
+import { replyOf } from "./machine.js";
 
 const LONG = 200000; // changes after which the counts are left out while the slider is dragged
 const NO_LOOK = ["threads", {}]; // in the place of a look that is left out

@@ -6,26 +6,20 @@ const MOST = 4194304; // bytes of what a link holds
 async function through(stream, bytes, most = Infinity) {
   const reader = new Blob([bytes]).stream().pipeThrough(stream).getReader();
   const parts = [];
-  let length = 0;
-  for (;;) {
+  for (let length = 0; ; ) {
     const { done, value } = await reader.read();
-    if (done) break;
+    if (done) return new Uint8Array(await new Blob(parts).arrayBuffer());
     length += value.length;
-    if (length > most) {
-      await reader.cancel();
-      throw new RangeError(`it holds more than ${most.toLocaleString("en")} bytes`);
-    }
     parts.push(value);
+    if (length <= most) continue;
+    await reader.cancel();
+    throw new RangeError(`it holds more than ${most.toLocaleString("en")} bytes`);
   }
-  return new Uint8Array(await new Blob(parts).arrayBuffer());
 }
 
-export const inflate = (bytes, most) => through(new DecompressionStream("deflate-raw"), bytes, most);
-const deflate = (bytes) => through(new CompressionStream("deflate-raw"), bytes);
+const bytesOf = (base64) => Uint8Array.from(atob(base64.replace(/-/g, "+").replace(/_/g, "/")), (letter) => letter.charCodeAt(0));
 
-export function bytesOf(base64) {
-  return Uint8Array.from(atob(base64.replace(/-/g, "+").replace(/_/g, "/")), (letter) => letter.charCodeAt(0));
-}
+const inflate = (base64, most) => through(new DecompressionStream("deflate-raw"), bytesOf(base64), most);
 
 function lettersOf(bytes) {
   let text = "";
@@ -35,21 +29,18 @@ function lettersOf(bytes) {
 
 // The fragment of a bundle.
 export async function fragmentOf(bundle) {
-  return `#mix=${lettersOf(await deflate(new TextEncoder().encode(bundle)))}`;
+  return `#mix=${lettersOf(await through(new CompressionStream("deflate-raw"), new TextEncoder().encode(bundle)))}`;
 }
 
 // The bundle that a fragment holds; nothing where it is none of ours. A RangeError where it holds too much.
 export async function bundleIn(fragment) {
   const given = new URLSearchParams(fragment.replace(/^#/, ""));
-  if (!given.has("mix")) return null;
-  return new TextDecoder().decode(await inflate(bytesOf(given.get("mix")), MOST));
+  return given.has("mix") ? new TextDecoder().decode(await inflate(given.get("mix"), MOST)) : null;
 }
 
-// The text of one of the page's own blocks of data.
+// The bytes of one of the page's own blocks of data.
+export const bytesOfBlock = (id) => inflate(document.getElementById(id).textContent.trim());
+
 export async function textOfBlock(id) {
   return new TextDecoder().decode(await bytesOfBlock(id));
-}
-
-export function bytesOfBlock(id) {
-  return inflate(bytesOf(document.getElementById(id).textContent.trim()));
 }

@@ -1,35 +1,38 @@
 // The text of the source: a box for typing, and behind it the same text in colours. Long lines are wrapped, so that all of a line is seen.
 
-import { $, make, onResize } from "./dom.js";
+import { $, make, on, onResize } from "./dom.js";
 import { piecesOf } from "./colours.js";
 import { explained } from "./operations.js";
 
-export const MAX_LINES = 20000; // of a source
-export const MAX_BYTES = 1048576;
+const LIMITS = { lines: 20000, bytes: 1048576 }; // of a source
 
 // Why a text can't be a source, before anything is made of it; "" where it may be one.
 export function tooLarge(text) {
-  let lines = 1;
+  let lines = text.endsWith("\n") ? 0 : 1;
   for (let at = text.indexOf("\n"); at >= 0; at = text.indexOf("\n", at + 1)) lines += 1;
-  if (text.endsWith("\n")) lines -= 1;
-  if (lines > MAX_LINES) return `it has ${lines.toLocaleString("en")} lines, and a source has at most ${MAX_LINES.toLocaleString("en")}`;
-  const bytes = text.length * 3 < MAX_BYTES ? 0 : new TextEncoder().encode(text).length;
-  if (bytes > MAX_BYTES) return `it has ${bytes.toLocaleString("en")} bytes, and a source has at most ${MAX_BYTES.toLocaleString("en")}`;
-  return "";
+  const bytes = text.length * 3 < LIMITS.bytes ? 0 : new TextEncoder().encode(text).length;
+  const over = Object.entries({ lines, bytes }).find(([name, count]) => count > LIMITS[name]);
+  return over ? `it has ${over[1].toLocaleString("en")} ${over[0]}, and a source has at most ${LIMITS[over[0]].toLocaleString("en")}` : "";
+}
+
+// How many elements two lists have in common at the beginning.
+export function sameIn(one, other, most = Infinity) {
+  let same = 0;
+  while (same < Math.min(one.length, other.length, most) && one[same] === other[same]) same += 1;
+  return same;
 }
 
 export class Source {
-  // `changed` is called after an edit, with the lines before it and after it; `refused` with the reason why an edit was not taken.
-  constructor({ grammar, changed, refused, resized }) {
-    Object.assign(this, { grammar, changed, refused });
+  constructor(app, grammar, listing) {
+    Object.assign(this, { app, grammar, listing });
     this.box = $("text");
     this.lines = [""];
     this.found = new Map(); // the texts of faults and warnings, by their lines
     this.shades = []; // of each line its element, its text, and the rules that are open before and behind it
-    this.box.addEventListener("input", () => this.typed());
-    this.box.addEventListener("mousemove", (event) => this.pointed(event));
-    onResize($("colours"), resized);
-    this.draw([""]);
+    on("text", "input", () => this.typed());
+    on("text", "mousemove", (event) => this.pointed(event));
+    onResize($("colours"), () => listing.place());
+    this.draw();
   }
 
   get text() {
@@ -40,33 +43,31 @@ export class Source {
     this.box.value = text;
     $("listing").scrollTop = 0;
     this.lines = text.split("\n");
-    this.draw(this.lines);
+    this.draw();
   }
 
   typed() {
-    const reason = tooLarge(this.box.value);
+    const reason = tooLarge(this.text);
     if (reason) {
       this.box.value = this.lines.join("\n");
-      this.refused(reason);
+      this.app.tell(`The text was not taken: ${reason}.`, true);
       return;
     }
-    const [old, now] = [this.lines, this.box.value.split("\n")];
-    this.lines = now;
-    this.draw(now);
-    this.changed(old, now);
+    const old = this.lines;
+    this.lines = this.text.split("\n");
+    this.draw();
+    this.listing.edited(old, this.lines);
   }
 
-  // Shows these lines; those at the beginning and at the end that are the same keep their elements.
-  draw(lines) {
-    const { shades } = this;
-    let head = 0;
-    while (head < Math.min(shades.length, lines.length) && shades[head].text === lines[head]) head += 1;
-    let tail = 0;
-    const most = Math.min(shades.length, lines.length) - head;
-    while (tail < most && shades[shades.length - 1 - tail].text === lines[lines.length - 1 - tail]) tail += 1;
+  // Shows the lines; those at the beginning and at the end that are the same keep their elements.
+  draw() {
+    const { shades, lines } = this;
+    const shown = shades.map(({ text }) => text);
+    const head = sameIn(shown, lines);
+    const tail = sameIn(shown.reverse(), [...lines].reverse(), Math.min(shown.length, lines.length) - head);
     for (const { element } of shades.splice(head, shades.length - head - tail)) element.remove();
-    const next = head < shades.length ? shades[head].element : null;
     const fresh = lines.slice(head, lines.length - tail).map((text) => ({ element: make("div"), text, before: undefined, after: undefined }));
+    const next = head < shades.length ? shades[head].element : null;
     for (const { element } of fresh) $("colours").insertBefore(element, next);
     shades.splice(head, 0, ...fresh);
     let open = head > 0 ? shades[head - 1].after : null;
@@ -94,7 +95,7 @@ export class Source {
 
   // The line of the cursor, and what its operation does.
   get caretLine() {
-    return this.box.value.slice(0, this.box.selectionStart).split("\n").length;
+    return this.text.slice(0, this.box.selectionStart).split("\n").length;
   }
 
   get caretExplained() {

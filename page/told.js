@@ -1,6 +1,6 @@
 // The status: two lines, of what was done and of what comes next.
 
-import { refusalOf } from "./dap.js";
+import { refusalOf } from "./machine.js";
 import { counted, fourDigits } from "./dom.js";
 import { STEPS } from "./moves.js";
 import { didOf, nextOf } from "./sentence.js";

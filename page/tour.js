@@ -2,25 +2,24 @@
 // page, and goes away when something else is done before its second step. An address that ends in #no-tour, as it does after it was closed, opens
 // without it.
 
-import { $, put } from "./dom.js";
+import { $, on, put } from "./dom.js";
 
 export const NO_TOUR = "#no-tour";
 
 export class Tour {
-  // `choose` shows a tab of a narrow window.
-  constructor(choose) {
-    this.choose = choose;
+  constructor(app) {
+    this.app = app;
     this.steps = [...document.querySelectorAll("#tour-steps li")];
     this.at = 0;
-    $("tour-open").addEventListener("click", (event) => {
+    on("tour-open", "click", (event) => {
       event.stopPropagation();
       $("help-box").close();
       this.go(0);
       $("tour-next").focus();
     });
-    $("tour-next").addEventListener("click", () => this.go(this.at + 1));
-    $("tour-back").addEventListener("click", () => this.go(this.at - 1));
-    $("tour-close").addEventListener("click", () => this.close());
+    on("tour-next", "click", () => this.go(this.at + 1));
+    on("tour-back", "click", () => this.go(this.at - 1));
+    on("tour-close", "click", () => this.close());
     document.addEventListener("keydown", ({ key }) => {
       if (key === "Escape" && !$("tour").hidden) this.close();
     });
@@ -33,24 +32,23 @@ export class Tour {
 
   // Shows a step; behind the last the tour is over.
   go(at) {
-    if (!this.steps[at]) {
+    const step = this.steps[at];
+    if (!step) {
       this.close();
       return;
     }
     this.at = at;
     $("tour").hidden = false;
-    this.steps.forEach((step, index) => {
-      step.hidden = index !== at;
-    });
+    for (const other of this.steps) other.hidden = other !== step;
     put($("tour-title"), `Tour, ${at + 1} of ${this.steps.length}`);
     put($("tour-next"), at + 1 < this.steps.length ? "Next" : "Done");
     $("tour-back").disabled = at === 0;
-    this.frame(this.steps[at].dataset);
+    this.frame(step.dataset);
   }
 
   frame({ part, tab }) {
     for (const framed of document.querySelectorAll(".toured")) framed.classList.remove("toured");
-    if (tab) this.choose(tab);
+    if (tab) this.app.choose(tab);
     if (!part) return;
     $(part).classList.add("toured");
     $(part).scrollIntoView({ block: "nearest" });

@@ -1,7 +1,7 @@
 // Who wrote this? What the last change of a register, a cell or a flag was, all others, the ways there, and a field to set it.
 
 import { $, counted, fourDigits, make, note, on, put } from "./dom.js";
-import { refusalOf } from "./dap.js";
+import { refusalOf } from "./machine.js";
 import { COMPARED, ZERO, isCommand, numberOf } from "./sentence.js";
 import { valuesOf } from "./svg.js";
 

@@ -4,16 +4,12 @@
 let engine = null;
 
 self.onmessage = async ({ data: { module, isNew, frames } }) => {
-  if (module) {
-    engine = Engine.load(module);
-    engine.catch(() => {});
-    return;
-  }
+  engine ??= Engine.load(module);
   try {
     const loaded = await engine;
     if (isNew) loaded.open();
-    self.postMessage({ bytes: await loaded.ask(frames) });
+    if (frames) self.postMessage({ bytes: await loaded.ask(frames) });
   } catch (fault) {
-    self.postMessage({ fault: fault.kind === "memory" ? fault.message : `it stopped in the middle: ${fault.message}` });
+    if (frames) self.postMessage({ fault: fault.message });
   }
 };

@@ -4,7 +4,7 @@
 
 import { readFileSync } from "node:fs";
 import { gzipSync } from "node:zlib";
-import { Engine } from "../../page/engine.js";
+import { Talking } from "./talking.js";
 
 const bytes = readFileSync(process.argv[2] || new URL("../../page/out/engine.wasm", import.meta.url));
 const LIMIT = 100;
@@ -55,13 +55,13 @@ const show = (what, times) => console.log(
 
 console.log(`module: ${bytes.length} bytes, ${gzipSync(bytes, { level: 9 }).length} compressed`);
 let began = performance.now();
-let engine = await Engine.load(bytes);
+let engine = await Talking.load(bytes);
 console.log(`compiled in ${(performance.now() - began).toFixed(0)} milliseconds`);
 
 let most = 0;
 for (const name of ["tight", "subroutine", "move"]) {
   const open = opening(name);
-  engine = await Engine.load(bytes);
+  engine = await Talking.load(bytes);
   const launched = Array.from({ length: 21 }, () => timed(engine, [...open, ...looks, ...counts], "mix/state"));
   show(`${name}: launched and looked at`, launched);
   const forth = Array.from({ length: 11 }, () => timed(engine, [...open, repl(`run ${MILLION}`), ...looks], `ran ${MILLION} `));
@@ -79,7 +79,7 @@ for (const name of ["tight", "subroutine", "move"]) {
 }
 for (const name of ["tight", "subroutine"]) {
   const runs = Array.from({ length: 10 }, () => repl(`run ${MILLION}`));
-  engine = await Engine.load(bytes);
+  engine = await Talking.load(bytes);
   const times = [timed(engine, [...opening(name), ...runs, repl("show changes"), ...looks], `changes ${10 * MILLION}`)];
   show(`${name}: ten million steps`, times);
   console.log(`${name}: ${mebibytes.toFixed(0)} MiB of memory for ten million steps`);

@@ -3,10 +3,10 @@
 
 import assert from "node:assert/strict";
 import { readFileSync } from "node:fs";
-import { Engine, EngineFault } from "../../page/engine.js";
+import { EngineFault, Talking } from "./talking.js";
 
 const module = readFileSync(process.argv[2] || new URL("../../page/out/small.wasm", import.meta.url));
-const engine = await Engine.load(module);
+const engine = await Talking.load(module);
 const writer = new TextEncoder();
 const reader = new TextDecoder();
 const SOURCE = " ENT1 1\nL STA 100,1\n INC1 1\n CMP1 =3000=\n JNE L\n ENT1 1\n JMP L\n END 0\n"; // no end

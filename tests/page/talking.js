@@ -1,9 +1,15 @@
 // The module's function of bytes: all that a client sends goes in, all that it is sent comes out, and nothing is kept. The page does without it.
 
-import { EngineFault } from "../../page/engine.js";
-
 const NO_ROOM = 3; // the status where the room for the answer was too small
 const FIRST_ROOM = 1 << 18;
+
+// What no call answers: `kind` is "memory" where memory is refused, and "trap" where the module stopped in the middle.
+export class EngineFault extends Error {
+  constructor(kind, message = "T1 out of memory") {
+    super(message);
+    this.kind = kind;
+  }
+}
 
 export class Talking {
   #module;
