@@ -1,9 +1,9 @@
 // The page: what a person asks for, by buttons, keys, commands and the slider.
 
-import { $, counted, fourDigits, on } from "./dom.js";
 import { cardsApart, isBundle, keptIn, partsOf, scriptOf } from "./bundle.js";
 import { Desk } from "./desk.js";
-import { move } from "./moves.js";
+import { $, counted, fourDigits, on } from "./dom.js";
+import { commandsOf } from "./session.js";
 import { Talk } from "./talk.js";
 import { Time } from "./time.js";
 import { Who } from "./who.js";
@@ -20,13 +20,6 @@ export class App extends Desk {
     this.who = new Who(this);
     for (const id of ["cards", "deck"]) on(id, "input", () => this.edited());
     on("anew", "click", () => this.add(() => this.begin()));
-  }
-
-  // From the source to the line for commands, and back.
-  swap() {
-    const isCommand = document.activeElement === $("command");
-    this.choose(isCommand ? "program" : "talk");
-    $(isCommand ? "text" : "command").focus();
   }
 
   // The texts were changed: they are assembled when no key is pressed for a moment, or before the next thing is done.
@@ -46,6 +39,13 @@ export class App extends Desk {
     this.busy();
   }
 
+  // Whether something is asked for the second time, so that it is done.
+  isAgreed(asked) {
+    if (this.agreed === asked) return true;
+    this.agreed = asked;
+    return false;
+  }
+
   // Shows what something did with the session, perhaps when it is done.
   async did(found, before = this.view) {
     const { answer, view } = await found;
@@ -55,9 +55,13 @@ export class App extends Desk {
     this.show(view, answer, before);
   }
 
+  act(command, before) {
+    return this.did(this.session.act([command]), before);
+  }
+
   // Does a command, after all that was asked for before.
   go(command) {
-    return this.enqueue(() => this.did(this.session.act([command])));
+    this.enqueue(() => this.act(command));
   }
 
   // Goes to a moment by the slider or by a picture.
@@ -74,12 +78,9 @@ export class App extends Desk {
   given(command) {
     const work = () => {
       const { ahead } = this.session;
-      if (/^\s*set\s/i.test(command) && ahead > 0 && this.agreed !== command) {
-        this.agreed = command;
-        this.talk.answer(command, `This drops ${counted(ahead, "change")} ahead. Press Enter again to do it.`);
-        return undefined;
-      }
-      return this.did(this.session.act([command]));
+      if (!/^\s*set\s/i.test(command) || ahead === 0 || this.isAgreed(command)) return this.act(command);
+      this.talk.answer(command, `This drops ${counted(ahead, "change")} ahead. Press Enter again to do it.`);
+      return undefined;
     };
     this.enqueue(work, () => this.talk.answer(command, `Not done, since the text is refused. ${this.refusal}.`));
   }
@@ -94,17 +95,14 @@ export class App extends Desk {
   // What a button asks for. A key that is held down does not pile up what it asks for, and behind a halt it goes on when it is asked twice.
   press(name) {
     if (this.left > 2) return;
-    this.enqueue(() => {
-      const { session, listing } = this;
-      const asked = `${name} ${session.done}`;
-      if (session.isHalted && (name === "step" || name === "run") && this.agreed !== asked) {
-        this.agreed = asked;
-        const button = name === "run" ? "Run" : "Step";
-        this.tell(`The program has halted. ${button} once more goes on after the HLT, at location ${fourDigits(this.view.state.location)}.`);
-        return undefined;
+    this.enqueue(async () => {
+      const { session, listing, view } = this;
+      const button = { run: "Run", step: "Step" }[name];
+      if (button && session.isHalted && !this.isAgreed(`${name} ${session.done}`)) {
+        this.tell(`The program has halted. ${button} once more goes on after the HLT, at location ${fourDigits(view.state.location)}.`);
+        return;
       }
-      const before = this.view;
-      return move(name, session, listing.breakCells, (command) => this.did(session.act([command]), before));
+      for await (const command of commandsOf(name, session, listing.breakCells)) await this.act(command, view);
     });
   }
 

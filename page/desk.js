@@ -4,12 +4,13 @@ import { Bars } from "./bars.js";
 import { withCards } from "./bundle.js";
 import { $, copied, counted, doAll, onResize, put } from "./dom.js";
 import { showRefusal } from "./faults.js";
+import { Heat } from "./heat.js";
 import { Listing } from "./listing.js";
 import { Broken } from "./machine.js";
 import { Memory, Registers, showSymbols } from "./memory.js";
 import { TimeMap } from "./pictures.js";
+import { toldOf } from "./sentence.js";
 import { Session } from "./session.js";
-import { toldOf } from "./told.js";
 import { Output, Units } from "./units.js";
 
 const SESSIONS = 5; // sessions of other texts that can come back
@@ -36,7 +37,7 @@ export class Desk {
     this.map = new TimeMap(this);
     this.output = new Output();
     this.units = new Units(this);
-    this.parts = [new Registers(this), this.memory, this.bars, this.map, this.output, this.units];
+    this.parts = [new Registers(this), this.memory, this.bars, this.map, this.output, this.units, new Heat(this)];
     for (const tab of document.querySelectorAll("#tabs button")) tab.addEventListener("click", () => this.choose(tab.dataset.tab));
     this.choose("program");
     // The bar of time stays at the top, and what is scrolled to comes below it.

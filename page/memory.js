@@ -15,7 +15,7 @@ export function beforeOf(change) {
 // A row of a word: a button that asks who wrote it; sign and bytes, number, characters, what it was before.
 function wordRow(name, label, asked) {
   const button = make("button", { type: "button", "aria-label": `${name}: who wrote it?` }, label);
-  const head = make("th", { scope: "row" }, button, make("span", { class: "unseen" }));
+  const head = make("th", { scope: "row" }, button, make("span", { class: "unseen" }), make("span", { class: "unseen" }));
   return make("tr", { click: asked }, head, ...["word", "number", "chars", "was"].map((kind) => make("td", { class: kind })));
 }
 

@@ -8,7 +8,7 @@ const MAX_ROWS = 120; // of the map
 const PRINTERS = ["unit 17", "unit 18", "unit 19", "unit 20"];
 
 // One ask of the engine gives all of a picture; it is asked again only where the changes, or what is asked of them, are others.
-class Picture {
+export class Picture {
   // Of who extends it `isOpen` says whether it is seen, `find` asks a session for what is drawn, and `draw` draws what was found, or nothing.
   constructor(app) {
     this.app = app;

@@ -1,8 +1,9 @@
 // A session: a program with its units, and the commands that were given to it, each with its reply. The engine holds the session; where it was lost,
-// or holds that of another text, it does the commands again.
+// or holds that of another text, it does the commands again. And how the buttons become commands.
 
 import { replyOf } from "./machine.js";
 
+export const STEPS = 1000000; // the most steps of one command
 const LONG = 200000; // changes after which the counts are left out while the slider is dragged
 const NO_LOOK = ["threads", {}]; // in the place of a look that is left out
 const WHERE = ["mix/state", { cells: [], nonzero: false }]; // how many changes are done
@@ -146,6 +147,12 @@ export class Session {
     return { columns: found.body.columns, writes: writes.map(({ body }) => body.writes.reverse()) };
   }
 
+  // How many of all changes altered each of some cells, a thousand at most.
+  async altersOf(cells) {
+    const answers = await this.ask(cells.map((cell) => ["mix/writes", { part: `cell ${cell}` }]), this.total);
+    return new Map(cells.map((cell, index) => [cell, answers[index].body.writes.length]));
+  }
+
   // Of a part: the last changes of all that wrote it, the first one first; the last one that is done, with its line; the first one that is ahead.
   async writesOf(part) {
     const asked = [["mix/writes", { part }], ["mix/writes", { part, count: 1, until: this.done }]];
@@ -153,4 +160,30 @@ export class Session {
     const [change, line] = last ? await this.ask([["mix/change", { number: last.number }], repl("show last 1")], last.number) : [{}, {}];
     return { writes: all.body.writes.reverse(), last: change.body, line: last ? line.body.result.trim() : "", next: await this.next([part]) };
   }
+}
+
+// The commands that a button asks for, one after another. Breakpoints are the page's, at some cells: the engine says where one is met, and what is kept
+// are the steps.
+export async function* commandsOf(name, session, cells) {
+  const { done, ahead } = session;
+  if (name === "step") yield ahead > 0 ? "forth 1" : "step 1";
+  if (name === "to-end" && ahead > 0) yield "forth all";
+  if (name === "back" && done > 0) yield "back 1";
+  if (name === "to-start" && done > 0) yield "back all";
+  if (name === "to-break" && done > 0) {
+    const end = await session.stop("reverseContinue", cells);
+    yield end.reason === "entry" ? "back all" : `back ${done - end.done}`;
+  }
+  if (name === "run") yield* runOf(session, cells);
+}
+
+// Run does again what was taken back, up to a breakpoint or to its end. Then it goes on, by one step more where it stops at a fault, which is told then.
+async function* runOf(session, cells) {
+  if (session.ahead > 0) {
+    const met = await session.next(cells.map((cell) => `loc ${cell}`));
+    yield met ? `forth ${met - session.done}` : "forth all";
+    if (met || session.isHalted) return;
+  }
+  const end = cells.length > 0 ? await session.stop("continue", cells) : { done: session.done + STEPS };
+  yield `run ${end.done - session.done + (end.reason === "exception" ? 1 : 0)}`;
 }

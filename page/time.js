@@ -9,7 +9,11 @@ export class Time {
     this.others = {
       F9: () => app.toggle(app.listing.source.caretLine),
       F1: () => app.tell(app.listing.source.caretExplained || "The cursor is at no operation."),
-      "Control+Enter": () => app.swap(),
+      "Control+Enter": () => {
+        const isCommand = document.activeElement === $("command");
+        app.choose(isCommand ? "program" : "talk");
+        $(isCommand ? "text" : "command").focus();
+      },
     };
     this.isDragged = false;
     for (const id of Object.values(KEYS)) on(id, "click", () => app.press(id));

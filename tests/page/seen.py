@@ -184,20 +184,32 @@ PAIRS = (("ink", "paper"), ("ink", "leaf"), ("soft", "paper"), ("soft", "leaf"),
          ("soft", "here"), ("paper", "red"))
 
 
+HEAT = 0.25  # of red, where it is hottest
+
+
 def contrast(page, native, count):
     """Letters against what is behind them at least 4.5, the edges of fields and buttons at least 3."""
-    def light(colour):
-        parts = [int(colour[at:at + 2], 16) / 255 for at in (1, 3, 5)]
+    def parts_of(colour):
+        return [int(colour[at:at + 2], 16) / 255 for at in (1, 3, 5)]
+
+    def light(parts):
         parts = [part / 12.92 if part <= 0.03928 else ((part + 0.055) / 1.055) ** 2.4 for part in parts]
         return 0.2126 * parts[0] + 0.7152 * parts[1] + 0.0722 * parts[2]
+
+    def against(one, other):
+        high, low = sorted((light(one), light(other)), reverse=True)
+        return (high + 0.05) / (low + 0.05)
 
     for shade in ("light", "dark"):
         page.command("Emulation.setEmulatedMedia", features=[{"name": "prefers-color-scheme", "value": shade}])
         colour = dict(page.script("const s = getComputedStyle(document.documentElement); return ['paper','leaf','ink','soft','edge','red','here','altered','blue','button','green','violet'].map(n => [n, s.getPropertyValue('--' + n).trim()])"))
         for one, other in PAIRS + (("edge", "paper"), ("edge", "leaf"), ("edge", "button")):
-            high, low = sorted((light(colour[one]), light(colour[other])), reverse=True)
-            ratio = (high + 0.05) / (low + 0.05)
+            ratio = against(parts_of(colour[one]), parts_of(colour[other]))
             count.row(f"contrast, {shade}: {one} on {other}", ratio >= (3 if one == "edge" else 4.5), f"{ratio:.2f}")
+        for ground in ("paper", "leaf", "here", "altered"):
+            heated = [HEAT * red + (1 - HEAT) * part for red, part in zip(parts_of(colour["red"]), parts_of(colour[ground]))]
+            ratio = against(parts_of(colour["ink"]), heated)
+            count.row(f"contrast, {shade}: ink on {ground}, where it is hottest", ratio >= 4.5, f"{ratio:.2f}")
 
 
 SEEN = (sentences, output, lesson, memory_shown, small)

@@ -1,0 +1,50 @@
+// Heat, for who asks for it: a tint of each line by how often it was executed so far, and of each cell that is shown by how many of all changes altered
+// it. The numbers are texts too: beside the line, and in the row of the cell.
+
+import { $, counted, mark, on, put } from "./dom.js";
+import { Picture } from "./pictures.js";
+
+const MOST_CHANGES = 50000; // changes after which cells are not asked for
+
+export class Heat extends Picture {
+  constructor(app) {
+    super(app);
+    on("heat", "click", () => {
+      mark($("heat"), "aria-pressed", !this.isOpen);
+      document.querySelector("main").classList.toggle("heat", this.isOpen);
+      if (app.view) app.show(app.view);
+    });
+  }
+
+  get isOpen() {
+    return $("heat").getAttribute("aria-pressed") === "true";
+  }
+
+  show({ counts }) {
+    const { listing, memory, session } = this.app;
+    if (this.isOpen) tint(listing.rows.map(({ row }) => row), counts.map(({ cell, count }) => [listing.lineOf.get(cell) - 1, Number(count)]));
+    if (this.isOpen && session && session.total <= MOST_CHANGES) this.look(memory.shownCells.join());
+    else if (this.found) this.forget();
+  }
+
+  find(session) {
+    return session.altersOf(this.app.memory.shownCells);
+  }
+
+  draw() {
+    const rows = [...$("cell-rows").children];
+    const counts = rows.map((row, index) => [index, (this.found || new Map()).get(Number(row.dataset.cell)) || 0]);
+    tint(rows, counts);
+    for (const [index, count] of counts) {
+      rows[index].title = count > 0 ? `altered by ${counted(count, "change")}` : "";
+      put(rows[index].querySelector(".unseen + .unseen"), rows[index].title);
+    }
+  }
+}
+
+// Tints rows by numbers, of which some are given: 1 for the largest, and 0 where there is none.
+function tint(rows, counts) {
+  const found = new Map(counts);
+  const most = Math.log(1 + Math.max(1, ...found.values()));
+  rows.forEach((row, index) => row.style.setProperty("--heat", (Math.log(1 + (found.get(index) || 0)) / most).toFixed(2)));
+}
