@@ -3,8 +3,7 @@
 import { $, counted, mark, note, on } from "./dom.js";
 import { Strip, keepsPictures } from "./pictures.js";
 import { CellRange } from "./range.js";
-import { beforeOf } from "./memory.js";
-import { ZERO, fieldOf, instructionIn } from "./sentence.js";
+import { fieldOf, instructionIn } from "./sentence.js";
 import { barsOf } from "./svg.js";
 
 const MAX_BARS = 120;
@@ -22,7 +21,6 @@ export class Bars {
       this.draw();
       this.range.ask();
     });
-    on("bars-form", "submit", (event) => event.preventDefault());
     on("bars-by", "change", () => this.draw());
     on("bars-field", "input", () => this.draw());
     on("bars", "click", ({ target }) => {
@@ -32,18 +30,11 @@ export class Bars {
     keepsPictures(app, "bars", "picture", "#bars svg, #strip:not([hidden]) svg");
   }
 
-  get isOpen() {
-    return $("bars-box").open;
-  }
-
-  get by() {
-    return $("bars-by").value;
-  }
+  get isOpen() { return $("bars-box").open; }
+  get by() { return $("bars-by").value; }
 
   // The cells that are drawn.
-  get cells() {
-    return this.isOpen ? this.range.cells.slice(0, MAX_BARS) : [];
-  }
+  get cells() { return this.isOpen ? this.range.cells.slice(0, MAX_BARS) : []; }
 
   // What is kept of it beside the commands: the ends of the range, by what the bars are drawn, and whether with the strip. Nothing where none are shown.
   get kept() {
@@ -105,11 +96,9 @@ export class Bars {
   }
 
   // What is drawn of each cell: its value in a field, and before the last change, if that wrote it.
-  bars({ state, change }, cells, f) {
-    const words = new Map(state.cells.map((cell) => [cell.cell, cell]));
-    const [altered, before] = [new Set(state.altered), beforeOf(change)];
+  bars({ altered, before, wordIn }, cells, f) {
     return cells.map((cell) => {
-      const { word, characters } = words.get(cell) || ZERO;
+      const { word, characters } = wordIn(cell);
       const isWritten = altered.has(`cell ${cell}`);
       const told = fieldOf(word, f);
       const was = Number(fieldOf((isWritten && before.get(`cell ${cell}`)) || word, f));

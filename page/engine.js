@@ -54,9 +54,7 @@ export class Engine {
   }
 
   // The bytes of memory that the instance has; 0 where it was thrown away.
-  get memory() {
-    return this.#exports ? this.#exports.memory.buffer.byteLength : 0;
-  }
+  get memory() { return this.#exports ? this.#exports.memory.buffer.byteLength : 0; }
 
   // Does something with the instance. Where it fails, the instance is thrown away with its session, and `open` makes another one.
   #safely(work) {

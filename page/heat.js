@@ -16,9 +16,7 @@ export class Heat extends Picture {
     });
   }
 
-  get isOpen() {
-    return $("heat").getAttribute("aria-pressed") === "true";
-  }
+  get isOpen() { return $("heat").getAttribute("aria-pressed") === "true"; }
 
   show({ counts }) {
     const { listing, memory, session } = this.app;

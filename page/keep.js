@@ -115,9 +115,7 @@ export class Keep {
     return true;
   }
 
-  get title() {
-    return this.lesson ? this.lesson.title : "A program";
-  }
+  get title() { return this.lesson ? this.lesson.title : "A program"; }
 
   // What is printed above the listing: the lesson, the moment, the day.
   get heading() {
@@ -125,9 +123,7 @@ export class Keep {
     return `${this.title}${session ? `, change ${session.done} of ${session.total}` : ""}, ${new Date().toISOString().slice(0, 10)}`;
   }
 
-  get bundle() {
-    return bundleOf(this.app.partsFor(this.lesson ? this.lesson.name : ""));
-  }
+  get bundle() { return bundleOf(this.app.partsFor(this.lesson ? this.lesson.name : "")); }
 
   save() {
     saved(this.bundle, "text/plain", `${this.lesson ? this.lesson.name.replace("/", "_") : "program"}.mixal`);

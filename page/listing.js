@@ -1,7 +1,6 @@
 // Beside each line of the source its location, its word and how often it was executed; a band over the line that is next, and one at a fault.
 
 import { $, fourDigits, make, mark, on, onResize, put, walked } from "./dom.js";
-import { ZERO } from "./sentence.js";
 import { Source, sameIn } from "./source.js";
 
 export class Listing {
@@ -32,13 +31,8 @@ export class Listing {
     this.fit();
   }
 
-  get text() {
-    return this.source.text;
-  }
-
-  get lines() {
-    return this.source.lines;
-  }
+  get text() { return this.source.text; }
+  get lines() { return this.source.lines; }
 
   // Another text, with no breakpoints.
   set text(text) {
@@ -116,14 +110,13 @@ export class Listing {
   }
 
   // Shows a moment of the machine; a band is over the line at the location, or over that of a HLT which was the last change.
-  show({ state, counts, change }) {
+  show({ state, counts, change, wordIn }) {
     const times = new Map(counts.map(({ cell, count }) => [cell, count]));
-    const words = new Map(state.cells.map(({ cell, word }) => [cell, word]));
     this.marked = this.lineOf.get(state.halted ? change.location : state.location) || 0;
     this.rows.forEach((_, index) => {
       const cell = this.cellOf.get(index + 1);
       const isWord = cell !== undefined;
-      this.showRow(index, isWord ? { loc: fourDigits(cell), word: words.get(cell) || ZERO.word, times: times.get(cell), isAt: index + 1 === this.marked } : {});
+      this.showRow(index, isWord ? { loc: fourDigits(cell), word: wordIn(cell).word, times: times.get(cell), isAt: index + 1 === this.marked } : {});
     });
     $("listing").classList.toggle("halted", state.halted);
     this.band($("here"), this.marked);

@@ -41,9 +41,7 @@ export function replyOf(answer) {
 
 // What makes a call fail that is no answer of the adapter: no memory, a trap, or that it was stopped. The session of the engine is lost then.
 export class Broken extends Error {
-  get isStopped() {
-    return this.message === STOPPED;
-  }
+  get isStopped() { return this.message === STOPPED; }
 }
 
 export class Machine {

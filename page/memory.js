@@ -3,14 +3,9 @@
 
 import { $, fourDigits, keepRows, make, mark, note, on, put, walked } from "./dom.js";
 import { CELLS, CellRange, upTo } from "./range.js";
-import { COMPARED, ZERO, instructionAt, numberOf } from "./sentence.js";
+import { COMPARED, instructionAt, numberOf } from "./sentence.js";
 
 const CELLS_SHOWN = 500; // rows
-
-// What the parts of the machine held before the last change, by their names.
-export function beforeOf(change) {
-  return new Map((change ? change.items : []).map(({ part, before }) => [part, before]));
-}
 
 // A row of a word: a button that asks who wrote it; sign and bytes, number, characters, what it was before.
 function wordRow(name, label, asked) {
@@ -19,12 +14,13 @@ function wordRow(name, label, asked) {
   return make("tr", { click: asked }, head, ...["word", "number", "chars", "was"].map((kind) => make("td", { class: kind })));
 }
 
-// Shows a word in such a row, and whether it was altered.
-function showWord(row, { word, number, characters }, isAltered, before, said) {
-  const was = isAltered && before ? `was ${numberOf(before)}` : "";
+// Shows the word of a part in such a row, with what it was if it was altered.
+function showWord(row, part, { word, number, characters }, { altered, before }, more = "") {
+  const isAltered = altered.has(part);
+  const was = isAltered && before.has(part) ? `was ${numberOf(before.get(part))}` : "";
   [word, number, `“${characters}”`, was].forEach((text, index) => put(row.children[index + 1], text));
   row.classList.toggle("altered", isAltered);
-  put(row.querySelector(".unseen"), said);
+  put(row.querySelector(".unseen"), [isAltered && "altered", more].filter(Boolean).join(", "));
 }
 
 // Flags, location and clock: of each its name, the part that may be asked for, and what it holds.
@@ -40,17 +36,12 @@ export class Registers {
     this.app = app;
   }
 
-  show({ state, change }) {
-    const altered = new Set(state.altered);
-    const before = beforeOf(change);
+  show(view) {
     const row = ({ name }) => wordRow(`r${name}`, `r${name}`, () => this.app.ask(name, `r${name}`));
-    keepRows($("register-rows"), state.registers, ({ name }) => name, row, (element, register) => {
-      const isAltered = altered.has(register.name);
-      showWord(element, register, isAltered, before.get(register.name), isAltered ? "altered" : "");
-    });
-    keepRows($("flags"), flagsOf(state), ({ name }) => name, (flag) => this.flag(flag), (element, { part, text }) => {
+    keepRows($("register-rows"), view.state.registers, ({ name }) => name, row, (element, register) => showWord(element, register.name, register, view));
+    keepRows($("flags"), flagsOf(view.state), ({ name }) => name, (flag) => this.flag(flag), (element, { part, text }) => {
       put(element.lastChild, text);
-      element.classList.toggle("altered", altered.has(part));
+      element.classList.toggle("altered", view.altered.has(part));
     });
   }
 
@@ -61,14 +52,13 @@ export class Registers {
 }
 
 // A moment as a text, to copy: registers, flags, location and clock, and some cells.
-export function momentOf({ state }, shown, lineOf) {
+export function momentOf({ state, wordIn }, shown, lineOf) {
   const row = (name, { word, number, characters }) => `${name.padEnd(4)} ${word.padEnd(16)} ${number.padStart(11)}  “${characters}”`;
-  const cells = new Map(state.cells.map((cell) => [cell.cell, cell]));
   const line = lineOf.get(state.location);
   const flags = flagsOf(state).map(({ name, text }) => `${name} ${text}${name === "location" && line ? ` (line ${line})` : ""}`);
   if (state.halted) flags.push("halted");
   const registers = state.registers.map((register) => row(`r${register.name}`, register));
-  return [...registers, flags.join(", "), ...shown.map((cell) => row(fourDigits(cell), cells.get(cell) || ZERO)), ""].join("\n");
+  return [...registers, flags.join(", "), ...shown.map((cell) => row(fourDigits(cell), wordIn(cell))), ""].join("\n");
 }
 
 // Cells of the memory: those around M, the cell that the next step uses; those that are not zero; or a range.
@@ -79,14 +69,11 @@ export class Memory {
     this.current = 0; // the cell that the tab key comes to
     this.shownCells = [];
     this.range = new CellRange(app, "cells", () => this.which === "range", () => this.shown());
-    on("cells-form", "submit", (event) => event.preventDefault());
     on("cells-which", "change", () => this.chosen());
     on("cell-rows", "keydown", (event) => this.walked(event));
   }
 
-  get which() {
-    return $("cells-which").value;
-  }
+  get which() { return $("cells-which").value; }
 
   forget() {
     this.middle = -1;
@@ -109,29 +96,26 @@ export class Memory {
     this.chosen();
   }
 
-  show({ state, change }) {
-    const cells = new Map(state.cells.map((cell) => [cell.cell, cell]));
-    const { row, m } = instructionAt(state);
+  show(view) {
+    const { row, m } = instructionAt(view);
     const used = row && row.uses === "cell" && m >= 0 && m < CELLS ? m : null;
     if (used !== null) this.middle = used;
-    else if (this.middle < 0) this.middle = Math.min(state.location, CELLS - 1);
-    const all = { filled: [...cells.keys()], near: upTo(Math.max(0, this.middle - 8), this.middle + 16), range: this.range.cells }[this.which];
+    else if (this.middle < 0) this.middle = Math.min(view.state.location, CELLS - 1);
+    const ranges = { filled: view.state.cells.map(({ cell }) => cell), near: upTo(Math.max(0, this.middle - 8), this.middle + 16), range: this.range.cells };
+    const all = ranges[this.which];
     const shown = all.slice(0, CELLS_SHOWN);
     this.shownCells = shown;
-    const altered = new Set(state.altered);
-    const before = beforeOf(change);
     if (!shown.includes(this.current)) this.current = shown.includes(this.middle) ? this.middle : shown[0];
     const fresh = (cell) => wordRow(`cell ${cell}`, fourDigits(cell), () => this.app.ask(`cell ${cell}`, `cell ${cell}`));
     keepRows($("cell-rows"), shown, (cell) => cell, fresh, (element, cell) => {
-      const isAltered = altered.has(`cell ${cell}`);
-      showWord(element, cells.get(cell) || ZERO, isAltered, before.get(`cell ${cell}`), [isAltered && "altered", cell === used && "M"].filter(Boolean).join(", "));
+      showWord(element, `cell ${cell}`, view.wordIn(cell), view, cell === used && "M");
       element.classList.toggle("here", cell === used);
       mark(element, "data-cell", cell);
       mark(element.querySelector("button"), "tabindex", cell === this.current ? "0" : "-1");
     });
     const more = all.length - shown.length;
     note("cells-more", more > 0 ? `${more} more are not shown: choose a range.` : all.length === 0 ? "All cells are zero." : "");
-    this.reveal(shown.find((cell) => altered.has(`cell ${cell}`)) ?? used);
+    this.reveal(shown.find((cell) => view.altered.has(`cell ${cell}`)) ?? used);
   }
 
   // Arrow keys walk from cell to cell.

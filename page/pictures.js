@@ -62,9 +62,7 @@ export class Strip extends Picture {
     on("bars-strip", "click", () => this.toggle(!this.isOpen));
   }
 
-  get isOpen() {
-    return $("bars-strip").getAttribute("aria-pressed") === "true";
-  }
+  get isOpen() { return $("bars-strip").getAttribute("aria-pressed") === "true"; }
 
   toggle(isOpen) {
     mark($("bars-strip"), "aria-pressed", isOpen);
@@ -114,9 +112,7 @@ export class TimeMap extends Picture {
     keepsPictures(app, "map", "map", "#map svg");
   }
 
-  get isOpen() {
-    return $("map-box").open;
-  }
+  get isOpen() { return $("map-box").open; }
 
   // Another program was opened.
   forget() {

@@ -17,9 +17,7 @@ export class CellRange {
     for (const end of ["from", "to"]) on(`${name}-${end}`, "input", () => this.ask());
   }
 
-  get ends() {
-    return this.fields.map((field) => field.value.trim());
-  }
+  get ends() { return this.fields.map((field) => field.value.trim()); }
 
   set ends(ends) {
     this.fields.forEach((field, index) => {

@@ -3,10 +3,10 @@
 import { counted, fourDigits } from "./dom.js";
 import { refusalOf } from "./machine.js";
 import { OPERATIONS, filled } from "./operations.js";
-import { STEPS } from "./session.js";
 
 export const ZERO = { word: "+ 00 00 00 00 00", number: "0", characters: "     ", text: "NOP" }; // what a cell holds that nobody wrote
 export const COMPARED = { L: "less", E: "equal", G: "greater" };
+export const STEPS = 1000000; // the most steps of one command
 const LARGE = 10000000; // a number from here on is told as bytes
 
 // The number of a word, of five bytes or of two: a text, "-0" too.
@@ -36,13 +36,13 @@ export function instructionIn({ word, text }, registers) {
 }
 
 // That at the location.
-export const instructionAt = ({ location, cells, registers }) => instructionIn(cells.find(({ cell }) => cell === location) || ZERO, registers);
+export const instructionAt = ({ state: { location, registers }, wordIn }) => instructionIn(wordIn(location), registers);
 
 // Whether a change was a command, and no step.
 export const isCommand = ({ text }) => /^(set|break|clear) /i.test(text);
 
 const fieldName = (f) => (f === 5 ? "" : `(${f >> 3}:${f & 7})`);
-const whereIs = (location, lineOf) => (lineOf.get(location) ? `line ${lineOf.get(location)}` : `location ${fourDigits(location)}`);
+const whereIs = (location, { lineOf }) => (lineOf.get(location) ? `line ${lineOf.get(location)}` : `location ${fourDigits(location)}`);
 
 // An instruction at a location: its line, and operation and address as they are in the source, if they come from there.
 function named(location, text, { lineOf, lines }) {
@@ -54,20 +54,19 @@ function named(location, text, { lineOf, lines }) {
 }
 
 // What the next step will do.
-function nextOf(state, listing) {
-  const { location, cells } = state;
+function nextOf(view, listing) {
+  const { location } = view.state;
   if (location > 3999) return "there is no cell 4000: a step would be a fault";
-  const { row, text, m, f } = instructionAt(state);
+  const { row, text, m, f } = instructionAt(view);
   const name = named(location, text, listing);
   if (!row) return `${name}: this word is no instruction`;
   if (row.uses === "cell" && (m < 0 || m > 3999)) return `${name}: there is no cell ${m}, so it will be a fault`;
-  const { word } = cells.find(({ cell }) => cell === m) || ZERO;
   const given = {
     r: row.register,
     M: row.uses === "number" && m < 0 ? `(${m})` : String(m),
-    V: `${fieldOf(word, f)} (cell ${m}${fieldName(f)})`,
+    V: `${fieldOf(view.wordIn(m).word, f)} (cell ${m}${fieldName(f)})`,
     cell: `cell ${m}${fieldName(f)}`,
-    line: whereIs(m, listing.lineOf),
+    line: whereIs(m, listing),
     F: String(f),
   };
   return `${name}: ${filled(row.sentence, given)}`;
@@ -89,7 +88,7 @@ function alterationOf({ part, what, before, after, block }) {
 function didOf(change, { location, cmp }, listing) {
   const parts = change.items.map(alterationOf).filter(Boolean);
   const row = isCommand(change) ? undefined : OPERATIONS.get(change.text.split(" ")[0]);
-  if (row && row.uses === "jump") parts.unshift(location === change.location + 1 && parts.length === 0 ? "does not jump" : `jumps to ${whereIs(location, listing.lineOf)}`);
+  if (row && row.uses === "jump") parts.unshift(location === change.location + 1 && parts.length === 0 ? "does not jump" : `jumps to ${whereIs(location, listing)}`);
   if (row && row.name.startsWith("CMP") && parts.length === 0) parts.push(`the comparison stays ${COMPARED[cmp]}`);
   if (row && row.name === "HLT") parts.push("halts");
   const did = parts.join(", ") || "nothing is altered";
@@ -110,10 +109,9 @@ const faultOf = (answer) => answer.body.result.trimEnd().split("\n").pop().split
 export function toldOf({ answer, before, view, listing }) {
   const { state, change } = view;
   const was = before ? before.state.done : state.done;
-  const line = listing.lineOf.get(state.location);
-  const at = line ? `line ${line}` : `location ${fourDigits(state.location)}`;
+  const at = whereIs(state.location, listing);
   const last = change ? didOf(change, state, listing) : "";
-  const next = state.halted ? "" : `Next: ${nextOf(state, listing)}.`;
+  const next = state.halted ? "" : `Next: ${nextOf(view, listing)}.`;
   const refusal = answer ? refusalOf(answer) : "";
   const fault = answer && !refusal ? faultOf(answer) : "";
   if (fault) {
@@ -134,7 +132,7 @@ function haltedAt({ done, clock }, was) {
 }
 
 // How many rows the units have written.
-const rowsIn = (view) => view.units.units.reduce((sum, { rows }) => sum + (rows ? rows.length : 0), 0);
+const rowsIn = (view) => view.units.reduce((sum, { rows }) => sum + (rows ? rows.length : 0), 0);
 
 // The rows that were written, or taken back, between two views.
 function printed(before, view) {

@@ -2,8 +2,8 @@
 // or holds that of another text, it does the commands again. And how the buttons become commands.
 
 import { replyOf } from "./machine.js";
+import { STEPS, ZERO } from "./sentence.js";
 
-export const STEPS = 1000000; // the most steps of one command
 const LONG = 200000; // changes after which the counts are left out while the slider is dragged
 const NO_LOOK = ["threads", {}]; // in the place of a look that is left out
 const WHERE = ["mix/state", { cells: [], nonzero: false }]; // how many changes are done
@@ -29,22 +29,12 @@ export class Session {
     this.changes = {}; // another object whenever the list of changes may be another one
   }
 
-  get done() {
-    return this.state.done;
-  }
-
-  get ahead() {
-    return this.state.ahead;
-  }
-
-  get total() {
-    return this.done + this.ahead;
-  }
+  get done() { return this.state.done; }
+  get ahead() { return this.state.ahead; }
+  get total() { return this.done + this.ahead; }
 
   // Whether the last change was a HLT and nothing is ahead of it.
-  get isHalted() {
-    return this.ahead === 0 && this.state.halted;
-  }
+  get isHalted() { return this.ahead === 0 && this.state.halted; }
 
   // The answers to requests, of which the first finds so many changes done.
   async ask(requests, at = this.done) {
@@ -65,8 +55,17 @@ export class Session {
     const [state, units, counts, ...found] = answers.slice(requests.length).map(({ body }) => body);
     this.at = state.done;
     const words = blocks.flatMap(([, { unit, block }], index) => (found[index].units ? [[`${unit} ${block}`, found[index].units[0].block]] : []));
-    const [change] = state.done > 0 ? await this.ask([["mix/change", { number: state.done }]], state.done) : [{ body: null }];
-    return { answers, view: { state, units, counts: counts.cells || [], blocks: new Map(words), change: change.body } };
+    const [{ body: change }] = state.done > 0 ? await this.ask([["mix/change", { number: state.done }]], state.done) : [{ body: null }];
+    const cells = new Map(state.cells.map((cell) => [cell.cell, cell]));
+    return {
+      answers,
+      view: {
+        state, change, counts: counts.cells || [], units: units.units, blocks: new Map(words),
+        wordIn: (cell) => cells.get(cell) || ZERO,
+        altered: new Set(state.altered), // parts, by the last change
+        before: new Map((change ? change.items : []).map(({ part, before }) => [part, before])), // what they held before it
+      },
+    };
   }
 
   // Begins it: what was found in the source, with the refusal, or with the program and what the machine looks like.

@@ -35,9 +35,7 @@ export class Source {
     this.draw();
   }
 
-  get text() {
-    return this.box.value;
-  }
+  get text() { return this.box.value; }
 
   set text(text) {
     this.box.value = text;
@@ -94,9 +92,7 @@ export class Source {
   }
 
   // The line of the cursor, and what its operation does.
-  get caretLine() {
-    return this.text.slice(0, this.box.selectionStart).split("\n").length;
-  }
+  get caretLine() { return this.text.slice(0, this.box.selectionStart).split("\n").length; }
 
   get caretExplained() {
     return this.lines[this.caretLine - 1].split(/[ \t]+/).slice(0, 2).reverse().map(explained).find(Boolean) || "";

@@ -22,13 +22,13 @@ export class Units {
     return [...this.open].map((key) => key.split(" ").map(Number)).map(([unit, block]) => ["mix/units", { unit, block }]);
   }
 
-  show({ state, units, blocks }) {
-    const used = units.units.filter(({ unread, rows, delay, blocks: held }) => !rows || delay !== "0" || (unread && (held > 0 || unread.length > 0)));
+  show({ state, units, blocks, altered }) {
+    const used = units.filter(({ unread, rows, delay, blocks: held }) => !rows || delay !== "0" || (unread && (held > 0 || unread.length > 0)));
     $("no-units").hidden = used.length > 0;
     keepRows($("unit-list"), used, ({ unit }) => unit, ({ unit }) => make("div", { class: "unit", "data-unit": unit }), (box, { rows, pages, ...unit }) => {
       const isBusy = BigInt(unit.until) > BigInt(state.clock);
       const drawn = JSON.stringify([unit, isBusy, [...blocks].filter(([key]) => key.startsWith(`${unit.unit} `))]);
-      box.classList.toggle("altered", state.altered.includes(`unit ${unit.unit}`));
+      box.classList.toggle("altered", altered.has(`unit ${unit.unit}`));
       if (box.drawn === drawn) return;
       box.drawn = drawn;
       const labelOf = (element) => element && element.getAttribute("aria-label");
@@ -84,14 +84,14 @@ export class Output {
 
   // Another program was opened: its paper begins at its first row.
   forget() {
-    this.show({ state: { altered: [] }, units: { units: [] } });
+    this.show({ units: [] });
   }
 
-  show({ state, units }) {
-    const written = units.units.filter(({ rows, pages }) => rows && (rows.length > 0 || pages.length > 0));
+  show({ state, units, altered }) {
+    const written = units.filter(({ rows, pages }) => rows && (rows.length > 0 || pages.length > 0));
     for (const unit of this.drawn.keys()) if (!written.some((other) => other.unit === unit)) this.drawn.delete(unit);
     keepRows($("papers"), written, ({ unit }) => unit, (unit) => this.box(unit), (box, unit) => {
-      this.update(box, unit, state.altered.includes(`unit ${unit.unit}`), BigInt(unit.until) > BigInt(state.clock));
+      this.update(box, unit, altered.has(`unit ${unit.unit}`), BigInt(unit.until) > BigInt(state.clock));
     });
     const rows = written.reduce((sum, unit) => sum + unit.rows.length, 0);
     $("output").hidden = written.length === 0;

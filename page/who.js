@@ -2,7 +2,7 @@
 
 import { $, counted, fourDigits, make, note, on, put } from "./dom.js";
 import { refusalOf } from "./machine.js";
-import { COMPARED, ZERO, isCommand, numberOf } from "./sentence.js";
+import { COMPARED, isCommand, numberOf } from "./sentence.js";
 import { valuesOf } from "./svg.js";
 
 const CHARACTERS = " ABCDEFGHI~JKLMNOPQR[#STUVWXYZ0123456789.,()+-*/=$<>@;:'";
@@ -18,11 +18,11 @@ function valueOf(typed) {
 }
 
 // What a part of the machine holds, for people.
-function heldBy(part, { registers, cells, over, cmp }) {
+function heldBy(part, { state: { registers, over, cmp }, wordIn }) {
   if (part === "over") return over ? "on" : "off";
   if (part === "cmp") return COMPARED[cmp];
-  const found = registers.find(({ name }) => name === part) || cells.find(({ cell }) => `cell ${cell}` === part);
-  return found ? `${found.word} = ${found.number} = “${found.characters}”` : `${ZERO.word} = 0`;
+  const { word, number, characters } = registers.find(({ name }) => name === part) || wordIn(Number(part.slice(5)));
+  return `${word} = ${number} = “${characters}”`;
 }
 
 // What may be set in a part.
@@ -59,7 +59,7 @@ export class Who {
     Object.assign(this, { part, last, next });
     this.showWrites(name, writes, session);
     put($("who-title"), `Who wrote ${name}?`);
-    put($("who-word"), heldBy(part, view.state));
+    put($("who-word"), heldBy(part, view));
     put($("who-text"), this.told(last));
     $("who-line").hidden = !last;
     put($("who-line"), line);
