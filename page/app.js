@@ -148,7 +148,7 @@ export class App extends Desk {
       $("cards").value = cards;
       $("deck").value = others;
       $("given").open = deck !== "";
-      for (const part of this.parts) part.forget?.();
+      for (const part of this.parts) part.forget();
       this.choose("program");
       for (const line of breaks) this.listing.breaks.add(line);
       this.talk.setScript([...done, ...left]);

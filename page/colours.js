@@ -4,34 +4,23 @@ const KINDS = /^(comment|entity|keyword\.control|keyword\.operator|keyword\.othe
 
 export class Grammar {
   constructor({ patterns, repository }) {
-    this.repository = repository;
-    this.patterns = patterns;
-    this.made = new Map();
-    this.lists = new Map();
-  }
-
-  // A pattern in JavaScript's signs, for the first match from a place on.
-  regex(pattern) {
-    if (!this.made.has(pattern)) {
-      this.made.set(pattern, new RegExp(pattern.replace("(?i)", ""), `dg${pattern.includes("(?i)") ? "i" : ""}`));
-    }
-    return this.made.get(pattern);
+    Object.assign(this, { patterns, repository, made: new Map(), lists: new Map() });
   }
 
   // The rules of a list, with those that it includes in their places.
   flat(patterns) {
-    if (!this.lists.has(patterns)) {
-      const rules = patterns.flatMap((rule) => {
-        if (rule.include) return this.flat([this.repository[rule.include.slice(1)]]);
-        return rule.match || rule.begin ? [rule] : this.flat(rule.patterns);
-      });
-      this.lists.set(patterns, rules);
-    }
+    const inside = (rule) => {
+      if (rule.include) return this.flat([this.repository[rule.include.slice(1)]]);
+      return rule.match || rule.begin ? [rule] : this.flat(rule.patterns);
+    };
+    if (!this.lists.has(patterns)) this.lists.set(patterns, patterns.flatMap(inside));
     return this.lists.get(patterns);
   }
 
+  // The first match of a pattern from a place on; it is made in JavaScript's signs.
   find(pattern, text, at) {
-    const regex = this.regex(pattern);
+    if (!this.made.has(pattern)) this.made.set(pattern, new RegExp(pattern.replace("(?i)", ""), `dg${pattern.includes("(?i)") ? "i" : ""}`));
+    const regex = this.made.get(pattern);
     regex.lastIndex = at;
     return regex.exec(text);
   }

@@ -6,8 +6,8 @@ import { $, copied, counted, doAll, onResize, put } from "./dom.js";
 import { showRefusal } from "./faults.js";
 import { Heat } from "./heat.js";
 import { Listing } from "./listing.js";
-import { Broken } from "./machine.js";
-import { Memory, Registers, showSymbols } from "./memory.js";
+import { Broken, STOPPED } from "./machine.js";
+import { Memory, showRegisters, showSymbols } from "./memory.js";
 import { TimeMap } from "./pictures.js";
 import { toldOf } from "./sentence.js";
 import { Session } from "./session.js";
@@ -37,7 +37,7 @@ export class Desk {
     this.map = new TimeMap(this);
     this.output = new Output();
     this.units = new Units(this);
-    this.parts = [new Registers(this), this.memory, this.bars, this.map, this.output, this.units, new Heat(this)];
+    this.parts = [this.memory, this.bars, this.map, this.output, this.units, new Heat(this)];
     for (const tab of document.querySelectorAll("#tabs button")) tab.addEventListener("click", () => this.choose(tab.dataset.tab));
     this.choose("program");
     // The bar of time stays at the top, and what is scrolled to comes below it.
@@ -108,7 +108,7 @@ export class Desk {
     if (this.session && this.view) this.time.show(this.session, this.view.state);
     this.talk.show(this.session ? this.session.log : []);
     const rest = "The text, the breakpoints and the commands are as they were.";
-    if (isEngine && fault.isStopped) this.tell(`Stopped. ${rest}`);
+    if (isEngine && fault.message === STOPPED) this.tell(`Stopped. ${rest}`);
     else this.tell(isEngine ? `Not done: ${fault.message}. ${rest}` : `The page itself has a fault: ${fault}`, true);
   }
 
@@ -149,6 +149,7 @@ export class Desk {
     this.view = view;
     doAll([
       () => listing.show(view),
+      () => showRegisters(this, view),
       ...this.parts.map((part) => () => part.show(view)),
       () => this.time.show(session, view.state),
       () => this.talk.show(session.log),

@@ -9,17 +9,15 @@ const LARGE = 1 << 28; // an instance with more memory than this is not kept for
 const NO_MEMORY = "T1 out of memory";
 
 export class Engine {
-  #module;
+  #module = null;
   #exports = null;
   #handle = 0n; // of 16 bytes in the module's memory, by which it knows the session
 
-  constructor(module) {
-    this.#module = module;
-  }
-
   // The engine of a module's bytes.
   static async load(bytes) {
-    return new Engine(await WebAssembly.compile(bytes));
+    const engine = new Engine();
+    engine.#module = await WebAssembly.compile(bytes);
+    return engine;
   }
 
   // Begins a session, in which nothing was heard yet, in the place of the one before.

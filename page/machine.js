@@ -1,7 +1,7 @@
 // The engine as the page sees it: requests of the debug adapter go in, answers come out, and the page never waits for it. Nothing here knows what a
 // request does.
 
-const STOPPED = "it was stopped";
+export const STOPPED = "it was stopped";
 const BRACE = 123; // with which the body of a frame begins; a header has none
 const HEADER = "Content-Length: ";
 const [writer, reader] = [new TextEncoder(), new TextDecoder()];
@@ -40,9 +40,7 @@ export function replyOf(answer) {
 }
 
 // What makes a call fail that is no answer of the adapter: no memory, a trap, or that it was stopped. The session of the engine is lost then.
-export class Broken extends Error {
-  get isStopped() { return this.message === STOPPED; }
-}
+export class Broken extends Error {}
 
 export class Machine {
   // The text of the worker's program, and the bytes of the module.

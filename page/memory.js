@@ -31,24 +31,16 @@ const flagsOf = (state) => [
   { name: "clock", part: "", text: `${state.clock} u` },
 ];
 
-export class Registers {
-  constructor(app) {
-    this.app = app;
-  }
-
-  show(view) {
-    const row = ({ name }) => wordRow(`r${name}`, `r${name}`, () => this.app.ask(name, `r${name}`));
-    keepRows($("register-rows"), view.state.registers, ({ name }) => name, row, (element, register) => showWord(element, register.name, register, view));
-    keepRows($("flags"), flagsOf(view.state), ({ name }) => name, (flag) => this.flag(flag), (element, { part, text }) => {
-      put(element.lastChild, text);
-      element.classList.toggle("altered", view.altered.has(part));
-    });
-  }
-
-  flag({ name, part }) {
-    const label = part ? make("button", { type: "button", "aria-label": `${name}: who wrote it?`, click: () => this.app.ask(part, name) }, name) : name;
-    return make("div", {}, make("dt", {}, label), make("dd"));
-  }
+// Shows the registers and the flags of a moment.
+export function showRegisters(app, view) {
+  const asks = (part, name) => make("button", { type: "button", "aria-label": `${name}: who wrote it?`, click: () => app.ask(part, name) }, name);
+  const row = ({ name }) => wordRow(`r${name}`, `r${name}`, () => app.ask(name, `r${name}`));
+  const flag = ({ name, part }) => make("div", {}, make("dt", {}, part ? asks(part, name) : name), make("dd"));
+  keepRows($("register-rows"), view.state.registers, ({ name }) => name, row, (element, register) => showWord(element, register.name, register, view));
+  keepRows($("flags"), flagsOf(view.state), ({ name }) => name, flag, (element, { part, text }) => {
+    put(element.lastChild, text);
+    element.classList.toggle("altered", view.altered.has(part));
+  });
 }
 
 // A moment as a text, to copy: registers, flags, location and clock, and some cells.

@@ -92,6 +92,7 @@ def far(page, native, count):
     count.same("far: back to the first line", commands(page), [*["run 1000000"] * 3, "back 3000000"])
     count.row("far: told", page.told().startswith("Breakpoint at line 1. 3,000,000 changes taken back."), page.told())
     natively("far", page, native, count)
+    page.press_button(page.all("#gutter .line button")[0])
     page.put("text", " ENTA 1\n HLT\n ENTA 2\n HLT\n INCA 1\n INCA 2\n HLT\n END 0\n")
     for name in ("run", "run", "run", "run", "run"):
         page.click(name)

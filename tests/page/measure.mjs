@@ -1,13 +1,13 @@
-// What the engine takes on this machine, in time and in memory: `node tests/page/measure.mjs [MODULE]`. Each talk begins anew: it launches the program and
-// does all changes again. The last line says whether a million steps and a drag to any of them keep within 100 milliseconds; of `move`, whose moves
-// alter 63 cells each, they need not.
+// What the engine takes on this machine, in time and in memory: `node tests/page/measure.mjs [MODULE]`. Each session launches a program and does a million
+// steps, and then goes to moments among them, as the slider does. The last line says whether a million steps keep within 100 milliseconds, and a drag
+// to any of them within 30; of `move`, whose moves alter 63 cells each, they need not.
 
 import { readFileSync } from "node:fs";
 import { gzipSync } from "node:zlib";
-import { Talking } from "./talking.js";
+import { Engine } from "../../page/engine.js";
 
 const bytes = readFileSync(process.argv[2] || new URL("../../page/out/engine.wasm", import.meta.url));
-const LIMIT = 100;
+const LIMITS = { steps: 100, drag: 30 };
 const MILLION = 1000000;
 
 const writer = new TextEncoder();
@@ -36,18 +36,22 @@ function median(times) {
   return sorted[sorted.length >> 1];
 }
 
-let mebibytes = 0; // of memory, of the last talk
-
-// Milliseconds of a talk, in whose messages a text has to stand.
+// Milliseconds of an ask of a session, in whose messages a text has to stand.
 function timed(engine, requests, wanted) {
   const frames = framesOf(requests);
   const began = performance.now();
-  const { status, bytes: sent, memory } = engine.talk(frames);
+  const text = reader.decode(engine.ask(frames));
   const took = performance.now() - began;
-  mebibytes = memory / 1048576;
-  const text = reader.decode(sent);
-  if (status !== 0 || !text.includes(wanted)) throw new Error(`status ${status}: ${text.slice(-300)}`);
+  if (!text.includes(wanted)) throw new Error(text.slice(-300));
   return took;
+}
+
+// Milliseconds of a new session that is asked for this.
+function opened(engine, requests, wanted) {
+  const began = performance.now();
+  engine.open();
+  timed(engine, requests, wanted);
+  return performance.now() - began;
 }
 
 const show = (what, times) => console.log(
@@ -58,30 +62,30 @@ let began = performance.now();
 let engine = await Talking.load(bytes);
 console.log(`compiled in ${(performance.now() - began).toFixed(0)} milliseconds`);
 
-let most = 0;
+const most = { steps: 0, drag: 0 };
 for (const name of ["tight", "subroutine", "move"]) {
   const open = opening(name);
-  engine = await Talking.load(bytes);
-  const launched = Array.from({ length: 21 }, () => timed(engine, [...open, ...looks, ...counts], "mix/state"));
-  show(`${name}: launched and looked at`, launched);
-  const forth = Array.from({ length: 11 }, () => timed(engine, [...open, repl(`run ${MILLION}`), ...looks], `ran ${MILLION} `));
+  engine = await Engine.load(bytes);
+  show(`${name}: launched and looked at`, Array.from({ length: 21 }, () => opened(engine, [...open, ...looks, ...counts], "mix/state")));
+  const forth = Array.from({ length: 11 }, () => opened(engine, [...open, repl(`run ${MILLION}`), ...looks], `ran ${MILLION} `));
   show(`${name}: a million steps`, forth);
-  const counted = Array.from({ length: 11 }, () => timed(engine, [...open, repl(`run ${MILLION}`), ...looks, ...counts], `ran ${MILLION} `));
-  show(`${name}: a million steps, and how often each cell was executed`, counted);
+  show(`${name}: how often each cell was executed`, Array.from({ length: 11 }, () => timed(engine, counts, "mix/counts")));
   const drags = [];
   for (let k = 0; k <= 20; k += 1) {
-    const to = Math.round((MILLION * k) / 20);
-    drags.push(timed(engine, [...open, repl(`run ${MILLION}`), repl(`goto ${to}`), ...looks], to < MILLION ? `back ${MILLION - to} ` : "ran"));
+    const to = Math.round((MILLION * ((7 * k) % 20)) / 20); // now near, now far
+    drags.push(timed(engine, [repl(`goto ${to}`), ...looks, ["mix/change", { number: Math.max(1, to) }]], "mix/state"));
   }
-  show(`${name}: a million steps, and to any of them`, drags);
-  console.log(`${name}: ${mebibytes.toFixed(0)} MiB of memory for a million steps`);
-  if (name !== "move") most = Math.max(most, median(forth), median(drags));
+  show(`${name}: a drag to any of them`, drags);
+  show(`${name}: a step back`, Array.from({ length: 21 }, () => timed(engine, [repl(`goto ${MILLION}`), repl("back 1"), ...looks], "back 1 ")));
+  console.log(`${name}: ${(engine.memory / 1048576).toFixed(0)} MiB of memory for a million steps`);
+  if (name !== "move") Object.assign(most, { steps: Math.max(most.steps, median(forth)), drag: Math.max(most.drag, median(drags)) });
 }
 for (const name of ["tight", "subroutine"]) {
   const runs = Array.from({ length: 10 }, () => repl(`run ${MILLION}`));
-  engine = await Talking.load(bytes);
-  const times = [timed(engine, [...opening(name), ...runs, repl("show changes"), ...looks], `changes ${10 * MILLION}`)];
-  show(`${name}: ten million steps`, times);
-  console.log(`${name}: ${mebibytes.toFixed(0)} MiB of memory for ten million steps`);
+  engine = await Engine.load(bytes);
+  show(`${name}: ten million steps`, [opened(engine, [...opening(name), ...runs, repl("show changes"), ...looks], `changes ${10 * MILLION}`)]);
+  show(`${name}: a drag to any of them`, Array.from({ length: 11 }, (_, k) => timed(engine, [repl(`goto ${MILLION * ((7 * k) % 10)}`), ...looks], "mix/state")));
+  console.log(`${name}: ${(engine.memory / 1048576).toFixed(0)} MiB of memory for ten million steps`);
 }
-console.log(most <= LIMIT ? `within ${LIMIT} milliseconds: the medians are ${most.toFixed(0)} at most` : `over ${LIMIT} milliseconds: ${most.toFixed(0)}`);
+const isWithin = Object.keys(LIMITS).every((name) => most[name] <= LIMITS[name]);
+console.log(`${isWithin ? "within" : "over"} ${LIMITS.steps} and ${LIMITS.drag} milliseconds: the medians are ${most.steps.toFixed(0)} and ${most.drag.toFixed(0)} at most`);
