@@ -133,7 +133,7 @@ export class App extends Desk {
     }
     const isSet = !listing.breaks.delete(line);
     if (isSet) listing.breaks.add(line);
-    listing.nameAll();
+    listing.draw();
     const why = line === asked ? "" : `, the first from line ${asked} on that gives a word`;
     this.tell(`${isSet ? "Breakpoint at" : "No breakpoint at"} line ${line}${why}.`);
   }

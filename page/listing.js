@@ -1,6 +1,7 @@
 // Beside each line of the source its location, its word and how often it was executed; a band over the line that is next, and one at a fault.
 
 import { $, fourDigits, make, mark, on, onResize, put, walked } from "./dom.js";
+import { ZERO } from "./sentence.js";
 import { Source, sameIn } from "./source.js";
 
 export class Listing {
@@ -10,8 +11,9 @@ export class Listing {
     this.boxes = []; // of each line where it begins, and its height
     this.breaks = new Set();
     this.focused = 0; // the one button that the tab key comes to
-    this.marked = 0; // the line that the band is over
     this.found = []; // lines with a fault or a warning, each with its band
+    this.times = new Map(); // how often cells were executed
+    this.wordIn = () => ZERO;
     this.setProgram(null);
     this.source = new Source(app, grammar, this);
     on("gutter", "click", ({ target }) => {
@@ -60,7 +62,7 @@ export class Listing {
     this.rows.push(...fresh);
     $("gutter").append(...fresh.map(({ row }) => row));
     if (this.focused >= this.rows.length) this.focus(this.rows.length - 1);
-    if (!this.program) this.blank();
+    this.draw();
     this.place();
   }
 
@@ -86,14 +88,9 @@ export class Listing {
     this.program = program;
     this.lineOf = new Map(rows.map(({ line, cell }) => [cell, line]));
     this.cellOf = new Map(rows.filter(({ line }) => line).map(({ line, cell }) => [line, cell]));
-    if (!program) this.blank();
-  }
-
-  // No line has a word, for there is no program.
-  blank() {
-    this.rows.forEach((_, index) => this.showRow(index, {}));
+    if (program) return;
     this.marked = 0;
-    $("here").hidden = true;
+    this.draw();
   }
 
   // The line that gives the word of a breakpoint asked for at a line; 0 where none does.
@@ -111,34 +108,29 @@ export class Listing {
 
   // Shows a moment of the machine; a band is over the line at the location, or over that of a HLT which was the last change.
   show({ state, counts, change, wordIn }) {
-    const times = new Map(counts.map(({ cell, count }) => [cell, count]));
+    this.times = new Map(counts.map(({ cell, count }) => [cell, count]));
+    this.wordIn = wordIn;
     this.marked = this.lineOf.get(state.halted ? change.location : state.location) || 0;
-    this.rows.forEach((_, index) => {
-      const cell = this.cellOf.get(index + 1);
-      const isWord = cell !== undefined;
-      this.showRow(index, isWord ? { loc: fourDigits(cell), word: wordIn(cell).word, times: times.get(cell), isAt: index + 1 === this.marked } : {});
-    });
     $("listing").classList.toggle("halted", state.halted);
+    this.draw();
+  }
+
+  // Shows each row in which something is another.
+  draw() {
+    this.rows.forEach((parts, index) => {
+      const cell = this.cellOf.get(index + 1);
+      const known = cell === undefined ? { loc: "", word: "", times: "" } : { loc: fourDigits(cell), word: this.wordIn(cell).word, times: this.times.get(cell) || "" };
+      const [isAt, isSet] = [index + 1 === this.marked, this.breaks.has(index + 1)];
+      const label = [...Object.values(known), isAt, isSet].join(" ");
+      if (parts.label === label) return;
+      parts.label = label;
+      for (const [name, text] of Object.entries(known)) putPart(parts, name, text);
+      parts.row.classList.toggle("at", isAt);
+      const said = known.loc ? `, location ${known.loc}, ${known.word}, ${known.times || "0"} times` : "";
+      mark(parts.button, "aria-label", `Line ${index + 1}${said}: breakpoint`);
+      mark(parts.button, "aria-pressed", isSet);
+    });
     this.band($("here"), this.marked);
-  }
-
-  // One row, if something in it is another.
-  showRow(index, { loc = "", word = "", times = "", isAt = false }) {
-    const parts = this.rows[index];
-    const isSet = this.breaks.has(index + 1);
-    const label = `${loc} ${word} ${times} ${isAt} ${isSet}`;
-    if (parts.label === label) return;
-    Object.assign(parts, { label, shown: { loc, word, times, isAt } });
-    for (const name of ["loc", "word", "times"]) putPart(parts, name, parts.shown[name]);
-    parts.row.classList.toggle("at", isAt);
-    const known = loc ? `, location ${loc}, ${word}, ${times || "0"} times` : "";
-    mark(parts.button, "aria-label", `Line ${index + 1}${known}: breakpoint`);
-    mark(parts.button, "aria-pressed", isSet);
-  }
-
-  // Shows the breakpoints anew.
-  nameAll() {
-    this.rows.forEach(({ shown }, index) => this.showRow(index, shown));
   }
 
   // Puts a band over a line.

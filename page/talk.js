@@ -59,7 +59,7 @@ export class Talk {
     const isMore = this.shown.every((entry, index) => entry === log[index]);
     if (!isMore) box.replaceChildren();
     const more = isMore ? log.slice(this.shown.length) : log;
-    box.append(...more.flatMap(({ command, reply }) => [make("p", {}, command), make("pre", {}, shortened(reply.replace(/\n$/, "")))]));
+    box.append(...more.flatMap(({ command, reply }) => [make("p", {}, command), make("pre", {}, shortened(reply.slice(0, -1)))]));
     this.shown = [...log];
     if (more.length > 0) box.scrollTop = box.scrollHeight;
     setTimeout(() => box.setAttribute("aria-live", "off"));

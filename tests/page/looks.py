@@ -181,7 +181,7 @@ def bounds(page, native, count):
 def memory(page, native, count):
     """More changes than the engine has memory for, and a stop: nothing is lost."""
     page.lesson(0)
-    source = "LOOP INCA 1\n STA 100\n JMP LOOP\n END LOOP\n"
+    source = "LOOP INCA 1\n STA 1063\n ENT1 1000\n MOVE 1001(63)\n JMP LOOP\n END LOOP\n"  # each MOVE alters 63 cells
     page.put("text", source + "%SCRIPT\n" + "run 1000000\n" * 100)
     page.click("step")
     page.press_button(page.all("#gutter .line button")[1])
@@ -205,5 +205,5 @@ def memory(page, native, count):
     page.click("back")
     page.click("run")
     page.click("run")
-    count.same("memory: it goes on", [command for command, _ in page.log()], ["step 1", "back 1", "forth 1", "run 3"])
+    count.same("memory: it goes on", [command for command, _ in page.log()], ["step 1", "back 1", "forth 1", "run 5"])
     natively("memory: it goes on", page, native, count)
