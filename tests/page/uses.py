@@ -127,6 +127,8 @@ def who(page, native, count):
     page.click("run")
     page.tap(page.all("#register-rows td")[0])
     count.row("who: of rA", page.text("who-text").startswith("Change 2: INCA 7 at location 0001, line 5"), page.text("who-text"))
+    line = native.bundle(with_script(FIRST, "run 2\nshow last 1\n")).split("\n")[1].strip()
+    count.same("who: of rA, as a line", page.text("who-line"), line)
     page.script("document.getElementById('who').close()")
     page.choose("cells-which", "filled")
     page.tap(page.driver.find_element(By.CSS_SELECTOR, "#cell-rows tr[data-cell='100'] button"))
