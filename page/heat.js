@@ -18,9 +18,9 @@ export class Heat extends Picture {
 
   get isOpen() { return $("heat").getAttribute("aria-pressed") === "true"; }
 
-  show({ counts }) {
+  show({ times }) {
     const { listing, memory, session } = this.app;
-    if (this.isOpen) tint(listing.rows.map(({ row }) => row), counts.map(({ cell, count }) => [listing.lineOf.get(cell) - 1, Number(count)]));
+    if (this.isOpen) tint(listing.rows.map(({ row }) => row), [...times].map(([cell, count]) => [listing.lineOf.get(cell) - 1, count]));
     if (this.isOpen && session && session.total <= MOST_CHANGES) this.look(memory.shownCells.join());
     else if (this.found) this.forget();
   }

@@ -107,9 +107,8 @@ export class Listing {
   }
 
   // Shows a moment of the machine; a band is over the line at the location, or over that of a HLT which was the last change.
-  show({ state, counts, change, wordIn }) {
-    this.times = new Map(counts.map(({ cell, count }) => [cell, count]));
-    this.wordIn = wordIn;
+  show({ state, times, change, wordIn }) {
+    Object.assign(this, { times, wordIn });
     this.marked = this.lineOf.get(state.halted ? change.location : state.location) || 0;
     $("listing").classList.toggle("halted", state.halted);
     this.draw();
@@ -119,7 +118,7 @@ export class Listing {
   draw() {
     this.rows.forEach((parts, index) => {
       const cell = this.cellOf.get(index + 1);
-      const known = cell === undefined ? { loc: "", word: "", times: "" } : { loc: fourDigits(cell), word: this.wordIn(cell).word, times: this.times.get(cell) || "" };
+      const known = cell === undefined ? { loc: "", word: "", times: "" } : { loc: fourDigits(cell), word: this.wordIn(cell).word, times: String(this.times.get(cell) || "") };
       const [isAt, isSet] = [index + 1 === this.marked, this.breaks.has(index + 1)];
       const label = [...Object.values(known), isAt, isSet].join(" ");
       if (parts.label === label) return;

@@ -5,7 +5,6 @@ import { replyOf } from "./machine.js";
 import { STEPS, ZERO } from "./sentence.js";
 
 const LONG = 200000; // changes after which the counts are left out while the slider is dragged
-const NO_LOOK = ["threads", {}]; // in the place of a look that is left out
 const WHERE = ["mix/state", { cells: [], nonzero: false }]; // how many changes are done
 
 const repl = (expression) => ["evaluate", { expression, context: "repl" }];
@@ -26,6 +25,7 @@ export class Session {
     this.log = []; // each command with its reply
     this.state = { done: 0, ahead: 0 }; // that after the last command
     this.at = 0; // so many changes are done in the engine
+    this.known = { at: 0, times: new Map() }; // how often each cell was executed up to the last command
     this.changes = {}; // another object whenever the list of changes may be another one
   }
 
@@ -47,25 +47,37 @@ export class Session {
     return answers.slice(way.length);
   }
 
-  // The answers to requests, and what the machine looks like after them, with the last change.
+  // The answers to requests, and what the machine looks like after them.
   async see(requests, at = this.done, isDragged = false) {
     const blocks = this.blocks();
-    const looks = [["mix/state", { cells: [], nonzero: true }], ["mix/units", {}], isDragged && at >= LONG ? NO_LOOK : ["mix/counts", {}], ...blocks];
-    const answers = await this.ask([...requests, ...looks], at);
-    const [state, units, counts, ...found] = answers.slice(requests.length).map(({ body }) => body);
+    const answers = await this.ask([...requests, ["mix/state", { cells: [], nonzero: true }], ["mix/units", {}], ...blocks], at);
+    const [state, units, ...found] = answers.slice(requests.length).map(({ body }) => body);
     this.at = state.done;
     const words = blocks.flatMap(([, { unit, block }], index) => (found[index].units ? [[`${unit} ${block}`, found[index].units[0].block]] : []));
-    const [{ body: change }] = state.done > 0 ? await this.ask([["mix/change", { number: state.done }]], state.done) : [{ body: null }];
+    const { change, times } = await this.lastOf(state.done, !(isDragged && at >= LONG));
     const cells = new Map(state.cells.map((cell) => [cell.cell, cell]));
     return {
       answers,
       view: {
-        state, change, counts: counts.cells || [], units: units.units, blocks: new Map(words),
+        state, change, times, units: units.units, blocks: new Map(words),
         wordIn: (cell) => cells.get(cell) || ZERO,
         altered: new Set(state.altered), // parts, by the last change
         before: new Map((change ? change.items : []).map(({ part, before }) => [part, before])), // what they held before it
       },
     };
+  }
+
+  // The last of so many changes, and how often they executed each cell. These are counted on from the last command, or from the start if that is nearer.
+  async lastOf(done, isCounted) {
+    const { at, times } = done > this.known.at / 2 ? this.known : { at: 0, times: new Map() };
+    const [from, until] = [Math.min(at, done), Math.max(at, done)];
+    const isOther = isCounted && from < until;
+    const asked = [done > 0 && ["mix/change", { number: done }], isOther && ["mix/path", { columns: 1, from, until }]].filter(Boolean);
+    const answers = asked.length > 0 ? await this.ask(asked, isOther ? until : done) : [];
+    const sums = new Map(isCounted ? times : []);
+    const cells = isOther ? answers[answers.length - 1].body.columns[0].cells : [];
+    for (const { cell, count } of cells) sums.set(cell, (sums.get(cell) || 0) + (done > at ? count : -count));
+    return { change: done > 0 ? answers[0].body : null, times: sums };
   }
 
   // Begins it: what was found in the source, with the refusal, or with the program and what the machine looks like.
@@ -86,6 +98,7 @@ export class Session {
   // Does commands one after another: the answer to the last of them, and what the machine looks like then. One that is only tried is not kept if it is
   // refused.
   async act(commands, { from = this.done, isTried = false } = {}) {
+    if (commands.length > 1) this.known = { at: 0, times: new Map() }; // these may alter what was done before
     const { answers, view } = await this.see(commands.map(repl), from);
     const { done, ahead } = view.state;
     const answer = answers[commands.length - 1];
@@ -93,6 +106,7 @@ export class Session {
     if (commands.length > 1 || done + ahead !== this.total || (done > this.done && ahead === 0)) this.changes = {};
     this.log.push(...commands.map((command, index) => ({ command, reply: replyOf(answers[index]) })));
     this.state = view.state;
+    this.known = { at: done, times: view.times };
     return { view, answer };
   }
 

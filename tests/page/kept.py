@@ -17,7 +17,7 @@ TAKEN = "const sent = window.sent; window.sent = []; return sent"
 
 
 def requests(page, native, count):
-    """A step, a step back and a look send the same after much was done as after little, and none of it again."""
+    """A step, a step back, a look and a slide send little after much was done as after little: nothing is done again."""
     page.lesson(0)
     page.put("text", LOOP)
     page.script(SENT)
@@ -44,8 +44,9 @@ def requests(page, native, count):
     for _ in range(20):
         page.click("back")
     page.script(TAKEN)
-    count.same("requests: the same after a million changes", seen(), first)
-    count.row("requests: few, and none begins anew", all(not is_new and number <= 6 for one in first for is_new, number in one) and all(len(one) <= 2 for one in first), first)
+    for name, found in (("little", first), ("a million changes", seen())):
+        messages = [sent for one in found for sent in one]
+        count.row(f"requests: few after {name}, and none begins anew", len(messages) <= 8 and all(not is_new and number <= 4 for is_new, number in messages), found)
     natively("requests", page, native, count)
 
 

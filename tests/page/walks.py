@@ -39,6 +39,11 @@ def walk(page, native, count, seed, steps=25):
             page.press_button(chance.choice(page.all("#gutter .line button")))
     page.say("show all")
     page.say("show counts")
+    shown = dict(page.script("return [...document.querySelectorAll('.line')].map(row => ['loc', 'times'].map(name => (row.querySelector(`.${name}`) || { textContent: '' }).textContent))"))
+    rows = (row.split() for row in page.log()[-1][1].splitlines())
+    wanted = {place: "" if times == "0" else times for times, _, place, *_ in rows if place in shown}
+    count.same(f"walk {seed}: how often each line was executed", {place: shown[place] for place in wanted}, wanted)
+    count.same(f"walk {seed}: and no other", [place for place, times in shown.items() if times and place not in wanted], [])
     page.say("show last 1000")
     saved = page.save()
     wanted, found = native.bundle(saved), page.replies()
