@@ -59,7 +59,7 @@ const show = (what, times) => console.log(
 
 console.log(`module: ${bytes.length} bytes, ${gzipSync(bytes, { level: 9 }).length} compressed`);
 let began = performance.now();
-let engine = await Talking.load(bytes);
+let engine = await Engine.load(bytes);
 console.log(`compiled in ${(performance.now() - began).toFixed(0)} milliseconds`);
 
 const most = { steps: 0, drag: 0 };
