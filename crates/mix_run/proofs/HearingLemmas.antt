@@ -1,6 +1,6 @@
 -- What some lines of a talk do, and then some more: what is said of the parts holds of the whole.
-use Rattle.std.proofs.Common.{◌≡◌, ◌∙◌, ◌<◌, ◌+◌, ◌||◌, ℕ, Bool, true, false, List, [], ◌∷◌, ◌++◌, append_assoc, length, Option, None, Some, Result, Ok, Err, refl, sym, ap, ap₂, subst, arith, inl, inr, true≢false}
-use Rattle.std.specs.Prelude.{◌⊎◌, IfOk, OnOk}
+use Rattle.std.proofs.Common.{◌≡◌, ◌∙◌, ◌<◌, ◌+◌, ◌||◌, ℕ, Bool, true, false, List, [], ◌∷◌, ◌++◌, append_assoc, length, Option, Some, Result, Ok, Err, refl, sym, ap, ap₂, subst, arith, inl, inr, true≢false}
+use Rattle.std.specs.Prelude.{IfOk, OnOk}
 use Rattle.std.proofs.lemmas.List.{append-nil, length-append}
 use Rattle.std.proofs.lemmas.Result.{IfOk-weaker}
 use Rattle.std.proofs.lemmas.List.Folds.{list_any-append}
@@ -10,16 +10,20 @@ use Rattle.mix_lines.specs.Lines.{is_line_feed, lines, lines-nil, words}
 use Rattle.mix_session.specs.Session.{SessionState}
 use Rattle.mix_session.specs.Reply.{told_of_both}
 use Rattle.mix_session.specs.declared.reply.Told.{Told}
+use Rattle.mix_session.specs.declared.reply.Told.TheVariants.{Accepted}
 use Rattle.mix_stream.specs.Stream.{AppendsFront}
+use Rattle.mix_run.specs.Asked.{after_lines, answers, asked, is_over, is_quit, recalled_all}
 use Rattle.mix_run.specs.Bundle.{OriginValue}
 use Rattle.mix_run.specs.Fault.{IsMemoryOrWrite}
 use Rattle.mix_run.specs.Hearing.{Answered, Hears}
 use Rattle.mix_run.specs.Opening.{Files, Saved, noted}
 use Rattle.mix_run.specs.Output.{replies}
-use Rattle.mix_run.specs.Recall.{RecallState, meant, nothing, recalled}
+use Rattle.mix_run.specs.Recall.{RecallState, meant, recalled}
+use Rattle.mix_run.specs.Reload.{Moment, moment_of, reloaded}
 use Rattle.mix_run.specs.Saves.{saves, saves_of}
-use Rattle.mix_run.specs.Sources.{Knows, heard, is_source, sources_by, stands_by, stands_for}
-use Rattle.mix_run.specs.Talk.{AnswersRead, Talks, after_lines, answers, asked, is_over, is_quit, is_too_long, is_whole, max_line_bytes, recalled_all}
+use Rattle.mix_run.specs.Sources.{Knows, is_reload, is_source, reads_file, sources_by, stands_by, stands_for}
+use Rattle.mix_run.specs.Stretch.{in_session, joined, silent, talk_of, typed_line}
+use Rattle.mix_run.specs.Talk.{AnswersRead, Talks, is_too_long, is_whole, max_line_bytes}
 use Rattle.mix_run.specs.declared.fault.ToolFault.{ToolFault}
 use Rattle.mix_run.specs.declared.fault.ToolFault.TheVariants as faults
 use Rattle.mix_run.specs.Person.{kind_of}
@@ -28,133 +32,23 @@ use Rattle.mix_run.specs.declared.talk.person.Line.{Line}
 use Rattle.mix_run.specs.declared.talk.person.Line.TheVariants as line_kind
 use Rattle.mix_run.specs.declared.talk.aside.Talker.{Talker}
 use Rattle.mix_run.specs.declared.talk.aside.Talker.TheVariants as talkers
-use Rattle.mix_run.proofs.TalkLemmas.{after-append, asked-append, asked-over, bytes-append, lines-append, long-first, noted-then, or-true, parts-clear, quit-recalled, quit-said, quit-saves, recalled-append, recalled-over, saves-append, saves-over, told-append, whole-append}
-use Rattle.mix_run.proofs.Written.{Appends-nothing, Appends-same, Appends-then, AppendsFront-after, AppendsFront-all}
+use Rattle.mix_run.proofs.StretchLemmas.{Answered-as, Answered-begun, Answered-nothing, Answered-over, Answered-then, joined-end, talk-append, talk-one, then-more}
+use Rattle.mix_run.proofs.TalkLemmas.{lines-append, long-first, or-true, parts-clear, quit-recalled, quit-said, quit-saves, whole-append}
+use Rattle.mix_run.proofs.Written.{Appends-nothing, Appends-same}
 
--- ---- the lines that lines stand for
-
-pub heard-append : (all : Files) (talker : Talker) (xs ys : List (List ℕ)) → heard all talker (xs ++ ys) ≡ heard all talker xs ++ heard all talker ys
-heard-append all talker [] ys = refl
-heard-append all talker (line ∷ xs) ys =
-    ap (λ l. stands_for all talker line ++ l) (heard-append all talker xs ys)
-    ∙ sym (append_assoc (stands_for all talker line) (heard all talker xs) (heard all talker ys))
+-- ---- what is known of lines
 
 -- what is known of some lines is known of each part
 pub Knows-parts : (held : Option Files) (all : Files) (talker : Talker) (xs ys : List (List ℕ)) → Knows held all talker (xs ++ ys)
     → Knows held all talker xs × Knows held all talker ys
 Knows-parts held all talker xs ys (inl is) = (inl is, inl is)
 Knows-parts held all talker xs ys (inr none) =
-    let both = parts-clear _ _ (sym (list_any-append (is_source talker) xs ys) ∙ none) in (inr both.0, inr both.1)
+    let both = parts-clear _ _ (sym (list_any-append (reads_file talker) xs ys) ∙ none) in (inr both.0, inr both.1)
 
 pub Knows-same : (held old : Option Files) (all : Files) (talker : Talker) (xs ys : List (List ℕ)) → held ≡ old → xs ≡ ys → Knows old all talker xs
     → Knows held all talker ys
 Knows-same held old all talker xs ys is same (inl known) = inl (is ∙ known)
-Knows-same held old all talker xs ys is same (inr none) = inr (ap (list_any (is_source talker)) (sym same) ∙ none)
-
--- ---- lines, and then some more
-
--- the replies to lines are a beginning of those to them and more
-front-said : (s : SessionState) (talker : Talker) (r : RecallState) (xs ys : List (List ℕ))
-    → (more : List ℕ) × ((answers s talker r (xs ++ ys)).bytes ≡ (answers s talker r xs).bytes ++ more)
-front-said s talker r xs ys = go (is_over talker xs) refl
-  where
-    next : SessionState
-    next = after_lines s (asked s talker r xs)
-
-    later : List (List ℕ)
-    later = asked next talker (recalled_all s talker r xs) ys
-
-    go : (v : Bool) → is_over talker xs ≡ v → (more : List ℕ) × ((answers s talker r (xs ++ ys)).bytes ≡ (answers s talker r xs).bytes ++ more)
-    go true over = ([], ap (λ l. (replies s l).bytes) (asked-over s talker r xs ys over) ∙ sym (append-nil _))
-    go false still =
-        ((replies next later).bytes, ap (λ l. (replies s l).bytes) (asked-append s talker r xs ys still) ∙ bytes-append s (asked s talker r xs) later)
-
-module _ {o : OriginValue} {d e : Option (List Saved)} (s mid : SessionState) (talker : Talker) (r between : RecallState) (xs : List (List ℕ)) (told : Told)
-    (a b : Option (List ℕ)) (h : Answered o s talker r xs mid between told false d e a b) where
-  abbrev said-before : List (List ℕ)
-  said-before = asked s talker r xs
-
-  asked-step : (ys : List (List ℕ)) → asked s talker r (xs ++ ys) ≡ said-before ++ asked mid talker between ys
-  asked-step ys =
-      asked-append s talker r xs ys (sym h.over) ∙ ap₂ (λ t u. said-before ++ asked t talker u ys) (sym h.session) (sym h.recall)
-
-  bytes-step : (ys : List (List ℕ)) → (answers s talker r (xs ++ ys)).bytes ≡ (answers s talker r xs).bytes ++ (answers mid talker between ys).bytes
-  bytes-step ys =
-      let more = asked mid talker between ys in
-      ap (λ l. (replies s l).bytes) (asked-step ys) ∙ bytes-append s said-before more
-      ∙ ap (λ t. (replies s said-before).bytes ++ (replies t more).bytes) (sym h.session)
-
-  told-step : (ys : List (List ℕ)) → (answers s talker r (xs ++ ys)).told ≡ told_of_both told (answers mid talker between ys).told
-  told-step ys =
-      let more = asked mid talker between ys in
-      ap (λ l. (replies s l).told) (asked-step ys) ∙ told-append s said-before more
-      ∙ ap (λ t. told_of_both (replies s said-before).told (replies t more).told) (sym h.session)
-      ∙ ap (λ t. told_of_both t (replies mid more).told) (sym h.told)
-
-  after-step : (ys : List (List ℕ)) → after_lines s (asked s talker r (xs ++ ys)) ≡ after_lines mid (asked mid talker between ys)
-  after-step ys =
-      let more = asked mid talker between ys in
-      ap (after_lines s) (asked-step ys) ∙ after-append s said-before more ∙ ap (λ t. after_lines t more) (sym h.session)
-
-  recall-step : (ys : List (List ℕ)) → recalled_all s talker r (xs ++ ys) ≡ recalled_all mid talker between ys
-  recall-step ys = recalled-append s talker r xs ys (sym h.over) ∙ ap₂ (λ t u. recalled_all t talker u ys) (sym h.session) (sym h.recall)
-
-  saves-step : (ys : List (List ℕ)) → noted d (saves o s talker r (xs ++ ys)) ≡ noted e (saves o mid talker between ys)
-  saves-step ys =
-      let more = saves o (after_lines s said-before) talker (recalled_all s talker r xs) ys in
-      ap (noted d) (saves-append o s talker r xs ys (sym h.over)) ∙ sym (noted-then d (saves o s talker r xs) more) ∙ ap (λ t. noted t more) (sym h.saved)
-      ∙ ap₂ (λ t u. noted e (saves o t talker u ys)) (sym h.session) (sym h.recall)
-
-  over-step : (ys : List (List ℕ)) → is_over talker (xs ++ ys) ≡ is_over talker ys
-  over-step ys = list_any-append (is_quit talker) xs ys ∙ ap (λ v. v || is_over talker ys) (sym h.over)
-
-  pub Answered-then : {f : Option (List Saved)} (now : SessionState) (last : RecallState) (ys : List (List ℕ)) (more : Told) (ends : Bool) (c : Option (List ℕ))
-      → Answered o mid talker between ys now last more ends e f b c → Answered o s talker r (xs ++ ys) now last (told_of_both told more) ends d f a c
-  Answered-then now last ys more ends c k = record {
-    session = k.session ∙ sym (after-step ys);
-    recall = k.recall ∙ sym (recall-step ys);
-    told = ap (told_of_both told) k.told ∙ sym (told-step ys);
-    over = k.over ∙ sym (over-step ys);
-    written = Appends-same a c _ _ (sym (bytes-step ys))
-        (Appends-then a b c (answers s talker r xs).bytes (answers mid talker between ys).bytes h.written k.written);
-    saved = k.saved ∙ sym (saves-step ys);
-  }
-
-  -- the replies to more lines are begun
-  pub Answered-begun : (ys zs : List (List ℕ)) (c : Option (List ℕ)) → AppendsFront b c (answers mid talker between ys).bytes
-      → AppendsFront a c (answers s talker r (xs ++ (ys ++ zs))).bytes
-  Answered-begun ys zs c begun =
-      let front = front-said mid talker between ys zs in
-      AppendsFront-after a b c (answers s talker r xs).bytes (answers mid talker between ys).bytes front.0 _ h.written begun
-      (bytes-step (ys ++ zs) ∙ ap (λ l. (answers s talker r xs).bytes ++ l) front.1)
-
--- after the line that ends the talk nothing more is done
-pub Answered-over : {o : OriginValue} {d f : Option (List Saved)} (s now : SessionState) (talker : Talker) (r last : RecallState) (xs ys : List (List ℕ))
-    (told : Told) (ends : Bool) (a b : Option (List ℕ)) → ends ≡ true → Answered o s talker r xs now last told ends d f a b
-    → Answered o s talker r (xs ++ ys) now last told ends d f a b
-Answered-over {o} {d} s now talker r last xs ys told ends a b over h =
-    let still : is_over talker xs ≡ true = sym h.over ∙ over in
-    let same = asked-over s talker r xs ys still in
-    record {
-      session = h.session ∙ sym (ap (after_lines s) same);
-      recall = h.recall ∙ sym (recalled-over s talker r xs ys still);
-      told = h.told ∙ sym (ap (λ l. (replies s l).told) same);
-      over = over ∙ sym (list_any-append (is_quit talker) xs ys ∙ ap (λ v. v || is_over talker ys) still);
-      written = Appends-same a b _ _ (sym (ap (λ l. (replies s l).bytes) same)) h.written;
-      saved = h.saved ∙ ap (noted d) (sym (saves-over o s talker r xs ys still));
-    }
-
-pub Answered-nothing : {o : OriginValue} {d : Option (List Saved)} (s : SessionState) (talker : Talker) (r last : RecallState) (told : Told) (a : Option (List ℕ))
-    → last ≡ r → told ≡ (replies s []).told → Answered o s talker r [] s last told false d d a a
-Answered-nothing s talker r last told a same is =
-    record { session = refl; recall = same; told = is; over = refl; written = Appends-nothing a; saved = refl }
-
-pub Answered-as : {o : OriginValue} {d f : Option (List Saved)} {s now : SessionState} {talker : Talker} {r last : RecallState} (xs ys : List (List ℕ))
-    {ends : Bool} {a b : Option (List ℕ)} (told all : Told) (on : Bool) → xs ≡ ys → all ≡ told → ends ≡ on
-    → Answered o s talker r xs now last told ends d f a b → Answered o s talker r ys now last all on d f a b
-Answered-as {o} {d} {f} {s} {now} {talker} {r} {last} xs ys {ends} {a} {b} told all on same is goes h =
-    subst (λ l. Answered o s talker r l now last all on d f a b) same
-    (subst (λ t. Answered o s talker r xs now last t on d f a b) (sym is) (subst (λ v. Answered o s talker r xs now last told v d f a b) goes h))
+Knows-same held old all talker xs ys is same (inr none) = inr (ap (list_any (reads_file talker)) (sym same) ∙ none)
 
 -- ---- one typed line
 
@@ -170,6 +64,7 @@ stands-kind all line_kind.Display line e = refl
 stands-kind all line_kind.Undisplay line e = refl
 stands-kind all line_kind.Save line e = refl
 stands-kind all line_kind.Quit line e = refl
+stands-kind all line_kind.Reload line e = refl
 
 pub stands-itself : (all : Files) (talker : Talker) (line : List ℕ) → is_source talker line ≡ false → stands_for all talker line ≡ line ∷ []
 stands-itself all talkers.Program line e = refl
@@ -179,32 +74,39 @@ or-false : (v : Bool) → (v || false) ≡ v
 or-false true = refl
 or-false false = refl
 
--- of a line that sources a file it is known what the files hold
+-- of a line that sources a file or reloads it is known what the files hold
+known-of : (held : Option Files) (all : Files) (talker : Talker) (line : List ℕ) → reads_file talker line ≡ true → Knows held all talker (line ∷ []) → held ≡ Some all
+known-of held all talker line reads (inl is) = is
+known-of held all talker line reads (inr none) = absurd (true≢false (sym reads ∙ sym (or-false (reads_file talker line)) ∙ none))
+
 pub sourced-known : (held : Option Files) (all : Files) (talker : Talker) (line : List ℕ) → is_source talker line ≡ true → Knows held all talker (line ∷ [])
     → held ≡ Some all
-sourced-known held all talker line sources (inl is) = is
-sourced-known held all talker line sources (inr none) = absurd (true≢false (sym sources ∙ sym (or-false (is_source talker line)) ∙ none))
+sourced-known held all talker line sources known =
+    known-of held all talker line (ap (λ v. is_reload talker line || v) sources ∙ or-true (is_reload talker line)) known
 
-module _ {o : OriginValue} {d f : Option (List Saved)} (s now : SessionState) (talker : Talker) (r last : RecallState) (line : List ℕ) (a b : Option (List ℕ))
+pub reloaded-known : (held : Option Files) (all : Files) (talker : Talker) (line : List ℕ) → is_reload talker line ≡ true → Knows held all talker (line ∷ [])
+    → held ≡ Some all
+reloaded-known held all talker line reloads known = known-of held all talker line (ap (λ v. v || is_source talker line) reloads) known
+
+module _ {d f : Option (List Saved)} (o : OriginValue) (s now : SessionState) (talker : Talker) (r last : RecallState) (line : List ℕ) (a b : Option (List ℕ))
     (session : now ≡ after_lines s (meant s talker r line)) (recall : last ≡ recalled s talker r line)
     (written : Appends a b (replies s (meant s talker r line)).bytes) (saved : f ≡ noted d (saves_of o talker r line)) where
   pub Answered-one : (told : Told) → is_quit talker line ≡ false → told ≡ (replies s (meant s talker r line)).told
-      → Answered o s talker r (line ∷ []) now last told false d f a b
+      → Answered (in_session (moment_of s r o) talker (line ∷ [])) (moment_of now last o) told false d f a b
   Answered-one told quit is =
       let all : asked s talker r (line ∷ []) ≡ meant s talker r line = rw quit (append-nil (meant s talker r line)) in
       let later : recalled_all s talker r (line ∷ []) ≡ recalled s talker r line = rw quit refl in
       let still : is_over talker (line ∷ []) ≡ false = rw quit refl in
       let files : saves o s talker r (line ∷ []) ≡ saves_of o talker r line = rw quit (append-nil (saves_of o talker r line)) in
       record {
-        session = session ∙ ap (after_lines s) (sym all);
-        recall = recall ∙ sym later;
+        moment = ap₂ (λ x y. moment_of x y o) (session ∙ ap (after_lines s) (sym all)) (recall ∙ sym later);
         told = is ∙ ap (λ l. (replies s l).told) (sym all);
         over = sym still;
         written = Appends-same a b _ _ (ap (λ l. (replies s l).bytes) (sym all)) written;
         saved = saved ∙ ap (noted d) (sym files);
       }
 
-  pub Answered-quit : is_quit talker line ≡ true → Answered o s talker r (line ∷ []) now last (replies s []).told true d f a b
+  pub Answered-quit : is_quit talker line ≡ true → Answered (in_session (moment_of s r o) talker (line ∷ [])) (moment_of now last o) Accepted true d f a b
   Answered-quit quit =
       let none : asked s talker r (line ∷ []) ≡ [] = rw quit refl in
       let later : recalled_all s talker r (line ∷ []) ≡ r = rw quit refl in
@@ -212,8 +114,7 @@ module _ {o : OriginValue} {d f : Option (List Saved)} (s now : SessionState) (t
       let files : saves o s talker r (line ∷ []) ≡ [] = rw quit refl in
       let said = quit-said s talker r line quit in
       record {
-        session = session ∙ ap (after_lines s) (said ∙ sym none);
-        recall = recall ∙ quit-recalled s talker r line quit ∙ sym later;
+        moment = ap₂ (λ x y. moment_of x y o) (session ∙ ap (after_lines s) (said ∙ sym none)) (recall ∙ quit-recalled s talker r line quit ∙ sym later);
         told = ap (λ l. (replies s l).told) (sym none);
         over = sym ended;
         written = Appends-same a b _ _ (ap (λ l. (replies s l).bytes) (said ∙ sym none)) written;
@@ -232,107 +133,114 @@ pub begun-itself : (s : SessionState) (talker : Talker) (r : RecallState) (line 
     → AppendsFront a b (replies s (meant s talker r line)).bytes → AppendsFront a b (answers s talker r (line ∷ [])).bytes
 begun-itself s talker r line a b begun = subst (λ l. AppendsFront a b (replies s l).bytes) (sym (asked-line s talker r line)) begun
 
--- ---- the lines that a typed line stands for
+-- a line that does not reload: the lines that it stands for are heard
+pub typed-as : (all : Files) (m : Moment) (talker : Talker) (line : List ℕ) (xs : List (List ℕ)) → is_reload talker line ≡ false
+    → xs ≡ stands_for all talker line → in_session m talker xs ≡ typed_line all m talker line
+typed-as all m talker line xs stays same = ap (in_session m talker) same ∙ rw stays refl
 
-pub begun-as : (s : SessionState) (talker : Talker) (r : RecallState) (xs ys : List (List ℕ)) (a b : Option (List ℕ)) → xs ≡ ys
-    → AppendsFront a b (answers s talker r xs).bytes → AppendsFront a b (answers s talker r ys).bytes
-begun-as s talker r xs ys a b same begun = subst (λ l. AppendsFront a b (answers s talker r l).bytes) same begun
+pub begun-as : (all : Files) (m : Moment) (talker : Talker) (line : List ℕ) (xs : List (List ℕ)) (a b : Option (List ℕ)) → is_reload talker line ≡ false
+    → xs ≡ stands_for all talker line → AppendsFront a b (answers m.session talker m.recall xs).bytes → AppendsFront a b (typed_line all m talker line).bytes
+begun-as all m talker line xs a b stays same begun = subst (λ s. AppendsFront a b s.bytes) (typed-as all m talker line xs stays same) begun
 
-module _ (o : OriginValue) (d f : Option (List Saved)) (s now : SessionState) (talker : Talker) (r last : RecallState) (a b : Option (List ℕ))
-    (xs ys : List (List ℕ)) (result : Result Heard ToolFault) where
-  pub answered-as : (c : Option (List Saved)) → d ≡ c → xs ≡ ys → IfOk result (λ h. Answered o s talker r xs now last h.told h.is_over d f a b)
-      → IfOk result (λ h. Answered o s talker r ys now last h.told h.is_over c f a b)
-  answered-as c unsaved same =
-      IfOk-weaker result _ _ (λ h k. subst (λ x. Answered o s talker r ys now last h.told h.is_over x f a b) unsaved
-      (Answered-as xs ys h.told h.told h.is_over same refl refl k))
+pub answered-as : (c d f : Option (List Saved)) (a b : Option (List ℕ)) (all : Files) (m now : Moment) (talker : Talker) (line : List ℕ) (xs : List (List ℕ))
+    (result : Result Heard ToolFault) → is_reload talker line ≡ false → d ≡ c → xs ≡ stands_for all talker line
+    → IfOk result (λ h. Answered (in_session m talker xs) now h.told h.is_over d f a b)
+    → IfOk result (λ h. Answered (typed_line all m talker line) now h.told h.is_over c f a b)
+answered-as c d f a b all m now talker line xs result stays unsaved same =
+    IfOk-weaker result _ _ (λ h k. subst (λ x. Answered (typed_line all m talker line) now h.told h.is_over x f a b) unsaved
+    (Answered-as h.told h.told h.is_over h.is_over (typed-as all m talker line xs stays same) refl refl k))
+
+-- a line that reloads
+pub Answered-reload : {d f : Option (List Saved)} (all : Files) (m now : Moment) (talker : Talker) (line : List ℕ) (a : Option (List ℕ))
+    → is_reload talker line ≡ true → now ≡ reloaded (all m.origin.name) m → f ≡ d → Answered (typed_line all m talker line) now Accepted false d f a a
+Answered-reload all m now talker line a reloads is unsaved = rw reloads (record { moment = is; told = refl; over = refl; written = Appends-nothing a; saved = unsaved })
 
 -- what is said of the lines of a text one by one
-pub answered-lines : (o : OriginValue) (d f : Option (List Saved)) (s now : SessionState) (talker : Talker) (r last : RecallState) (a b : Option (List ℕ))
+pub answered-lines : (d f : Option (List Saved)) (a b : Option (List ℕ)) (o : OriginValue) (s now : SessionState) (talker : Talker) (r last : RecallState)
     (xs : List (List ℕ)) (result : Result Heard ToolFault)
     → IfOk result (λ h. (h.told ≡ (answers s talker r xs).told) × Appends a b (answers s talker r xs).bytes)
     → IfOk result (λ h. h.is_over ≡ is_over talker xs) → IfOk result (λ _. now ≡ after_lines s (asked s talker r xs))
     → IfOk result (λ _. last ≡ recalled_all s talker r xs) → OnOk result (f ≡ noted d (saves o s talker r xs))
-    → IfOk result (λ h. Answered o s talker r xs now last h.told h.is_over d f a b)
-answered-lines o d f s now talker r last a b xs (Ok h) said over session recall saved =
-    record { session = session; recall = recall; told = said.0; over = over; written = said.1; saved = saved }
-answered-lines o d f s now talker r last a b xs (Err fault) said over session recall saved = tt
+    → IfOk result (λ h. Answered (in_session (moment_of s r o) talker xs) (moment_of now last o) h.told h.is_over d f a b)
+answered-lines d f a b o s now talker r last xs (Ok h) said over session recall saved =
+    record { moment = ap₂ (λ x y. moment_of x y o) session recall; told = said.0; over = over; written = said.1; saved = saved }
+answered-lines d f a b o s now talker r last xs (Err fault) said over session recall saved = tt
 
 -- ---- one typed line more
 
-module _ {o : OriginValue} {held later_held : Option Files} {d e : Option (List Saved)} (s mid : SessionState) (talker : Talker) (r between : RecallState)
+module _ {held later_held : Option Files} {d e : Option (List Saved)} (m mid : Moment) (talker : Talker)
     (front : List (List ℕ)) (told : Told) (a b : Option (List ℕ))
-    (h : (all : Files) → Knows held all talker front → Answered o s talker r (heard all talker front) mid between told false d e a b)
+    (h : (all : Files) → Knows held all talker front → Answered (talk_of all m talker front) mid told false d e a b)
     (same : later_held ≡ held) (line : List ℕ) where
-  one-line : (all : Files) → heard all talker (line ∷ []) ≡ stands_for all talker line
-  one-line all = append-nil (stands_for all talker line)
-
-  pub typed-then : {f : Option (List Saved)} (now : SessionState) (last : RecallState) (more said : Told) (ends on : Bool) (c : Option (List ℕ))
+  pub typed-then : {f : Option (List Saved)} (now : Moment) (more said : Told) (ends on : Bool) (c : Option (List ℕ))
       → said ≡ told_of_both told more → ends ≡ on
-      → ((all : Files) → Knows later_held all talker (line ∷ []) → Answered o mid talker between (stands_for all talker line) now last more ends e f b c)
-      → (all : Files) → Knows held all talker (front ++ line ∷ []) → Answered o s talker r (heard all talker (front ++ line ∷ [])) now last said on d f a c
-  typed-then now last more said ends on c is goes k all known =
+      → ((all : Files) → Knows later_held all talker (line ∷ []) → Answered (typed_line all mid talker line) now more ends e f b c)
+      → (all : Files) → Knows held all talker (front ++ line ∷ []) → Answered (talk_of all m talker (front ++ line ∷ [])) now said on d f a c
+  typed-then now more said ends on c is goes k all known =
       let parts = Knows-parts held all talker front (line ∷ []) known in
-      Answered-as _ _ (told_of_both told more) said on
-      (sym (heard-append all talker front (line ∷ []) ∙ ap (λ l. heard all talker front ++ l) (one-line all))) is goes
-      (Answered-then s mid talker r between (heard all talker front) told a b (h all parts.0) now last (stands_for all talker line) more ends c
-      (k all (Knows-same later_held held all talker (line ∷ []) (line ∷ []) same refl parts.1)))
+      let before = h all parts.0 in
+      let here = k all (Knows-same later_held held all talker (line ∷ []) (line ∷ []) same refl parts.1) in
+      Answered-as (told_of_both told more) said ends on (then-more all m talker front (line ∷ []) before) is goes
+      (Answered-then told more ends before (Answered-as more more ends ends (sym (talk-one all mid talker line)) refl refl here))
 
   module _ (whole after : List (List ℕ)) (cut : whole ≡ front ++ (line ∷ after)) where
     cut-after : whole ≡ (front ++ line ∷ []) ++ after
     cut-after = cut ∙ sym (append_assoc front (line ∷ []) after)
 
     -- it ends the talk
-    pub typed-over : {f : Option (List Saved)} (now : SessionState) (last : RecallState) (more said : Told) (ends : Bool) (c : Option (List ℕ))
+    pub typed-over : {f : Option (List Saved)} (now : Moment) (more said : Told) (ends : Bool) (c : Option (List ℕ))
         → said ≡ told_of_both told more → ends ≡ true
-        → ((all : Files) → Knows later_held all talker (line ∷ []) → Answered o mid talker between (stands_for all talker line) now last more ends e f b c)
-        → (all : Files) → Knows held all talker whole → Answered o s talker r (heard all talker whole) now last said true d f a c
-    typed-over now last more said ends c is over k all known =
+        → ((all : Files) → Knows later_held all talker (line ∷ []) → Answered (typed_line all mid talker line) now more ends e f b c)
+        → (all : Files) → Knows held all talker whole → Answered (talk_of all m talker whole) now said true d f a c
+    typed-over now more said ends c is over k all known =
         let parts = Knows-parts held all talker (front ++ line ∷ []) after (Knows-same held held all talker _ _ refl cut-after known) in
-        Answered-as _ _ said said true (sym (ap (heard all talker) cut-after ∙ heard-append all talker (front ++ line ∷ []) after)) refl refl
-        (Answered-over s now talker r last (heard all talker (front ++ line ∷ [])) (heard all talker after) said true a c refl
-        (typed-then now last more said ends true c is over k all parts.0))
+        let to_here = typed-then now more said ends true c is over k all parts.0 in
+        Answered-as said said true true (then-more all m talker (front ++ line ∷ []) after to_here ∙ ap (talk_of all m talker) (sym cut-after)) refl refl
+        (Answered-over (talk_of all now talker after) said true refl to_here)
 
     -- its answer is begun
     pub typed-begun : (c : Option (List ℕ))
-        → ((all : Files) → Knows later_held all talker (line ∷ []) → AppendsFront b c (answers mid talker between (stands_for all talker line)).bytes)
-        → (all : Files) → Knows held all talker whole → AppendsFront a c (answers s talker r (heard all talker whole)).bytes
+        → ((all : Files) → Knows later_held all talker (line ∷ []) → AppendsFront b c (typed_line all mid talker line).bytes)
+        → (all : Files) → Knows held all talker whole → AppendsFront a c (talk_of all m talker whole).bytes
     typed-begun c begun all known =
         let parts = Knows-parts held all talker front (line ∷ after) (Knows-same held held all talker _ _ refl cut known) in
         let one = Knows-parts held all talker (line ∷ []) after parts.1 in
-        subst (λ l. AppendsFront a c (answers s talker r l).bytes) (sym (ap (heard all talker) cut ∙ heard-append all talker front (line ∷ after)))
-        (Answered-begun s mid talker r between (heard all talker front) told a b (h all parts.0) (stands_for all talker line) (heard all talker after) c
+        let before = h all parts.0 in
+        let first = typed_line all mid talker line in
+        subst (λ s. AppendsFront a c s.bytes) (then-more all m talker front (line ∷ after) before ∙ ap (talk_of all m talker) (sym cut))
+        (Answered-begun first (talk_of all first.moment talker after) a b c before
         (begun all (Knows-same later_held held all talker (line ∷ []) (line ∷ []) same refl one.0)))
 
 -- no line is left
-pub typed-done : {o : OriginValue} {held : Option Files} {d e : Option (List Saved)} (s now : SessionState) (talker : Talker) (r last : RecallState)
+pub typed-done : {held : Option Files} {d e : Option (List Saved)} (m now : Moment) (talker : Talker)
     (front whole : List (List ℕ)) (told : Told) (a b : Option (List ℕ)) (rest : List ℕ) → whole ≡ front ++ lines rest → rest ≡ []
-    → ((all : Files) → Knows held all talker front → Answered o s talker r (heard all talker front) now last told false d e a b)
-    → (all : Files) → Knows held all talker whole → Answered o s talker r (heard all talker whole) now last told false d e a b
-typed-done {o} {held} s now talker r last front whole told a b rest cut none h all known =
+    → ((all : Files) → Knows held all talker front → Answered (talk_of all m talker front) now told false d e a b)
+    → (all : Files) → Knows held all talker whole → Answered (talk_of all m talker whole) now told false d e a b
+typed-done {held} m now talker front whole told a b rest cut none h all known =
     let same : whole ≡ front = cut ∙ ap (λ t. front ++ lines t) none ∙ ap (λ l. front ++ l) lines-nil ∙ append-nil front in
-    Answered-as _ _ told told false (ap (heard all talker) (sym same)) refl refl (h all (Knows-same held held all talker _ _ refl same known))
+    Answered-as told told false false (ap (talk_of all m talker) (sym same)) refl refl (h all (Knows-same held held all talker _ _ refl same known))
 
 -- ---- parts of a text
 
 -- nothing was heard yet
-pub Hears-nothing : {o : OriginValue} {held : Option Files} {d : Option (List Saved)} (s : SessionState) (talker : Talker) (r last : RecallState) (left : List ℕ)
-    (told : Told) (a : Option (List ℕ)) → last ≡ r → left ≡ [] → told ≡ (replies s []).told → Hears o held s talker r [] left s last told false d d a a
+pub Hears-nothing : {held : Option Files} {d : Option (List Saved)} (m now : Moment) (talker : Talker) (left : List ℕ)
+    (told : Told) (a : Option (List ℕ)) → now ≡ m → left ≡ [] → told ≡ Accepted → Hears held m talker [] left now told false d d a a
 unfolding lines
-Hears-nothing s talker r last left told a same none is = record {
+Hears-nothing m now talker left told a same none is = record {
   front = [];
   parts = sym none;
   whole = refl;
   part = ap (list_any is_line_feed) none;
-  answered = λ all known. Answered-nothing s talker r last told a same is;
+  answered = λ all known. Answered-nothing m now told a same is;
 }
 
 -- the whole lines among some bytes are answered
-pub Hears-lines : {o : OriginValue} {held : Option Files} {d f : Option (List Saved)} (s : SessionState) (talker : Talker) (r : RecallState)
-    (bytes text left given : List ℕ) (now : SessionState) (last : RecallState) (said : Told) (ends : Bool) (a b : Option (List ℕ)) → bytes ≡ text ++ left
+pub Hears-lines : {held : Option Files} {d f : Option (List Saved)} (m : Moment) (talker : Talker)
+    (bytes text left given : List ℕ) (now : Moment) (said : Told) (ends : Bool) (a b : Option (List ℕ)) → bytes ≡ text ++ left
     → is_whole text ≡ true → list_any is_line_feed left ≡ false → given ≡ text
-    → ((all : Files) → Knows held all talker (lines given) → Answered o s talker r (heard all talker (lines given)) now last said ends d f a b)
-    → Hears o held s talker r bytes left now last said ends d f a b
-Hears-lines s talker r bytes text left given now last said ends a b parts whole part is answered = record {
+    → ((all : Files) → Knows held all talker (lines given) → Answered (talk_of all m talker (lines given)) now said ends d f a b)
+    → Hears held m talker bytes left now said ends d f a b
+Hears-lines m talker bytes text left given now said ends a b parts whole part is answered = record {
   front = given;
   parts = parts ∙ ap (λ t. t ++ left) (sym is);
   whole = ap is_whole is ∙ whole;
@@ -341,11 +249,11 @@ Hears-lines s talker r bytes text left given now last said ends a b parts whole 
 }
 
 -- what was heard before, and what was heard then
-pub Hears-then : {o : OriginValue} {held later_held : Option Files} {d e f : Option (List Saved)} (s mid now : SessionState) (talker : Talker)
-    (r between last : RecallState) (bytes left part later : List ℕ) (told more : Told) (ends : Bool) (a b c : Option (List ℕ)) → later_held ≡ held
-    → Hears o held s talker r bytes left mid between told false d e a b → Hears o later_held mid talker between (left ++ part) later now last more ends e f b c
-    → Hears o held s talker r (bytes ++ part) later now last (told_of_both told more) ends d f a c
-Hears-then {o} {held} {later_held} s mid now talker r between last bytes left part later told more ends a b c same h k =
+pub Hears-then : {held later_held : Option Files} {d e f : Option (List Saved)} (m mid now : Moment) (talker : Talker)
+    (bytes left part later : List ℕ) (told more : Told) (ends : Bool) (a b c : Option (List ℕ)) → later_held ≡ held
+    → Hears held m talker bytes left mid told false d e a b → Hears later_held mid talker (left ++ part) later now more ends e f b c
+    → Hears held m talker (bytes ++ part) later now (told_of_both told more) ends d f a c
+Hears-then {held} {later_held} m mid now talker bytes left part later told more ends a b c same h k =
     let cut = lines-append h.front k.front h.whole in
     record {
       front = h.front ++ k.front;
@@ -354,39 +262,40 @@ Hears-then {o} {held} {later_held} s mid now talker r between last bytes left pa
       part = k.part;
       answered = λ all known.
           let parts = Knows-parts held all talker (lines h.front) (lines k.front) (Knows-same held held all talker _ _ refl cut known) in
-          Answered-as _ _ _ _ _ (sym (ap (heard all talker) cut ∙ heard-append all talker (lines h.front) (lines k.front))) refl refl
-          (Answered-then s mid talker r between (heard all talker (lines h.front)) told a b (h.answered all parts.0) now last
-          (heard all talker (lines k.front)) more ends c (k.answered all (Knows-same later_held held all talker _ _ same refl parts.1)));
+          let before = h.answered all parts.0 in
+          Answered-as (told_of_both told more) (told_of_both told more) ends ends
+          (then-more all m talker (lines h.front) (lines k.front) before ∙ ap (talk_of all m talker) (sym cut)) refl refl
+          (Answered-then told more ends before (k.answered all (Knows-same later_held held all talker _ _ same refl parts.1)));
     }
 
 -- the talk goes on
-pub Hears-on : {o : OriginValue} {held : Option Files} {d f : Option (List Saved)} (s now : SessionState) (talker : Talker) (r last : RecallState)
-    (bytes left : List ℕ) (told all : Told) (ends : Bool) (a b : Option (List ℕ)) → Hears o held s talker r bytes left now last told ends d f a b
-    → ends ≡ false → all ≡ told → Hears o held s talker r bytes left now last all false d f a b
-Hears-on s now talker r last bytes left told said ends a b h on is = record {
+pub Hears-on : {held : Option Files} {d f : Option (List Saved)} (m now : Moment) (talker : Talker)
+    (bytes left : List ℕ) (told said : Told) (ends : Bool) (a b : Option (List ℕ)) → Hears held m talker bytes left now told ends d f a b
+    → ends ≡ false → said ≡ told → Hears held m talker bytes left now said false d f a b
+Hears-on m now talker bytes left told said ends a b h on is = record {
   front = h.front;
   parts = h.parts;
   whole = h.whole;
   part = h.part;
-  answered = λ all known. Answered-as _ _ told said false refl is on (h.answered all known);
+  answered = λ all known. Answered-as told said ends false refl is on (h.answered all known);
 }
 
 -- ---- the text of the whole talk
 
-pub Talks-begun : (all : Files) (s : SessionState) (talker : Talker) (t : List ℕ) (fault : ToolFault) (left old new : Option (List ℕ)) → IsMemoryOrWrite fault
-    → AppendsFront old new (answers s talker nothing (heard all talker (lines t))).bytes → Talks all s talker t (Err fault) left old new
-Talks-begun all s talker t faults.Memory left old new only begun = begun
-Talks-begun all s talker t faults.Write left old new only begun = begun
-Talks-begun all s talker t faults.Read left old new only begun = absurd only
-Talks-begun all s talker t (faults.Deck fault) left old new only begun = absurd only
-Talks-begun all s talker t faults.Long left old new only begun = absurd only
+pub Talks-begun : (all : Files) (m : Moment) (talker : Talker) (t : List ℕ) (fault : ToolFault) (left old new : Option (List ℕ)) → IsMemoryOrWrite fault
+    → AppendsFront old new (talk_of all m talker (lines t)).bytes → Talks all m talker t (Err fault) left old new
+Talks-begun all m talker t faults.Memory left old new only begun = begun
+Talks-begun all m talker t faults.Write left old new only begun = begun
+Talks-begun all m talker t faults.Read left old new only begun = absurd only
+Talks-begun all m talker t (faults.Deck fault) left old new only begun = absurd only
+Talks-begun all m talker t faults.Long left old new only begun = absurd only
 
 -- the lines of a text of which whole ones come first
 two-lines : (t front rest : List ℕ) → t ≡ front ++ rest → is_whole front ≡ true → lines t ≡ lines front ++ lines rest
 two-lines t front rest e whole = ap lines e ∙ lines-append front rest whole
 
-module _ {o : OriginValue} {held : Option Files} {d f : Option (List Saved)} (s now : SessionState) (talker : Talker) (last : RecallState)
-    (bytes left : List ℕ) (told : Told) (ends : Bool) (a b : Option (List ℕ)) (h : Hears o held s talker nothing bytes left now last told ends d f a b) where
+module _ {held : Option Files} {d f : Option (List Saved)} (m now : Moment) (talker : Talker)
+    (bytes left : List ℕ) (told : Told) (ends : Bool) (a b : Option (List ℕ)) (h : Hears held m talker bytes left now told ends d f a b) where
   text-parts : (t rest : List ℕ) → t ≡ bytes ++ rest → t ≡ h.front ++ (left ++ rest)
   text-parts t rest e = e ∙ ap (λ l. l ++ rest) h.parts ∙ append_assoc h.front left rest
 
@@ -408,57 +317,52 @@ module _ {o : OriginValue} {held : Option Files} {d f : Option (List Saved)} (s 
     pub parts-known : Knows held all talker (lines h.front) × Knows held all talker (lines (left ++ rest))
     parts-known = Knows-parts held all talker (lines h.front) (lines (left ++ rest)) (Knows-same held held all talker _ _ refl whole-lines known)
 
-    abbrev answered-front : Answered o s talker nothing (heard all talker (lines h.front)) now last told ends d f a b
+    abbrev answered-front : Answered (talk_of all m talker (lines h.front)) now told ends d f a b
     answered-front = h.answered all parts-known.0
 
-    whole-heard : heard all talker (lines t) ≡ heard all talker (lines h.front) ++ heard all talker (lines (left ++ rest))
-    whole-heard = ap (heard all talker) whole-lines ∙ heard-append all talker (lines h.front) (lines (left ++ rest))
+    -- and more typed lines
+    whole-talk : joined (talk_of all m talker (lines h.front)) (talk_of all now talker (lines (left ++ rest))) ≡ talk_of all m talker (lines t)
+    whole-talk = then-more all m talker (lines h.front) (lines (left ++ rest)) answered-front ∙ ap (talk_of all m talker) (sym whole-lines)
 
     -- a line ended the talk
-    pub ended : ends ≡ true → Answered o s talker nothing (heard all talker (lines t)) now last told ends d f a b
+    pub ended : ends ≡ true → Answered (talk_of all m talker (lines t)) now told ends d f a b
     ended over =
-        Answered-as _ _ told told ends (sym whole-heard) refl refl
-        (Answered-over s now talker nothing last (heard all talker (lines h.front)) (heard all talker (lines (left ++ rest))) told ends a b over answered-front)
+        Answered-as told told ends ends whole-talk refl refl (Answered-over (talk_of all now talker (lines (left ++ rest))) told ends over answered-front)
 
     -- no more is read
-    pub unread : (new : Option (List ℕ)) → new ≡ Some rest → AnswersRead all s talker t new a b
+    pub unread : (new : Option (List ℕ)) → new ≡ Some rest → AnswersRead all m talker t new a b
     unread new is = (h.front, left, rest, is, text-parts t rest e, h.whole, h.part, answered-front.written)
 
 -- the last line, which has no line feed, at the end of the text; and whole lines of which the answers are begun
-module _ {o : OriginValue} {held later_held : Option Files} {d e : Option (List Saved)} (s mid : SessionState) (talker : Talker) (between : RecallState)
-    (bytes left : List ℕ) (told : Told) (a b : Option (List ℕ)) (h : Hears o held s talker nothing bytes left mid between told false d e a b)
+module _ {held later_held : Option Files} {d e : Option (List Saved)} (m mid : Moment) (talker : Talker)
+    (bytes left : List ℕ) (told : Told) (a b : Option (List ℕ)) (h : Hears held m talker bytes left mid told false d e a b)
     (same : later_held ≡ held) (all : Files) (t : List ℕ) (known : Knows held all talker (lines t)) where
   module _ (text : List ℕ) (here : t ≡ bytes ++ []) (is : text ≡ left) where
     end-lines : lines (left ++ []) ≡ lines text
     end-lines = ap lines (append-nil left ∙ sym is)
 
     pub end-known : Knows later_held all talker (lines text)
-    end-known =
-        Knows-same later_held held all talker _ _ same end-lines
-        (parts-known s mid talker between bytes left told false a b h all t [] here known).1
+    end-known = Knows-same later_held held all talker _ _ same end-lines (parts-known m mid talker bytes left told false a b h all t [] here known).1
 
-    end-heard : heard all talker (lines t) ≡ heard all talker (lines h.front) ++ heard all talker (lines text)
-    end-heard =
-        whole-heard s mid talker between bytes left told false a b h all t [] here known
-        ∙ ap (λ l. heard all talker (lines h.front) ++ heard all talker l) end-lines
+    before : Answered (talk_of all m talker (lines h.front)) mid told false d e a b
+    before = h.answered all (parts-known m mid talker bytes left told false a b h all t [] here known).0
 
-    before : Answered o s talker nothing (heard all talker (lines h.front)) mid between told false d e a b
-    before = h.answered all (parts-known s mid talker between bytes left told false a b h all t [] here known).0
+    end-talk : joined (talk_of all m talker (lines h.front)) (talk_of all mid talker (lines text)) ≡ talk_of all m talker (lines t)
+    end-talk =
+        ap (λ l. joined (talk_of all m talker (lines h.front)) (talk_of all mid talker l)) (sym end-lines)
+        ∙ whole-talk m mid talker bytes left told false a b h all t [] here known
 
-    pub end-answered : {f : Option (List Saved)} (now : SessionState) (last : RecallState) (more : Told) (ends : Bool) (c : Option (List ℕ))
-        → Answered o mid talker between (heard all talker (lines text)) now last more ends e f b c
-        → Answered o s talker nothing (heard all talker (lines t)) now last (told_of_both told more) ends d f a c
-    end-answered now last more ends c k =
-        Answered-as _ _ _ _ ends (sym end-heard) refl refl
-        (Answered-then s mid talker nothing between (heard all talker (lines h.front)) told a b before now last (heard all talker (lines text)) more ends c k)
+    pub end-answered : {f : Option (List Saved)} (now : Moment) (more : Told) (ends : Bool) (c : Option (List ℕ))
+        → Answered (talk_of all mid talker (lines text)) now more ends e f b c
+        → Answered (talk_of all m talker (lines t)) now (told_of_both told more) ends d f a c
+    end-answered now more ends c k = Answered-as _ _ ends ends end-talk refl refl (Answered-then told more ends before k)
 
-    pub end-begun : (c : Option (List ℕ)) → AppendsFront b c (answers mid talker between (heard all talker (lines text))).bytes
-        → AppendsFront a c (answers s talker nothing (heard all talker (lines t))).bytes
+    pub end-begun : (c : Option (List ℕ)) → AppendsFront b c (talk_of all mid talker (lines text)).bytes
+        → AppendsFront a c (talk_of all m talker (lines t)).bytes
     end-begun c begun =
-        let ys = heard all talker (lines text) in
-        subst (λ l. AppendsFront a c (answers s talker nothing l).bytes)
-        (ap (λ l. heard all talker (lines h.front) ++ l) (append-nil ys) ∙ sym end-heard)
-        (Answered-begun s mid talker nothing between (heard all talker (lines h.front)) told a b before ys [] c begun)
+        let ys = talk_of all mid talker (lines text) in
+        subst (λ s. AppendsFront a c s.bytes) (ap (joined (talk_of all m talker (lines h.front))) (joined-end ys) ∙ end-talk)
+        (Answered-begun ys (silent ys.moment) a b c before begun)
 
   module _ (part rest text more : List ℕ) (here : t ≡ (bytes ++ part) ++ rest) (parts : left ++ part ≡ text ++ more) (whole : is_whole text ≡ true) where
     more-here : t ≡ bytes ++ (part ++ rest)
@@ -469,18 +373,19 @@ module _ {o : OriginValue} {held later_held : Option Files} {d e : Option (List 
         two-lines _ text (more ++ rest) (sym (append_assoc left part rest) ∙ ap (λ l. l ++ rest) parts ∙ append_assoc text more rest) whole
 
     more-parts : Knows held all talker (lines h.front) × Knows held all talker (lines (left ++ (part ++ rest)))
-    more-parts = parts-known s mid talker between bytes left told false a b h all t (part ++ rest) more-here known
+    more-parts = parts-known m mid talker bytes left told false a b h all t (part ++ rest) more-here known
 
     pub more-known : Knows later_held all talker (lines text)
     more-known =
         Knows-same later_held held all talker _ _ same refl
         (Knows-parts held all talker (lines text) (lines (more ++ rest)) (Knows-same held held all talker _ _ refl more-lines more-parts.1)).0
 
-    pub more-begun : (c : Option (List ℕ)) → AppendsFront b c (answers mid talker between (heard all talker (lines text))).bytes
-        → AppendsFront a c (answers s talker nothing (heard all talker (lines t))).bytes
+    pub more-begun : (c : Option (List ℕ)) → AppendsFront b c (talk_of all mid talker (lines text)).bytes
+        → AppendsFront a c (talk_of all m talker (lines t)).bytes
     more-begun c begun =
-        subst (λ l. AppendsFront a c (answers s talker nothing l).bytes)
-        (sym (whole-heard s mid talker between bytes left told false a b h all t (part ++ rest) more-here known
-        ∙ ap (λ l. heard all talker (lines h.front) ++ l) (ap (heard all talker) more-lines ∙ heard-append all talker (lines text) (lines (more ++ rest)))))
-        (Answered-begun s mid talker nothing between (heard all talker (lines h.front)) told a b (h.answered all more-parts.0)
-        (heard all talker (lines text)) (heard all talker (lines (more ++ rest))) c begun)
+        let ys = talk_of all mid talker (lines text) in
+        subst (λ s. AppendsFront a c s.bytes)
+        (ap (joined (talk_of all m talker (lines h.front)))
+        (sym (ap (talk_of all mid talker) more-lines ∙ talk-append all mid talker (lines text) (lines (more ++ rest))))
+        ∙ whole-talk m mid talker bytes left told false a b h all t (part ++ rest) more-here known)
+        (Answered-begun ys (talk_of all ys.moment talker (lines (more ++ rest))) a b c (h.answered all more-parts.0) begun)

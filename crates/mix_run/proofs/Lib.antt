@@ -6,8 +6,10 @@ mod PersonLemmas
 mod PrintLemmas
 mod PrintOutputLemmas
 mod PrintRunLemmas
+mod ReloadLemmas
 mod RunLemmas
 mod SourceLemmas
+mod StretchLemmas
 mod TalkLemmas
 mod TalkMeets
 mod Truncation

@@ -1,5 +1,5 @@
 -- The lines of a talk, which come in parts: what is said of the parts holds of the whole.
-use Rattle.std.proofs.Common.{◌≡◌, ◌∙◌, ◌<◌, ◌≤◌, ◌+◌, ◌-◌, ◌||◌, ◌==◌, ℕ, zero, suc, Bool, true, false, cond, List, [], ◌∷◌, ◌++◌, append_assoc, length, map, take, drop, get_or, slice_index, Option, None, Some, Result, Ok, Err, IfErr, refl, sym, ap, ap₂, subst, arith, true≢false, eqb}
+use Rattle.std.proofs.Common.{◌≡◌, ◌∙◌, ◌<◌, ◌≤◌, ◌+◌, ◌-◌, ◌||◌, ℕ, zero, suc, Bool, true, false, cond, List, [], ◌∷◌, ◌++◌, append_assoc, length, map, take, get_or, slice_index, Option, None, Some, refl, sym, ap, ap₂, subst, arith, true≢false, eqb}
 use Rattle.std.proofs.KnownBytes.{Consumes-trans}
 use Rattle.std.proofs.lemmas.List.{append-nil, length-append, map-append, take_more}
 use Rattle.std.proofs.lemmas.List.Folds.{list_any-append}
@@ -9,28 +9,25 @@ use Rattle.mix_lines.specs.Lines.{is_line_feed, lines, lines-nil, strip_line_fee
 use Rattle.std.specs.Str.Lines.{strip_carriage_return}
 use Rattle.std.proofs.lemmas.Bool.{lt-ltb}
 use Rattle.mix_session.specs.Session.{SessionState, effect_in}
-use Rattle.mix_run.specs.Fault.{IsMemoryOrWrite}
 use Rattle.mix_session.specs.Command.{after, reply_of}
 use Rattle.mix_session.specs.Answer.{told_of}
 use Rattle.mix_session.specs.Reply.{told_of_both}
 use Rattle.mix_session.specs.declared.reply.Told.{Told}
-use Rattle.mix_run.specs.declared.fault.ToolFault.{ToolFault}
-use Rattle.mix_run.specs.declared.fault.ToolFault.TheVariants as faults
 use Rattle.mix_stream.specs.Stream.{AppendsFront}
 use Rattle.mix_run.specs.Output.{replies}
 use Rattle.mix_run.specs.Bundle.{OriginValue, bundle_of}
 use Rattle.mix_run.specs.Opening.{Saved, noted, noted_one}
 use Rattle.mix_run.specs.Recall.{RecallState, meant, meant_by, recalled, recalled_by}
 use Rattle.mix_run.specs.Saves.{saves, saves_by, saves_of}
-use Rattle.mix_run.specs.Talk.{AnswersRead, Talks, after_lines, answers, asked, is_over, is_end, is_quit, is_too_long, is_whole, max_line_bytes, recalled_all}
-use Rattle.mix_run.specs.Hearing.{Hears}
+use Rattle.mix_run.specs.Asked.{after_lines, answers, asked, is_over, is_end, is_quit, recalled_all}
+use Rattle.mix_run.specs.Talk.{is_too_long, is_whole, max_line_bytes}
 use Rattle.mix_run.specs.Person.{kind_of, person_line}
 use Rattle.mix_run.specs.declared.talk.person.Line.{Line}
 use Rattle.mix_run.specs.declared.talk.person.Line.TheVariants as line_kind
 use Rattle.mix_run.specs.declared.talk.aside.Talker.{Talker}
 use Rattle.mix_run.specs.declared.talk.aside.Talker.TheVariants as talkers
 use Rattle.mix_run.proofs.RunLemmas.{both-accepted, both-assoc}
-use Rattle.mix_run.proofs.Written.{Appends-nothing, Appends-then, Appends-same, AppendsFront-after, AppendsFront-all}
+use Rattle.mix_run.proofs.Written.{Appends-then, Appends-same, AppendsFront-after}
 
 -- ---- lines
 
@@ -174,167 +171,11 @@ pub after-append : (s : SessionState) (xs ys : List (List ℕ)) → after_lines 
 after-append s [] ys = refl
 after-append s (line ∷ rest) ys = after-append (record s { timeline = after (effect_in s line) }) rest ys
 
--- ---- the commands among lines
-
--- the lines that follow some lines, after which the talk goes on
-pub asked-append : (s : SessionState) (talker : Talker) (r : RecallState) (xs ys : List (List ℕ)) → is_over talker xs ≡ false
-    → asked s talker r (xs ++ ys) ≡ asked s talker r xs ++ asked (after_lines s (asked s talker r xs)) talker (recalled_all s talker r xs) ys
-asked-append s talker r [] ys still = refl
-asked-append s talker r (line ∷ rest) ys still =
-    go (is_quit talker line) still (asked-append (after_lines s (meant s talker r line)) talker (recalled s talker r line) rest ys)
-  where
-    said : List (List ℕ)
-    said = meant s talker r line
-
-    next : SessionState
-    next = after_lines s said
-
-    later : RecallState
-    later = recalled s talker r line
-
-    more : List (List ℕ)
-    more = asked next talker later rest
-
-    go : (q : Bool) → (q || is_over talker rest) ≡ false
-        → (is_over talker rest ≡ false → asked next talker later (rest ++ ys)
-        ≡ more ++ asked (after_lines next more) talker (recalled_all next talker later rest) ys)
-        → cond q [] (said ++ asked next talker later (rest ++ ys))
-        ≡ cond q [] (said ++ more) ++ asked (after_lines s (cond q [] (said ++ more))) talker (cond q r (recalled_all next talker later rest)) ys
-    go true still first = absurd (true≢false still)
-    go false still first =
-        ap (λ l. said ++ l) (first still)
-        ∙ sym (append_assoc said more (asked (after_lines next more) talker (recalled_all next talker later rest) ys))
-        ∙ ap (λ t. (said ++ more) ++ asked t talker (recalled_all next talker later rest) ys) (sym (after-append s said more))
-
-pub recalled-append : (s : SessionState) (talker : Talker) (r : RecallState) (xs ys : List (List ℕ)) → is_over talker xs ≡ false
-    → recalled_all s talker r (xs ++ ys) ≡ recalled_all (after_lines s (asked s talker r xs)) talker (recalled_all s talker r xs) ys
-recalled-append s talker r [] ys still = refl
-recalled-append s talker r (line ∷ rest) ys still =
-    go (is_quit talker line) still (recalled-append (after_lines s (meant s talker r line)) talker (recalled s talker r line) rest ys)
-  where
-    said : List (List ℕ)
-    said = meant s talker r line
-
-    next : SessionState
-    next = after_lines s said
-
-    later : RecallState
-    later = recalled s talker r line
-
-    more : List (List ℕ)
-    more = asked next talker later rest
-
-    go : (q : Bool) → (q || is_over talker rest) ≡ false
-        → (is_over talker rest ≡ false → recalled_all next talker later (rest ++ ys)
-        ≡ recalled_all (after_lines next more) talker (recalled_all next talker later rest) ys)
-        → cond q r (recalled_all next talker later (rest ++ ys))
-        ≡ recalled_all (after_lines s (cond q [] (said ++ more))) talker (cond q r (recalled_all next talker later rest)) ys
-    go true still first = absurd (true≢false still)
-    go false still first =
-        first still
-        ∙ ap (λ t. recalled_all t talker (recalled_all next talker later rest) ys) (sym (after-append s said more))
-
-pub asked-over : (s : SessionState) (talker : Talker) (r : RecallState) (xs ys : List (List ℕ)) → is_over talker xs ≡ true
-    → asked s talker r (xs ++ ys) ≡ asked s talker r xs
-asked-over s talker r [] ys over = absurd (true≢false (sym over))
-asked-over s talker r (line ∷ rest) ys over =
-    go (is_quit talker line) over (asked-over (after_lines s (meant s talker r line)) talker (recalled s talker r line) rest ys)
-  where
-    said : List (List ℕ)
-    said = meant s talker r line
-
-    next : SessionState
-    next = after_lines s said
-
-    later : RecallState
-    later = recalled s talker r line
-
-    go : (q : Bool) → (q || is_over talker rest) ≡ true
-        → (is_over talker rest ≡ true → asked next talker later (rest ++ ys) ≡ asked next talker later rest)
-        → cond q [] (said ++ asked next talker later (rest ++ ys)) ≡ cond q [] (said ++ asked next talker later rest)
-    go true over first = refl
-    go false over first = ap (λ l. said ++ l) (first over)
-
-pub recalled-over : (s : SessionState) (talker : Talker) (r : RecallState) (xs ys : List (List ℕ)) → is_over talker xs ≡ true
-    → recalled_all s talker r (xs ++ ys) ≡ recalled_all s talker r xs
-recalled-over s talker r [] ys over = absurd (true≢false (sym over))
-recalled-over s talker r (line ∷ rest) ys over =
-    go (is_quit talker line) over (recalled-over (after_lines s (meant s talker r line)) talker (recalled s talker r line) rest ys)
-  where
-    next : SessionState
-    next = after_lines s (meant s talker r line)
-
-    later : RecallState
-    later = recalled s talker r line
-
-    go : (q : Bool) → (q || is_over talker rest) ≡ true
-        → (is_over talker rest ≡ true → recalled_all next talker later (rest ++ ys) ≡ recalled_all next talker later rest)
-        → cond q r (recalled_all next talker later (rest ++ ys)) ≡ cond q r (recalled_all next talker later rest)
-    go true over first = refl
-    go false over first = first over
-
 -- ---- what lines save
 
 pub noted-then : (so_far : Option (List Saved)) (xs ys : List Saved) → noted (noted so_far xs) ys ≡ noted so_far (xs ++ ys)
 noted-then so_far [] ys = refl
 noted-then so_far (file ∷ files) ys = noted-then (noted_one so_far file) files ys
-
--- what is saved by the lines that follow some lines, after which the talk goes on
-pub saves-append : (o : OriginValue) (s : SessionState) (talker : Talker) (r : RecallState) (xs ys : List (List ℕ)) → is_over talker xs ≡ false
-    → saves o s talker r (xs ++ ys) ≡ saves o s talker r xs ++ saves o (after_lines s (asked s talker r xs)) talker (recalled_all s talker r xs) ys
-saves-append o s talker r [] ys still = refl
-saves-append o s talker r (line ∷ rest) ys still =
-    go (is_quit talker line) still (saves-append o (after_lines s (meant s talker r line)) talker (recalled s talker r line) rest ys)
-  where
-    said : List (List ℕ)
-    said = meant s talker r line
-
-    next : SessionState
-    next = after_lines s said
-
-    later : RecallState
-    later = recalled s talker r line
-
-    more : List (List ℕ)
-    more = asked next talker later rest
-
-    one : List Saved
-    one = saves_of o talker r line
-
-    here : List Saved
-    here = saves o next talker later rest
-
-    go : (q : Bool) → (q || is_over talker rest) ≡ false
-        → (is_over talker rest ≡ false → saves o next talker later (rest ++ ys)
-        ≡ here ++ saves o (after_lines next more) talker (recalled_all next talker later rest) ys)
-        → cond q [] (one ++ saves o next talker later (rest ++ ys))
-        ≡ cond q [] (one ++ here) ++ saves o (after_lines s (cond q [] (said ++ more))) talker (cond q r (recalled_all next talker later rest)) ys
-    go true still first = absurd (true≢false still)
-    go false still first =
-        ap (λ l. one ++ l) (first still)
-        ∙ sym (append_assoc one here (saves o (after_lines next more) talker (recalled_all next talker later rest) ys))
-        ∙ ap (λ t. (one ++ here) ++ saves o t talker (recalled_all next talker later rest) ys) (sym (after-append s said more))
-
-pub saves-over : (o : OriginValue) (s : SessionState) (talker : Talker) (r : RecallState) (xs ys : List (List ℕ)) → is_over talker xs ≡ true
-    → saves o s talker r (xs ++ ys) ≡ saves o s talker r xs
-saves-over o s talker r [] ys over = absurd (true≢false (sym over))
-saves-over o s talker r (line ∷ rest) ys over =
-    go (is_quit talker line) over (saves-over o (after_lines s (meant s talker r line)) talker (recalled s talker r line) rest ys)
-  where
-    next : SessionState
-    next = after_lines s (meant s talker r line)
-
-    later : RecallState
-    later = recalled s talker r line
-
-    one : List Saved
-    one = saves_of o talker r line
-
-    go : (q : Bool) → (q || is_over talker rest) ≡ true
-        → (is_over talker rest ≡ true → saves o next talker later (rest ++ ys) ≡ saves o next talker later rest)
-        → cond q [] (one ++ saves o next talker later (rest ++ ys)) ≡ cond q [] (one ++ saves o next talker later rest)
-    go true over first = refl
-    go false over first = ap (λ l. one ++ l) (first over)
 
 -- ---- one line of a text
 
@@ -354,6 +195,7 @@ quit-meant line_kind.Display typed e = absurd (true≢false (sym e))
 quit-meant line_kind.Undisplay typed e = absurd (true≢false (sym e))
 quit-meant line_kind.Save typed e = absurd (true≢false (sym e))
 quit-meant line_kind.Source typed e = absurd (true≢false (sym e))
+quit-meant line_kind.Reload typed e = absurd (true≢false (sym e))
 
 pub quit-said : (s : SessionState) (talker : Talker) (r : RecallState) (line : List ℕ) → is_quit talker line ≡ true → meant s talker r line ≡ []
 quit-said s talkers.Program r line e = absurd (true≢false (sym e))
@@ -371,6 +213,7 @@ quit-unsaved line_kind.Display bundle said e = absurd (true≢false (sym e))
 quit-unsaved line_kind.Undisplay bundle said e = absurd (true≢false (sym e))
 quit-unsaved line_kind.Save bundle said e = absurd (true≢false (sym e))
 quit-unsaved line_kind.Source bundle said e = absurd (true≢false (sym e))
+quit-unsaved line_kind.Reload bundle said e = absurd (true≢false (sym e))
 
 -- nor is anything recalled of it
 quit-unrecalled : (s : SessionState) (kind : Line) (typed : List ℕ) (r : RecallState) → is_end kind ≡ true → recalled_by s kind typed r ≡ r
@@ -384,6 +227,7 @@ quit-unrecalled s line_kind.Display typed r e = absurd (true≢false (sym e))
 quit-unrecalled s line_kind.Undisplay typed r e = absurd (true≢false (sym e))
 quit-unrecalled s line_kind.Save typed r e = absurd (true≢false (sym e))
 quit-unrecalled s line_kind.Source typed r e = absurd (true≢false (sym e))
+quit-unrecalled s line_kind.Reload typed r e = absurd (true≢false (sym e))
 
 pub quit-recalled : (s : SessionState) (talker : Talker) (r : RecallState) (line : List ℕ) → is_quit talker line ≡ true → recalled s talker r line ≡ r
 quit-recalled s talkers.Program r line e = refl

@@ -45,15 +45,15 @@ abbrev pub marked : List ℕ → List ℕ → List ℕ
 marked marker [] = []
 marked marker (byte ∷ text) = marker ++ 10 ∷ ended (byte ∷ text)
 
--- what a talk is about: the source of its program, and the deck of its devices
+-- what a talk is about: the file of its source, the text of that, and the deck of its devices
 pub record OriginValue : Type 0 where
+  pub name : List ℕ
   pub source : List ℕ
   pub deck : List ℕ
 
--- the bundle of a source, a deck and a script
+-- the bundle of a source, of a bundle the one in it, a deck and a script
 unfoldable pub bundle_of : OriginValue → List ℕ → List ℕ
-bundle_of origin script = ended origin.source ++ (marked (codes "%DEVICES") origin.deck ++ marked (codes "%SCRIPT") script)
+bundle_of origin script = ended (cut_of origin.source).source ++ (marked (codes "%DEVICES") origin.deck ++ marked (codes "%SCRIPT") script)
 
--- a talk is about a source, which of a bundle is its first part, and a deck
-abbrev pub origin_of : List ℕ → List ℕ → OriginValue
-origin_of source deck = record { source = (cut_of source).source; deck = deck }
+abbrev pub origin_of : List ℕ → List ℕ → List ℕ → OriginValue
+origin_of name source deck = record { name = name; source = source; deck = deck }

@@ -1,3 +1,4 @@
+pub mod Asked
 pub mod Bundle
 pub mod Check
 pub mod Fault
@@ -12,7 +13,9 @@ pub mod PrintSteps
 pub mod Reason
 pub mod Recall
 pub mod Refusal
+pub mod Reload
 pub mod Saves
 pub mod Sources
+pub mod Stretch
 pub mod Talk
 pub mod UnitsRead

@@ -7,7 +7,7 @@ use Rattle.mix_word.specs.Register.{all_registers, name_of_register}
 use Rattle.mix_run.specs.declared.talk.person.Line.{Line}
 use Rattle.mix_run.specs.declared.talk.person.Line.TheVariants as line_kind
 use Rattle.mix_run.specs.declared.talk.person.PersonWord.{PersonWord}
-use Rattle.mix_run.specs.declared.talk.person.PersonWord.TheVariants.{Step, Next, Run, Trace, Break, Back, Forth, Goto, Continue, Clear, Set, Show, Quit, Help, Question, Print, Listing, Where, Watch, Delete, Display, Until, Undisplay, Examine, Exit, Save, Source}
+use Rattle.mix_run.specs.declared.talk.person.PersonWord.TheVariants.{Step, Next, Run, Trace, Break, Back, Forth, Goto, Continue, Clear, Set, Show, Quit, Help, Question, Print, Listing, Where, Watch, Delete, Display, Until, Undisplay, Examine, Exit, Save, Source, Reload}
 
 -- the words that a person may begin a line with
 abbrev pub name_of : PersonWord → List ℕ
@@ -38,12 +38,14 @@ name_of Examine = codes "x"
 name_of Exit = codes "exit"
 name_of Save = codes "save"
 name_of Source = codes "source"
+name_of Reload = codes "reload"
 
 -- in this order: of several that begin in the same way, the first one is meant
 abbrev pub all_words : List PersonWord
 all_words =
     Step ∷ Next ∷ Run ∷ Trace ∷ Break ∷ Back ∷ Forth ∷ Goto ∷ Continue ∷ Clear ∷ Set ∷ Show ∷ Quit ∷ Help ∷ Question
-    ∷ Print ∷ Listing ∷ Where ∷ Watch ∷ Delete ∷ Display ∷ Until ∷ Undisplay ∷ Examine ∷ Exit ∷ Save ∷ Source ∷ []
+    ∷ Print ∷ Listing ∷ Where ∷ Watch ∷ Delete ∷ Display ∷ Until ∷ Undisplay ∷ Examine ∷ Exit ∷ Save ∷ Source ∷ Reload
+    ∷ []
 
 -- the command that each stands for
 abbrev pub command_of : PersonWord → List ℕ
@@ -217,6 +219,8 @@ kind_of_word (Some Undisplay) [] = line_kind.Undisplay
 kind_of_word (Some Undisplay) (word ∷ rest) = line_kind.Command
 kind_of_word (Some Save) rest = line_kind.Save
 kind_of_word (Some Source) rest = line_kind.Source
+kind_of_word (Some Reload) [] = line_kind.Reload
+kind_of_word (Some Reload) (word ∷ rest) = line_kind.Command
 kind_of_word (Some Quit) [] = line_kind.Quit
 kind_of_word (Some Exit) [] = line_kind.Quit
 kind_of_word (Some Quit) (word ∷ rest) = line_kind.Command

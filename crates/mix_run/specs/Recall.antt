@@ -101,6 +101,7 @@ recalled_by s line_kind.Display typed r = recalled_display (request_in s typed) 
 recalled_by s line_kind.Undisplay typed r = record r { displays = [] }
 recalled_by s line_kind.Save typed r = r
 recalled_by s line_kind.Source typed r = r
+recalled_by s line_kind.Reload typed r = r
 recalled_by s line_kind.Quit typed r = r
 
 abbrev pub recalled : SessionState → Talker → RecallState → List ℕ → RecallState
@@ -108,7 +109,7 @@ recalled s Program r line = r
 recalled s Person r line = recalled_by s (kind_of (words line)) (person_line r.again r.watch line) r
 
 -- the lines of a script that a line stands for: a program's stands for itself; help is no command, nor is a listing of the source, what is watched,
--- displayed or saved, or the end of a talk; nor is a line of a file that sources another one, which is refused
+-- displayed or saved, or the end of a talk; nor is a line of a file that sources another one or reloads, which is refused
 abbrev pub meant_by : Line → List ℕ → List (List ℕ)
 meant_by line_kind.Command typed = typed ∷ []
 meant_by line_kind.Help typed = []
@@ -119,6 +120,7 @@ meant_by line_kind.Display typed = []
 meant_by line_kind.Undisplay typed = []
 meant_by line_kind.Save typed = []
 meant_by line_kind.Source typed = []
+meant_by line_kind.Reload typed = []
 meant_by line_kind.Quit typed = []
 
 abbrev pub meant : SessionState → Talker → RecallState → List ℕ → List (List ℕ)

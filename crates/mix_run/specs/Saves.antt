@@ -1,13 +1,13 @@
 -- What a person saves: under the name that a line gives, the bundle of what was done so far.
 use Rattle.std.specs.Prelude.{ℕ, List, [], ◌∷◌, ◌++◌, Option, None, Some, nat_lt, length, if◌then◌else◌}
 use Rattle.mix_lines.specs.Lines.{words}
+use Rattle.mix_run.specs.Asked.{after_lines, is_quit}
 use Rattle.mix_session.specs.Session.{SessionState}
 use Rattle.mix_run.specs.Bundle.{OriginValue, bundle_of}
 use Rattle.mix_run.specs.Opening.{Saved}
 use Rattle.mix_run.specs.Output.{max_bundle_bytes}
 use Rattle.mix_run.specs.Person.{kind_of, name_in}
 use Rattle.mix_run.specs.Recall.{RecallState, meant, recalled}
-use Rattle.mix_run.specs.Talk.{after_lines, is_quit}
 use Rattle.mix_run.specs.declared.talk.person.Line.{Line}
 use Rattle.mix_run.specs.declared.talk.person.Line.TheVariants as line_kind
 use Rattle.mix_run.specs.declared.talk.aside.Talker.{Talker}

@@ -1,5 +1,5 @@
--- What a person sources: a line `source FILE` stands for the lines of the file, each as if it had been typed.
-use Rattle.std.specs.Prelude.{◌≡◌, ◌⊎◌, ℕ, Bool, true, false, List, [], ◌∷◌, ◌++◌, Option, None, Some, Result, Ok, Err, nat_lt, length, if◌then◌else◌}
+-- What a person sources: a line `source FILE` stands for the lines of the file, each as if it had been typed. And which lines read a file.
+use Rattle.std.specs.Prelude.{◌≡◌, ◌⊎◌, ◌||◌, ℕ, Bool, true, false, List, [], ◌∷◌, Option, None, Some, Result, Ok, Err, nat_lt, length, if◌then◌else◌}
 use Rattle.std.specs.List.{list_any}
 use Rattle.mix_lines.specs.Lines.{lines, words}
 use Rattle.mix_run.specs.Opening.{Files}
@@ -26,15 +26,11 @@ abbrev pub stands_by : Files → Line → List ℕ → List (List ℕ)
 stands_by all line_kind.Source line = lines_under all (name_in (words line))
 stands_by all other line = line ∷ []
 
--- the lines that a typed line stands for; a program sources no file
+-- the lines that a typed line stands for; a program sources no file. In a file that is sourced, `source FILE` stands for itself, which does nothing,
+-- and so does `reload`.
 abbrev pub stands_for : Files → Talker → List ℕ → List (List ℕ)
 stands_for all Program line = line ∷ []
 stands_for all Person line = stands_by all (kind_of (words line)) line
-
--- the lines that are heard, of those that are typed: in a file that is sourced, `source FILE` stands for itself, which does nothing
-abbrev pub heard : Files → Talker → List (List ℕ) → List (List ℕ)
-heard all talker [] = []
-heard all talker (line ∷ typed) = stands_for all talker line ++ heard all talker typed
 
 -- whether a line of this kind sources a file
 abbrev pub sources_by : Line → Bool
@@ -45,6 +41,19 @@ abbrev pub is_source : Talker → List ℕ → Bool
 is_source Program line = false
 is_source Person line = sources_by (kind_of (words line))
 
--- It is known which lines these stand for: what the files hold is known, or none of the lines sources one.
+-- whether a line of this kind reloads the source
+abbrev pub reloads_by : Line → Bool
+reloads_by line_kind.Reload = true
+reloads_by other = false
+
+abbrev pub is_reload : Talker → List ℕ → Bool
+is_reload Program line = false
+is_reload Person line = reloads_by (kind_of (words line))
+
+-- whether a line reads a file
+abbrev pub reads_file : Talker → List ℕ → Bool
+reads_file talker line = is_reload talker line || is_source talker line
+
+-- It is known what these lines read: what the files hold is known, or none of the lines reads one.
 abbrev pub Knows : Option Files → Files → Talker → List (List ℕ) → Type 0
-Knows held all talker typed = (held ≡ Some all) ⊎ (list_any (is_source talker) typed ≡ false)
+Knows held all talker typed = (held ≡ Some all) ⊎ (list_any (reads_file talker) typed ≡ false)

@@ -33,30 +33,54 @@ pub(crate) struct BundleParts<'a> {
     pub script: &'a [u8],
 }
 
-/// What a talk is about: the source of its program, and the deck of its devices.
+/// What a talk is about: the file of its source, the text of that, and the deck of its devices.
 #[derive(Drop)]
-pub(crate) struct Origin<'a> {
-    source: &'a [u8],
-    deck: &'a [u8],
+pub(crate) struct Origin<'n> {
+    name: &'n str,
+    source: Vec<u8>,
+    deck: Vec<u8>,
 }
 
-impl<'a> Model for Origin<'a> {
+impl<'n> Model for Origin<'n> {
     ghost use Rattle.mix_run.specs.Bundle.{OriginValue};
 
     ghost Value = { OriginValue };
 
-    ghost view = { λ o. record { source = o.source.now; deck = o.deck.now } };
+    ghost view = { λ o. record { name = o.name.now; source = o.source.items; deck = o.deck.items } };
 }
 
-impl<'a> Origin<'a> {
-    /// A source, of a bundle the one in it, and a deck.
-    pub(crate) fn of(source: &'a [u8], deck: &'a [u8]) -> Origin<'a>
-        ensures { result ≡ origin_of source.now deck.now }
+impl<'n> Origin<'n> {
+    /// A source that was read from the file of this name, and a deck.
+    pub(crate) fn of(name: &'n str, source: Vec<u8>, deck: Vec<u8>) -> Origin<'n>
+        ensures { result ≡ origin_of name.now source.items deck.items }
     {
-        Origin {
-            source: cut(source).source,
-            deck,
-        }
+        Origin { name, source, deck }
+    }
+
+    /// The name of the file of the source.
+    pub(crate) fn name(&self) -> &'n str
+        ensures { result.now ≡ self.now.name }
+    {
+        self.name
+    }
+
+    pub(crate) fn source(&self) -> &[u8]
+        ensures { result.now ≡ self.now.source }
+    {
+        &self.source
+    }
+
+    pub(crate) fn deck(&self) -> &[u8]
+        ensures { result.now ≡ self.now.deck }
+    {
+        &self.deck
+    }
+
+    /// The file has this text now.
+    pub(crate) fn put_source(&mut self, source: Vec<u8>)
+        ensures { self.new ≡ record self.old { source = source.items } }
+    {
+        self.source = source;
     }
 }
 
@@ -96,14 +120,14 @@ fn put_marked(text: &mut Vec<u8>, marker: &[u8], part: &[u8]) -> Result<(), Memo
     }
 }
 
-/// The bundle of a source, a deck and a script.
+/// The bundle of a source, of a bundle the one in it, a deck and a script.
 #[tactic(auto, unfolding(crate::specs::Bundle::bundle_of))]
 pub(crate) fn bundle_of(alloc: Global, origin: &Origin, script: &[u8]) -> Result<Vec<u8>, Memory>
     ensures { IfOk result (λ text. text.items ≡ bundle_of origin.now script.now) }
 {
     let mut text = Vec::new(alloc);
-    put_ended(&mut text, origin.source)?;
-    put_marked(&mut text, DEVICES, origin.deck)?;
+    put_ended(&mut text, cut(&origin.source).source)?;
+    put_marked(&mut text, DEVICES, &origin.deck)?;
     put_marked(&mut text, SCRIPT, script)?;
     Ok(text)
 }

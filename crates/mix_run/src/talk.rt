@@ -9,13 +9,12 @@ ghost use Rattle.mix_run.specs.Fault.{IsMemoryOrWrite};
 ghost use Rattle.mix_run.specs.Output.{IsStatus, Meets, max_script_bytes, output, refusal_of};
 ghost use Rattle.mix_run.specs.Bundle.{origin_of};
 ghost use Rattle.mix_run.specs.Opening.{Files, noted};
-ghost use Rattle.mix_run.specs.Recall.{nothing};
-ghost use Rattle.mix_run.specs.Saves.{saves};
-ghost use Rattle.mix_run.specs.Sources.{Knows, heard};
+ghost use Rattle.mix_run.specs.Reload.{begun};
+ghost use Rattle.mix_run.specs.Sources.{Knows};
+ghost use Rattle.mix_run.specs.Stretch.{talk_of};
 ghost use Rattle.mix_run.specs.Talk.{TalksWith, is_too_long};
 ghost use Rattle.mix_lines.specs.Lines.{lines};
 ghost use Rattle.mix_machine.specs.units.Units.{UnitsState};
-ghost use Rattle.mix_session.specs.Session.{opened};
 ghost use Rattle.mixal_asm.specs.Program.{ProgramValue};
 ghost use Rattle.std.specs.List.{list_any};
 ghost use Rattle.mix_stream.specs.Stream.{ConsumesAtMost, CountsFailure};
@@ -29,6 +28,7 @@ mod help;
 mod listing;
 mod person;
 mod recall;
+mod reload;
 mod save;
 mod shown;
 mod source;
@@ -63,7 +63,7 @@ pub struct Streams<R, W, E> {
 fn talk_with<O: Opener, R: In, W: Out, E: Out>(
     alloc: Global,
     name: &str,
-    source: &[u8],
+    source: Vec<u8>,
     program: Program,
     deck: Deck,
     files: &mut O,
@@ -72,7 +72,7 @@ fn talk_with<O: Opener, R: In, W: Out, E: Out>(
     requires input_count { R.failed streams.old.input < 2 ^ 64 - 1 }
     requires out_count { W.failed streams.old.out < 2 ^ 64 - 1 }
     ensures talks { (all : Files) (t : List ℕ) → R.rest streams.old.input ≡ Some t → Knows (O.holds files.old) all streams.old.talker (lines t)
-        → TalksWith all (Ok program) (Ok deck.units) streams.old.talker t result (R.rest streams.new.input) (W.told streams.old.out) (W.told streams.new.out) }
+        → TalksWith all (origin_of name.now source.items deck.text.items) (Ok program) (Ok deck.units) streams.old.talker t result (R.rest streams.new.input) (W.told streams.old.out) (W.told streams.new.out) }
     ensures long { result ≡ Err ToolFault.Long → (t : List ℕ) → R.rest streams.old.input ≡ Some t → max_script_bytes < length t }
     ensures long_line { result ≡ Err ToolFault.Long → (t : List ℕ) → R.rest streams.old.input ≡ Some t → length t < 2 ^ 64 - 1
         → list_any is_too_long (lines t) ≡ true }
@@ -84,7 +84,8 @@ fn talk_with<O: Opener, R: In, W: Out, E: Out>(
     ensures quiet { streams.old.talker ≡ Talker.Program → streams.new.errors ≡ streams.old.errors }
     ensures ends { IfOk result IsStatus }
     ensures saved { (all : Files) (t : List ℕ) → R.rest streams.old.input ≡ Some t → Knows (O.holds files.old) all streams.old.talker (lines t)
-        → OnOk result (O.saved files.new ≡ noted (O.saved files.old) (saves (origin_of source.now deck.text.items) (opened program deck.units) streams.old.talker nothing (heard all streams.old.talker (lines t)))) }
+        → OnOk result (O.saved files.new ≡ noted (O.saved files.old)
+        (talk_of all (begun (origin_of name.now source.items deck.text.items) program deck.units) streams.old.talker (lines t)).saved) }
     ensures unasked { O.asked files.new ≡ O.asked files.old }
     ensures untouched { streams.old.talker ≡ Talker.Program → files.new ≡ files.old }
 {
@@ -100,12 +101,13 @@ fn talk_with<O: Opener, R: In, W: Out, E: Out>(
         errors,
     } = streams;
     let talker = *talker;
-    greet(alloc, name, source, talker, errors);
+    greet(alloc, name, &source, talker, errors);
+    let mut origin = Origin::of(name, source, text);
     match talk(
         &mut session,
         talker,
-        Recall::new(alloc, source),
-        &Origin::of(source, &text),
+        Recall::new(alloc),
+        &mut origin,
         files,
         input,
         out,
@@ -149,7 +151,7 @@ fn talk_of_source<O: Opener, S: In, D: In, R: In, W: Out, E: Out>(
     requires input_count { R.failed streams.old.input < 2 ^ 64 - 1 }
     requires out_count { W.failed streams.old.out < 2 ^ 64 - 1 }
     ensures talks { (all : Files) (s d t : List ℕ) → S.rest source.old ≡ Some s → D.rest deck.old ≡ Some d → R.rest streams.old.input ≡ Some t
-        → Knows (O.holds files.old) all streams.old.talker (lines t) → TalksWith all (assembly s) (deck_of d) streams.old.talker t result (R.rest streams.new.input) (W.told streams.old.out) (W.told streams.new.out) }
+        → Knows (O.holds files.old) all streams.old.talker (lines t) → TalksWith all (origin_of name.now s d) (assembly s) (deck_of d) streams.old.talker t result (R.rest streams.new.input) (W.told streams.old.out) (W.told streams.new.out) }
     ensures long { result ≡ Err ToolFault.Long → (d t : List ℕ) → D.rest deck.old ≡ Some d → R.rest streams.old.input ≡ Some t → max_script_bytes < length t }
     ensures long_line { result ≡ Err ToolFault.Long → (d t : List ℕ) → D.rest deck.old ≡ Some d → R.rest streams.old.input ≡ Some t
         → length t < 2 ^ 64 - 1 → list_any is_too_long (lines t) ≡ true }
@@ -174,7 +176,7 @@ fn talk_of_source<O: Opener, S: In, D: In, R: In, W: Out, E: Out>(
     ensures ends { IfOk result IsStatus }
     ensures saved { (all : Files) (s d t : List ℕ) (p : ProgramValue) (u : UnitsState) → S.rest source.old ≡ Some s → D.rest deck.old ≡ Some d
         → R.rest streams.old.input ≡ Some t → Knows (O.holds files.old) all streams.old.talker (lines t) → assembly s ≡ Ok p → deck_of d ≡ Ok u
-        → OnOk result (O.saved files.new ≡ noted (O.saved files.old) (saves (origin_of s d) (opened p u) streams.old.talker nothing (heard all streams.old.talker (lines t)))) }
+        → OnOk result (O.saved files.new ≡ noted (O.saved files.old) (talk_of all (begun (origin_of name.now s d) p u) streams.old.talker (lines t)).saved) }
     ensures unsaved { result ≡ Ok 1 → files.new ≡ files.old }
     ensures unasked { O.asked files.new ≡ O.asked files.old }
     ensures untouched { streams.old.talker ≡ Talker.Program → files.new ≡ files.old }
@@ -188,14 +190,14 @@ fn talk_of_source<O: Opener, S: In, D: In, R: In, W: Out, E: Out>(
                 Ok(deck) => deck,
                 Err(fault) => return Err(fault),
             };
-            talk_with(alloc, name, &text, program, deck, files, streams)
+            talk_with(alloc, name, text, program, deck, files, streams)
         }
     }
 }
 
 /// Assembles a source, reads a deck, and talks with the loaded machine: each line of the input is a command, as a line of a script is, which is done
 /// and answered before the next is read. A person is told the warnings of the source on the error output, greeted and prompted there, and has `help`,
-/// `save`, `source` and `quit` beside the commands. The status is 0 where each command was accepted, 3 where one was refused, and 1 where the source is refused: then its first fault is written, and
+/// `save`, `source`, `reload` and `quit` beside the commands. The status is 0 where each command was accepted, 3 where one was refused, and 1 where the source is refused: then its first fault is written, and
 /// all of them are told on the error output, with their lines and marks. At most 1,048,577 bytes of the source are read and 33,554,433 of the
 /// deck, before the first line is read; the deck is read after the source. After a refusal or a read that failed nothing else is read.
 ///
@@ -215,10 +217,10 @@ pub fn run_talk<O: Opener, S: In, D: In, R: In, W: Out, E: Out>(
     requires input_count { R.failed streams.old.input < 2 ^ 64 - 1 }
     requires out_count { W.failed streams.old.out < 2 ^ 64 - 1 }
 
-    // What is written are the replies to the lines, each before the next is read; where a line sources a file, to the lines of it. These are known if it is
-    // known what the files hold, or no line sources one.
+    // What is written are the replies to the lines, each before the next is read; where a line sources a file, to the lines of it, and after a line that
+    // reloads the source, in the machine of that. These are known if it is known what the files hold, or no line reads one.
     ensures talks { (all : Files) (s d t : List ℕ) → S.rest source.old ≡ Some s → D.rest deck.old ≡ Some d → R.rest streams.old.input ≡ Some t
-        → Knows (O.holds files.old) all streams.old.talker (lines t) → TalksWith all (assembly s) (deck_of d) streams.old.talker t result (R.rest streams.new.input) (W.told streams.old.out) (W.told streams.new.out) }
+        → Knows (O.holds files.old) all streams.old.talker (lines t) → TalksWith all (origin_of name.now s d) (assembly s) (deck_of d) streams.old.talker t result (R.rest streams.new.input) (W.told streams.old.out) (W.told streams.new.out) }
 
     // Where no read fails, it is what a script of these lines writes.
     ensures as_script { (s d t : List ℕ) → S.rest source.old ≡ Some s → D.rest deck.old ≡ Some d → R.rest streams.old.input ≡ Some t
@@ -261,10 +263,11 @@ pub fn run_talk<O: Opener, S: In, D: In, R: In, W: Out, E: Out>(
         → (streams.new.input ≡ streams.old.input) ⊎ (D.rest deck.new ≡ Some (drop (max_deck_bytes + 1) d)) }
     ensures ends { IfOk result IsStatus }
 
-    // What a person saves is each time the bundle of what was done so far, under the name that is said; a program saves nothing.
+    // What a person saves is each time the bundle of what was done so far, with the source that was loaded last, under the name that is said; a program
+    // saves nothing.
     ensures saved { (all : Files) (s d t : List ℕ) (p : ProgramValue) (u : UnitsState) → S.rest source.old ≡ Some s → D.rest deck.old ≡ Some d
         → R.rest streams.old.input ≡ Some t → Knows (O.holds files.old) all streams.old.talker (lines t) → assembly s ≡ Ok p → deck_of d ≡ Ok u
-        → OnOk result (O.saved files.new ≡ noted (O.saved files.old) (saves (origin_of s d) (opened p u) streams.old.talker nothing (heard all streams.old.talker (lines t)))) }
+        → OnOk result (O.saved files.new ≡ noted (O.saved files.old) (talk_of all (begun (origin_of name.now s d) p u) streams.old.talker (lines t)).saved) }
     ensures unsaved { result ≡ Ok 1 → files.new ≡ files.old }
     ensures unasked { O.asked files.new ≡ O.asked files.old }
     ensures untouched { streams.old.talker ≡ Talker.Program → files.new ≡ files.old }

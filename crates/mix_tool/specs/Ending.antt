@@ -2,6 +2,7 @@
 use Rattle.std.specs.Prelude.{◌≡◌, ◌⊎◌, ◌+◌, ℕ, zero, suc, Option, None, Some, List, [], ◌∷◌, ◌++◌, Result, Ok, Err, codes}
 use Rattle.std.specs.Io.KnownBytes.{Appends, Keeps}
 use Rattle.mix_stream.specs.Stream.{AppendsFront}
+use Rattle.mix_run.specs.Bundle.{OriginValue}
 use Rattle.mix_run.specs.Fault.{tool_fault_text}
 use Rattle.mix_run.specs.Output.{Meets, Outcome}
 use Rattle.mix_run.specs.PrintOutput.{PrintOutcome, Prints}
@@ -94,10 +95,10 @@ Runs names outcome status before after =
     (run : Result ℕ ToolFault) × (file : Option (List ℕ)) × Meets outcome run before.out after.out × (status ≡ status_of_run run)
     × IsFileOf names file × TellsRun run file before.errors after.errors before.failed after.failed
 
--- a talk was made, which may source these files, and its status is answered
-abbrev pub TalkRuns : Files → Result ProgramValue AsmFault → Result UnitsState DeckFault → Talker → List ℕ → ℕ → Seen → Seen → Type 0
-TalkRuns all program units talker text status before after =
-    (run : Result ℕ ToolFault) × TalksWith all program units talker text run after.input before.out after.out × (status ≡ status_of_run run)
+-- a talk was made, which may source and reload these files, and its status is answered
+abbrev pub TalkRuns : Files → OriginValue → Result ProgramValue AsmFault → Result UnitsState DeckFault → Talker → List ℕ → ℕ → Seen → Seen → Type 0
+TalkRuns all origin program units talker text status before after =
+    (run : Result ℕ ToolFault) × TalksWith all origin program units talker text run after.input before.out after.out × (status ≡ status_of_run run)
 
 -- the status of a run: 0 at a halt, 3 where a step meets a fault or the conflict that ends a strict run, or the steps are used up, 1 where the
 -- source is refused

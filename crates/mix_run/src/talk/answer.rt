@@ -2,12 +2,12 @@
 
 ghost use Rattle.std.specs.Prelude.{◌≡◌, ◌<◌, ◌-◌, ◌^◌, ◌↔◌, None, Err, IfErr, IfOk, IfSome, OnOk, true};
 ghost use Rattle.std.specs.Io.KnownBytes.{Appends};
+ghost use Rattle.mix_run.specs.Asked.{after_lines, is_quit};
 ghost use Rattle.mix_run.specs.Fault.{IsMemoryOrWrite};
 ghost use Rattle.mix_run.specs.Opening.{noted};
 ghost use Rattle.mix_run.specs.Output.{replies};
 ghost use Rattle.mix_run.specs.Recall.{meant, recalled};
 ghost use Rattle.mix_run.specs.Saves.{saves_of};
-ghost use Rattle.mix_run.specs.Talk.{after_lines, is_quit};
 ghost use Rattle.mix_stream.specs.Stream.{AppendsFront, CountsFailure};
 
 use crate::bundle::Origin;
@@ -15,14 +15,15 @@ use crate::commands::command;
 use crate::fault::ToolFault;
 use crate::opener::Opener;
 use crate::talk::aside::{Talker, after_reply, help, tell};
+use crate::talk::listing::list;
 use crate::talk::person::{Line, kind_of};
 use crate::talk::recall::Recall;
-use crate::talk::source::refuse_source;
+use crate::talk::source::refuse_in_file;
 use mix_session::{Session, Told};
 use mix_stream::Out;
 
-// A person's line: the command that it stands for is executed, help is given, and what was done is saved. A line that sources a file is one of such a
-// file: it is refused. Whether the command was accepted; none where the line ends the talk.
+// A person's line: the command that it stands for is executed, help is given, and what was done is saved. A line that sources a file or reloads
+// is one of such a file: it is refused. Whether the command was accepted; none where the line ends the talk.
 fn answer_person<O: Opener, W: Out, E: Out>(
     session: &mut Session,
     recall: &mut Recall,
@@ -53,7 +54,7 @@ fn answer_person<O: Opener, W: Out, E: Out>(
             Ok(Some(Told::Accepted))
         }
         Line::Listing => {
-            recall.list(session, &typed, errors)?;
+            list(recall.allocator(), session, origin.source(), &typed, errors)?;
             Ok(Some(Told::Accepted))
         }
         Line::Watch => {
@@ -77,7 +78,11 @@ fn answer_person<O: Opener, W: Out, E: Out>(
             Ok(Some(Told::Accepted))
         }
         Line::Source => {
-            refuse_source(errors);
+            refuse_in_file("source", errors);
+            Ok(Some(Told::Accepted))
+        }
+        Line::Reload => {
+            refuse_in_file("reload", errors);
             Ok(Some(Told::Accepted))
         }
         Line::Command => {

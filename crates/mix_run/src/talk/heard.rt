@@ -5,13 +5,16 @@ ghost use Rattle.std.specs.List.{list_any};
 ghost use Rattle.std.specs.Io.KnownBytes.{Appends};
 ghost use Rattle.mix_lines.specs.Lines.{is_line_feed, lines};
 ghost use Rattle.mix_machine.specs.declared.units.deck_fault.DeckFault.{DeckFault};
+ghost use Rattle.mix_run.specs.Asked.{after_lines, answers, asked, is_over, recalled_all};
 ghost use Rattle.mix_run.specs.Fault.{IsMemoryOrWrite};
 ghost use Rattle.mix_run.specs.Hearing.{Answered};
 ghost use Rattle.mix_run.specs.Opening.{Files, noted};
 ghost use Rattle.mix_run.specs.Recall.{nothing};
+ghost use Rattle.mix_run.specs.Reload.{moment_of};
 ghost use Rattle.mix_run.specs.Saves.{saves};
-ghost use Rattle.mix_run.specs.Sources.{Knows, heard, stands_for};
-ghost use Rattle.mix_run.specs.Talk.{Talks, after_lines, answers, asked, is_over, is_quit, is_too_long, is_whole, max_line_bytes, recalled_all};
+ghost use Rattle.mix_run.specs.Sources.{Knows};
+ghost use Rattle.mix_run.specs.Stretch.{in_session, talk_of, typed_line};
+ghost use Rattle.mix_run.specs.Talk.{Talks, is_too_long, is_whole, max_line_bytes};
 ghost use Rattle.mix_stream.specs.Stream.{AppendsFront, CountsFailure};
 
 use crate::bundle::Origin;
@@ -20,6 +23,7 @@ use crate::opener::Opener;
 use crate::talk::answer::answer_line;
 use crate::talk::aside::{Talker, end_prompt, prompt};
 use crate::talk::recall::Recall;
+use crate::talk::reload::{is_reload, reload};
 use crate::talk::source::text_sourced;
 use mix_lines::split_line;
 use mix_refused::Memory;
@@ -97,8 +101,8 @@ fn answer_itself<O: Opener, W: Out, E: Out>(
     errors: &mut E,
 ) -> Result<Heard, ToolFault>
     requires { W.failed out.old < 2 ^ 64 - 1 }
-    ensures answered { IfOk result (λ now. Answered origin.now session.old talker recall.old (line.now ∷ []) session.new recall.new now.told now.is_over
-        (O.saved files.old) (O.saved files.new) (W.told out.old) (W.told out.new)) }
+    ensures answered { IfOk result (λ now. Answered (in_session (moment_of session.old recall.old origin.now) talker (line.now ∷ []))
+        (moment_of session.new recall.new origin.now) now.told now.is_over (O.saved files.old) (O.saved files.new) (W.told out.old) (W.told out.new)) }
     ensures begun { AppendsFront (W.told out.old) (W.told out.new) (answers session.old talker recall.old (line.now ∷ [])).bytes }
     ensures unasked { O.asked files.new ≡ O.asked files.old }
     ensures held { O.holds files.new ≡ O.holds files.old }
@@ -123,12 +127,12 @@ fn answer_itself<O: Opener, W: Out, E: Out>(
     }
 }
 
-// A typed line: those that it stands for are answered.
+// A typed line: the source is reloaded, or the lines that it stands for are answered.
 fn answer_typed<O: Opener, W: Out, E: Out>(
     session: &mut Session,
     talker: Talker,
     recall: &mut Recall,
-    origin: &Origin,
+    origin: &mut Origin,
     line: &[u8],
     files: &mut O,
     out: &mut W,
@@ -136,10 +140,10 @@ fn answer_typed<O: Opener, W: Out, E: Out>(
 ) -> Result<Heard, ToolFault>
     requires { W.failed out.old < 2 ^ 64 - 1 }
     ensures answered { (all : Files) → Knows (O.holds files.old) all talker (line.now ∷ [])
-        → IfOk result (λ now. Answered origin.now session.old talker recall.old (stands_for all talker line.now) session.new recall.new now.told now.is_over
-        (O.saved files.old) (O.saved files.new) (W.told out.old) (W.told out.new)) }
+        → IfOk result (λ now. Answered (typed_line all (moment_of session.old recall.old origin.old) talker line.now)
+        (moment_of session.new recall.new origin.new) now.told now.is_over (O.saved files.old) (O.saved files.new) (W.told out.old) (W.told out.new)) }
     ensures begun { (all : Files) → Knows (O.holds files.old) all talker (line.now ∷ [])
-        → AppendsFront (W.told out.old) (W.told out.new) (answers session.old talker recall.old (stands_for all talker line.now)).bytes }
+        → AppendsFront (W.told out.old) (W.told out.new) (typed_line all (moment_of session.old recall.old origin.old) talker line.now).bytes }
     ensures unasked { O.asked files.new ≡ O.asked files.old }
     ensures held { O.holds files.new ≡ O.holds files.old }
     ensures write { CountsFailure (result ≡ Err ToolFault.Write) (W.failed out.old) (W.failed out.new) }
@@ -147,6 +151,13 @@ fn answer_typed<O: Opener, W: Out, E: Out>(
     ensures quiet { talker ≡ Talker.Program → errors.new ≡ errors.old }
     ensures untouched { talker ≡ Talker.Program → files.new ≡ files.old }
 {
+    if is_reload(talker, line) {
+        reload(session, recall, origin, files, errors)?;
+        return Ok(Heard {
+            told: Told::Accepted,
+            is_over: false,
+        });
+    }
     match text_sourced(recall.allocator(), talker, line, files, errors)? {
         Some(text) => answer_lines(session, talker, recall, origin, &text, files, out, errors),
         None => answer_itself(session, talker, recall, origin, line, files, out, errors),
@@ -158,7 +169,7 @@ fn answer_text<O: Opener, W: Out, E: Out>(
     session: &mut Session,
     talker: Talker,
     recall: &mut Recall,
-    origin: &Origin,
+    origin: &mut Origin,
     text: &[u8],
     files: &mut O,
     out: &mut W,
@@ -166,10 +177,10 @@ fn answer_text<O: Opener, W: Out, E: Out>(
 ) -> Result<Heard, ToolFault>
     requires { W.failed out.old < 2 ^ 64 - 1 }
     ensures answered { (all : Files) → Knows (O.holds files.old) all talker (lines text.now)
-        → IfOk result (λ now. Answered origin.now session.old talker recall.old (heard all talker (lines text.now)) session.new recall.new now.told now.is_over
-        (O.saved files.old) (O.saved files.new) (W.told out.old) (W.told out.new)) }
+        → IfOk result (λ now. Answered (talk_of all (moment_of session.old recall.old origin.old) talker (lines text.now))
+        (moment_of session.new recall.new origin.new) now.told now.is_over (O.saved files.old) (O.saved files.new) (W.told out.old) (W.told out.new)) }
     ensures begun { (all : Files) → Knows (O.holds files.old) all talker (lines text.now)
-        → AppendsFront (W.told out.old) (W.told out.new) (answers session.old talker recall.old (heard all talker (lines text.now))).bytes }
+        → AppendsFront (W.told out.old) (W.told out.new) (talk_of all (moment_of session.old recall.old origin.old) talker (lines text.now)).bytes }
     ensures unasked { O.asked files.new ≡ O.asked files.old }
     ensures held { O.holds files.new ≡ O.holds files.old }
     ensures write { CountsFailure (result ≡ Err ToolFault.Write) (W.failed out.old) (W.failed out.new) }
@@ -252,7 +263,7 @@ pub(crate) fn talk<O: Opener, R: In, W: Out, E: Out>(
     session: &mut Session,
     talker: Talker,
     mut recall: Recall,
-    origin: &Origin,
+    origin: &mut Origin,
     files: &mut O,
     input: &mut R,
     out: &mut W,
@@ -262,9 +273,9 @@ pub(crate) fn talk<O: Opener, R: In, W: Out, E: Out>(
     requires out_count { W.failed out.old < 2 ^ 64 - 1 }
     requires recall { recall ≡ nothing }
     ensures talks { (all : Files) (t : List ℕ) → R.rest input.old ≡ Some t → Knows (O.holds files.old) all talker (lines t)
-        → Talks all session.old talker t result (R.rest input.new) (W.told out.old) (W.told out.new) }
+        → Talks all (moment_of session.old nothing origin.old) talker t result (R.rest input.new) (W.told out.old) (W.told out.new) }
     ensures saved { (all : Files) (t : List ℕ) → R.rest input.old ≡ Some t → Knows (O.holds files.old) all talker (lines t)
-        → OnOk result (O.saved files.new ≡ noted (O.saved files.old) (saves origin.now session.old talker nothing (heard all talker (lines t)))) }
+        → OnOk result (O.saved files.new ≡ noted (O.saved files.old) (talk_of all (moment_of session.old nothing origin.old) talker (lines t)).saved) }
     ensures unasked { O.asked files.new ≡ O.asked files.old }
     ensures long { result ≡ Err ToolFault.Long → (t : List ℕ) → R.rest input.old ≡ Some t → max_line_bytes < length t }
     ensures long_line { result ≡ Err ToolFault.Long → (t : List ℕ) → R.rest input.old ≡ Some t → length t < 2 ^ 64 - 1 → list_any is_too_long (lines t) ≡ true }

@@ -13,6 +13,7 @@ print shows a register, cell E or a word W; list shows the source, where what co
 display shows what print shows after each stop; undisplay ends that.
 save FILE saves what was done, as a bundle: mixrev < FILE does it again.
 source FILE does the lines of FILE, as if they were typed.
+reload reads the source again, and does there what was done so far.
 help COMMAND explains one, as help back. A blank line repeats the last step or back.
 ";
 
@@ -83,7 +84,8 @@ show takes regs, all, cells E E, unit N, code, value W, values, last N, writes C
 counts, conflicts, clock, breaks, changes or symbols
 ";
 
-const WATCH_TAKES: &str = "watch takes COND: a register, over, cmp, cell E, unit N, loc E or conflict\n";
+const WATCH_TAKES: &str =
+    "watch takes COND: a register, over, cmp, cell E, unit N, loc E or conflict\n";
 
 const QUIT: &str = "\
 quit             ends the session, as the end of the input does
@@ -119,6 +121,12 @@ mixrev < FILE does the same again. A file that is there already is written over.
 const SOURCE: &str = "\
 source FILE      does the lines of FILE, one after the other, as if each were typed here
 If FILE can't be read, nothing is done. In FILE source itself can't be used.
+";
+
+const RELOAD: &str = "\
+reload           assembles the source again, as it is now, and does there what was done so far
+Breakpoints too: break LOOP is at LOOP again, if that has moved. What is watched or displayed stays.
+If the source is refused, the session goes on as it was.
 ";
 
 const LIST: &str = "list takes the number of a line, a symbol, or nothing\n";
@@ -175,7 +183,7 @@ fn form_elsewhere(word: Option<&[u8]>) -> &'static str {
 
 // Each word that there is help on: what it takes, as a refusal says it, and the help.
 #[rattlefmt::skip]
-static TOPICS: [(&str, &str, &str); 24] = [
+static TOPICS: [(&str, &str, &str); 25] = [
     ("step", "step takes a number, 1 to 1000000, or nothing\n", STEP),
     ("run", "run takes a number, 1 to 1000000, until COND, both or nothing\n", RUN),
     ("trace", "trace takes a number, 1 to 1000000, or nothing\n", TRACE),
@@ -199,6 +207,7 @@ static TOPICS: [(&str, &str, &str); 24] = [
     ("undisplay", "undisplay takes nothing: nothing is displayed any more\n", DISPLAY),
     ("save", "save takes the name of a file\n", SAVE),
     ("source", "source takes the name of a file\n", SOURCE),
+    ("reload", "reload takes nothing\n", RELOAD),
     ("help", NO_COMMAND, ALL),
 ];
 

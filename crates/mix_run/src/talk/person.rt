@@ -9,8 +9,8 @@ use mix_lines::Words;
 use mix_refused::Memory;
 use std::alloc::Global;
 
-/// What a person's line is: a command, a question for help, a listing of the source, what is watched, displayed, saved or sourced, or the end of the
-/// talk.
+/// What a person's line is: a command, a question for help, a listing of the source, what is watched, displayed, saved, sourced or reloaded, or the
+/// end of the talk.
 #[derive(Clone, Copy)]
 pub(crate) enum Line {
     Command,
@@ -22,6 +22,7 @@ pub(crate) enum Line {
     Undisplay,
     Save,
     Source,
+    Reload,
     Quit,
 }
 
@@ -55,6 +56,7 @@ pub(crate) enum PersonWord {
     Exit,
     Save,
     Source,
+    Reload,
 }
 
 // In this order: of several that begin in the same way, the first one is meant.
@@ -67,7 +69,7 @@ fn all_words() -> &'static [PersonWord]
         PersonWord::Goto, PersonWord::Continue, PersonWord::Clear, PersonWord::Set, PersonWord::Show, PersonWord::Quit, PersonWord::Help,
         PersonWord::Question, PersonWord::Print, PersonWord::Listing, PersonWord::Where, PersonWord::Watch,
         PersonWord::Delete, PersonWord::Display, PersonWord::Until, PersonWord::Undisplay, PersonWord::Examine, PersonWord::Exit,
-        PersonWord::Save, PersonWord::Source,
+        PersonWord::Save, PersonWord::Source, PersonWord::Reload,
     ]
 }
 
@@ -103,6 +105,7 @@ impl PersonWord {
             PersonWord::Exit => "exit",
             PersonWord::Save => "save",
             PersonWord::Source => "source",
+            PersonWord::Reload => "reload",
         }
     }
 
@@ -175,6 +178,7 @@ fn kind_of_word(word: Option<PersonWord>, words: &Words) -> Line
         Some(PersonWord::Undisplay) if words.is_end() => Line::Undisplay,
         Some(PersonWord::Save) => Line::Save,
         Some(PersonWord::Source) => Line::Source,
+        Some(PersonWord::Reload) if words.is_end() => Line::Reload,
         Some(PersonWord::Quit | PersonWord::Exit) if words.is_end() => Line::Quit,
         _ => Line::Command,
     }

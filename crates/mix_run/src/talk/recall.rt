@@ -14,7 +14,6 @@ use crate::bundle::Origin;
 use crate::opener::Opener;
 use crate::talk::aside::{After, say, tell_shown};
 use crate::talk::help::form_of;
-use crate::talk::listing::list;
 use crate::talk::person::person_line;
 use crate::talk::save::save;
 use mix_refused::Memory;
@@ -24,11 +23,10 @@ use std::alloc::Global;
 use std::marker::Model;
 
 /// The line of a script that a blank line stands for: the last one that took steps, or changes back; an empty one before that. With it what is
-/// watched, the lines of a script that show what is displayed, the script of what was done, and the source whose lines may be listed.
+/// watched, the lines of a script that show what is displayed, and the script of what was done.
 #[derive(Drop)]
-pub(crate) struct Recall<'s> {
+pub(crate) struct Recall {
     alloc: Global,
-    source: &'s [u8],
     again: Vec<u8>,
     watch: Vec<u8>,
     watched: usize,
@@ -70,7 +68,7 @@ fn put_watched(watch: &mut Vec<u8>, line: &[u8]) -> Result<(), Memory>
     Ok(())
 }
 
-impl<'s> Model for Recall<'s> {
+impl Model for Recall {
     ghost use Rattle.mix_run.specs.Recall.{RecallState};
 
     ghost Value = { RecallState };
@@ -83,13 +81,12 @@ impl<'s> Model for Recall<'s> {
     ghost invariant = { λ r. r.watched ≤ most_conditions };
 }
 
-impl<'s> Recall<'s> {
-    pub(crate) fn new(alloc: Global, source: &'s [u8]) -> Recall<'s>
+impl Recall {
+    pub(crate) fn new(alloc: Global) -> Recall
         ensures { result ≡ nothing }
     {
         Recall {
             alloc,
-            source,
             again: Vec::new(alloc),
             watch: Vec::new(alloc),
             watched: 0,
@@ -107,16 +104,6 @@ impl<'s> Recall<'s> {
         ensures { IfOk result (λ text. text.items ≡ person_line self.now.again self.now.watch line.now) }
     {
         person_line(self.alloc, &self.again, &self.watch, line)
-    }
-
-    /// The lines of the source that a person's line asks for.
-    pub(crate) fn list<E: Out>(
-        &self,
-        session: &Session,
-        line: &[u8],
-        errors: &mut E,
-    ) -> Result<(), Memory> {
-        list(self.alloc, session, self.source, line, errors)
     }
 
     /// What a line asks for is watched too, if it has conditions, and there are then no more than eight; a person is told what is not.
@@ -207,6 +194,13 @@ impl<'s> Recall<'s> {
                 tell_shown(session, &self.displays, errors)
             }
         }
+    }
+
+    /// The script of what was done.
+    pub(crate) fn done(&self) -> &[u8]
+        ensures { result.now ≡ self.now.done }
+    {
+        &self.done
     }
 
     // A line more of the script of what was done.

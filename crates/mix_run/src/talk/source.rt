@@ -18,14 +18,16 @@ use std::alloc::Global;
 
 const NOT_READ: &str = "T2 read failed: ";
 
-const SOURCED_ALREADY: &str = "source can't be used in a file that is sourced; type it yourself\n";
+const IN_FILE: &str = " can't be used in a file that is sourced; type it yourself\n";
 
-/// A file that is sourced sources no other: a person is told so.
-pub(crate) fn refuse_source<E: Out>(errors: &mut E) {
-    say(SOURCED_ALREADY, errors);
+/// A file that is sourced sources no other, nor does it reload: a person is told so.
+pub(crate) fn refuse_in_file<E: Out>(word: &str, errors: &mut E) {
+    say(word, errors);
+    say(IN_FILE, errors);
 }
 
-fn tell_unread<E: Out>(unread: Unread, name: &[u8], errors: &mut E) {
+/// Why a file is not read.
+pub(crate) fn tell_unread<E: Out>(unread: Unread, name: &[u8], errors: &mut E) {
     match unread {
         Unread::NotOpened(reason) => tell_not_opened(name, reason, errors),
         Unread::NotRead => tell_file(NOT_READ, name, "", errors),

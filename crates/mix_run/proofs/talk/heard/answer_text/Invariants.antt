@@ -2,16 +2,18 @@ use Rattle.std.proofs.Common.{◌≡◌, ◌++◌, List, ℕ, length, false}
 use Rattle.mix_lines.specs.Lines.{lines}
 use Rattle.mix_run.specs.Hearing.{Answered}
 use Rattle.mix_run.specs.Opening.{Files}
-use Rattle.mix_run.specs.Sources.{Knows, heard}
+use Rattle.mix_run.specs.Reload.{moment_of}
+use Rattle.mix_run.specs.Sources.{Knows}
+use Rattle.mix_run.specs.Stretch.{talk_of}
 use Rattle.mix_run.specs.declared.talk.aside.Talker.TheVariants.{Program}
 use Rattle.mix_run.proofs.talk.heard.answer_text.Given as goal
 
--- the first lines were answered, each with those that it stands for
+-- the first lines were answered
 abbrev pub invariant-loop-rest : goal.invariant-loop-rest
 invariant-loop-rest g l = record {
   answered : (front : List (List ℕ)) × (lines l.text ≡ front ++ lines l.rest)
       × ((all : Files) → Knows (g.O.Opener.holds l.fn.files) all l.talker front
-      → Answered l.origin l.fn.session l.talker l.fn.recall (heard all l.talker front) l.session l.recall l.told false
+      → Answered (talk_of all (moment_of l.fn.session l.fn.recall l.fn.origin) l.talker front) (moment_of l.session l.recall l.origin) l.told false
       (g.O.Opener.saved l.fn.files) (g.O.Opener.saved l.files) (g.W.Out.told l.fn.out) (g.W.Out.told l.out));
   failed : g.W.Out.failed l.out ≡ g.W.Out.failed l.fn.out;
   quiet : l.talker ≡ Program → l.errors ≡ l.fn.errors;

@@ -2,6 +2,7 @@ use Rattle.std.proofs.Common.{◌≡◌, ◌≤◌, List, ℕ, length, false}
 use Rattle.std.specs.Io.KnownBytes.{Consumes}
 use Rattle.mix_run.specs.Hearing.{Hears}
 use Rattle.mix_run.specs.Recall.{nothing}
+use Rattle.mix_run.specs.Reload.{moment_of}
 use Rattle.mix_run.specs.declared.talk.aside.Talker.TheVariants.{Program}
 use Rattle.mix_run.proofs.talk.heard.talk.Given as goal
 
@@ -9,7 +10,8 @@ use Rattle.mix_run.proofs.talk.heard.talk.Given as goal
 abbrev pub invariant-loop-reads : goal.invariant-loop-reads
 invariant-loop-reads g l = record {
   heard : (bytes : List ℕ) × Consumes (g.R.In.rest l.fn.input) (g.R.In.rest l.input) bytes × (l.reads ≤ length bytes)
-      × Hears l.origin (g.O.Opener.holds l.fn.files) l.fn.session l.talker nothing bytes l.pending.items l.session l.recall l.told false
+      × Hears (g.O.Opener.holds l.fn.files) (moment_of l.fn.session nothing l.fn.origin) l.talker bytes l.pending.items
+      (moment_of l.session l.recall l.origin) l.told false
       (g.O.Opener.saved l.fn.files) (g.O.Opener.saved l.files) (g.W.Out.told l.fn.out) (g.W.Out.told l.out);
   read : g.R.In.failed l.input ≡ g.R.In.failed l.fn.input;
   written : g.W.Out.failed l.out ≡ g.W.Out.failed l.fn.out;

@@ -1,0 +1,159 @@
+//! What a person reloads: the file of the source is read again, and in the machine that it loads all is done again that was done so far.
+
+ghost use Rattle.std.specs.Prelude.{◌≡◌, Ok, List, ℕ, OnOk, Some};
+ghost use Rattle.mix_lines.specs.Lines.{lines};
+ghost use Rattle.mixal_asm.specs.Assembly.{assembly};
+ghost use Rattle.mix_session.specs.Command.{after};
+ghost use Rattle.mix_session.specs.Session.{effect_in};
+ghost use Rattle.mix_run.specs.Asked.{after_lines};
+ghost use Rattle.mix_run.specs.Opening.{Files};
+ghost use Rattle.mix_run.specs.Reload.{moment_of, reloaded, reloaded_as};
+ghost use Rattle.mix_run.specs.Sources.{is_reload};
+
+use crate::beside::tell_report;
+use crate::bundle::Origin;
+use crate::opener::Opener;
+use crate::statuses::tell_refusal;
+use crate::talk::aside::{After, Talker, say, say_bytes, tell};
+use crate::talk::file::tell_file;
+use crate::talk::person::{Line, kind_of};
+use crate::talk::recall::Recall;
+use crate::talk::source::tell_unread;
+use mix_lines::split_line;
+use mix_machine::Units;
+use mix_refused::{Memory, Refused};
+use mix_session::{Answer, Session, Told};
+use mix_stream::Out;
+use mixal_asm::{MAX_SOURCE_BYTES, Program, assemble};
+
+const RELOADED: &str = "reloaded: ";
+
+/// Whether a typed line reloads the source; a program's line never does.
+pub(crate) fn is_reload(talker: Talker, line: &[u8]) -> bool
+    ensures { result ≡ is_reload talker line.now }
+{
+    match talker {
+        Talker::Program => false,
+        Talker::Person => match kind_of(line) {
+            Line::Reload => true,
+            _ => false,
+        },
+    }
+}
+
+// A line that is not accepted when it is done again is told, with its reply.
+fn tell_redone<E: Out>(session: &Session, line: &[u8], answer: Answer, errors: &mut E) {
+    match answer.told() {
+        Told::Accepted => {}
+        Told::Refused => {
+            say_bytes(line, errors);
+            say("\n", errors);
+            match session.text(&answer) {
+                Ok(text) => say_bytes(&text, errors),
+                Err(Memory) => {}
+            }
+        }
+    }
+}
+
+// A line of a script is done again.
+fn redo_line<E: Out>(session: &mut Session, line: &[u8], errors: &mut E) -> Result<(), Memory>
+    ensures { OnOk result (session.new ≡ record session.old { timeline = after (effect_in session.old line.now) }) }
+{
+    let answer = match session.read(line) {
+        Ok(request) => session.execute(request)?,
+        Err(refusal) => Answer::Refused(refusal),
+    };
+    tell_redone(session, line, answer, errors);
+    Ok(())
+}
+
+// The lines of a script are done again, one after the other.
+fn redo<E: Out>(session: &mut Session, script: &[u8], errors: &mut E) -> Result<(), Memory>
+    ensures { OnOk result (session.new ≡ after_lines session.old (lines script.now)) }
+{
+    let mut rest = script;
+    while !rest.is_empty() {
+        let (line, after) = split_line(rest);
+        redo_line(session, line, errors)?;
+        rest = after;
+    }
+    Ok(())
+}
+
+// The program of a text takes the place of the one before it. A person is told what comes next, and what is displayed, as after each stop.
+fn reload_program<E: Out>(
+    session: &mut Session,
+    recall: &Recall,
+    origin: &mut Origin,
+    program: Program,
+    text: Vec<u8>,
+    errors: &mut E,
+) -> Result<(), Memory>
+    ensures { OnOk result (moment_of session.new recall.now origin.new
+        ≡ reloaded_as text.items (Ok program) (moment_of session.old recall.now origin.old)) }
+{
+    let alloc = recall.allocator();
+    let units = match Units::read(alloc, origin.deck()) {
+        Ok(units) => units,
+        Err(Refused::Memory) => return Err(Memory),
+        Err(Refused::Fault(_)) => return Ok(()),
+    };
+    let mut anew = Session::open(alloc, program, units)?;
+    redo(&mut anew, recall.done(), errors)?;
+    tell_report(alloc, origin.name(), &text, errors);
+    tell_file(RELOADED, origin.name().as_bytes(), "", errors);
+    *session = anew;
+    origin.put_source(text);
+    tell(After::Stop, Told::Accepted, session, b"", errors);
+    recall.tell_displays(After::Stop, session, errors);
+    Ok(())
+}
+
+// A text that was read is assembled; a person is told why it is refused.
+fn reload_text<E: Out>(
+    session: &mut Session,
+    recall: &Recall,
+    origin: &mut Origin,
+    text: Vec<u8>,
+    errors: &mut E,
+) -> Result<(), Memory>
+    ensures { OnOk result (moment_of session.new recall.now origin.new
+        ≡ reloaded_as text.items (assembly text.items) (moment_of session.old recall.now origin.old)) }
+{
+    let alloc = recall.allocator();
+    match assemble(alloc, &text) {
+        Ok(program) => reload_program(session, recall, origin, program, text, errors),
+        Err(Refused::Memory) => Err(Memory),
+        Err(Refused::Fault(_)) => {
+            tell_refusal(alloc, origin.name(), &text, errors);
+            Ok(())
+        }
+    }
+}
+
+/// Reads the source again, and does in the machine that it loads what was done so far. If it can't be read or is refused, a person is told why, and
+/// all is as it was.
+pub(crate) fn reload<O: Opener, E: Out>(
+    session: &mut Session,
+    recall: &Recall,
+    origin: &mut Origin,
+    files: &mut O,
+    errors: &mut E,
+) -> Result<(), Memory>
+    ensures reloaded { (all : Files) → O.holds files.old ≡ Some all → OnOk result (moment_of session.new recall.now origin.new
+        ≡ reloaded (all origin.old.name) (moment_of session.old recall.now origin.old)) }
+    ensures held { O.holds files.new ≡ O.holds files.old }
+    ensures unasked { O.asked files.new ≡ O.asked files.old }
+    ensures unsaved { O.saved files.new ≡ O.saved files.old }
+{
+    let name = origin.name();
+    match files.read(recall.allocator(), name.as_bytes(), MAX_SOURCE_BYTES + 1) {
+        Ok(text) => reload_text(session, recall, origin, text, errors),
+        Err(Refused::Memory) => Err(Memory),
+        Err(Refused::Fault(unread)) => {
+            tell_unread(unread, name.as_bytes(), errors);
+            Ok(())
+        }
+    }
+}
