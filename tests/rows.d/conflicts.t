@@ -40,6 +40,14 @@ A session goes from one to the next, and back to before the last.
         3  0002  STZ 10               2u
   back 10 to 0002 clock 3
 
+A session of a bundle has its deck, unless another one is named.
+
+  $ printf 'run 99 until conflict\n' | mixrev debug line.mixal
+        2  0001  STZ 9                2u  0009 + 08 24 13 13 16 -> + 00 00 00 00 00
+  ran 2 to 0002 clock 3: until
+  $ printf 'run 99 until conflict\n' | mixrev debug line.mixal --devices /dev/null
+  ran 6 to 0006 clock 18: halt
+
 A card that is not there yet; the units of a strict run are kept.
 
   $ printf ' LDA 9\n IN 9(16)\n LDA 9\n HLT\n END 0\n' >card.mixal

@@ -66,6 +66,7 @@ forth N does them again, goto N goes to the state after the first N, set, break 
 its state, the last changes, what differs and how often each instruction was executed. With until A, until cell 100 and the
 like, run N, back and forth stop when that is altered. A deck is a text file that says what tapes, disks and cards hold before
 the program runs: a line such as %UNIT 0, and its blocks after it.
+A bundle may take the place of a source: its deck is taken, unless --devices names another, and its script is left out.
 
 Example: with the two lines `run 1000` and `show regs` in the file session.txt,
   mixrev debug primes.mixal session.txt

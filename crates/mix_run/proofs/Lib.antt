@@ -1,5 +1,6 @@
 mod CheckLemmas
 mod CutLemmas
+mod DebugLemmas
 mod HearingLemmas
 mod KeepLemmas
 mod PersonLemmas

@@ -1,5 +1,5 @@
 -- What is read of a file that is reloaded gives what the file gives.
-use Rattle.std.proofs.Common.{◌≡◌, ◌∙◌, ℕ, List, take, Result, Ok, Err, refl, ap, subst}
+use Rattle.std.proofs.Common.{◌≡◌, ◌∙◌, ℕ, List, take, Result, Ok, Err, refl, sym, ap, subst}
 use Rattle.std.specs.Prelude.{OnOk}
 use Rattle.mix_refused.specs.declared.refused.Refused.{Refused}
 use Rattle.mix_refused.specs.declared.refused.Refused.TheVariants as refused
@@ -7,26 +7,31 @@ use Rattle.mixal_asm.specs.Assembly.{assembly}
 use Rattle.mixal_asm.specs.Program.{ProgramValue}
 use Rattle.mixal_asm.specs.declared.fault.AsmFault.{AsmFault}
 use Rattle.mix_run.specs.Opening.{GivesText}
+use Rattle.mix_run.specs.PrintOutput.{parts_of}
 use Rattle.mix_run.specs.Reload.{Moment, reloaded, reloaded_as}
 use Rattle.mix_run.specs.declared.opener.Unread.{Unread}
 use Rattle.mix_run.specs.declared.reason.Reason.{Reason}
-use Rattle.mix_run.proofs.Truncation.{assembly-take, assembly-whole}
+use Rattle.mix_run.proofs.DebugLemmas.{parts-made, parts-whole}
 
--- a text that is not refused is all that is read of it
-as-whole : (text read : List ℕ) (m : Moment) (program : Result ProgramValue AsmFault) → read ≡ take 1048577 text → assembly text ≡ program
-    → reloaded_as read program m ≡ reloaded_as text program m
-as-whole text read m (Ok program) is made = ap (λ t. reloaded_as t (Ok program) m) (is ∙ assembly-whole text program made)
-as-whole text read m (Err fault) is made = refl
+-- a source that is not refused is all of that of the text
+as-whole : (text read source : List ℕ) (m : Moment) (program : Result ProgramValue AsmFault) → read ≡ take 41943041 text → source ≡ (parts_of read).source
+    → assembly source ≡ program → reloaded_as source program m ≡ reloaded_as (parts_of text).source program m
+as-whole text read source m (Ok program) is s made = ap (λ t. reloaded_as t (Ok program) m) (parts-whole text read source program is s made)
+as-whole text read source m (Err fault) is s made = refl
 
-read-whole : (text read : List ℕ) (m : Moment) → read ≡ take 1048577 text → reloaded_as read (assembly read) m ≡ reloaded (Ok text) m
-read-whole text read m is = ap (λ p. reloaded_as read p m) (ap assembly is ∙ assembly-take text) ∙ as-whole text read m (assembly text) is refl
+read-whole : (text read source : List ℕ) (m : Moment) → read ≡ take 41943041 text → source ≡ (parts_of read).source
+    → reloaded_as source (assembly source) m ≡ reloaded (Ok text) m
+read-whole text read source m is s =
+    as-whole text read source m (assembly source) is s refl
+    ∙ ap (λ p. reloaded_as (parts_of text).source p m) (sym (parts-made text read source (assembly source) is s refl))
 
 module _ {V : Type 0} (bytes : V → List ℕ) (n : ℕ) where
-  pub reloaded-read : {A E : Type 0} (held : Result (List ℕ) Reason) (v : V) (m now : Moment) (result : Result A E) → n ≡ 1048577 → GivesText bytes held n (Ok v)
-      → OnOk result (now ≡ reloaded_as (bytes v) (assembly (bytes v)) m) → OnOk result (now ≡ reloaded held m)
-  reloaded-read (Ok text) v m now result most given done =
-      subst (λ to. OnOk result (now ≡ to)) (read-whole text (bytes v) m (given ∙ ap (λ k. take k text) most)) done
-  reloaded-read (Err reason) v m now result most given done = absurd given
+  pub reloaded-read : {A E : Type 0} (held : Result (List ℕ) Reason) (v : V) (source : List ℕ) (m now : Moment) (result : Result A E) → n ≡ 41943041
+      → GivesText bytes held n (Ok v) → source ≡ (parts_of (bytes v)).source
+      → OnOk result (now ≡ reloaded_as source (assembly source) m) → OnOk result (now ≡ reloaded held m)
+  reloaded-read (Ok text) v source m now result most given s done =
+      subst (λ to. OnOk result (now ≡ to)) (read-whole text (bytes v) source m (given ∙ ap (λ k. take k text) most) s) done
+  reloaded-read (Err reason) v source m now result most given s done = absurd given
 
   unread-same : (held : Result (List ℕ) Reason) (why : Unread) (m : Moment) → GivesText bytes held n (Err (refused.Fault why)) → m ≡ reloaded held m
   unread-same (Ok text) why m given = absurd given

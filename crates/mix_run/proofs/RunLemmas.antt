@@ -7,7 +7,7 @@ use Rattle.mix_session.specs.Session.{SessionState, opened, effect_in}
 use Rattle.mix_session.specs.Command.{after, reply_of}
 use Rattle.mix_session.specs.Answer.{told_of}
 use Rattle.mix_lines.specs.Lines.{lines, lines-nil}
-use Rattle.mix_run.specs.Output.{IsDeckRefusal, Outcome, Meets, outcome_of, replies_of, said_of, outcome_of_script, bundle_output, output, list_output, list_outcome, status_of, refusal_of, TooLong, Ended}
+use Rattle.mix_run.specs.Output.{IsDeckRefusal, Outcome, Meets, outcome_of, replies_of, said_of, outcome_of_script, bundle_output, output, list_output, list_outcome, status_of, TooLong, Ended}
 use Rattle.mix_stream.specs.Stream.{AppendsFront, ConsumesAtMost}
 use Rattle.mix_run.specs.Bundle.{cut_of}
 use Rattle.mix_run.specs.UnitsRead.{GivesUnits}
@@ -158,28 +158,13 @@ pub Meets-units : (echo : Bool) (program : ProgramValue) (units : UnitsState) (d
 unfolding outcome_of
 Meets-units echo program units deck script done old new made met = rw made met
 
--- a source that was read up to one byte more than it may have
-pub Meets-source : (echo : Bool) (source read deck script : List ℕ) (made : Result ProgramValue AsmFault) (done : Result ℕ ToolFault) (old new : Option (List ℕ)) →
-    read ≡ take 1048577 source → assembly read ≡ made → Meets (outcome_of echo made (deck_of deck) script) done old new → Meets (output echo source deck script) done old new
-unfolding output
-Meets-source echo source read deck script made done old new e f met =
-    let here : assembly source ≡ made = sym (ap assembly e ∙ assembly-take source) ∙ f in
-    rw here met
-
--- the same of a listing
+-- a source to be listed, which was read up to one byte more than it may have
 pub Meets-listed : (source read : List ℕ) (made : Result ProgramValue AsmFault) (done : Result ℕ ToolFault) (old new : Option (List ℕ)) →
     read ≡ take 1048577 source → assembly read ≡ made → Meets (list_outcome made) done old new → Meets (list_output source) done old new
 unfolding list_output
 Meets-listed source read made done old new e f met =
     let here : assembly source ≡ made = sym (ap assembly e ∙ assembly-take source) ∙ f in
     rw here met
-
--- a refused source
-pub Meets-refused : (echo : Bool) (source read deck script : List ℕ) (fault : AsmFault) (done : Result ℕ ToolFault) (old new : Option (List ℕ)) →
-    read ≡ take 1048577 source → assembly read ≡ Err fault → Meets (refusal_of fault) done old new →
-    Meets (output echo source deck script) done old new
-unfolding outcome_of
-Meets-refused echo source read deck script fault done old new e f met = Meets-source echo source read deck script (Err fault) done old new e f met
 
 -- a bundle that was read up to one byte more than it may have
 pub Meets-bundle : (bundle read : List ℕ) (done : Result ℕ ToolFault) (old new : Option (List ℕ)) →

@@ -1,5 +1,5 @@
 -- A talk that is not begun, and a talk as a script.
-use Rattle.std.proofs.Common.{◌≡◌, ◌∙◌, ◌+◌, ◌<◌, ◌≤◌, ℕ, false, List, [], ◌∷◌, ◌++◌, length, take, Option, Some, Result, Ok, Err, refl, sym, ap, ap₂, subst, arith, inr}
+use Rattle.std.proofs.Common.{◌≡◌, ◌∙◌, ◌+◌, ◌<◌, ◌≤◌, ℕ, false, List, [], ◌∷◌, ◌++◌, length, Option, Some, Result, Ok, Err, refl, sym, ap, ap₂, subst, arith, inr}
 use Rattle.std.proofs.lemmas.Bool.{le-ltb}
 use Rattle.mix_lines.specs.Lines.{lines}
 use Rattle.mixal_asm.specs.Assembly.{assembly}
@@ -35,7 +35,6 @@ use Rattle.mix_run.specs.Sources.{Knows, reads_file}
 use Rattle.mix_run.specs.declared.reason.Reason.TheVariants as reason
 use Rattle.std.specs.List.{list_any}
 use Rattle.mix_machine.specs.units.deck.Deck.{deck_of}
-use Rattle.mix_run.proofs.Truncation.{assembly-take, assembly-whole, deck-whole}
 use Rattle.mix_run.proofs.Written.{Appends-nothing, Appends-same}
 
 -- no line was read yet
@@ -72,21 +71,12 @@ counts-after P a b c d old new e f counts = (
   λ no. let same = counts.1 no in omega (arith, e, f, same),
 )
 
--- the source is what was read of it
-pub source-is : (s read : List ℕ) (program : Result ProgramValue AsmFault) → read ≡ take 1048577 s → assembly read ≡ program → assembly s ≡ program
-source-is s read program e is = sym (assembly-take s) ∙ sym (ap assembly e) ∙ is
-
-pub TalksWith-source : (all : Files) (origin : OriginValue) (s read : List ℕ) (program : Result ProgramValue AsmFault) (units : Result UnitsState DeckFault) (talker : Talker) (t : List ℕ)
-    (result : Result ℕ ToolFault) (left old new : Option (List ℕ)) → read ≡ take 1048577 s → assembly read ≡ program
-    → TalksWith all origin program units talker t result left old new → TalksWith all origin (assembly s) units talker t result left old new
-TalksWith-source all origin s read program units talker t result left old new e is talks =
-    subst (λ p. TalksWith all origin p units talker t result left old new) (sym (source-is s read program e is)) talks
-
-pub TalksWith-refused : (all : Files) (origin : OriginValue) (s read : List ℕ) (fault : AsmFault) (units : Result UnitsState DeckFault) (talker : Talker) (t : List ℕ)
-    (result : Result ℕ ToolFault) (left old new : Option (List ℕ)) → read ≡ take 1048577 s → assembly read ≡ Err fault
-    → Meets (refusal_of fault) result old new → TalksWith all origin (assembly s) units talker t result left old new
-TalksWith-refused all origin s read fault units talker t result left old new e is met =
-    TalksWith-source all origin s read (Err fault) units talker t result left old new e is met
+-- a source that was assembled
+pub TalksWith-made : (all : Files) (origin : OriginValue) (made program : Result ProgramValue AsmFault) (units : Result UnitsState DeckFault) (talker : Talker) (t : List ℕ)
+    (result : Result ℕ ToolFault) (left old new : Option (List ℕ)) → made ≡ program
+    → TalksWith all origin program units talker t result left old new → TalksWith all origin made units talker t result left old new
+TalksWith-made all origin made program units talker t result left old new e talks =
+    subst (λ p. TalksWith all origin p units talker t result left old new) (sym e) talks
 
 pub TalksWith-units : (all : Files) (origin : OriginValue) (p : ProgramValue) (units : Result UnitsState DeckFault) (some : UnitsState) (talker : Talker) (t : List ℕ)
     (result : Result ℕ ToolFault) (left old new : Option (List ℕ)) → units ≡ Ok some → TalksWith all origin (Ok p) (Ok some) talker t result left old new
@@ -94,13 +84,10 @@ pub TalksWith-units : (all : Files) (origin : OriginValue) (p : ProgramValue) (u
 TalksWith-units all origin p units some talker t result left old new e talks = subst (λ u. TalksWith all origin (Ok p) u talker t result left old new) (sym e) talks
 
 -- what holds of the source and the deck that were read holds of those that were given
-holds-as : (name s d read text : List ℕ) (p q : ProgramValue) (u v : UnitsState) (P : OriginValue → ProgramValue → UnitsState → Type 0) → read ≡ take 1048577 s
-    → text ≡ take 33554433 d → assembly read ≡ Ok q → deck_of d ≡ Ok v → assembly s ≡ Ok p → deck_of d ≡ Ok u → P (origin_of name read text) q v
-    → P (origin_of name s d) p u
-holds-as name s d read text p q u v P whole_read whole_text made_read made_units made units there =
-    let source : read ≡ s = whole_read ∙ assembly-whole s p made in
-    let deck : text ≡ d = whole_text ∙ deck-whole d u units in
-    let twice = sym (source-is s read (Ok q) whole_read made_read) ∙ made in
+holds-as : (name s d read text : List ℕ) (p q : ProgramValue) (u v : UnitsState) (P : OriginValue → ProgramValue → UnitsState → Type 0) → read ≡ s → text ≡ d
+    → assembly read ≡ Ok q → deck_of d ≡ Ok v → assembly s ≡ Ok p → deck_of d ≡ Ok u → P (origin_of name read text) q v → P (origin_of name s d) p u
+holds-as name s d read text p q u v P source deck made_read made_units made units there =
+    let twice = sym (ap assembly source) ∙ made_read in
     let also = sym made_units ∙ units in
     let same : q ≡ p = cc in
     let same_units : v ≡ u = cc in
@@ -110,7 +97,7 @@ holds-as name s d read text p q u v P whole_read whole_text made_read made_units
     (subst (λ x. P (origin_of name read text) q x) same_units there)))
 
 pub saved-as : (result : Result ℕ ToolFault) (all : Files) (name s d read text : List ℕ) (p q : ProgramValue) (u v : UnitsState) (talker : Talker)
-    (typed : List (List ℕ)) (old new : Option (List Saved)) → read ≡ take 1048577 s → text ≡ take 33554433 d → assembly read ≡ Ok q → deck_of d ≡ Ok v
+    (typed : List (List ℕ)) (old new : Option (List Saved)) → read ≡ s → text ≡ d → assembly read ≡ Ok q → deck_of d ≡ Ok v
     → assembly s ≡ Ok p → deck_of d ≡ Ok u → OnOk result (new ≡ noted old (talk_of all (begun (origin_of name read text) q v) talker typed).saved)
     → OnOk result (new ≡ noted old (talk_of all (begun (origin_of name s d) p u) talker typed).saved)
 saved-as result all name s d read text p q u v talker typed old new whole_read whole_text made_read made_units made units there =
@@ -119,12 +106,12 @@ saved-as result all name s d read text p q u v talker typed old new whole_read w
 
 -- the talk with what was read is the talk with what was given
 pub TalksWith-given : (all : Files) (name s d read text : List ℕ) (p : ProgramValue) (v : UnitsState) (talker : Talker) (t : List ℕ)
-    (result : Result ℕ ToolFault) (left old new : Option (List ℕ)) → read ≡ take 1048577 s → text ≡ take 33554433 d → assembly read ≡ Ok p → deck_of d ≡ Ok v
+    (result : Result ℕ ToolFault) (left old new : Option (List ℕ)) → read ≡ s → text ≡ d → assembly read ≡ Ok p → deck_of d ≡ Ok v
     → TalksWith all (origin_of name read text) (Ok p) (Ok v) talker t result left old new
     → TalksWith all (origin_of name s d) (assembly s) (deck_of d) talker t result left old new
 TalksWith-given all name s d read text p v talker t result left old new whole_read whole_text made units talks =
-    let same = source-is s read (Ok p) whole_read made in
-    TalksWith-source all (origin_of name s d) s read (Ok p) (deck_of d) talker t result left old new whole_read made
+    let same = sym (ap assembly whole_read) ∙ made in
+    TalksWith-made all (origin_of name s d) (assembly s) (Ok p) (deck_of d) talker t result left old new same
     (TalksWith-units all (origin_of name s d) p (deck_of d) v talker t result left old new units
     (holds-as name s d read text p p v v (λ origin program us. TalksWith all origin (Ok program) (Ok us) talker t result left old new) whole_read whole_text
     made units same units talks))

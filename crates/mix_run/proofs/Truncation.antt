@@ -1,12 +1,10 @@
 -- What is refused for its length alone shows in its first bytes, one more than it may have.
-use Rattle.std.proofs.Common.{◌≡◌, ℕ, suc, ◌<◌, ◌≤◌, Bool, true, false, cond, ltb, List, length, take, Result, Ok, Err, refl, ap, ◌∙◌, arith}
+use Rattle.std.proofs.Common.{◌≡◌, ℕ, suc, ◌<◌, ◌≤◌, Bool, true, false, cond, ltb, List, length, take, Result, Ok, Err, refl, sym, ap, ◌∙◌, arith}
 use Rattle.std.proofs.lemmas.Bool.{lt-ltb, ltb-true, ltb-false}
 use Rattle.std.proofs.lemmas.List.{take_all, length-take-le}
 use Rattle.mixal_asm.specs.Assembly.{assembly, program_from}
 use Rattle.mixal_asm.specs.PassOne.{at_first}
 use Rattle.mixal_asm.specs.Program.{ProgramValue}
-use Rattle.mixal_asm.specs.declared.fault.AsmFault.{AsmFault}
-use Rattle.mix_machine.specs.declared.units.deck_fault.DeckFault.{DeckFault}
 use Rattle.mix_machine.specs.units.Units.{UnitsState}
 use Rattle.mix_machine.specs.units.deck.Deck.{lines_from, deck_of, text_of_unit, nothing_read, no_line_read}
 use Rattle.mix_lines.specs.Lines.{lines}
@@ -40,15 +38,6 @@ pub assembly-take : (source : List ℕ) → assembly (take 1048577 source) ≡ a
 unfolding assembly
 assembly-take source = limited-take 1048576 _ (λ text. program_from at_first (lines text)) source
 
--- a deck whose first bytes are taken is not refused
-pub deck-taken : (deck read : List ℕ) (units : UnitsState) (fault : DeckFault) → read ≡ take 33554433 deck → deck_of read ≡ Ok units → deck_of deck ≡ Err fault → ⊥
-deck-taken deck read units fault e taken refused = let same : deck_of read ≡ deck_of deck = ap deck_of e ∙ deck_of-take deck in cc
-
--- nor is a source
-pub source-taken : (source read : List ℕ) (program : ProgramValue) (fault : AsmFault) → read ≡ take 1048577 source → assembly read ≡ Ok program
-    → assembly source ≡ Err fault → ⊥
-source-taken source read program fault e taken refused = let same : assembly read ≡ assembly source = ap assembly e ∙ assembly-take source in cc
-
 -- what is not refused for its length is all that is read of it
 whole-by : {A E : Type 0} (limit : ℕ) (refused : E) (read : Result A E) (bytes : List ℕ) (x : A) (v : Bool) → ltb limit (length bytes) ≡ v
     → cond v (Err refused) read ≡ Ok x → take (suc limit) bytes ≡ bytes
@@ -63,5 +52,9 @@ assembly-whole source program e = whole-by 1048576 _ _ source program (ltb 10485
 pub deck-whole : (deck : List ℕ) (units : UnitsState) → deck_of deck ≡ Ok units → take 33554433 deck ≡ deck
 unfolding deck_of
 deck-whole deck units e = whole-by 33554432 _ _ deck units (ltb 33554432 (length deck)) refl e
+
+-- a deck that is not refused is all that is read of it
+pub deck-read-whole : (deck read : List ℕ) (units : UnitsState) → read ≡ take 33554433 deck → deck_of read ≡ Ok units → read ≡ deck
+deck-read-whole deck read units e made = e ∙ deck-whole deck units (sym (ap deck_of e ∙ deck_of-take deck) ∙ made)
 
 pub ruleset truncations = (deck_of-take, assembly-take)

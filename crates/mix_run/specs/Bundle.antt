@@ -51,9 +51,9 @@ pub record OriginValue : Type 0 where
   pub source : List ℕ
   pub deck : List ℕ
 
--- the bundle of a source, of a bundle the one in it, a deck and a script
+-- the bundle of a source, a deck and a script
 unfoldable pub bundle_of : OriginValue → List ℕ → List ℕ
-bundle_of origin script = ended (cut_of origin.source).source ++ (marked (codes "%DEVICES") origin.deck ++ marked (codes "%SCRIPT") script)
+bundle_of origin script = ended origin.source ++ (marked (codes "%DEVICES") origin.deck ++ marked (codes "%SCRIPT") script)
 
 abbrev pub origin_of : List ℕ → List ℕ → List ℕ → OriginValue
 origin_of name source deck = record { name = name; source = source; deck = deck }

@@ -1,6 +1,7 @@
 pub mod Asked
 pub mod Bundle
 pub mod Check
+pub mod Debug
 pub mod Fault
 pub mod Hearing
 pub mod Keep

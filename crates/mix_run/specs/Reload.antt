@@ -10,6 +10,7 @@ use Rattle.mix_machine.specs.declared.units.deck_fault.DeckFault.{DeckFault}
 use Rattle.mix_session.specs.Session.{SessionState, opened}
 use Rattle.mix_run.specs.Asked.{after_lines}
 use Rattle.mix_run.specs.Bundle.{OriginValue}
+use Rattle.mix_run.specs.PrintOutput.{parts_of}
 use Rattle.mix_run.specs.Recall.{RecallState, nothing}
 use Rattle.mix_run.specs.declared.reason.Reason.{Reason}
 
@@ -38,7 +39,7 @@ abbrev pub reloaded_as : List ℕ → Result ProgramValue AsmFault → Moment �
 reloaded_as text (Err fault) m = m
 reloaded_as text (Ok program) m = reloaded_with text program (deck_of m.origin.deck) m
 
--- so does a file that can't be opened
+-- so does a file that can't be opened; of a bundle its source is read, and not its deck
 abbrev pub reloaded : Result (List ℕ) Reason → Moment → Moment
 reloaded (Err reason) m = m
-reloaded (Ok text) m = reloaded_as text (assembly text) m
+reloaded (Ok text) m = let source = (parts_of text).source in reloaded_as source (assembly source) m

@@ -3,14 +3,17 @@ use Rattle.std.specs.Prelude.{◌≡◌, Bool, true, false, ℕ, List, [], ◌�
 use Rattle.std.specs.List.{list_any}
 use Rattle.std.specs.Io.KnownBytes.{Appends}
 use Rattle.mix_lines.specs.Lines.{is_line_feed, lines}
+use Rattle.mixal_asm.specs.Assembly.{assembly}
 use Rattle.mixal_asm.specs.Program.{ProgramValue}
 use Rattle.mixal_asm.specs.declared.fault.AsmFault.{AsmFault}
 use Rattle.mix_machine.specs.units.Units.{UnitsState}
+use Rattle.mix_machine.specs.units.deck.Deck.{deck_of}
 use Rattle.mix_machine.specs.declared.units.deck_fault.DeckFault.{DeckFault}
 use Rattle.mix_run.specs.declared.fault.ToolFault.{ToolFault}
 use Rattle.mix_run.specs.declared.fault.ToolFault.TheVariants as faults
 use Rattle.mix_session.specs.declared.reply.Told.{Told}
 use Rattle.mix_run.specs.Bundle.{OriginValue}
+use Rattle.mix_run.specs.Debug.{origin_given}
 use Rattle.mix_run.specs.Opening.{Files}
 use Rattle.mix_run.specs.Output.{DeckRefused, Meets, refusal_of, status_of}
 use Rattle.mix_run.specs.Reload.{Moment, begun}
@@ -63,3 +66,10 @@ TalksWith all origin (Err fault) units talker text result left old new = Meets (
 TalksWith all origin (Ok program) (Err fault) talker text result left old new = Meets (DeckRefused fault) result old new
 TalksWith all origin (Ok program) (Ok units) talker text result left old new =
     (talk : Result Told ToolFault) × (result ≡ status_from talk) × Talks all (begun origin program units) talker text talk left old new
+
+-- a talk about a text of this name, with its own deck or with one that is given
+abbrev pub TalksFrom : Files → List ℕ → Bool → List ℕ → List ℕ → Talker → List ℕ → Result ℕ ToolFault → Option (List ℕ) → Option (List ℕ)
+    → Option (List ℕ) → Type 0
+TalksFrom all name given text deck talker typed result left old new =
+    let origin = origin_given name given text deck in
+    TalksWith all origin (assembly origin.source) (deck_of origin.deck) talker typed result left old new

@@ -120,13 +120,13 @@ fn put_marked(text: &mut Vec<u8>, marker: &[u8], part: &[u8]) -> Result<(), Memo
     }
 }
 
-/// The bundle of a source, of a bundle the one in it, a deck and a script.
+/// The bundle of a source, a deck and a script.
 #[tactic(auto, unfolding(crate::specs::Bundle::bundle_of))]
 pub(crate) fn bundle_of(alloc: Global, origin: &Origin, script: &[u8]) -> Result<Vec<u8>, Memory>
     ensures { IfOk result (λ text. text.items ≡ bundle_of origin.now script.now) }
 {
     let mut text = Vec::new(alloc);
-    put_ended(&mut text, cut(&origin.source).source)?;
+    put_ended(&mut text, &origin.source)?;
     put_marked(&mut text, DEVICES, &origin.deck)?;
     put_marked(&mut text, SCRIPT, script)?;
     Ok(text)
@@ -162,6 +162,15 @@ pub(crate) fn parts_of(text: &[u8]) -> BundleParts<'_>
         };
     }
     cut(text)
+}
+
+/// A copy of a part.
+pub(crate) fn copy_of(alloc: Global, part: &[u8]) -> Result<Vec<u8>, Memory>
+    ensures { IfOk result (λ text. text.items ≡ part.now) }
+{
+    let mut text = Vec::new(alloc);
+    text.extend_from_slice(part)?;
+    Ok(text)
 }
 
 #[tactic(auto, using(crate::proofs::CutLemmas::cutting))]

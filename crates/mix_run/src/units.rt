@@ -1,10 +1,11 @@
 //! The units that a run begins with: those of a deck, and the lines of texts for the card reader and the typewriter.
-ghost use Rattle.std.specs.Prelude.{◌≡◌, ◌≢◌, ◌<◌, ◌+◌, ◌-◌, ◌^◌, ℕ, List, Some, Ok, Err, IfErr, IfOk, drop, false, take, true};
+ghost use Rattle.std.specs.Prelude.{◌≡◌, ◌≢◌, ◌<◌, ◌+◌, ◌-◌, ◌^◌, ℕ, List, Some, Ok, Err, IfErr, IfOk, drop, false, true};
 ghost use Rattle.mix_machine.specs.units.deck.Deck.{deck_of, cards_of, typewriter_of, max_deck_bytes};
 ghost use Rattle.mix_stream.specs.Stream.{ConsumesAtMost, CountsFailure};
 ghost use Rattle.mix_run.specs.Output.{IsDeckRefusal};
 ghost use Rattle.mix_run.specs.UnitsRead.{GivesUnits, deck_given, units_in};
 
+use crate::bundle::copy_of;
 use crate::fault::ToolFault;
 use mix_machine::{MAX_DECK_BYTES, Units};
 use mix_refused::Refused;
@@ -34,7 +35,7 @@ pub(crate) struct Deck {
 pub(crate) fn read_deck<D: In>(alloc: Global, deck: &mut D) -> Result<Deck, ToolFault>
     requires { D.failed deck.old < 2 ^ 64 - 1 }
     ensures units { (d : List ℕ) → D.rest deck.old ≡ Some d → GivesUnits (deck_of d) (units_in result) }
-    ensures text { (d : List ℕ) → D.rest deck.old ≡ Some d → IfOk result (λ k. k.text.items ≡ take (max_deck_bytes + 1) d) }
+    ensures text { (d : List ℕ) → D.rest deck.old ≡ Some d → IfOk result (λ k. k.text.items ≡ d) }
     ensures whole { (d : List ℕ) → D.rest deck.old ≡ Some d → IfOk result (λ _. D.rest deck.new ≡ Some (drop (max_deck_bytes + 1) d)) }
     ensures read { CountsFailure (result ≡ Err ToolFault.Read) (D.failed deck.old) (D.failed deck.new) }
     ensures deck { ConsumesAtMost (D.rest deck.old) (D.rest deck.new) (max_deck_bytes + 1) }
@@ -44,6 +45,42 @@ pub(crate) fn read_deck<D: In>(alloc: Global, deck: &mut D) -> Result<Deck, Tool
     match units_of(alloc, &text) {
         Ok(units) => Ok(Deck { text, units }),
         Err(fault) => Err(fault),
+    }
+}
+
+// A deck that is a text already.
+fn own_deck(alloc: Global, own: &[u8]) -> Result<Deck, ToolFault>
+    ensures units { GivesUnits (deck_of own.now) (units_in result) }
+    ensures text { IfOk result (λ k. k.text.items ≡ own.now) }
+    ensures only { result ≢ Err ToolFault.Read }
+{
+    let text = copy_of(alloc, own)?;
+    match units_of(alloc, own) {
+        Ok(units) => Ok(Deck { text, units }),
+        Err(fault) => Err(fault),
+    }
+}
+
+/// A deck that is read if it is given, and otherwise that of a text.
+pub(crate) fn given_deck<D: In>(
+    alloc: Global,
+    own: &[u8],
+    deck: &mut D,
+    given: bool,
+) -> Result<Deck, ToolFault>
+    requires { D.failed deck.old < 2 ^ 64 - 1 }
+    ensures units { (d : List ℕ) → D.rest deck.old ≡ Some d → GivesUnits (deck_of (deck_given given own.now d)) (units_in result) }
+    ensures text { (d : List ℕ) → D.rest deck.old ≡ Some d → IfOk result (λ k. k.text.items ≡ deck_given given own.now d) }
+    ensures whole { (d : List ℕ) → D.rest deck.old ≡ Some d → given ≡ true → IfOk result (λ _. D.rest deck.new ≡ Some (drop (max_deck_bytes + 1) d)) }
+    ensures read { CountsFailure (result ≡ Err ToolFault.Read) (D.failed deck.old) (D.failed deck.new) }
+    ensures deck { ConsumesAtMost (D.rest deck.old) (D.rest deck.new) (max_deck_bytes + 1) }
+    ensures unread { given ≡ false → deck.new ≡ deck.old }
+    ensures only { result ≢ Err ToolFault.Write }
+{
+    if given {
+        read_deck(alloc, deck)
+    } else {
+        own_deck(alloc, own)
     }
 }
 

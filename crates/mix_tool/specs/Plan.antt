@@ -6,9 +6,9 @@ use Rattle.mix_machine.specs.units.deck.Deck.{deck_of}
 use Rattle.mix_cli.specs.declared.words.Plan.{Plan}
 use Rattle.mix_cli.specs.declared.words.Plan.TheVariants as plan
 use Rattle.mix_cli.specs.declared.words.Printing.{Printing}
-use Rattle.mix_run.specs.Bundle.{origin_of}
 use Rattle.mix_run.specs.Check.{Named, check_output}
-use Rattle.mix_run.specs.Output.{bundle_output, list_output, output}
+use Rattle.mix_run.specs.Debug.{debug_output, origin_given}
+use Rattle.mix_run.specs.Output.{bundle_output, list_output}
 use Rattle.mix_run.specs.PrintOutput.{print_output}
 use Rattle.mix_run.specs.declared.print.options.PrintOptions.{PrintOptions}
 use Rattle.mix_run.specs.declared.print.options.UnitSet.{UnitSet}
@@ -136,11 +136,14 @@ seen rest told errors failed s = record { input = rest s.input; out = told s.out
 abbrev pub names_of_session : List ℕ → Option (List ℕ) → Option (List ℕ) → List (List ℕ)
 names_of_session source deck script = source ∷ (named deck ++ named script)
 
--- a session of a source of this name by a script, whose commands are echoed or not, or without one by the lines of the input
-abbrev pub DebugsOn : {Name : Type 0} → Files → List ℕ → List (List ℕ) → Bool → Option Name → Given → Talker → ℕ → Seen → Seen → Type 0
-DebugsOn all name names echo (Some script) given talker status before after = Runs names (output echo given.source given.deck given.script) status before after
-DebugsOn all name names echo None given talker status before after =
-    (t : List ℕ) → before.input ≡ Some t → TalkRuns all (origin_of name given.source given.deck) (assembly given.source) (deck_of given.deck) talker t status before after
+-- a session of a source or bundle of this name, with its own deck or with one that is given, by a script, whose commands are echoed or not, or without
+-- one by the lines of the input
+abbrev pub DebugsOn : {Name : Type 0} → Files → List ℕ → List (List ℕ) → Bool → Bool → Option Name → Given → Talker → ℕ → Seen → Seen → Type 0
+DebugsOn all name names has_deck echo (Some script) given talker status before after =
+    Runs names (debug_output echo has_deck given.source given.deck given.script) status before after
+DebugsOn all name names has_deck echo None given talker status before after =
+    let origin = origin_given name has_deck given.source given.deck in
+    (t : List ℕ) → before.input ≡ Some t → TalkRuns all origin (assembly origin.source) (deck_of origin.deck) talker t status before after
 
 -- whether a session is by the lines of the input
 abbrev pub is_talk : {Name : Type 0} → Option Name → Bool
@@ -154,8 +157,8 @@ RunsOn all (plan.List source) given talker status before after = Runs (string_by
 RunsOn all (plan.Check sources json) given talker status before after =
     Runs (map string_bytes sources.items) (check_output json (named_of all (map string_bytes sources.items))) status before after
 RunsOn all (plan.Debug source script devices echo) given talker status before after =
-    DebugsOn all (string_bytes source) (names_of_session (string_bytes source) (option_map string_bytes devices) (option_map string_bytes script)) echo script
-    given talker status before after
+    DebugsOn all (string_bytes source) (names_of_session (string_bytes source) (option_map string_bytes devices) (option_map string_bytes script))
+    (is_some devices) echo script given talker status before after
 RunsOn all (plan.Run source cards typewriter devices steps printing trace strict keep) given talker status before after =
     PrintRuns (print_output (options_of devices cards typewriter steps printing trace strict keep) given.source given.deck given.cards given.typewriter)
     (option_map string_bytes keep) status before after

@@ -1,6 +1,6 @@
 //! A session of a plan.
 
-ghost use Rattle.std.specs.Prelude.{Some, ◌≡◌, ◌≢◌, ◌<◌, ◌≤◌, ◌-◌, ◌^◌, false, option_map, string_bytes};
+ghost use Rattle.std.specs.Prelude.{Some, ◌≡◌, ◌≢◌, ◌<◌, ◌≤◌, ◌-◌, ◌^◌, false, is_some, option_map, string_bytes};
 ghost use Rattle.mix_run.specs.Opening.{Files};
 ghost use Rattle.mix_tool.specs.Plan.{AreFresh, DebugsOn, Given, HoldTexts, is_talk, names_of_session, seen};
 
@@ -10,7 +10,7 @@ use mix_run::{Opener, Streams, run_debug, run_talk};
 use mix_stream::{In, Out};
 use std::alloc::Global;
 
-/// A session by a script, or without one by the lines of the input.
+/// A session by a script, or without one by the lines of the input, with the deck that is named, or with that of a bundle.
 pub(crate) fn debug_on<'n, O: Opener, R: In, W: Out, E: Out>(
     files: &mut O,
     alloc: Global,
@@ -26,7 +26,7 @@ pub(crate) fn debug_on<'n, O: Opener, R: In, W: Out, E: Out>(
     requires out_count { W.failed streams.old.out < 2 ^ 64 - 1 }
     requires errors_count { E.failed streams.old.errors < 2 ^ 64 - 1 }
     ensures runs { (all : Files) (given : Given) → O.holds files.old ≡ Some all → HoldTexts O.Reader.rest texts given
-        → DebugsOn all name.now (names_of_session name.now (option_map string_bytes devices.now) (option_map string_bytes script.now)) echo script.now given streams.old.talker result (seen R.rest W.told E.told E.failed streams.old) (seen R.rest W.told E.told E.failed streams.new) }
+        → DebugsOn all name.now (names_of_session name.now (option_map string_bytes devices.now) (option_map string_bytes script.now)) (is_some devices.now) echo script.now given streams.old.talker result (seen R.rest W.told E.told E.failed streams.old) (seen R.rest W.told E.told E.failed streams.new) }
     ensures input { is_talk script.now ≡ false → streams.new.input ≡ streams.old.input }
     ensures unasked { O.asked files.new ≡ O.asked files.old }
     ensures range { result ≤ 3 }
@@ -41,12 +41,14 @@ pub(crate) fn debug_on<'n, O: Opener, R: In, W: Out, E: Out>(
         script: lines,
     } = texts;
     let (mut source, mut deck, mut lines) = (source, deck, lines);
+    let given = devices.is_some();
     match script {
         Some(_) => {
             let outcome = run_debug(
                 alloc,
                 &mut source,
                 &mut deck,
+                given,
                 &mut lines,
                 echo,
                 &mut streams.out,
@@ -57,7 +59,7 @@ pub(crate) fn debug_on<'n, O: Opener, R: In, W: Out, E: Out>(
             status(alloc, outcome, Some(file), &mut streams.errors)
         }
         None => {
-            let outcome = run_talk(alloc, name, &mut source, &mut deck, files, streams);
+            let outcome = run_talk(alloc, name, &mut source, &mut deck, given, files, streams);
             let failures = (deck.failures(), 0);
             let file = if source.failures() > 0 || failures.0 > 0 {
                 Some(unread(name, devices.as_deref(), None, failures))

@@ -11,7 +11,7 @@ ghost use Rattle.mix_run.specs.Reload.{moment_of, reloaded, reloaded_as};
 ghost use Rattle.mix_run.specs.Sources.{is_reload};
 
 use crate::beside::tell_report;
-use crate::bundle::Origin;
+use crate::bundle::{MAX_BUNDLE_BYTES, Origin, copy_of, parts_of};
 use crate::opener::Opener;
 use crate::statuses::tell_refusal;
 use crate::talk::aside::{After, Talker, say, say_bytes, tell};
@@ -24,7 +24,7 @@ use mix_machine::Units;
 use mix_refused::{Memory, Refused};
 use mix_session::{Answer, Session, Told};
 use mix_stream::Out;
-use mixal_asm::{MAX_SOURCE_BYTES, Program, assemble};
+use mixal_asm::{Program, assemble};
 
 const RELOADED: &str = "reloaded: ";
 
@@ -81,17 +81,17 @@ fn redo<E: Out>(session: &mut Session, script: &[u8], errors: &mut E) -> Result<
     Ok(())
 }
 
-// The program of a text takes the place of the one before it. A person is told what comes next, and what is displayed, as after each stop.
+// The program of a source takes the place of the one before it. A person is told what comes next, and what is displayed, as after each stop.
 fn reload_program<E: Out>(
     session: &mut Session,
     recall: &Recall,
     origin: &mut Origin,
     program: Program,
-    text: Vec<u8>,
+    source: &[u8],
     errors: &mut E,
 ) -> Result<(), Memory>
     ensures { OnOk result (moment_of session.new recall.now origin.new
-        ≡ reloaded_as text.items (Ok program) (moment_of session.old recall.now origin.old)) }
+        ≡ reloaded_as source.now (Ok program) (moment_of session.old recall.now origin.old)) }
 {
     let alloc = recall.allocator();
     let units = match Units::read(alloc, origin.deck()) {
@@ -99,9 +99,10 @@ fn reload_program<E: Out>(
         Err(Refused::Memory) => return Err(Memory),
         Err(Refused::Fault(_)) => return Ok(()),
     };
+    let text = copy_of(alloc, source)?;
     let mut anew = Session::open(alloc, program, units)?;
     redo(&mut anew, recall.done(), errors)?;
-    tell_report(alloc, origin.name(), &text, errors);
+    tell_report(alloc, origin.name(), source, errors);
     tell_file(RELOADED, origin.name().as_bytes(), "", errors);
     *session = anew;
     origin.put_source(text);
@@ -110,30 +111,30 @@ fn reload_program<E: Out>(
     Ok(())
 }
 
-// A text that was read is assembled; a person is told why it is refused.
-fn reload_text<E: Out>(
+// A source that was read is assembled; a person is told why it is refused.
+fn reload_source<E: Out>(
     session: &mut Session,
     recall: &Recall,
     origin: &mut Origin,
-    text: Vec<u8>,
+    source: &[u8],
     errors: &mut E,
 ) -> Result<(), Memory>
     ensures { OnOk result (moment_of session.new recall.now origin.new
-        ≡ reloaded_as text.items (assembly text.items) (moment_of session.old recall.now origin.old)) }
+        ≡ reloaded_as source.now (assembly source.now) (moment_of session.old recall.now origin.old)) }
 {
     let alloc = recall.allocator();
-    match assemble(alloc, &text) {
-        Ok(program) => reload_program(session, recall, origin, program, text, errors),
+    match assemble(alloc, source) {
+        Ok(program) => reload_program(session, recall, origin, program, source, errors),
         Err(Refused::Memory) => Err(Memory),
         Err(Refused::Fault(_)) => {
-            tell_refusal(alloc, origin.name(), &text, errors);
+            tell_refusal(alloc, origin.name(), source, errors);
             Ok(())
         }
     }
 }
 
-/// Reads the source again, and does in the machine that it loads what was done so far. If it can't be read or is refused, a person is told why, and
-/// all is as it was.
+/// Reads the source again, and does in the machine that it loads what was done so far; of a bundle the deck is not read again. If it can't be read or
+/// is refused, a person is told why, and all is as it was.
 pub(crate) fn reload<O: Opener, E: Out>(
     session: &mut Session,
     recall: &Recall,
@@ -148,8 +149,8 @@ pub(crate) fn reload<O: Opener, E: Out>(
     ensures unsaved { O.saved files.new ≡ O.saved files.old }
 {
     let name = origin.name();
-    match files.read(recall.allocator(), name.as_bytes(), MAX_SOURCE_BYTES + 1) {
-        Ok(text) => reload_text(session, recall, origin, text, errors),
+    match files.read(recall.allocator(), name.as_bytes(), MAX_BUNDLE_BYTES + 1) {
+        Ok(text) => reload_source(session, recall, origin, parts_of(&text).source, errors),
         Err(Refused::Memory) => Err(Memory),
         Err(Refused::Fault(unread)) => {
             tell_unread(unread, name.as_bytes(), errors);

@@ -6,3 +6,6 @@ use Rattle.mix_run.proofs.talk.talk_with.Goals as goal
 
 pub returns-in-Err-clause-talks : goal.returns-in-Err-clause-talks
 returns-in-Err-clause-talks g c all t e known = (Err Memory, refl, (0, omega arith, Appends-nothing _))
+
+pub returns-in-Err-open-clause-talks : goal.returns-in-Err-open-clause-talks
+returns-in-Err-open-clause-talks g c all t e known = (Err Memory, refl, (0, omega arith, Appends-nothing _))

@@ -20,9 +20,11 @@ pub returns-in-Some-clause-runs : goal.returns-in-Some-clause-runs
 returns-in-Some-clause-runs g c all given e holds =
     let met = c.run_debug-outcome.ensures.output given.source given.deck given.script holds.source holds.deck holds.script in
     let file = among_same c.args.name.now _ _ _ _ _ c.as_deref-deck.ensures.value c.as_deref-last.ensures.value c.unread-file.ensures in
-    rw c.in-Some.is (c.run_debug-outcome.result, _, met, c.status.ensures.status, rw c.in-Some.is at file, c.status.ensures.told)
+    rw c.in-Some.is (c.run_debug-outcome.result, _, rw c.is_some-given.ensures at met, c.status.ensures.status, rw c.in-Some.is at file, c.status.ensures.told)
 
 pub returns-clause-runs : goal.returns-clause-runs
 returns-clause-runs g c all given e holds =
     let talks = c.run_talk-outcome.ensures.talks all given.source given.deck in
-    rw c.in-None.is (λ t there. (c.run_talk-outcome.result, talks t holds.source holds.deck there (inl e), c.status_beside.ensures))
+    rw c.in-None.is (λ t there.
+    let met = talks t holds.source holds.deck there (inl e) in
+    (c.run_talk-outcome.result, rw c.is_some-given.ensures at met, c.status_beside.ensures))

@@ -1,6 +1,7 @@
 -- What was read of the file is all that is looked at; a file that can't be read leaves all as it was.
-use Rattle.std.proofs.Common.{◌≡◌, Err, refl, rules}
+use Rattle.std.proofs.Common.{◌≡◌, ◌∙◌, Err, ap, refl, rules}
 use Rattle.mix_refused.specs.declared.refused.Refused.TheVariants as refused
+use Rattle.mix_run.specs.PrintOutput.{parts_of}
 use Rattle.mix_run.specs.Reload.{moment_of}
 use Rattle.mix_run.proofs.ReloadLemmas.{reloaded-read, reloaded-unread}
 use Rattle.mix_run.proofs.talk.reload.reload.Goals as goal
@@ -8,8 +9,9 @@ use Rattle.mix_run.proofs.talk.reload.reload.Goals as goal
 pub returns-in-Ok-clause-reloaded : goal.returns-in-Ok-clause-reloaded
 returns-in-Ok-clause-reloaded g c all held =
     let named : c.as_bytes.result.now ≡ c.args.origin.now.name = search rules in
-    reloaded-read (λ text. text.items) 1048577 (all c.args.origin.now.name) c.in-Ok.text (moment_of c.args.session.now c.args.recall.now c.args.origin.now) _
-    c.reload_text.result refl (rw named at (c.in-Ok.ensures.given all held)) c.reload_text.ensures
+    reloaded-read (λ text. text.items) 41943041 (all c.args.origin.now.name) c.in-Ok.text _ (moment_of c.args.session.now c.args.recall.now c.args.origin.now) _
+    c.reload_source.result refl (rw named at (c.in-Ok.ensures.given all held)) (c.parts_of.ensures.source ∙ ap (λ t. (parts_of t).source) c.deref.ensures.value)
+    c.reload_source.ensures
 
 pub returns-in-Err-Fault-clause-reloaded : goal.returns-in-Err-Fault-clause-reloaded
 returns-in-Err-Fault-clause-reloaded g c all held =
@@ -17,5 +19,5 @@ returns-in-Err-Fault-clause-reloaded g c all held =
     let read = c.in-Err-Fault.is in
     let why = c.in-Err-Fault.field-0-is in
     let same : c.read.result ≡ Err (refused.Fault c.in-Err-Fault.unread) = cc in
-    reloaded-unread (λ text. text.items) 1048577 (all c.args.origin.now.name) c.read.result c.in-Err-Fault.unread
+    reloaded-unread (λ text. text.items) 41943041 (all c.args.origin.now.name) c.read.result c.in-Err-Fault.unread
     (moment_of c.args.session.now c.args.recall.now c.args.origin.now) same (rw named at (c.read.ensures.given all held))
