@@ -1,11 +1,12 @@
 -- How a line of the script may go on: the last word is not finished, and it may become what begins as it does, in capitals or small letters, of what may
 -- come after the words before it. These are names of commands and other keywords, in the order of their tables; and where an expression or a W-value
 -- may begin, the symbols of the program, in the order in which they got their values.
-use Rattle.std.specs.Prelude.{ℕ, ◌-◌, Bool, List, [], ◌∷◌, length, take, map, codes, Option, None, Some, if◌then◌else◌}
+use Rattle.std.specs.Prelude.{ℕ, zero, suc, ◌-◌, Bool, List, [], ◌∷◌, length, take, map, codes, Option, None, Some, if◌then◌else◌}
 use Rattle.std.specs.List.{filter, list_any}
 use Rattle.mix_lines.specs.Lines.{is_blank, words}
 use Rattle.mixal_asm.specs.Program.{ProgramValue}
 use Rattle.mixal_asm.specs.Source.{symbols_of}
+use Rattle.mix_session.specs.Conditions.{most_conditions}
 use Rattle.mix_session.specs.Keyword.{is_name, keyword_named, command_name, all_commands, back_name, all_backs, forth_name, all_forths}
 use Rattle.mix_session.specs.Keyword.{set_name, all_sets, until_name, all_untils, toggle_name, all_toggles, indicator_name, all_indicators}
 use Rattle.mix_session.specs.ShowRequest.{show_name, all_shows}
@@ -50,23 +51,43 @@ abbrev pub two_values : List (List ℕ) → Next
 two_values [] = next.Value
 two_values (word ∷ more) = one_value more
 
--- `REG`, `over`, `cmp`, `cell E`, `unit N`, `loc E`, `conflict`
-abbrev pub after_until_word : UntilWord → List (List ℕ) → Next
-after_until_word (until.Set (set.Register r)) words = next.Nothing
-after_until_word (until.Set set.Cell) words = one_value words
-after_until_word (until.Set set.Location) words = one_value words
-after_until_word (until.Set set.Toggle) words = next.Nothing
-after_until_word (until.Set set.Indicator) words = next.Nothing
-after_until_word until.Unit words = next.Nothing
-after_until_word until.Conflict words = next.Nothing
+-- a word more, which may be this; and what follows it, where it is there
+abbrev pub after_operand : Next → (List (List ℕ) → Next) → List (List ℕ) → Next
+after_operand operand whole [] = operand
+after_operand operand whole (word ∷ more) = whole more
 
-abbrev pub after_until_named : Option UntilWord → List (List ℕ) → Next
-after_until_named None words = next.Nothing
-after_until_named (Some word) words = after_until_word word words
+-- `REG`, `over`, `cmp`, `cell E`, `unit N`, `loc E`, `conflict`; and what follows the condition, where it is whole
+abbrev pub after_until_word : (List (List ℕ) → Next) → UntilWord → List (List ℕ) → Next
+after_until_word whole (until.Set (set.Register r)) words = whole words
+after_until_word whole (until.Set set.Cell) words = after_operand next.Value whole words
+after_until_word whole (until.Set set.Location) words = after_operand next.Value whole words
+after_until_word whole (until.Set set.Toggle) words = whole words
+after_until_word whole (until.Set set.Indicator) words = whole words
+after_until_word whole until.Unit words = after_operand next.Nothing whole words
+after_until_word whole until.Conflict words = whole words
 
+abbrev pub after_until_named : (List (List ℕ) → Next) → Option UntilWord → List (List ℕ) → Next
+after_until_named whole None words = next.Nothing
+after_until_named whole (Some word) words = after_until_word whole word words
+
+abbrev pub after_condition : (List (List ℕ) → Next) → List (List ℕ) → Next
+after_condition whole [] = next.Condition
+after_condition whole (word ∷ more) = after_until_named whole (keyword_named until_name all_untils word) more
+
+-- after a condition the word `or`, where so many others may follow, and then those
+abbrev pub or_others : ℕ → (List (List ℕ) → Next) → List (List ℕ) → Next
+or_others zero conditions words = next.Nothing
+or_others (suc others) conditions [] = next.Or
+or_others (suc others) conditions (word ∷ more) = if is_name word (codes "or") then conditions more else next.Nothing
+
+-- where so many conditions may be waited for
+abbrev pub after_conditions : ℕ → List (List ℕ) → Next
+after_conditions zero words = next.Nothing
+after_conditions (suc others) words = after_condition (or_others others (after_conditions others)) words
+
+-- `COND`, `COND or COND`, and so on
 unfoldable pub after_until : List (List ℕ) → Next
-after_until [] = next.Condition
-after_until (word ∷ more) = after_until_named (keyword_named until_name all_untils word) more
+after_until words = after_conditions most_conditions words
 
 -- `run N`, `run N until COND`
 abbrev pub after_steps : List (List ℕ) → Next
@@ -128,7 +149,7 @@ after_show_word show.Value words = one_value words
 after_show_word show.Values words = two_values words
 after_show_word show.Symbols words = next.Nothing
 after_show_word show.Last words = next.Nothing
-after_show_word show.Writes words = after_until words
+after_show_word show.Writes words = after_conditions 1 words
 after_show_word show.Diff words = next.Nothing
 after_show_word show.Counts words = next.Nothing
 after_show_word show.Conflicts words = next.Nothing
@@ -176,6 +197,7 @@ next_words program next.Back = map back_name all_backs
 next_words program next.Forth = map forth_name all_forths
 next_words program next.Set = map set_name all_sets
 next_words program next.Condition = map until_name all_untils
+next_words program next.Or = codes "or" ∷ []
 next_words program next.Topic = map show_name all_shows
 next_words program next.Place = codes "line" ∷ symbol_names program
 next_words program next.Value = symbol_names program

@@ -6,6 +6,7 @@ ghost use Rattle.mix_lines.specs.Lines.{is_blank};
 ghost use Rattle.mix_session.specs.Completion.{unfinished, symbol_names, next_words, begins_so, completions};
 
 mod after;
+mod until;
 
 use crate::keyword::{BackWord, CommandWord, ForthWord, Keyword, SetWord, UntilWord};
 use crate::request::ShowWord;
@@ -92,6 +93,7 @@ fn add_next<'p>(
         Next::Forth => add_keywords(list, front, ForthWord::all()),
         Next::Set => add_keywords(list, front, SetWord::all()),
         Next::Condition => add_keywords(list, front, UntilWord::all()),
+        Next::Or => add(list, front, "or"),
         Next::Topic => add_keywords(list, front, ShowWord::all()),
         Next::Place => {
             add(list, front, "line")?;

@@ -46,6 +46,7 @@ fn answer(alloc: Global, kind: &str, fields: &[&str]) -> Option<String> {
     match kind {
         "session setting" => session::setting(alloc, fields),
         "session waiting" => session::waiting(alloc, fields),
+        "session completing" => session::completing(alloc, fields),
         "run printed" => print::printed(alloc, fields),
         "tool plan" => plan::planned(alloc, fields),
         _ => None,

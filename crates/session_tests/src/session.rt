@@ -1,6 +1,7 @@
-//! Kinds of rows: registers that are set to what texts say, and a run that waits for conditions that texts name. The first field is a source,
-//! whose machine has empty units; each field after it has the name of a register, a blank and the text, or a condition. A row ends with where
-//! the machine stands, what rA holds, and how many changes are done and stand ahead.
+//! Kinds of rows: registers that are set to what texts say, a run that waits for conditions that texts name, and a line that is not finished. The
+//! first field is a source, whose machine has empty units; each field after it has the name of a register, a blank and the text, or a condition, or it
+//! is the line. A row ends with where the machine stands, what rA holds, and how many changes are done and stand ahead; that of a line has the words
+//! that its last one may become.
 use crate::reader::bytes;
 use mix_machine::{Part, Reg, Units};
 use mix_session::{Answer, Conditions, Refusal, Request, Session};
@@ -44,6 +45,19 @@ pub fn waiting(alloc: Global, fields: &[&str]) -> Option<String> {
         Err(refusal) => write!(told, "{refusal}, ").ok()?,
     }
     push_state(&mut told, &session)?;
+    Some(told)
+}
+
+/// The words that the last one of a line may become.
+pub fn completing(alloc: Global, fields: &[&str]) -> Option<String> {
+    let [source, line] = fields else { return None };
+    let source = bytes(alloc, source)?;
+    let session = opened(alloc, &source)?;
+    let mut told = String::new(alloc);
+    let completion = session.completion(alloc, line.as_bytes()).ok()?;
+    for word in &completion.words {
+        write!(told, "{word} ").ok()?;
+    }
     Some(told)
 }
 

@@ -1,9 +1,11 @@
 //! What may come next in a line, after the words so far.
 
 ghost use Rattle.std.specs.Prelude.{◌≡◌};
-ghost use Rattle.mix_session.specs.Completion.{if_first, one_value, two_values, after_until_word, after_until, after_steps, after_run, after_back, after_forth, after_set_word, after_set, after_show_word, after_show, after_command, next_after};
+ghost use Rattle.mix_session.specs.Completion.{if_first, one_value, two_values, after_until, after_steps, after_run, after_back, after_forth, after_set_word, after_set, after_show_word, after_show, after_command, next_after};
 
-use crate::keyword::{BackWord, CommandWord, ForthWord, SetWord, UntilWord, named};
+use crate::completion::until::after_conditions;
+use crate::conditions::Conditions;
+use crate::keyword::{BackWord, CommandWord, ForthWord, SetWord, named};
 use crate::request::ShowWord;
 use mix_lines::Words;
 
@@ -18,6 +20,7 @@ pub(super) enum Next {
     Forth,
     Set,
     Condition,
+    Or,
     Topic,
     /// The word `line`, or an expression.
     Place,
@@ -130,26 +133,7 @@ fn after_forth(words: &mut Words) -> Next
 fn after_until(words: &mut Words) -> Next
     ensures { result ≡ after_until words.old }
 {
-    let Some(word) = words.next() else {
-        return Next::Condition;
-    };
-    match named(word) {
-        None => Next::Nothing,
-        Some(condition) => after_until_word(condition, words),
-    }
-}
-
-fn after_until_word(word: UntilWord, words: &mut Words) -> Next
-    ensures { result ≡ after_until_word word words.old }
-{
-    match word {
-        UntilWord::Set(SetWord::Cell) | UntilWord::Set(SetWord::Location) => one_value(words),
-        UntilWord::Set(SetWord::Register(_))
-        | UntilWord::Set(SetWord::Toggle)
-        | UntilWord::Set(SetWord::Indicator)
-        | UntilWord::Unit
-        | UntilWord::Conflict => Next::Nothing,
-    }
+    after_conditions(Conditions::MOST, words)
 }
 
 #[tactic(auto, unfolding(crate::specs::Completion::after_set))]
@@ -195,7 +179,7 @@ fn after_show_word(word: ShowWord, words: &mut Words) -> Next
     match word {
         ShowWord::Cells | ShowWord::Code | ShowWord::Values => two_values(words),
         ShowWord::Value => one_value(words),
-        ShowWord::Writes => after_until(words),
+        ShowWord::Writes => after_conditions(1, words),
         ShowWord::Registers
         | ShowWord::Clock
         | ShowWord::Breaks
