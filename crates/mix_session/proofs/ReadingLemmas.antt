@@ -11,9 +11,9 @@ use Rattle.mix_session.specs.Until.{operands_of, words_of_keyword, words_of_firs
 use Rattle.mix_session.specs.declared.condition.Condition.{Condition}
 use Rattle.mix_session.specs.declared.fault.Refusal.{Refusal}
 use Rattle.mix_session.specs.declared.fault.Refusal.TheVariants.{BadArgument, OutOfRange}
-use Rattle.mix_session.specs.declared.keyword.SetWord.TheVariants as set
-use Rattle.mix_session.specs.declared.keyword.UntilWord.{UntilWord}
-use Rattle.mix_session.specs.declared.keyword.UntilWord.TheVariants as until
+use Rattle.mix_session.specs.declared.keyword.target.SetWord.TheVariants as set
+use Rattle.mix_session.specs.declared.keyword.target.UntilWord.{UntilWord}
+use Rattle.mix_session.specs.declared.keyword.target.UntilWord.TheVariants as until
 
 -- more words than a keyword has are too many
 too_many : (names : NamesValue) (here : WordValue) (k : UntilWord) (more : List (List ℕ)) (e : Refusal) → no_word (drop (operands_of k) more) ≡ Err e →

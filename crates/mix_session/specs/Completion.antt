@@ -12,16 +12,16 @@ use Rattle.mix_session.specs.Keyword.{set_name, all_sets, until_name, all_untils
 use Rattle.mix_session.specs.ShowRequest.{show_name, all_shows}
 use Rattle.mix_session.specs.declared.completion.after.Next.{Next}
 use Rattle.mix_session.specs.declared.completion.after.Next.TheVariants as next
-use Rattle.mix_session.specs.declared.keyword.CommandWord.{CommandWord}
-use Rattle.mix_session.specs.declared.keyword.CommandWord.TheVariants as command
-use Rattle.mix_session.specs.declared.keyword.BackWord.{BackWord}
-use Rattle.mix_session.specs.declared.keyword.BackWord.TheVariants as back
-use Rattle.mix_session.specs.declared.keyword.ForthWord.{ForthWord}
-use Rattle.mix_session.specs.declared.keyword.ForthWord.TheVariants as forth
-use Rattle.mix_session.specs.declared.keyword.SetWord.{SetWord}
-use Rattle.mix_session.specs.declared.keyword.SetWord.TheVariants as set
-use Rattle.mix_session.specs.declared.keyword.UntilWord.{UntilWord}
-use Rattle.mix_session.specs.declared.keyword.UntilWord.TheVariants as until
+use Rattle.mix_session.specs.declared.keyword.command.CommandWord.{CommandWord}
+use Rattle.mix_session.specs.declared.keyword.command.CommandWord.TheVariants as command
+use Rattle.mix_session.specs.declared.keyword.command.BackWord.{BackWord}
+use Rattle.mix_session.specs.declared.keyword.command.BackWord.TheVariants as back
+use Rattle.mix_session.specs.declared.keyword.command.ForthWord.{ForthWord}
+use Rattle.mix_session.specs.declared.keyword.command.ForthWord.TheVariants as forth
+use Rattle.mix_session.specs.declared.keyword.target.SetWord.{SetWord}
+use Rattle.mix_session.specs.declared.keyword.target.SetWord.TheVariants as set
+use Rattle.mix_session.specs.declared.keyword.target.UntilWord.{UntilWord}
+use Rattle.mix_session.specs.declared.keyword.target.UntilWord.TheVariants as until
 use Rattle.mix_session.specs.declared.request.topics.ShowWord.{ShowWord}
 use Rattle.mix_session.specs.declared.request.topics.ShowWord.TheVariants as show
 

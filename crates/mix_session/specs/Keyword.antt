@@ -4,16 +4,16 @@ use Rattle.std.specs.Str.{str_eq_ignore_ascii_case}
 use Rattle.mix_word.specs.Register.{all_registers, name_of_register}
 use Rattle.mix_word.specs.declared.word.Cmp.{Cmp}
 use Rattle.mix_word.specs.declared.word.Cmp.TheVariants.{Less, Equal, Greater}
-use Rattle.mix_session.specs.declared.keyword.CommandWord.{CommandWord}
-use Rattle.mix_session.specs.declared.keyword.CommandWord.TheVariants as command
-use Rattle.mix_session.specs.declared.keyword.BackWord.{BackWord}
-use Rattle.mix_session.specs.declared.keyword.BackWord.TheVariants as back
-use Rattle.mix_session.specs.declared.keyword.ForthWord.{ForthWord}
-use Rattle.mix_session.specs.declared.keyword.ForthWord.TheVariants as forth
-use Rattle.mix_session.specs.declared.keyword.SetWord.{SetWord}
-use Rattle.mix_session.specs.declared.keyword.SetWord.TheVariants.{Register, Cell, Location, Toggle, Indicator}
-use Rattle.mix_session.specs.declared.keyword.UntilWord.{UntilWord}
-use Rattle.mix_session.specs.declared.keyword.UntilWord.TheVariants as until
+use Rattle.mix_session.specs.declared.keyword.command.CommandWord.{CommandWord}
+use Rattle.mix_session.specs.declared.keyword.command.CommandWord.TheVariants as command
+use Rattle.mix_session.specs.declared.keyword.command.BackWord.{BackWord}
+use Rattle.mix_session.specs.declared.keyword.command.BackWord.TheVariants as back
+use Rattle.mix_session.specs.declared.keyword.command.ForthWord.{ForthWord}
+use Rattle.mix_session.specs.declared.keyword.command.ForthWord.TheVariants as forth
+use Rattle.mix_session.specs.declared.keyword.target.SetWord.{SetWord}
+use Rattle.mix_session.specs.declared.keyword.target.SetWord.TheVariants.{Register, Cell, Location, Toggle, Indicator}
+use Rattle.mix_session.specs.declared.keyword.target.UntilWord.{UntilWord}
+use Rattle.mix_session.specs.declared.keyword.target.UntilWord.TheVariants as until
 
 -- whether a word is this name, in capitals or small letters
 abbrev pub is_name : List ℕ → List ℕ → Bool

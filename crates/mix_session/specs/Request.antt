@@ -15,12 +15,12 @@ use Rattle.mix_session.specs.Names.{names_of}
 use Rattle.mixal_text.specs.Steps.{◌>>=◌}
 use Rattle.mix_session.specs.declared.fault.Refusal.{Refusal}
 use Rattle.mix_session.specs.declared.fault.Refusal.TheVariants.{NoSuchCommand, BadArgument, OutOfRange}
-use Rattle.mix_session.specs.declared.keyword.CommandWord.{CommandWord}
-use Rattle.mix_session.specs.declared.keyword.CommandWord.TheVariants as command
-use Rattle.mix_session.specs.declared.keyword.BackWord.{BackWord}
-use Rattle.mix_session.specs.declared.keyword.BackWord.TheVariants as back
-use Rattle.mix_session.specs.declared.keyword.ForthWord.{ForthWord}
-use Rattle.mix_session.specs.declared.keyword.ForthWord.TheVariants as forth
+use Rattle.mix_session.specs.declared.keyword.command.CommandWord.{CommandWord}
+use Rattle.mix_session.specs.declared.keyword.command.CommandWord.TheVariants as command
+use Rattle.mix_session.specs.declared.keyword.command.BackWord.{BackWord}
+use Rattle.mix_session.specs.declared.keyword.command.BackWord.TheVariants as back
+use Rattle.mix_session.specs.declared.keyword.command.ForthWord.{ForthWord}
+use Rattle.mix_session.specs.declared.keyword.command.ForthWord.TheVariants as forth
 use Rattle.mix_session.specs.declared.request.Request.{Request}
 use Rattle.mix_session.specs.declared.request.Request.TheVariants as ask
 use Rattle.mix_machine.specs.declared.old.Change.TheVariants.{Break, Clear}

@@ -13,10 +13,10 @@ use Rattle.mix_session.specs.declared.condition.Condition.{Condition}
 use Rattle.mix_session.specs.declared.condition.Condition.TheVariants.{Alters, At, Conflicts}
 use Rattle.mix_session.specs.declared.fault.Refusal.{Refusal}
 use Rattle.mix_session.specs.declared.fault.Refusal.TheVariants.{BadArgument}
-use Rattle.mix_session.specs.declared.keyword.SetWord.{SetWord}
-use Rattle.mix_session.specs.declared.keyword.SetWord.TheVariants as set
-use Rattle.mix_session.specs.declared.keyword.UntilWord.{UntilWord}
-use Rattle.mix_session.specs.declared.keyword.UntilWord.TheVariants as until
+use Rattle.mix_session.specs.declared.keyword.target.SetWord.{SetWord}
+use Rattle.mix_session.specs.declared.keyword.target.SetWord.TheVariants as set
+use Rattle.mix_session.specs.declared.keyword.target.UntilWord.{UntilWord}
+use Rattle.mix_session.specs.declared.keyword.target.UntilWord.TheVariants as until
 
 -- what is waited for, after which there is no word
 abbrev pub condition_alone : Condition → List (List ℕ) → Result Condition Refusal

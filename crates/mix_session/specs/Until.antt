@@ -8,9 +8,9 @@ use Rattle.mix_session.specs.Setting.{condition_in}
 use Rattle.mix_session.specs.declared.condition.Condition.{Condition}
 use Rattle.mix_session.specs.declared.fault.Refusal.{Refusal}
 use Rattle.mix_session.specs.declared.fault.Refusal.TheVariants.{BadArgument, OutOfRange}
-use Rattle.mix_session.specs.declared.keyword.SetWord.TheVariants as set
-use Rattle.mix_session.specs.declared.keyword.UntilWord.{UntilWord}
-use Rattle.mix_session.specs.declared.keyword.UntilWord.TheVariants as until
+use Rattle.mix_session.specs.declared.keyword.target.SetWord.TheVariants as set
+use Rattle.mix_session.specs.declared.keyword.target.UntilWord.{UntilWord}
+use Rattle.mix_session.specs.declared.keyword.target.UntilWord.TheVariants as until
 
 -- how many words follow a keyword, whichever they are: one in `cell E`, `loc E` and `unit N`
 abbrev pub operands_of : UntilWord → ℕ

@@ -2,10 +2,10 @@
 use Rattle.std.specs.Prelude.{◌≡◌, Some, refl}
 use Rattle.mix_word.specs.declared.register.Reg.TheVariants as reg
 use Rattle.mix_session.specs.Keyword.{keyword_named, set_name, all_sets, until_name, all_untils}
-use Rattle.mix_session.specs.declared.keyword.SetWord.{SetWord}
-use Rattle.mix_session.specs.declared.keyword.SetWord.TheVariants.{Register, Cell, Location, Toggle, Indicator}
-use Rattle.mix_session.specs.declared.keyword.UntilWord.{UntilWord}
-use Rattle.mix_session.specs.declared.keyword.UntilWord.TheVariants as until
+use Rattle.mix_session.specs.declared.keyword.target.SetWord.{SetWord}
+use Rattle.mix_session.specs.declared.keyword.target.SetWord.TheVariants.{Register, Cell, Location, Toggle, Indicator}
+use Rattle.mix_session.specs.declared.keyword.target.UntilWord.{UntilWord}
+use Rattle.mix_session.specs.declared.keyword.target.UntilWord.TheVariants as until
 
 pub set_named : (k : SetWord) → keyword_named set_name all_sets (set_name k) ≡ Some k
 set_named (Register reg.A) = refl
