@@ -2,7 +2,7 @@
 use Rattle.std.proofs.Common.{refl, sym, ◌∙◌}
 use Rattle.mix_run.proofs.RunLemmas.{nil-from_length}
 use Rattle.mix_run.proofs.TalkLemmas.{joined-parts, joined-whole, more-clear, more-parts, some-from_length}
-use Rattle.mix_run.proofs.talk.heard.take_lines.Goals as goal
+use Rattle.mix_run.proofs.talk.pending.take_lines.Goals as goal
 
 pub returns-then-is_empty-clause-parts : goal.returns-then-is_empty-clause-parts
 returns-then-is_empty-clause-parts c =

@@ -13,7 +13,7 @@ use Rattle.mix_run.proofs.DebugLemmas.{deck-used, parts-made, parts-whole}
 use Rattle.mix_run.proofs.PrintOutputLemmas.{parts-taken}
 use Rattle.mix_run.proofs.RunLemmas.{ConsumesAtMost-none}
 use Rattle.mix_run.proofs.TalkMeets.{TalksWith-given, TalksWith-made, TalksWith-no_units, TalksWith-unread, counts-after, not-long, saved-as}
-use Rattle.mix_run.proofs.talk.talk_of_source.Goals as goal
+use Rattle.mix_run.proofs.talk.opened.talk_of_source.Goals as goal
 
 pub returns-in_err-text-clause-talks : goal.returns-in_err-text-clause-talks
 returns-in_err-text-clause-talks g c all s d t hs hd ht known =

@@ -4,7 +4,7 @@ use Rattle.mix_run.specs.Hearing.{Hears}
 use Rattle.mix_run.specs.Recall.{nothing}
 use Rattle.mix_run.specs.Reload.{moment_of}
 use Rattle.mix_run.specs.declared.talk.aside.Talker.TheVariants.{Program}
-use Rattle.mix_run.proofs.talk.heard.talk.Given as goal
+use Rattle.mix_run.proofs.talk.input.talk.Given as goal
 
 -- what was read so far is heard
 abbrev pub invariant-loop-reads : goal.invariant-loop-reads

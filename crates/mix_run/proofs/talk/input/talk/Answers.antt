@@ -7,7 +7,7 @@ use Rattle.std.proofs.KnownBytes.{Consumes-nil, Consumes-trans}
 use Rattle.mix_run.proofs.HearingLemmas.{Hears-lines, Hears-nothing, Hears-on, Hears-then, Talks-begun, end-answered, end-begun, end-known, ended, long-text, more-begun, more-known, too-long, unread}
 use Rattle.mix_run.proofs.TalkLemmas.{all-read, kept-known, left-known, read-more}
 use Rattle.mix_run.proofs.Written.{Appends-nothing}
-use Rattle.mix_run.proofs.talk.heard.talk.Goals as goal
+use Rattle.mix_run.proofs.talk.input.talk.Goals as goal
 
 pub loop-reads-init : goal.loop-reads-init
 loop-reads-init g c = record {

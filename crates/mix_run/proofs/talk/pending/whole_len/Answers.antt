@@ -1,7 +1,7 @@
 use Rattle.std.proofs.Common.{◌≡◌, ◌+◌, ◌-◌, take, arith, ap, ◌∙◌, sym, rules}
 use Rattle.mix_run.specs.Talk.{is_whole}
 use Rattle.mix_run.proofs.TalkLemmas.{whole-take}
-use Rattle.mix_run.proofs.talk.heard.whole_len.Goals as goal
+use Rattle.mix_run.proofs.talk.pending.whole_len.Goals as goal
 
 pub returns-else-text-len-ne10-clause-whole : goal.returns-else-text-len-ne10-clause-whole
 returns-else-text-len-ne10-clause-whole c =

@@ -1,7 +1,7 @@
 use Rattle.std.proofs.Common.{◌≡◌, ◌≤◌, false, length, drop}
 use Rattle.std.specs.List.{list_any}
 use Rattle.mix_lines.specs.Lines.{is_line_feed}
-use Rattle.mix_run.proofs.talk.heard.whole_len.Given as goal
+use Rattle.mix_run.proofs.talk.pending.whole_len.Given as goal
 
 -- no line feed stands past the first bytes
 abbrev pub invariant-loop-len : goal.invariant-loop-len
