@@ -1,4 +1,4 @@
-use Rattle.std.proofs.Common.{◌≡◌, ◌≤◌, ◌-◌, ◌++◌, flat_map, length}
+use Rattle.std.proofs.Common.{◌≡◌, ◌-◌, ◌++◌, flat_map, length}
 use Rattle.std.specs.List.{range_with_len}
 use Rattle.mix_session.specs.ShowUnit.{block_text, block_word_text}
 use Rattle.mix_run.proofs.keep.add_words.Given as goal

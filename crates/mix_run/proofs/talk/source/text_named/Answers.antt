@@ -1,5 +1,5 @@
 -- A line that names no file has no lines.
-use Rattle.std.proofs.Common.{◌∙◌, ap, sym}
+use Rattle.std.proofs.Common.{◌∙◌, ap}
 use Rattle.mix_lines.specs.Lines.{lines, lines-nil}
 use Rattle.mix_run.specs.Sources.{lines_under}
 use Rattle.mix_run.proofs.talk.source.text_named.Goals as goal
