@@ -1,6 +1,6 @@
 //! What a person reloads: the file of the source is read again, and in the machine that it loads all is done again that was done so far.
 
-ghost use Rattle.std.specs.Prelude.{◌≡◌, Ok, List, ℕ, OnOk, Some};
+ghost use Rattle.std.specs.Prelude.{◌≡◌, Ok, List, ℕ, OnErr, OnOk, Some};
 ghost use Rattle.mix_lines.specs.Lines.{lines};
 ghost use Rattle.mixal_asm.specs.Assembly.{assembly};
 ghost use Rattle.mix_session.specs.Command.{after};
@@ -90,8 +90,9 @@ fn reload_program<E: Out>(
     source: &[u8],
     errors: &mut E,
 ) -> Result<(), Memory>
-    ensures { OnOk result (moment_of session.new recall.now origin.new
+    ensures reloaded { OnOk result (moment_of session.new recall.now origin.new
         ≡ reloaded_as source.now (Ok program) (moment_of session.old recall.now origin.old)) }
+    ensures kept { OnErr result ((session.new ≡ session.old) × (origin.new ≡ origin.old)) }
 {
     let alloc = recall.allocator();
     let units = match Units::read(alloc, origin.deck()) {
@@ -119,8 +120,9 @@ fn reload_source<E: Out>(
     source: &[u8],
     errors: &mut E,
 ) -> Result<(), Memory>
-    ensures { OnOk result (moment_of session.new recall.now origin.new
+    ensures reloaded { OnOk result (moment_of session.new recall.now origin.new
         ≡ reloaded_as source.now (assembly source.now) (moment_of session.old recall.now origin.old)) }
+    ensures kept { OnErr result ((session.new ≡ session.old) × (origin.new ≡ origin.old)) }
 {
     let alloc = recall.allocator();
     match assemble(alloc, source) {
@@ -134,7 +136,7 @@ fn reload_source<E: Out>(
 }
 
 /// Reads the source again, and does in the machine that it loads what was done so far; of a bundle the deck is not read again. If it can't be read or
-/// is refused, a person is told why, and all is as it was.
+/// is refused, a person is told why, and all is as it was; so it is where memory is refused.
 pub(crate) fn reload<O: Opener, E: Out>(
     session: &mut Session,
     recall: &Recall,
@@ -144,6 +146,7 @@ pub(crate) fn reload<O: Opener, E: Out>(
 ) -> Result<(), Memory>
     ensures reloaded { (all : Files) → O.holds files.old ≡ Some all → OnOk result (moment_of session.new recall.now origin.new
         ≡ reloaded (all origin.old.name) (moment_of session.old recall.now origin.old)) }
+    ensures kept { OnErr result ((session.new ≡ session.old) × (origin.new ≡ origin.old)) }
     ensures held { O.holds files.new ≡ O.holds files.old }
     ensures unasked { O.asked files.new ≡ O.asked files.old }
     ensures unsaved { O.saved files.new ≡ O.saved files.old }

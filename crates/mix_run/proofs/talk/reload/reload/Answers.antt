@@ -11,7 +11,7 @@ returns-in-Ok-clause-reloaded g c all held =
     let named : c.as_bytes.result.now ≡ c.args.origin.now.name = search rules in
     reloaded-read (λ text. text.items) 41943041 (all c.args.origin.now.name) c.in-Ok.text _ (moment_of c.args.session.now c.args.recall.now c.args.origin.now) _
     c.reload_source.result refl (rw named at (c.in-Ok.ensures.given all held)) (c.parts_of.ensures.source ∙ ap (λ t. (parts_of t).source) c.deref.ensures.value)
-    c.reload_source.ensures
+    c.reload_source.ensures.reloaded
 
 pub returns-in-Err-Fault-clause-reloaded : goal.returns-in-Err-Fault-clause-reloaded
 returns-in-Err-Fault-clause-reloaded g c all held =
