@@ -1,11 +1,13 @@
--- What a client asks of a session by values and not by a line: a change by its number, a condition, and what a part is set to. Names are those
--- of the program, and the asterisk stands for the location, as in a script.
-use Rattle.std.specs.Prelude.{ℕ, zero, suc, List, Option, None, Result, slice_get}
+-- What a client asks of a session by values and not by a line: a change by its number, with what it conflicts, a condition, and what a part is set
+-- to. Names are those of the program, and the asterisk stands for the location, as in a script.
+use Rattle.std.specs.Prelude.{ℕ, zero, suc, ◌+◌, List, length, Option, None, Result, nat_lt, slice_get, if◌then◌else◌}
 use Rattle.mix_lines.specs.Lines.{words}
 use Rattle.mix_word.specs.Word.{plus}
 use Rattle.mix_machine.specs.declared.old.Change.{Change}
 use Rattle.mix_machine.specs.declared.part.Part.{Part}
+use Rattle.mix_machine.specs.declared.transfers.Conflict.{Conflict}
 use Rattle.mix_session.specs.Change.{all_changes}
+use Rattle.mix_session.specs.Conflicts.{conflict_at}
 use Rattle.mix_session.specs.Names.{names_of}
 use Rattle.mix_session.specs.Setting.{condition_in, setting_of}
 use Rattle.mix_session.specs.Session.{SessionState}
@@ -17,6 +19,10 @@ use Rattle.mix_session.specs.declared.fault.Refusal.{Refusal}
 abbrev pub change_numbered : Timeline → ℕ → Option Change
 change_numbered t zero = None
 change_numbered t (suc n) = slice_get (all_changes t) n
+
+-- with which cell of which transfer under way before it the change after the first n of all conflicts, if there is one and it does
+abbrev pub conflict_after : Timeline → ℕ → Option Conflict
+conflict_after t n = if nat_lt n (length (all_changes t)) then conflict_at t (n + 1) else None
 
 -- the condition that a text names, as after `until`
 abbrev pub condition_at : SessionState → List ℕ → Result Condition Refusal

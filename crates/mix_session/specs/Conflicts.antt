@@ -1,9 +1,14 @@
--- Which changes conflict with a transfer under way, and what `show conflicts` writes of them.
+-- Which changes conflict with a transfer under way, a conflict in words, and what `show conflicts` writes.
 use Rattle.std.specs.Prelude.{ℕ, zero, suc, ◌+◌, ◌-◌, List, [], ◌∷◌, ◌++◌, codes, length, Bool, Option, None, Some, is_some}
 use Rattle.std.specs.Fmt.{decimal}
 use Rattle.mix_word.specs.Text.{location_text}
 use Rattle.mix_machine.specs.Transfers.{TransfersState, no_transfers, transfers_after, conflict_of}
 use Rattle.mix_machine.specs.declared.transfers.Conflict.{Conflict}
+use Rattle.mix_machine.specs.declared.transfers.Direction.{Direction}
+use Rattle.mix_machine.specs.declared.transfers.Direction.TheVariants as way
+use Rattle.mix_machine.specs.declared.units.kind.UnitKind.{UnitKind}
+use Rattle.mix_machine.specs.declared.units.kind.UnitKind.TheVariants as unit
+use Rattle.mix_machine.specs.units.UnitKind.{kind_of}
 use Rattle.mix_session.specs.Change.{world_at, change_at, change_front, writes_text}
 use Rattle.mix_session.specs.Each.{texts}
 use Rattle.mix_session.specs.Timeline.{Timeline}
@@ -26,6 +31,29 @@ last_conflicts t = is_some (conflict_at t (length t.changes))
 -- the last column: the cell, the unit, and when its transfer ends
 unfoldable pub conflict_column : Conflict → List ℕ
 conflict_column c = codes "  cell " ++ location_text c.cell ++ codes ", unit " ++ decimal c.unit ++ codes " until " ++ decimal c.transfer.until
+
+-- a conflict in words: how the cell is used, and what the unit does with it meanwhile, `cell 2001 is altered while unit 18 prints it until 726`
+abbrev pub use_text : Direction → List ℕ
+use_text way.Input = codes " is used while unit "
+use_text way.Output = codes " is altered while unit "
+
+abbrev pub output_text : UnitKind → List ℕ
+output_text unit.Tape = codes " writes it until "
+output_text unit.Disk = codes " writes it until "
+output_text unit.CardReader = codes " writes it until "
+output_text unit.CardPunch = codes " writes it until "
+output_text unit.Printer = codes " prints it until "
+output_text unit.Typewriter = codes " writes it until "
+output_text unit.PaperTape = codes " writes it until "
+
+abbrev pub transfer_text : Direction → UnitKind → List ℕ
+transfer_text way.Input kind = codes " reads into it until "
+transfer_text way.Output kind = output_text kind
+
+unfoldable pub conflict_text : Conflict → List ℕ
+conflict_text c =
+    codes "cell " ++ location_text c.cell ++ use_text c.transfer.way ++ decimal c.unit ++ transfer_text c.transfer.way (kind_of c.unit)
+    ++ decimal c.transfer.until
 
 -- the line of a change that conflicts, by its columns; nothing of another
 abbrev pub conflict_line : List ℕ → Option Conflict → List ℕ

@@ -3,6 +3,7 @@
 ghost use Rattle.std.specs.Prelude.{◌≡◌, ◌<◌, ◌+◌, ◌++◌, List, Some, OnOk, IfErr, IfOk, length, take, true, false, is_some, if◌then◌else◌};
 ghost use Rattle.undo_core.specs.Replay.{replay};
 ghost use Rattle.mix_machine.specs.Do.{does};
+ghost use Rattle.mix_session.specs.Client.{conflict_after};
 ghost use Rattle.mix_session.specs.Conflicts.{transfers_at, conflict_at};
 ghost use Rattle.mix_session.specs.Known.{has_conflict, Knows, LooksAt, LooksOn};
 ghost use Rattle.mix_session.specs.Timeline.{Timeline};
@@ -39,6 +40,27 @@ pub(crate) fn pass(
     transfers.go(again, world);
     journal.redo(number, world, kept)?;
     Ok(conflict)
+}
+
+/// With what the change after the first ones of all conflicts: these are gone over, on a copy of the first machine.
+pub(crate) fn conflict_after(
+    alloc: Global,
+    journal: &Journal<World>,
+    number: usize,
+) -> Result<Option<Conflict>, Memory>
+    ensures { IfOk result (λ conflict. conflict ≡ conflict_after journal.now number) }
+{
+    if number >= journal.all().len() {
+        return Ok(None);
+    }
+    let mut world = first_world(alloc, journal)?;
+    let mut transfers = Transfers::none();
+    let mut kept = Kept::new(alloc);
+    for index in 0..number {
+        pass(journal, index, &mut transfers, &mut world, &mut kept)?;
+        kept.clear();
+    }
+    pass(journal, number, &mut transfers, &mut world, &mut kept)
 }
 
 /// What a run knows of conflicts while it goes on, where it waits for one.

@@ -39,6 +39,7 @@ pub use reply::{End, Told};
 pub use request::{Request, Topic};
 pub use session::Session;
 pub use show::all::was_used;
+pub use show::conflicts::conflict_text;
 pub use show::differences::Held;
 pub use show::words::{Characters, Letters, ShortLetters};
 pub use tally::{Tallies, Tally};

@@ -4,19 +4,20 @@
 ghost use Rattle.std.specs.Prelude.{◌≡◌, ◌<◌, ℕ, IfOk, length, min, string_bytes, take};
 ghost use Rattle.mix_session.specs.Change.{world_at, change_line, change_text};
 ghost use Rattle.mix_session.specs.Counts.{tally_at, tally_of_all};
-ghost use Rattle.mix_session.specs.Client.{change_numbered};
+ghost use Rattle.mix_session.specs.Client.{change_numbered, conflict_after};
 ghost use Rattle.mix_session.specs.Path.{IsPath};
 ghost use Rattle.mix_session.specs.Tally.{tally_in};
 ghost use Rattle.mix_session.specs.Writes.{writes_back};
 
 use crate::altered::Worlds;
+use crate::conflicts::conflict_after;
 use crate::path::{Span, path_of};
 use crate::session::Session;
 use crate::show::changes;
 use crate::tally::{Tallies, tallies_of};
 use crate::timeline;
 use crate::writes::{Write, writes_of};
-use mix_machine::{Change, Part, World};
+use mix_machine::{Change, Conflict, Part, World};
 use std::alloc::Global;
 use undo_core::Memory;
 
@@ -37,6 +38,14 @@ impl Session {
             0 => None,
             _ => self.journal().all().get(number - 1),
         }
+    }
+
+    /// With which cell of which transfer under way before it the change after the first so many of all conflicts, of those done and those that
+    /// stand ahead; none where there is no such change. Only out of memory refuses it.
+    pub fn conflict_after(&self, alloc: Global, number: usize) -> Result<Option<Conflict>, Memory>
+        ensures { IfOk result (λ conflict. conflict ≡ conflict_after self.now.timeline number) }
+    {
+        conflict_after(alloc, self.journal(), number)
     }
 
     /// How often the instruction of each cell was executed by the changes done, and how long that took; and the same of all cells. Only out of

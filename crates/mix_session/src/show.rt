@@ -11,7 +11,7 @@ pub(crate) mod cells;
 pub(crate) mod changes;
 mod code;
 mod columns;
-mod conflicts;
+pub(crate) mod conflicts;
 pub(crate) mod counts;
 pub(crate) mod differences;
 mod each;

@@ -1,21 +1,10 @@
 //! What is told of the steps of a run that conflict with a transfer under way (1.3.1, "Input-output operators").
 
 use crate::ending::{place, tell_beside};
-use mix_machine::UnitKind;
-use mix_run::{Conflict, Direction, RanTo};
+use mix_run::{Conflict, RanTo};
+use mix_session::conflict_text;
 use mix_stream::Out;
 use std::alloc::{AllocError, Global};
-
-// How a cell is used, and what the unit does with it meanwhile.
-fn use_of(conflict: Conflict) -> (&'static str, &'static str) {
-    match conflict.transfer.way {
-        Direction::Input => ("used", "reads into"),
-        Direction::Output => match conflict.unit.kind() {
-            UnitKind::Printer => ("altered", "prints"),
-            _ => ("altered", "writes"),
-        },
-    }
-}
 
 /// A conflict: `fill.mixal:74: warning: at 1047 clock 424 cell 2001 is altered while unit 18 prints it until 726`.
 pub(crate) fn conflict_line(
@@ -26,11 +15,8 @@ pub(crate) fn conflict_line(
     conflict: Conflict,
 ) -> Result<String, AllocError> {
     let (loc, clock) = at;
-    let (cell, unit) = (conflict.cell.number(), conflict.unit.number());
-    let until = conflict.transfer.until;
-    let (used, does) = use_of(conflict);
-    let step = format!(in alloc; "{place}: {severity}: at {loc:04} clock {clock} cell {cell:04}")?;
-    format!(in alloc; "{step} is {used} while unit {unit} {does} it until {until}\n")
+    let text = conflict_text(alloc, conflict)?;
+    format!(in alloc; "{place}: {severity}: at {loc:04} clock {clock} {text}\n")
 }
 
 // How many steps conflict: `fill.mixal: warning: 51 steps conflict with a transfer under way`.

@@ -1,15 +1,15 @@
-//! The lines of the changes that conflict with a transfer under way.
+//! A conflict in words, and the lines of the changes that conflict with a transfer under way.
 
-ghost use Rattle.std.specs.Prelude.{◌≡◌, ◌<◌, ◌+◌, ◌++◌, Some, OnOk, IfOk, length, take, [], ◌∷◌};
+ghost use Rattle.std.specs.Prelude.{◌≡◌, ◌<◌, ◌+◌, ◌++◌, Some, OnOk, IfOk, length, string_bytes, take, [], ◌∷◌};
 ghost use Rattle.undo_core.specs.Replay.{replay};
 ghost use Rattle.mix_machine.specs.Do.{does};
-ghost use Rattle.mix_session.specs.Conflicts.{conflict_at, conflict_column, conflict_line_at, conflicts_text};
+ghost use Rattle.mix_session.specs.Conflicts.{conflict_at, conflict_column, conflict_line_at, conflict_text, conflicts_text, output_text, transfer_text, use_text};
 
 use crate::altered::Worlds;
 use crate::conflicts::pass;
 use crate::show::changes::front_of;
 use crate::timeline::first_world;
-use mix_machine::{Conflict, Transfers, World};
+use mix_machine::{Conflict, Direction, Transfers, UnitKind, World};
 use mix_word::Location;
 use std::alloc::{AllocError, Global};
 use undo_core::{Journal, Kept, Memory};
@@ -93,4 +93,51 @@ fn add_conflict(alloc: Global, text: &mut Vec<u8>, conflict: Conflict) -> Result
     let until = conflict.transfer.until;
     let conflict = format!(in alloc; "  cell {cell}, unit {unit} until {until}\n")?;
     text.extend_from_slice(conflict.as_bytes())
+}
+
+/// A conflict in words, as `cell 2001 is altered while unit 18 prints it until 726` (1.3.1). Only out of memory refuses it.
+#[tactic(auto, unfolding(crate::specs::Conflicts::conflict_text))]
+pub fn conflict_text(alloc: Global, conflict: Conflict) -> Result<String, AllocError>
+    ensures { IfOk result (λ s. string_bytes s ≡ conflict_text conflict) }
+{
+    let (cell, unit) = (Location(conflict.cell.number()), conflict.unit.number());
+    let used = use_text(conflict.transfer.way);
+    let does = transfer_text(conflict.transfer.way, conflict.unit.kind());
+    let until = conflict.transfer.until;
+    let text = format!(in alloc; "cell {cell}{used}{unit}{does}{until}")?;
+    Ok(text)
+}
+
+// How a cell of a transfer is used.
+fn use_text(way: Direction) -> &'static str
+    ensures { result.now ≡ use_text way }
+{
+    match way {
+        Direction::Input => " is used while unit ",
+        Direction::Output => " is altered while unit ",
+    }
+}
+
+// What a unit does meanwhile.
+fn transfer_text(way: Direction, kind: UnitKind) -> &'static str
+    ensures { result.now ≡ transfer_text way kind }
+{
+    match way {
+        Direction::Input => " reads into it until ",
+        Direction::Output => output_text(kind),
+    }
+}
+
+fn output_text(kind: UnitKind) -> &'static str
+    ensures { result.now ≡ output_text kind }
+{
+    match kind {
+        UnitKind::Printer => " prints it until ",
+        UnitKind::Tape
+        | UnitKind::Disk
+        | UnitKind::CardReader
+        | UnitKind::CardPunch
+        | UnitKind::Typewriter
+        | UnitKind::PaperTape => " writes it until ",
+    }
 }
