@@ -143,6 +143,29 @@ VIEWS = [
 TWICE = " NOP\n NOP\n ORIG 0\n NOP\n END 0\n"
 STAYS = '"body":{"breakpoints":[{"line":2},{"line":4}]}'
 
+# A line that is altered while it is printed, until 0 + 1 + 10: by changes 2 and 3; change 11 is behind it.
+LINE = ' OUT 9(18)\n STZ 9\n STZ 10\n JBUS *(18)\n STZ 9\n HLT\n ORIG 9\n ALF "HULLO"\n END 0\n'
+DELAY = "%UNIT 18 delay 10\n"
+FIRST, SECOND = ['"body":{"allThreadsStopped":true,"description":"%s","reason":"exception","text":"%s","threadId":1},"event":"stopped"' % (text, text)
+                 for text in ("cell 0009 is altered while unit 18 prints it until 11", "cell 0010 is altered while unit 18 prints it until 11")]
+HALT, WATCHED = '"reason":"halt"', '"reason":"data breakpoint"'
+# A request by its name and its arguments, a part of what it is told, the location after it, and how many changes are done.
+CONFLICTS = [
+    ("continue", {}, HALT, 6, 12), ("reverseContinue", {}, '"reason":"entry"', 0, 0),
+    ("setExceptionBreakpoints", {"filters": ["all", "conflict"]}, '"body":{"breakpoints":[{"message":"no such filter","verified":false},{"verified":true}]}', 0, 0),
+    ("continue", {}, FIRST, 2, 2), ("exceptionInfo", {}, '"id":306', 2, 2), ("continue", {}, SECOND, 3, 3), ("continue", {}, HALT, 6, 12),
+    ("reverseContinue", {}, SECOND, 2, 2), ("reverseContinue", {}, FIRST, 1, 1), ("next", {}, '"reason":"step"', 2, 2), ("stepBack", {}, '"reason":"step"', 1, 1),
+    # what is watched is told first
+    ("setDataBreakpoints", {"breakpoints": [{"dataId": "cell 9"}]}, '"body":{"breakpoints":[{"verified":true}]}', 1, 1),
+    ("continue", {}, WATCHED, 2, 2), ("continue", {}, SECOND, 3, 3), ("setDataBreakpoints", {"breakpoints": []}, '"body":{"breakpoints":[]}', 3, 3),
+    ("reverseContinue", {}, SECOND, 2, 2), ("reverseContinue", {}, FIRST, 1, 1),
+    # another filter takes it away
+    ("setExceptionBreakpoints", {"filters": ["all"]}, '"body":{"breakpoints":[{"message":"no such filter","verified":false}]}', 1, 1), ("continue", {}, HALT, 6, 12),
+    ("setExceptionBreakpoints", {"filters": ["conflict"]}, '"body":{"breakpoints":[{"verified":true}]}', 6, 12), ("reverseContinue", {}, SECOND, 2, 2),
+    ("setExceptionBreakpoints", {"filters": []}, '"body":{"breakpoints":[]}', 2, 2), ("reverseContinue", {}, '"reason":"entry"', 0, 0)]
+FILTER = '"exceptionBreakpointFilters":[{"default":false,"description":"A run stops at a step that uses a cell which a transfer under way forbids.",' \
+    '"filter":"conflict","label":"Conflicts with a transfer under way"}]'
+
 # Texts to be checked: none, one with faults and a warning and a tab, labels, letters that are no characters of MIX, and one with nothing to say of.
 CHECKED = ["", " JUMP 0\n\tLDA\tX\n LDA Y\n END 0\n", "X EQU 1\nX EQU 2\nENTA 5\n ALF  TOO LONG\n", "* \u00c4\n \u00c4\tNOP \u00d6\n END 5000\n", SOURCE]
 
@@ -262,6 +285,21 @@ def locations(command, count):
     count.row(STAYS, any(STAYS in message for message in found), found)
 
 
+def conflicts(command, count):
+    """Runs that stop at a step that conflicts, both ways, where that is asked for."""
+    requests = [row[:2] for row in CONFLICTS]
+    found, _ = texts(command, told(("initialize", {}), launch(LINE, devicesText=DELAY), DONE, *requests))
+    count.row(FILTER, FILTER in found[0], found[0])
+    answers = {}
+    for message in found:
+        at = json.loads(message).get("request_seq") or max(answers, default=0)
+        answers.setdefault(at, []).append(message)
+    left = states(command, [launch(LINE, devicesText=DELAY), DONE], requests)
+    for seq, ((name, given, part, *wanted), state) in enumerate(zip(CONFLICTS, left, strict=True), 4):
+        count.row(f"{seq} {name} {given}", any(part in message for message in answers.get(seq, [])), answers.get(seq))
+        count.same(f"{seq} {name} {given}: where", [state["location"], state["done"]], wanted)
+
+
 def checks(command, count):
     """What there is to say of a text is what `mixrev check --json` says of it, whether a program is launched or not."""
     for source in CHECKED:
@@ -276,7 +314,7 @@ def checks(command, count):
 def main():
     command = [os.path.abspath(sys.argv[1]), *sys.argv[2:]]
     count = Count()
-    for part in (ends, frames, messages, leads, steps, ahead, views, locations, checks):
+    for part in (ends, frames, messages, leads, steps, ahead, views, locations, conflicts, checks):
         part(command, count)
     print(f"{count.passed} passed, {count.failed} failed")
     return 1 if count.failed else 0

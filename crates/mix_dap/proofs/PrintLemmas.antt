@@ -1,5 +1,5 @@
 -- What a piece of a run tells: the rows, and why it has ended if it has, or that memory was refused for it.
-use Rattle.std.proofs.Common.{◌≡◌, ◌⊎◌, inl, inr, [], ◌∷◌, ◌++◌, true, false, sym, subst}
+use Rattle.std.proofs.Common.{◌≡◌, ◌⊎◌, inl, inr, Some, [], ◌∷◌, ◌++◌, true, false, sym, subst}
 use Rattle.std.proofs.lemmas.List.{append-nil}
 use Rattle.mix_session.specs.Timeline.{Timeline, world_of}
 use Rattle.mix_session.specs.declared.reply.End.{End}
@@ -9,8 +9,8 @@ use Rattle.mix_dap.specs.Output.{outputs}
 use Rattle.mix_dap.specs.Points.{PointsState}
 use Rattle.mix_dap.specs.Prints.{BrokenPrints, PiecePrints}
 use Rattle.mix_dap.specs.Runs.{PieceBroken, PieceDone, is_limit}
-use Rattle.mix_dap.specs.Stays.{word_at}
-use Rattle.mix_dap.specs.Stopped.{out_of_memory, why_of}
+use Rattle.mix_dap.specs.Stays.{why_at}
+use Rattle.mix_dap.specs.Stopped.{out_of_memory}
 use Rattle.mix_dap.specs.declared.adapter.Way.{Way}
 use Rattle.mix_dap.specs.declared.printed.Printed.{Printed}
 
@@ -25,7 +25,7 @@ prints-goes way points printed t now new a b end piece goes tells = inl (record 
 
 pub prints-stops : (way : Way) (points : PointsState) (printed : Printed) (t : Timeline) (now : PointsState) (new : Timeline) (a b : Outbox) (end : End)
     → PieceDone way points t end now new → is_limit end ≡ false
-    → AddsEvents (outputs printed (world_of new) ++ stopped (why_of (word_at now new) end) ∷ []) a b
+    → AddsEvents (outputs printed (world_of new) ++ stopped (why_at (Some way) now new end) ∷ []) a b
     → PiecePrints way points printed t now new a b ⊎ BrokenPrints way points printed t now new a b
 prints-stops way points printed t now new a b end piece stops tells = inl (record { end = end; piece = piece; events = rw stops tells })
 

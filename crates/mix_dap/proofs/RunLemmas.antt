@@ -1,5 +1,5 @@
 -- What a piece of a run tells: that it goes on, why it has ended, or that memory was refused for it.
-use Rattle.std.proofs.Common.{◌≡◌, ◌⊎◌, inl, inr, List, Option, None, true, false}
+use Rattle.std.proofs.Common.{◌≡◌, ◌⊎◌, inl, inr, List, Option, None, Some, true, false}
 use Rattle.serde_json.specs.Data.{Data}
 use Rattle.mix_machine.specs.declared.fault.MixFault.{MixFault}
 use Rattle.mix_session.specs.Timeline.{Timeline}
@@ -7,8 +7,8 @@ use Rattle.mix_session.specs.declared.reply.End.{End}
 use Rattle.mix_dap.specs.Points.{PointsState}
 use Rattle.mix_dap.specs.Replies.{EndsWith}
 use Rattle.mix_dap.specs.Runs.{PieceBroken, PieceDone, fault_on, is_limit, way_on}
-use Rattle.mix_dap.specs.Stays.{PieceTells, BrokenTells, word_at}
-use Rattle.mix_dap.specs.Stopped.{out_of_memory, stopped_message, why_of}
+use Rattle.mix_dap.specs.Stays.{PieceTells, BrokenTells, why_at}
+use Rattle.mix_dap.specs.Stopped.{out_of_memory, stopped_message}
 use Rattle.mix_dap.specs.declared.adapter.Way.{Way}
 
 pub piece-goes : (way : Way) (points : PointsState) (t : Timeline) (now : PointsState) (new : Timeline) (told : List Data) (end : End)
@@ -16,7 +16,7 @@ pub piece-goes : (way : Way) (points : PointsState) (t : Timeline) (now : Points
 piece-goes way points t now new told end piece goes = inl (record { end = end; piece = piece; tells = rw goes tt })
 
 pub piece-stops : (way : Way) (points : PointsState) (t : Timeline) (now : PointsState) (new : Timeline) (told : List Data) (end : End)
-    → PieceDone way points t end now new → is_limit end ≡ false → EndsWith (stopped_message (why_of (word_at now new) end)) told
+    → PieceDone way points t end now new → is_limit end ≡ false → EndsWith (stopped_message (why_at (Some way) now new end)) told
     → PieceTells way points t now new told ⊎ BrokenTells way points t now new told
 piece-stops way points t now new told end piece stops tells = inl (record { end = end; piece = piece; tells = rw stops tells })
 

@@ -1,16 +1,18 @@
--- Breakpoints of a client: where runs stop and what is watched, what a request for some of them leaves, and how each of these is told.
-use Rattle.std.specs.Prelude.{ℕ, pos, ◌-◌, ◌==◌, ◌||◌, not, List, [], ◌++◌, codes, length, take, drop, slice_get, map, Bool, true, false, Option, None, Some, option_and_then, unwrap_or, Result, Ok, Err, ok_or, if◌then◌else◌}
+-- Breakpoints of a client: where runs stop and what is watched, what a request for some of them leaves, and how each of these is told; and the kinds
+-- of exceptions that stop a run.
+use Rattle.std.specs.Prelude.{ℕ, pos, ◌-◌, ◌==◌, ◌||◌, not, List, [], ◌++◌, codes, length, take, drop, slice_get, map, Bool, true, false, Option, None, Some, option_and_then, unwrap_or, nat_le, Result, Ok, Err, ok_or, if◌then◌else◌}
 use Rattle.std.specs.List.{filter_map, list_any}
 use Rattle.std.specs.Option.{option_map}
 use Rattle.std.specs.Result.{result_ok}
 use Rattle.std.specs.Str.{bytes_eq}
 use Rattle.serde_json.specs.Data.{Data, Members, boolean, string, number, unsigned, object, no_members, put}
+use Rattle.serde_json.specs.Find.{as_str}
 use Rattle.mixal_text.specs.Steps.{◌>>=◌}
 use Rattle.mix_machine.specs.World.{WorldState}
 use Rattle.mix_session.specs.Session.{SessionState}
 use Rattle.mix_session.specs.Stops.{is_awaited}
 use Rattle.mix_session.specs.declared.condition.Condition.{Condition}
-use Rattle.mix_session.specs.declared.condition.Condition.TheVariants.{Alters}
+use Rattle.mix_session.specs.declared.condition.Condition.TheVariants.{Alters, Conflicts}
 use Rattle.dap_message.specs.Members.{text_in, number_in}
 use Rattle.dap_message.specs.Request.{argument_of}
 use Rattle.dap_message.specs.declared.request.Request.{Request}
@@ -27,14 +29,15 @@ use Rattle.mix_dap.specs.declared.points.breakpoint.Breakpoint.{Breakpoint}
 use Rattle.mix_dap.specs.declared.points.breakpoint.Flaw.{Flaw}
 use Rattle.mix_dap.specs.declared.points.breakpoint.Flaw.TheVariants as flaw
 
--- the breakpoints of lines, and those of instructions, and what is watched
+-- the breakpoints of lines, and those of instructions, what is watched, and the kinds of exceptions that stop a run
 pub record PointsState : Type 0 where
   pub lines : List Breakpoint
   pub instructions : List Breakpoint
   pub watched : List Condition
+  pub filters : List Condition
 
 abbrev pub no_points : PointsState
-no_points = record { lines = []; instructions = []; watched = [] }
+no_points = record { lines = []; instructions = []; watched = []; filters = [] }
 
 -- the cells of breakpoints
 abbrev pub cells_of : List Breakpoint → List ℕ
@@ -42,6 +45,14 @@ cells_of breakpoints = map (λ b. b.cell) breakpoints
 
 abbrev pub stop_cells : PointsState → List ℕ
 stop_cells points = cells_of (points.lines ++ points.instructions)
+
+-- what ends a run with the change that meets it: what is watched first
+abbrev pub conditions_of : PointsState → List Condition
+conditions_of points = points.watched ++ points.filters
+
+-- whether one of these, by its number, is a kind of exceptions
+abbrev pub is_filter : PointsState → ℕ → Bool
+is_filter points index = nat_le (length points.watched) index
 
 -- ---- runs that come to their cells
 
@@ -77,8 +88,8 @@ unverified why = object (put (codes "message") (string why) (put (codes "verifie
 abbrev pub asked_in : Request → List Data
 asked_in r = entries_of r (codes "breakpoints")
 
-abbrev pub answer_by : (Data → Data) → Request → Data
-answer_by told r = list_alone (codes "breakpoints") (map told (asked_in r))
+abbrev pub answer_by : (Data → Data) → List Data → Data
+answer_by told entries = list_alone (codes "breakpoints") (map told entries)
 
 -- ---- breakpoints of lines
 
@@ -126,7 +137,7 @@ elsewhere entry = unverified (codes "another source")
 
 abbrev pub lines_told : SessionState → List ℕ → ℕ → Request → Data
 lines_told s name first r =
-    if is_source name r then answer_by (λ entry. line_told first (line_asked s first entry)) r else answer_by elsewhere r
+    if is_source name r then answer_by (λ entry. line_told first (line_asked s first entry)) (asked_in r) else answer_by elsewhere (asked_in r)
 
 -- ---- breakpoints of instructions: at the cell of a reference, with an offset in bytes
 
@@ -152,7 +163,7 @@ abbrev pub with_instructions : SessionState → Request → PointsState → Poin
 with_instructions s r points = record points { instructions = filter_map (instruction_point s) (asked_in r) }
 
 abbrev pub instructions_told : SessionState → Request → Data
-instructions_told s r = answer_by (λ entry. instruction_told (instruction_asked s entry)) r
+instructions_told s r = answer_by (λ entry. instruction_told (instruction_asked s entry)) (asked_in r)
 
 -- ---- data breakpoints: on the part of the machine that is named as after `until` in a command
 
@@ -167,18 +178,42 @@ abbrev pub with_watched : SessionState → Request → PointsState → PointsSta
 with_watched s r points = record points { watched = filter_map (data_point s) (asked_in r) }
 
 abbrev pub watched_told : SessionState → Request → Data
-watched_told s r = answer_by (λ entry. data_told (data_point s entry)) r
+watched_told s r = answer_by (λ entry. data_told (data_point s entry)) (asked_in r)
 
--- ---- by what they are set on: those of a kind take the place of those that stand; on functions and exceptions there are none
+-- ---- kinds of exceptions, by the names of their filters: one for the steps that conflict with a transfer under way
+
+abbrev pub is_conflict_named : Option (List ℕ) → Bool
+is_conflict_named None = false
+is_conflict_named (Some name) = bytes_eq name (codes "conflict")
+
+abbrev pub filter_point : Data → Option Condition
+filter_point entry = if is_conflict_named (as_str entry) then Some Conflicts else None
+
+abbrev pub filter_told : Option Condition → Data
+filter_told None = unverified (codes "no such filter")
+filter_told (Some condition) = object verified
+
+abbrev pub filters_in : Request → List Data
+filters_in r = entries_of r (codes "filters")
+
+abbrev pub with_filters : Request → PointsState → PointsState
+with_filters r points = record points { filters = filter_map filter_point (filters_in r) }
+
+abbrev pub filters_told : Request → Data
+filters_told r = answer_by (λ entry. filter_told (filter_point entry)) (filters_in r)
+
+-- ---- by what they are set on: those of a kind take the place of those that stand; on functions there are none
 
 abbrev pub points_after : Target → SessionState → List ℕ → ℕ → Request → PointsState → PointsState
 points_after target.Lines s name first r points = with_lines s name first r points
 points_after target.Instructions s name first r points = with_instructions s r points
 points_after target.Data s name first r points = with_watched s r points
+points_after target.Exceptions s name first r points = with_filters r points
 points_after target.Nothing s name first r points = points
 
 abbrev pub points_told : Target → SessionState → List ℕ → ℕ → Request → Data
 points_told target.Lines s name first r = lines_told s name first r
 points_told target.Instructions s name first r = instructions_told s r
 points_told target.Data s name first r = watched_told s r
+points_told target.Exceptions s name first r = filters_told r
 points_told target.Nothing s name first r = list_alone (codes "breakpoints") []

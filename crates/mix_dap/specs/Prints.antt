@@ -14,7 +14,7 @@ use Rattle.mix_dap.specs.Kind.{kind_of}
 use Rattle.mix_dap.specs.Output.{all_told, outputs}
 use Rattle.mix_dap.specs.Points.{PointsState}
 use Rattle.mix_dap.specs.Runs.{PieceBroken, PieceDone, is_limit}
-use Rattle.mix_dap.specs.Stays.{word_at}
+use Rattle.mix_dap.specs.Stays.{why_at, word_at}
 use Rattle.mix_dap.specs.Stopped.{Why, end_of, only, out_of_memory, why_of}
 use Rattle.mix_dap.specs.declared.adapter.Adapter.{Adapter}
 use Rattle.mix_dap.specs.declared.adapter.Flow.{Flow}
@@ -40,7 +40,7 @@ pub record PiecePrints (way : Way) (points : PointsState) (printed : Printed) (t
     : Type 0 where
   pub end : End
   pub piece : PieceDone way points t end now new
-  pub events : AddsEvents (outputs printed (world_of new) ++ ended (is_limit end) (why_of (word_at now new) end)) before after
+  pub events : AddsEvents (outputs printed (world_of new) ++ ended (is_limit end) (why_at (Some way) now new end)) before after
 
 pub record BrokenPrints (way : Way) (points : PointsState) (printed : Printed) (t : Timeline) (now : PointsState) (new : Timeline) (before after : Outbox)
     : Type 0 where

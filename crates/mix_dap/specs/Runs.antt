@@ -11,15 +11,15 @@ use Rattle.mix_session.specs.declared.answer.Answer.TheVariants as answers
 use Rattle.mix_session.specs.declared.command.stops.Way.TheVariants as session
 use Rattle.mix_session.specs.declared.reply.End.{End}
 use Rattle.mix_session.specs.declared.reply.End.TheVariants as ends
-use Rattle.mix_dap.specs.Points.{PointsState, passes, stop_cells, with_arrivals}
+use Rattle.mix_dap.specs.Points.{PointsState, conditions_of, passes, stop_cells, with_arrivals}
 use Rattle.mix_dap.specs.Stopped.{end_of, fault_at}
 use Rattle.mix_dap.specs.declared.adapter.Way.{Way}
 use Rattle.mix_dap.specs.declared.adapter.Way.TheVariants as way
 
--- what stops a run of the client: its breakpoints, and a location that is waited for; the breakpoints of the machine don't
+-- what stops a run of the client: its breakpoints, its kinds of exceptions, and a location that is waited for; the breakpoints of the machine don't
 abbrev pub stops_of : PointsState → Option ℕ → StopsState
 stops_of points location =
-    record { breaks = false; cells = stop_cells points; watched = points.watched; location = location }
+    record { breaks = false; cells = stop_cells points; watched = conditions_of points; location = location }
 
 -- the location that a run waits for
 abbrev pub awaited_by : Way → Option ℕ

@@ -1,20 +1,23 @@
 -- How an adapter goes on after a request: whether its program runs, what it stopped at, and what it tells of that.
-use Rattle.std.specs.Prelude.{◌≡◌, ◌⊎◌, ◌^◌, ℕ, List, codes, string_bytes, Bool, true, false, Option, None, Some, Result, Ok, Err, nat_lt, if◌then◌else◌}
+use Rattle.std.specs.Prelude.{◌≡◌, ◌⊎◌, ◌-◌, ◌^◌, ℕ, List, codes, string_bytes, Bool, true, false, Option, None, Some, Result, Ok, Err, length, nat_lt, if◌then◌else◌}
 use Rattle.serde_json.specs.Data.{Data}
 use Rattle.mix_machine.specs.World.{register_of}
 use Rattle.mix_machine.specs.declared.fault.MixFault.{MixFault}
+use Rattle.mix_machine.specs.declared.transfers.Conflict.{Conflict}
+use Rattle.mix_session.specs.Client.{conflict_after}
 use Rattle.mix_session.specs.Timeline.{Timeline, world_of}
 use Rattle.mix_session.specs.declared.answer.Answer.{Answer}
 use Rattle.mix_session.specs.declared.reply.End.{End}
+use Rattle.mix_session.specs.declared.reply.End.TheVariants as ends
 use Rattle.mix_word.specs.declared.register.Reg.TheVariants as reg
 use Rattle.dap_message.specs.declared.command.Command.{Command}
 use Rattle.dap_message.specs.declared.request.Request.{Request}
 use Rattle.mix_dap.specs.Deed.{deed_of, effect_of_deed, is_console_of}
 use Rattle.mix_dap.specs.Kind.{kind_of}
-use Rattle.mix_dap.specs.Points.{PointsState, reason_at, points_after}
+use Rattle.mix_dap.specs.Points.{PointsState, is_filter, reason_at, points_after}
 use Rattle.mix_dap.specs.Replies.{EndsWith}
 use Rattle.mix_dap.specs.Runs.{PieceDone, PieceBroken, is_limit}
-use Rattle.mix_dap.specs.Stopped.{Why, only, why_of, fault_at, end_of, out_of_memory, long_enough, stopped_message, terminated_message}
+use Rattle.mix_dap.specs.Stopped.{Why, only, why_of, why_with, fault_at, end_of, out_of_memory, long_enough, stopped_message, terminated_message}
 use Rattle.mix_dap.specs.declared.adapter.Adapter.{Adapter}
 use Rattle.mix_dap.specs.declared.adapter.Flow.{Flow}
 use Rattle.mix_dap.specs.declared.adapter.Flow.TheVariants as flow
@@ -138,6 +141,35 @@ ActTells act.Evaluate answer at_break stops new = Unit {0}
 abbrev pub word_at : PointsState → Timeline → List ℕ
 word_at points t = reason_at points (world_of t)
 
+-- ---- at which conflict a run has ended, if it ended at one
+
+-- what it has met is one of the kinds of exceptions
+abbrev pub meets_filter : PointsState → End → Bool
+meets_filter points ends.Halt = false
+meets_filter points (ends.Until index) = is_filter points index
+meets_filter points ends.Break = false
+meets_filter points ends.Arrived = false
+meets_filter points ends.Limit = false
+meets_filter points ends.Start = false
+meets_filter points (ends.Fault fault) = false
+
+-- how many changes are before the one that it has ended with: that is the last one done, or the one that was taken back, which stands ahead
+abbrev pub before_last : Way → Timeline → ℕ
+before_last (way.Forth location) t = length t.changes - 1
+before_last way.Back t = length t.changes
+
+abbrev pub conflict_of_run : Way → PointsState → Timeline → End → Option Conflict
+conflict_of_run way points t end = if meets_filter points end then conflict_after t (before_last way t) else None
+
+-- a step meets none
+abbrev pub conflict_met : Option Way → PointsState → Timeline → End → Option Conflict
+conflict_met None points t end = None
+conflict_met (Some way) points t end = conflict_of_run way points t end
+
+-- why a run this way, or a step, stops that ended so
+abbrev pub why_at : Option Way → PointsState → Timeline → End → Why
+why_at way points t end = why_with (conflict_met way points t end) (word_at points t) end
+
 abbrev pub DeedTells : Act → Result Deed Fault → Adapter → Timeline → List Data → Type 0
 DeedTells act (Err why) a new told = Unit {0}
 DeedTells act (Ok deed) a new told = ActTells act (effect_of_deed deed a.session.timeline).answer (word_at a.points new) a.stops told
@@ -178,7 +210,7 @@ StopTells false why told = EndsWith (stopped_message why) told
 pub record PieceTells (way : Way) (points : PointsState) (t : Timeline) (now : PointsState) (new : Timeline) (told : List Data) : Type 0 where
   pub end : End
   pub piece : PieceDone way points t end now new
-  pub tells : StopTells (is_limit end) (why_of (word_at now new) end) told
+  pub tells : StopTells (is_limit end) (why_at (Some way) now new end) told
 
 pub record BrokenTells (way : Way) (points : PointsState) (t : Timeline) (now : PointsState) (new : Timeline) (told : List Data) : Type 0 where
   pub piece : PieceBroken way points t now new

@@ -3,6 +3,8 @@ use Rattle.std.specs.Prelude.{ℕ, List, codes, true, Option, None, Some}
 use Rattle.serde_json.specs.Data.{Data, Members, null, boolean, string, number, unsigned, object, no_members, put}
 use Rattle.mix_machine.specs.Fault.{fault_line}
 use Rattle.mix_machine.specs.declared.fault.MixFault.{MixFault}
+use Rattle.mix_machine.specs.declared.transfers.Conflict.{Conflict}
+use Rattle.mix_session.specs.Conflicts.{conflict_text}
 use Rattle.mix_session.specs.declared.answer.Answer.{Answer}
 use Rattle.mix_session.specs.declared.answer.Answer.TheVariants as answers
 use Rattle.mix_session.specs.declared.reply.End.{End}
@@ -54,6 +56,11 @@ text_of (ends.Fault fault) = Some (fault_line fault)
 
 abbrev pub why_of : List ℕ → End → Why
 why_of at_break end = record { reason = reason_of at_break end; text = text_of end }
+
+-- the same, where it has ended at a conflict or not
+abbrev pub why_with : Option Conflict → List ℕ → End → Why
+why_with None at_break end = why_of at_break end
+why_with (Some conflict) at_break end = record { reason = codes "exception"; text = Some (conflict_text conflict) }
 
 -- for want of memory
 abbrev pub out_of_memory : Why

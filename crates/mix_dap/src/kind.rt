@@ -84,7 +84,9 @@ pub(crate) enum Target {
     Instructions,
     /// What is written, by the parts of the machine.
     Data,
-    /// What the machine does not have: functions and kinds of exceptions.
+    /// Kinds of exceptions, by the names of their filters.
+    Exceptions,
+    /// What the machine does not have: functions.
     Nothing,
 }
 
@@ -142,9 +144,8 @@ impl Kind {
             Command::SetBreakpoints => Kind::Points(Target::Lines),
             Command::SetInstructionBreakpoints => Kind::Points(Target::Instructions),
             Command::SetDataBreakpoints => Kind::Points(Target::Data),
-            Command::SetFunctionBreakpoints | Command::SetExceptionBreakpoints => {
-                Kind::Points(Target::Nothing)
-            }
+            Command::SetFunctionBreakpoints => Kind::Points(Target::Nothing),
+            Command::SetExceptionBreakpoints => Kind::Points(Target::Exceptions),
             Command::Pause => Kind::Pause,
             Command::Terminate => Kind::Terminate,
             Command::Restart => Kind::Restart,

@@ -1,13 +1,14 @@
-//! The breakpoints of the client. They stand outside the machine, so no change of it takes one away.
+//! The breakpoints of the client, and the kinds of exceptions that stop a run. They stand outside the machine, so no change of it takes one away.
 
 ghost use Rattle.std.specs.Prelude.{◌≡◌, ◌++◌, IfOk, OnOk, OnErr};
 ghost use Rattle.serde_json.specs.View.{view};
 ghost use Rattle.mix_session.specs.Stops.{is_awaited};
-ghost use Rattle.mix_dap.specs.Points.{no_points, cells_of, passes, reason_at, with_arrivals, with_lines, lines_told, with_instructions, instructions_told, with_watched, watched_told};
+ghost use Rattle.mix_dap.specs.Points.{no_points, cells_of, is_filter, passes, reason_at, with_arrivals, with_lines, lines_told, with_instructions, instructions_told, with_watched, watched_told, with_filters, filters_told};
 ghost use Rattle.mix_dap.specs.Runs.{stops_of};
 
 mod breakpoint;
 mod entry;
+mod filters;
 mod kinds;
 mod line;
 mod locations;
@@ -15,6 +16,7 @@ mod source;
 
 use breakpoint::{Breakpoint, count_all, stop_any};
 use dap_message::Request;
+use filters::Filters;
 use kinds::{Instructions, Lines, Other, Parts, set_all};
 pub(crate) use line::cell_of_line;
 pub(crate) use locations::breakpoint_locations;
@@ -26,7 +28,7 @@ use source::is_source;
 use std::alloc::Global;
 use std::marker::Model;
 
-/// The breakpoints of lines and of instructions where runs stop, and what is watched.
+/// The breakpoints of lines and of instructions where runs stop, what is watched, and the kinds of exceptions that stop a run.
 #[derive(Drop)]
 pub(crate) struct Points {
     lines: Vec<Breakpoint>,
@@ -34,6 +36,9 @@ pub(crate) struct Points {
     // Those of lines first.
     cells: Vec<Place>,
     watched: Vec<Condition>,
+    filters: Vec<Condition>,
+    // What is watched first.
+    conditions: Vec<Condition>,
 }
 
 impl Model for Points {
@@ -46,9 +51,10 @@ impl Model for Points {
       lines = p.lines.items;
       instructions = p.instructions.items;
       watched = p.watched.items;
+      filters = p.filters.items;
     } };
 
-    ghost invariant = { λ p. p.cells.items ≡ cells_of (p.lines.items ++ p.instructions.items) };
+    ghost invariant = { λ p. (p.cells.items ≡ cells_of (p.lines.items ++ p.instructions.items)) × (p.conditions.items ≡ p.watched.items ++ p.filters.items) };
 }
 
 impl Points {
@@ -61,6 +67,8 @@ impl Points {
             instructions: Vec::new(alloc),
             cells: Vec::new(alloc),
             watched: Vec::new(alloc),
+            filters: Vec::new(alloc),
+            conditions: Vec::new(alloc),
         }
     }
 
@@ -71,7 +79,7 @@ impl Points {
         Stops {
             breaks: false,
             cells: self.cells.as_slice(),
-            watched: self.watched.as_slice(),
+            watched: self.conditions.as_slice(),
             location,
         }
     }
@@ -121,10 +129,10 @@ impl Points {
         ensures told { IfOk result (λ v. view v ≡ lines_told session.now name.now first request.now) }
     {
         if !is_source(name, request) {
-            let (_, told) = set_all(alloc, &Other, request)?;
+            let (_, told) = set_all(alloc, &Other, request, "breakpoints")?;
             return Ok(told);
         }
-        let (lines, told) = set_all(alloc, &Lines { session, first }, request)?;
+        let (lines, told) = set_all(alloc, &Lines { session, first }, request, "breakpoints")?;
         let cells = cells_of(alloc, lines.as_slice(), self.instructions.as_slice())?;
         self.lines = lines;
         self.cells = cells;
@@ -142,7 +150,12 @@ impl Points {
         ensures same { OnErr result (self.new ≡ self.old) }
         ensures told { IfOk result (λ v. view v ≡ instructions_told session.now request.now) }
     {
-        let (instructions, told) = set_all(alloc, &Instructions { session }, request)?;
+        let (instructions, told) = set_all(
+            alloc,
+            &Instructions { session },
+            request,
+            "breakpoints",
+        )?;
         let cells = cells_of(alloc, self.lines.as_slice(), instructions.as_slice())?;
         self.instructions = instructions;
         self.cells = cells;
@@ -160,10 +173,46 @@ impl Points {
         ensures same { OnErr result (self.new ≡ self.old) }
         ensures told { IfOk result (λ v. view v ≡ watched_told session.now request.now) }
     {
-        let (watched, told) = set_all(alloc, &Parts { session }, request)?;
+        let (watched, told) = set_all(alloc, &Parts { session }, request, "breakpoints")?;
+        let conditions = both(alloc, watched.as_slice(), self.filters.as_slice())?;
         self.watched = watched;
+        self.conditions = conditions;
         Ok(told)
     }
+
+    /// Puts kinds of exceptions in place of those that stop a run.
+    pub(crate) fn set_filters(&mut self, alloc: Global, request: &Request) -> Result<Value, Memory>
+        ensures stand { OnOk result (self.new ≡ with_filters request.now self.old) }
+        ensures same { OnErr result (self.new ≡ self.old) }
+        ensures told { IfOk result (λ v. view v ≡ filters_told request.now) }
+    {
+        let (filters, told) = set_all(alloc, &Filters, request, "filters")?;
+        let conditions = both(alloc, self.watched.as_slice(), filters.as_slice())?;
+        self.filters = filters;
+        self.conditions = conditions;
+        Ok(told)
+    }
+
+    /// Whether the condition of a number that ended a run is a kind of exceptions.
+    pub(crate) fn is_filter(&self, index: usize) -> bool
+        ensures { result ≡ is_filter self.now index }
+    {
+        index >= self.watched.len()
+    }
+}
+
+// What is watched, and then kinds of exceptions.
+fn both(
+    alloc: Global,
+    watched: &[Condition],
+    filters: &[Condition],
+) -> Result<Vec<Condition>, Memory>
+    ensures { IfOk result (λ conditions. conditions.items ≡ watched.now ++ filters.now) }
+{
+    let mut conditions = Vec::new(alloc);
+    conditions.extend_from_slice(watched)?;
+    conditions.extend_from_slice(filters)?;
+    Ok(conditions)
 }
 
 // Whether the location is the one that is waited for.

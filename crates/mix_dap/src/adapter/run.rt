@@ -94,7 +94,7 @@ impl Adapter {
                     self.printed.tell(self.alloc, self.session.world(), out)?;
                     Ok(())
                 } else {
-                    self.stop(end, out)?;
+                    self.stop(Some(way), end, out)?;
                     Ok(())
                 }
             }

@@ -76,6 +76,7 @@ impl Adapter {
             }
             Target::Instructions => { self.points.set_instructions(alloc, &self.session, request) }
             Target::Data => self.points.set_data(alloc, &self.session, request),
+            Target::Exceptions => self.points.set_filters(alloc, request),
             Target::Nothing => list_alone(alloc, "breakpoints", Vec::new(alloc)),
         }
     }

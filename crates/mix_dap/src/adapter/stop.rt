@@ -1,56 +1,110 @@
 //! What is told when the program stops, or when what the client shows is out of date.
 #![tactic(auto, using(dap_message::proofs::Telling::telling, crate::proofs::RepliesLemmas::replying, crate::proofs::EventLemmas::events))]
 
-ghost use Rattle.std.specs.Prelude.{◌≡◌, [], ◌∷◌, ◌++◌, IfOk, OnOk, None};
+ghost use Rattle.std.specs.Prelude.{◌≡◌, [], ◌∷◌, ◌++◌, IfOk, OnOk, None, Some, codes};
 ghost use Rattle.std.specs.Option.{option_map};
 ghost use Rattle.serde_json.specs.View.{view};
 ghost use Rattle.dap_message.specs.Message.{waits};
 ghost use Rattle.dap_message.specs.Told.{Events};
+ghost use Rattle.mix_session.specs.Conflicts.{conflict_text};
 ghost use Rattle.mix_session.specs.Timeline.{world_of};
 ghost use Rattle.mix_dap.specs.Events.{AddsEvents, all_areas, invalidated, out_of_date, stopped};
 ghost use Rattle.mix_dap.specs.Output.{all_told, outputs};
 ghost use Rattle.mix_dap.specs.Replies.{EndsWith};
-ghost use Rattle.mix_dap.specs.Stays.{Keeps, word_at};
-ghost use Rattle.mix_dap.specs.Stopped.{reason_of, fault_at, out_of_memory, stopped_message, why_of};
+ghost use Rattle.mix_dap.specs.Stays.{Keeps, before_last, conflict_met, conflict_of_run, meets_filter, why_at, word_at};
+ghost use Rattle.mix_dap.specs.Stopped.{reason_of, fault_at, out_of_memory, stopped_message, why_of, why_with};
 
-use crate::adapter::Adapter;
 use crate::adapter::ends::{fault_at, put_text, text_of};
+use crate::adapter::{Adapter, Way};
 use crate::look::THREAD;
+use crate::points::Points;
 use dap_message::{Fields, Outbox};
+use mix_machine::Conflict;
 use mix_refused::Memory;
-use mix_session::End;
+use mix_session::{End, Session, conflict_text};
 use serde_json::Value;
 use std::alloc::Global;
 
 impl Adapter {
-    // Tells what was written and why the program stops.
-    pub(crate) fn stop(&mut self, end: End, out: &mut Outbox) -> Result<(), Memory>
+    // Tells what was written and why the program stops: a run this way, or a step.
+    pub(crate) fn stop(
+        &mut self,
+        way: Option<Way>,
+        end: End,
+        out: &mut Outbox,
+    ) -> Result<(), Memory>
         ensures keeps { Keeps self.old self.new }
         ensures session { self.new.session ≡ self.old.session }
         ensures rests { self.new.way ≡ None }
         ensures fault { self.new.fault ≡ fault_at end }
-        ensures tells { OnOk result (EndsWith (stopped_message (why_of (word_at self.old.points self.old.session.timeline) end)) (waits out.new)) }
+        ensures tells { OnOk result (EndsWith (stopped_message (why_at way self.old.points self.old.session.timeline end)) (waits out.new)) }
         ensures events { OnOk result (Events (waits out.old) (waits out.new)) }
         ensures prints { OnOk result (AddsEvents (outputs self.old.printed (world_of self.old.session.timeline)
-            ++ stopped (why_of (word_at self.old.points self.old.session.timeline) end) ∷ []) out.old out.new) }
+            ++ stopped (why_at way self.old.points self.old.session.timeline end) ∷ []) out.old out.new) }
         ensures printed { OnOk result (self.new.printed ≡ all_told (world_of self.old.session.timeline)) }
     {
         self.way = None;
         self.fault = fault_at(end);
         self.printed.tell(self.alloc, self.session.world(), out)?;
-        self.tell_end(end, out)?;
+        self.tell_end(way, end, out)?;
         Ok(())
     }
 
-    // Tells why the program stops.
-    fn tell_end(&self, end: End, out: &mut Outbox) -> Result<(), Memory>
-        ensures tells { OnOk result (EndsWith (stopped_message (why_of (word_at self.now.points self.now.session.timeline) end)) (waits out.new)) }
+    // Tells why a run this way, or a step, stops that has ended so.
+    fn tell_end(&self, way: Option<Way>, end: End, out: &mut Outbox) -> Result<(), Memory>
+        ensures tells { OnOk result (EndsWith (stopped_message (why_at way self.now.points self.now.session.timeline end)) (waits out.new)) }
         ensures events { OnOk result (Events (waits out.old) (waits out.new)) }
-        ensures prints { OnOk result (AddsEvents (stopped (why_of (word_at self.now.points self.now.session.timeline) end) ∷ []) out.old out.new) }
+        ensures prints { OnOk result (AddsEvents (stopped (why_at way self.now.points self.now.session.timeline end) ∷ []) out.old out.new) }
     {
-        let text = text_of(self.alloc, end)?;
-        self.stopped(self.reason_of(end), text.as_deref(), out)?;
+        let conflict = self.conflict_met(way, end)?;
+        self.tell_why(conflict, end, out)
+    }
+
+    // Tells it, by the conflict at which the run has ended, if it ended at one.
+    fn tell_why(&self, conflict: Option<Conflict>, end: End, out: &mut Outbox) -> Result<(), Memory>
+        ensures tells { OnOk result (EndsWith (stopped_message (why_with conflict (word_at self.now.points self.now.session.timeline) end)) (waits out.new)) }
+        ensures events { OnOk result (Events (waits out.old) (waits out.new)) }
+        ensures prints { OnOk result (AddsEvents (stopped (why_with conflict (word_at self.now.points self.now.session.timeline) end) ∷ []) out.old out.new) }
+    {
+        match conflict {
+            Some(conflict) => self.tell_conflict(conflict, out),
+            None => {
+                let text = text_of(self.alloc, end)?;
+                self.stopped(self.reason_of(end), text.as_deref(), out)?;
+                Ok(())
+            }
+        }
+    }
+
+    fn tell_conflict(&self, conflict: Conflict, out: &mut Outbox) -> Result<(), Memory>
+        ensures tells { OnOk result (EndsWith (stopped_message (record { reason = codes "exception"; text = Some (conflict_text conflict) })) (waits out.new)) }
+        ensures events { OnOk result (Events (waits out.old) (waits out.new)) }
+        ensures prints { OnOk result (AddsEvents (stopped (record { reason = codes "exception"; text = Some (conflict_text conflict) }) ∷ []) out.old out.new) }
+    {
+        let text = conflict_text(self.alloc, conflict)?;
+        self.stopped("exception", Some(text.as_str()), out)?;
         Ok(())
+    }
+
+    // The conflict at which a run this way, or a step, has ended, if it ended at one.
+    fn conflict_met(&self, way: Option<Way>, end: End) -> Result<Option<Conflict>, Memory>
+        ensures { IfOk result (λ conflict. conflict ≡ conflict_met way self.now.points self.now.session.timeline end) }
+    {
+        match way {
+            Some(way) => self.conflict_of_run(way, end),
+            None => Ok(None),
+        }
+    }
+
+    fn conflict_of_run(&self, way: Way, end: End) -> Result<Option<Conflict>, Memory>
+        ensures { IfOk result (λ conflict. conflict ≡ conflict_of_run way self.now.points self.now.session.timeline end) }
+    {
+        if meets_filter(&self.points, end) {
+            let number = before_last(way, &self.session);
+            self.session.conflict_after(self.alloc, number)
+        } else {
+            Ok(None)
+        }
     }
 
     // Why a run has ended so, in the protocol's word.
@@ -115,6 +169,27 @@ impl Adapter {
         } else {
             Ok(())
         }
+    }
+}
+
+// Whether a run has ended for a kind of exceptions.
+fn meets_filter(points: &Points, end: End) -> bool
+    ensures { result ≡ meets_filter points.now end }
+{
+    match end {
+        End::Until(index) => points.is_filter(index),
+        End::Halt | End::Fault(_) | End::Break | End::Arrived | End::Limit | End::Start => false,
+    }
+}
+
+// How many changes are before the one that a run this way has ended with.
+fn before_last(way: Way, session: &Session) -> usize
+    ensures { result ≡ before_last way session.now.timeline }
+{
+    let done = session.changes().len();
+    match way {
+        Way::Forth(_) => done.saturating_sub(1),
+        Way::Back => done,
     }
 }
 

@@ -106,7 +106,7 @@ impl Adapter {
         ensures printed { OnOk result (self.new.printed ≡ all_told (world_of self.old.session.timeline)) }
     {
         out.reply(request, nothing())?;
-        self.stop(end, out)?;
+        self.stop(None, end, out)?;
         Ok(())
     }
 

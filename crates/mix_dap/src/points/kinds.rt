@@ -6,7 +6,8 @@ ghost use Rattle.std.specs.List.{filter_map};
 ghost use Rattle.serde_json.specs.Data.{Data};
 ghost use Rattle.serde_json.specs.View.{view};
 ghost use Rattle.dap_message.specs.Fields.{members_in};
-ghost use Rattle.mix_dap.specs.Points.{asked_in, answer_by, verified, verified_at, unverified, line_asked, line_point, line_told, instruction_cell, instruction_asked, instruction_point, instruction_told, data_point, data_told, elsewhere};
+ghost use Rattle.mix_dap.specs.Entries.{entries_of};
+ghost use Rattle.mix_dap.specs.Points.{answer_by, verified, verified_at, unverified, line_asked, line_point, line_told, instruction_cell, instruction_asked, instruction_point, instruction_told, data_point, data_told, elsewhere};
 
 use crate::layout::{cell_of_reference, reference_of};
 use crate::list::{add, list_alone};
@@ -44,18 +45,19 @@ pub(crate) trait PointKind {
         ensures told { IfOk result (λ v. view v ≡ told self.now (view entry.now)) };
 }
 
-/// What stands of all that a request asks for, and its answer.
+/// What stands of all that a request asks for in the list of a name, and its answer.
 pub(crate) fn set_all<K: PointKind>(
     alloc: Global,
     kind: &K,
     request: &Request,
+    name: &str,
 ) -> Result<(Vec<K::Point>, Value), Memory>
-    ensures stand { IfOk result (λ set. set.0.items ≡ filter_map (K.point kind.now) (asked_in request.now)) }
-    ensures told { IfOk result (λ set. view set.1 ≡ answer_by (K.told kind.now) request.now) }
+    ensures stand { IfOk result (λ set. set.0.items ≡ filter_map (K.point kind.now) (entries_of request.now name.now)) }
+    ensures told { IfOk result (λ set. view set.1 ≡ answer_by (K.told kind.now) (entries_of request.now name.now)) }
 {
     let mut points = Vec::new(alloc);
     let mut told = Vec::new(alloc);
-    let entries = entries_of(request, "breakpoints");
+    let entries = entries_of(request, name);
     for entry in entries {
         add(&mut told, kind.add(alloc, entry, &mut points)?)?;
     }
@@ -200,7 +202,8 @@ impl PointKind for Other {
     }
 }
 
-fn verified(alloc: Global) -> Result<Fields, Memory>
+/// That one stands.
+pub(super) fn verified(alloc: Global) -> Result<Fields, Memory>
     ensures { IfOk result (λ f. members_in f ≡ verified) }
 {
     let mut fields = Fields::new(alloc);
@@ -217,7 +220,8 @@ fn verified_at(alloc: Global, place: Place) -> Result<Fields, Memory>
     Ok(fields)
 }
 
-fn unverified(alloc: Global, why: &str) -> Result<Value, Memory>
+/// Why one does not stand.
+pub(super) fn unverified(alloc: Global, why: &str) -> Result<Value, Memory>
     ensures { IfOk result (λ v. view v ≡ unverified why.now) }
 {
     let mut fields = Fields::new(alloc);
