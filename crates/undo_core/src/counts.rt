@@ -1,5 +1,5 @@
 //! Counts in one byte each, where they are below 255.
-ghost use Rattle.std.specs.Prelude.{◌≡◌, ◌+◌, ◌<◌, ◌++◌, [], ◌∷◌, length, vec_len, vec_capacity, MatchOption};
+ghost use Rattle.std.specs.Prelude.{◌≡◌, ◌+◌, ◌<◌, ◌++◌, [], ◌∷◌, length, vec_len, vec_capacity, IsTrue, MatchOption};
 ghost use Rattle.undo_core.specs.Counts.{counts_of, count_large};
 
 // The byte of a count that stands in the list beside the bytes.
@@ -21,6 +21,27 @@ pub(crate) fn append_count(bytes: &mut Vec<u8>, large: &mut Vec<usize>, count: u
         bytes.push_reserved(LARGE);
         large.push_reserved(count);
     }
+}
+
+/// Whether a count has room in one byte.
+#[inline(always)]
+pub(crate) fn is_small(count: usize) -> bool
+    ensures { IsTrue result → count < 255 }
+{
+    count < usize::from(LARGE)
+}
+
+/// Appends a count that has room in one byte. There is room for the byte.
+#[inline(always)]
+pub(crate) fn append_small(bytes: &mut Vec<u8>, large: &[usize], count: usize)
+    requires small { count < 255 }
+    requires sound { count_large bytes.old.items ≡ length large.now }
+    requires room { vec_len bytes.old < vec_capacity bytes.old }
+    ensures sound { count_large bytes.new.items ≡ length large.now }
+    ensures more { length bytes.new.items ≡ length bytes.old.items + 1 }
+    ensures counts { counts_of bytes.new.items large.now ≡ counts_of bytes.old.items large.now ++ count ∷ [] }
+{
+    bytes.push_reserved(count as u8);
 }
 
 /// Takes the last count off, if there is one.

@@ -3,13 +3,13 @@ ghost use Rattle.std.specs.Prelude.{◌≡◌, ◌+◌, ◌-◌, ◌<◌, ◌≤
 ghost use Rattle.std.specs.Bool.{OnFalse};
 ghost use Rattle.mix_refused.specs.Refused.{IfFault};
 ghost use Rattle.undo_core.specs.Replay.{replay, count_kept};
-ghost use Rattle.undo_core.specs.Runs.{items_of, IsRising};
 
+use crate::adding::add;
 use crate::changes::Changes;
 use crate::counts::{append_count, take_count};
 use crate::kept::{Kept, revert};
 use crate::past::Past;
-use crate::runs::{Run, append, count_in, cut, item_at, lengthen};
+use crate::runs::{Run, count_in, item_at};
 use crate::undo::Undo;
 use mix_refused::{Memory, Refused};
 use std::alloc::Global;
@@ -40,53 +40,6 @@ impl<S: Undo> Model for Journal<S> {
     ghost view = { λ j. record { first = unwound S.put j.kept.items j.state; changes = take (length j.counts.items) (items_of 0 j.changes.items); ahead = drop (length j.counts.items) (items_of 0 j.changes.items) } };
 
     ghost invariant = { λ j. IsStored S.gives S.keeps S.put j.state j.kept.items j.changes.items j.counts.items j.large.items };
-}
-
-// Puts a change in the place of all from this one on. There is room for it. The same as the last one where none stands ahead is what a step mostly is.
-#[inline(always)]
-fn put_last<S: Undo>(changes: &mut Vec<Run<S::Change>>, done: usize, change: S::Change)
-    requires rising { IsRising 0 changes.old.items }
-    requires within { done ≤ length (items_of 0 changes.old.items) }
-    requires few { done < 2 ^ 64 - 1 }
-    requires room { vec_len changes.old < vec_capacity changes.old }
-    ensures rising { IsRising 0 changes.new.items }
-    ensures items { items_of 0 changes.new.items ≡ take done (items_of 0 changes.old.items) ++ change ∷ [] }
-{
-    if done == count_in(changes) && is_last::<S>(changes, &change) {
-        lengthen(changes, change);
-    } else {
-        put_apart::<S>(changes, done, change);
-    }
-}
-
-// The same of any change.
-#[inline(never)]
-fn put_apart<S: Undo>(changes: &mut Vec<Run<S::Change>>, done: usize, change: S::Change)
-    requires rising { IsRising 0 changes.old.items }
-    requires within { done ≤ length (items_of 0 changes.old.items) }
-    requires few { done < 2 ^ 64 - 1 }
-    requires room { vec_len changes.old < vec_capacity changes.old }
-    ensures rising { IsRising 0 changes.new.items }
-    ensures items { items_of 0 changes.new.items ≡ take done (items_of 0 changes.old.items) ++ change ∷ [] }
-{
-    if done < count_in(changes) {
-        cut(changes, done);
-    }
-    if is_last::<S>(changes, &change) {
-        lengthen(changes, change);
-    } else {
-        append(changes, change);
-    }
-}
-
-// Whether a change is the same as the last one.
-#[inline(always)]
-fn is_last<S: Undo>(changes: &[Run<S::Change>], change: &S::Change) -> bool
-    ensures some { IsTrue result → 0 < length changes.now }
-    ensures same { IsTrue result → (get_or changes.now (length changes.now - 1) (record { item = change.now; end = 0 })).item ≡ change.now }
-{
-    let count = changes.len();
-    count > 0 && S::is_same(&changes[count - 1].item, change)
 }
 
 impl<S: Undo> Journal<S> {
@@ -120,15 +73,22 @@ impl<S: Undo> Journal<S> {
         ensures fault { IfFault result (λ f. HoldsOfState S.gives self.old (λ s. S.gives s change ≡ Err f)) }
         ensures err { OnErr result (self.new ≡ self.old) }
     {
-        self.changes.reserve(1)?;
-        self.counts.reserve(1)?;
-        self.large.reserve(1)?;
         let from = self.kept.len();
         self.state.apply(&change, &mut self.kept)?;
-        let count = self.kept.len() - from;
-        put_last::<S>(&mut self.changes, self.counts.len(), change);
-        append_count(&mut self.counts, &mut self.large, count);
-        Ok(())
+        let many = self.kept.len() - from;
+        match add::<S>(
+            &mut self.changes,
+            &mut self.counts,
+            &mut self.large,
+            change,
+            many,
+        ) {
+            Ok(()) => Ok(()),
+            Err(_) => {
+                revert(&mut self.state, &mut self.kept, many);
+                Err(Refused::Memory)
+            }
+        }
     }
 
     /// Takes the last change back; it can then be done again. It takes no memory, and returns false

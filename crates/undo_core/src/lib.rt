@@ -1,6 +1,7 @@
 //! States whose changes can be taken back by the values that they overwrote, and a journal over any of them.
 #![tactic(auto)]
 
+mod adding;
 mod changes;
 mod counts;
 mod journal;
