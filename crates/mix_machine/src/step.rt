@@ -12,8 +12,10 @@ mod arithmetic;
 mod finish;
 mod jump;
 mod move_words;
+mod naming;
 mod operand;
 mod operation;
+mod rare;
 mod transfer;
 mod unit;
 

@@ -1,0 +1,92 @@
+//! A step of an operation that is rare, or long, apart from the others (1.3.1, "MIX operators").
+ghost use Rattle.std.specs.Prelude.{◌≡◌, ◌<◌, None, IsTrue};
+ghost use Rattle.mix_word.specs.Table.{decode_of};
+ghost use Rattle.mix_word.specs.Word.{parts_of};
+ghost use Rattle.mix_machine.specs.Decode.{arguments_of};
+ghost use Rattle.mix_machine.specs.Do.{step_or_fault};
+ghost use Rattle.mix_machine.specs.Order.{applies};
+ghost use Rattle.mix_machine.specs.law.Stages.{of_address, fault_among};
+ghost use Rattle.mix_machine.specs.law.Carried.{Carried};
+ghost use Rattle.mix_machine.specs.law.Apart.{is_apart, IsRare};
+
+use crate::fault::MixFault;
+use crate::old::Old;
+use crate::plan::Writes;
+use crate::step::transfer::goes_on;
+use crate::world::World;
+use mix_word::{Decoded, Operation, Word, decode};
+use undo_core::{Kept, Refused};
+
+impl World {
+    /// A step of what C and F name where it is rare, or long, or none: one function, so that the others together are short.
+    #[inline(never)]
+    pub(crate) fn step_of_rare(
+        &mut self,
+        code: u8,
+        word: Word,
+        kept: &mut Kept<Old>,
+    ) -> Result<(), Refused<MixFault>>
+        requires cell { self.old.loc < 4000 }
+        requires code { code ≡ (parts_of word).code }
+        requires rare { IsRare code (parts_of word).f }
+        requires served { fault_among (applies (decode_of code (parts_of word).f) self.old (arguments_of self.old (parts_of word))) of_address ≡ None }
+        ensures { Carried (step_or_fault (decode_of code (parts_of word).f) self.old (arguments_of self.old (parts_of word))) self.old self.new kept.old.items kept.new.items result }
+    {
+        match decode(code, word.parts().f) {
+            Decoded::Named(operation) => self.step_apart(operation, word, kept),
+            Decoded::Floating => Err(Refused::Fault(MixFault::FloatingOperation)),
+            Decoded::Unknown => Err(Refused::Fault(MixFault::NoOperation)),
+        }
+    }
+
+    // A step of an operation that is rare, or long.
+    fn step_apart(
+        &mut self,
+        operation: Operation,
+        word: Word,
+        kept: &mut Kept<Old>,
+    ) -> Result<(), Refused<MixFault>>
+        requires apart { IsTrue (is_apart operation) }
+        requires cell { self.old.loc < 4000 }
+        requires served { fault_among (applies (Decoded.Named operation) self.old (arguments_of self.old (parts_of word))) of_address ≡ None }
+        ensures { Carried (step_or_fault (Decoded.Named operation) self.old (arguments_of self.old (parts_of word))) self.old self.new kept.old.items kept.new.items result }
+    {
+        let a = self.arguments(word.parts());
+        // (a copy, since the checker covers no struct that is passed by value twice)
+        let given = a;
+        match operation {
+            Operation::Hlt => self.finish(Operation::Hlt, Ok(goes_on(Writes::Nothing)), a, kept),
+            Operation::Mul => self.finish(Operation::Mul, self.multiply(given), a, kept),
+            Operation::Div => self.finish(Operation::Div, self.divide(given), a, kept),
+            Operation::Num => self.finish(Operation::Num, self.to_number(given), a, kept),
+            Operation::Char => self.finish(Operation::Char, self.to_characters(given), a, kept),
+            Operation::Shift(kind) => self.finish(
+                Operation::Shift(kind),
+                self.shift_registers(kind, given),
+                a,
+                kept,
+            ),
+            Operation::Move => self.finish(Operation::Move, self.move_words(given), a, kept),
+            Operation::Jbus => self.finish(Operation::Jbus, self.jump_busy(given), a, kept),
+            Operation::Ioc => self.finish(Operation::Ioc, self.control_unit(given), a, kept),
+            Operation::In => self.finish(Operation::In, self.read_block(given), a, kept),
+            Operation::Out => self.finish(Operation::Out, self.write_block(given), a, kept),
+            Operation::Jred => self.finish(Operation::Jred, self.jump_ready(given), a, kept),
+            Operation::Nop
+            | Operation::Add
+            | Operation::Sub
+            | Operation::Load(_)
+            | Operation::LoadNegated(_)
+            | Operation::Store(_)
+            | Operation::StoreJ
+            | Operation::StoreZero
+            | Operation::Jump(_)
+            | Operation::RegisterJump(_, _)
+            | Operation::Increase(_)
+            | Operation::Decrease(_)
+            | Operation::Enter(_)
+            | Operation::EnterNegated(_)
+            | Operation::Compare(_) => unreachable!(),
+        }
+    }
+}
