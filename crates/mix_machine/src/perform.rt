@@ -7,16 +7,25 @@ ghost use Rattle.mix_machine.specs.law.Wrote.{HasRoom, Wrote, Tried};
 
 use crate::cells::{Cells, copy_words};
 use crate::old::Old;
+use crate::pack::Anchor;
 use crate::plan::{Plan, Writes};
 use crate::world::World;
 use mix_word::{Place, Reg, Word};
 use undo_core::{Kept, Memory};
 
 impl World {
-    /// Carries out a plan whose values fit their places. Out of memory for what a unit holds more, nothing is altered.
+    /// Carries out a plan whose values fit their places, at the location and the clock of the machine. Out of memory for what a unit holds more,
+    /// nothing is altered.
     #[tactic(auto, using(crate::proofs::WriteLemmas::one_after_another))]
     #[inline(always)]
-    pub(crate) fn perform(&mut self, plan: Plan, kept: &mut Kept<Old>) -> Result<(), Memory>
+    pub(crate) fn perform(
+        &mut self,
+        plan: Plan,
+        from: Anchor,
+        kept: &mut Kept<Old>,
+    ) -> Result<(), Memory>
+        requires loc { from.loc ≡ self.old.loc }
+        requires clock { from.clock ≡ self.old.clock }
         requires fits { IsTrue (plan_fits self.old plan) }
         requires units { PlanFits self.old plan }
         requires room { HasRoom kept.old (writes_of self.old plan) }
@@ -25,11 +34,13 @@ impl World {
         match plan {
             Plan::Value(value) => self.write(value, kept),
             Plan::Step(writes, loc, clock) => match writes {
-                Writes::Register(r, word) => self.move_with(r, word, loc, clock, kept),
-                Writes::Cell(place, word) => self.store(place, word, loc, clock, kept),
+                Writes::Register(r, word) => self.move_with(r, word, loc, clock, from, kept),
+                Writes::Cell(place, word) => self.store(place, word, loc, clock, from, kept),
+                Writes::Nothing => self.move_to(loc, clock, from, kept),
                 writes => {
                     self.write_in(writes, kept)?;
-                    self.move_to(loc, clock, kept);
+                    let now = self.anchor();
+                    self.move_to(loc, clock, now, kept);
                 }
             },
         }

@@ -71,20 +71,24 @@ impl World {
         self.cmp = cmp;
     }
 
-    /// Sets the location and the clock, and keeps those before.
+    /// Sets the location and the clock, and keeps those before, which are given.
     #[inline(always)]
-    pub(crate) fn move_to(&mut self, loc: u16, clock: u64, kept: &mut Kept<Old>)
+    pub(crate) fn move_to(&mut self, loc: u16, clock: u64, from: Anchor, kept: &mut Kept<Old>)
+        requires from { from.loc ≡ self.old.loc }
+        requires when { from.clock ≡ self.old.clock }
         requires loc { IsTrue (fits self.old (Old.Loc loc)) }
         requires clock { IsTrue (fits self.old (Old.Clock clock)) }
         requires room { HasRoom kept.old (set (Old.Loc loc) ∷ set (Old.Clock clock) ∷ []) }
         ensures { Wrote (set (Old.Loc loc) ∷ set (Old.Clock clock) ∷ []) self.old self.new kept.old kept.new }
     {
-        kept.append_reserved(&Moved::of(self.anchor(), Anchor { loc, clock }));
+        // (the proof knows the ranges of the machine where a field of it is named)
+        let _ = &self.loc;
+        kept.append_reserved(&Moved::of(from, Anchor { loc, clock }));
         self.loc = loc;
         self.clock = clock;
     }
 
-    /// Sets a register, the location and the clock, and keeps those before.
+    /// Sets a register, the location and the clock, and keeps those before, of which the last two are given.
     #[inline(always)]
     pub(crate) fn move_with(
         &mut self,
@@ -92,8 +96,11 @@ impl World {
         word: Word,
         loc: u16,
         clock: u64,
+        from: Anchor,
         kept: &mut Kept<Old>,
     )
+        requires from { from.loc ≡ self.old.loc }
+        requires when { from.clock ≡ self.old.clock }
         requires fits { IsTrue (fits self.old (Old.Reg r word)) }
         requires loc { IsTrue (fits self.old (Old.Loc loc)) }
         requires clock { IsTrue (fits self.old (Old.Clock clock)) }
@@ -101,13 +108,13 @@ impl World {
         ensures { Wrote (set (Old.Reg r word) ∷ set (Old.Loc loc) ∷ set (Old.Clock clock) ∷ []) self.old self.new kept.old kept.new }
     {
         let held = self.registers.get(r);
-        kept.append_reserved(&MovedWith::of(r, held, self.anchor(), Anchor { loc, clock }));
+        kept.append_reserved(&MovedWith::of(r, held, from, Anchor { loc, clock }));
         self.registers.set(r, word);
         self.loc = loc;
         self.clock = clock;
     }
 
-    /// Sets a cell, the location and the clock, and keeps those before.
+    /// Sets a cell, the location and the clock, and keeps those before, of which the last two are given.
     #[inline(always)]
     pub(crate) fn store(
         &mut self,
@@ -115,8 +122,11 @@ impl World {
         word: Word,
         loc: u16,
         clock: u64,
+        from: Anchor,
         kept: &mut Kept<Old>,
     )
+        requires from { from.loc ≡ self.old.loc }
+        requires when { from.clock ≡ self.old.clock }
         requires fits { IsTrue (fits self.old (Old.Cell place word)) }
         requires loc { IsTrue (fits self.old (Old.Loc loc)) }
         requires clock { IsTrue (fits self.old (Old.Clock clock)) }
@@ -125,15 +135,15 @@ impl World {
     {
         let at = usize::from(place.number());
         let held = self.cells[at];
-        kept.append_reserved(&Stored::of(place, held, self.anchor(), Anchor { loc, clock }));
+        kept.append_reserved(&Stored::of(place, held, from, Anchor { loc, clock }));
         self.cells[at] = word;
         self.loc = loc;
         self.clock = clock;
     }
 
-    // Where the machine stands, and when.
+    /// Where the machine stands, and when.
     #[inline(always)]
-    fn anchor(&self) -> Anchor
+    pub(crate) fn anchor(&self) -> Anchor
         ensures loc { result.loc ≡ self.now.loc }
         ensures clock { result.clock ≡ self.now.clock }
         ensures bound { result.loc ≤ 4000 }

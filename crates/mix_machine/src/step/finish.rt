@@ -39,11 +39,13 @@ impl World {
     {
         // (the proof knows the ranges of the machine where a field of it is named)
         let _ = &self.loc;
+        // (read before the room is made, after which the compiler would read them again)
+        let from = self.anchor();
         match self.plan_of_served(operation, outcome, a) {
             Err(fault) => Err(Refused::Fault(fault)),
             Ok(plan) => {
                 kept.reserve(MAX_KEPT)?;
-                self.perform(plan, kept)?;
+                self.perform(plan, from, kept)?;
                 Ok(())
             }
         }
