@@ -129,8 +129,9 @@ pub(crate) fn run_on(
 {
     mark_law();
     for done in 0..most {
-        let halts = is_halt_done(way, journal.state());
         let conflicts = known.look_on(way, journal);
+        // (last, so that the step needs not read its cell again)
+        let halts = is_halt_done(way, journal.state());
         match move_once(journal, way) {
             Ok(None) => {}
             Ok(Some(end)) => return Ok((done, end)),
