@@ -4,6 +4,7 @@ mod DebugLemmas
 mod HearingLemmas
 mod KeepLemmas
 mod PersonLemmas
+mod PlainLemmas
 mod PrintLemmas
 mod PrintOutputLemmas
 mod PrintRunLemmas

@@ -14,7 +14,7 @@ use Rattle.mix_run.specs.PrintSteps.{HasCounts, bytes_to, line_bytes, line_to, m
 use Rattle.mix_run.specs.declared.print.options.PrintOptions.{PrintOptions}
 use Rattle.mix_run.specs.declared.print.options.UnitSet.{UnitSet}
 use Rattle.mix_run.specs.declared.print.rows.RowCounts.{RowCounts}
-use Rattle.mix_run.proofs.Written.{Appends-then, Appends-same, Appends-nothing, AppendsFront-after}
+use Rattle.mix_run.proofs.Written.{Appends-then, Appends-same, Appends-nothing, AppendsFront-after, AppendsFront-all}
 
 -- what is written more, where it is a beginning of what is left
 pub written-more : (a b c : Option (List ℕ)) (whole left said more : List ℕ) →
@@ -30,6 +30,11 @@ written-more a b c whole left said more so_far parts wrote = (
 pub written-all : (a b : Option (List ℕ)) (whole left : List ℕ) → (done : List ℕ) × Appends a b done × (whole ≡ done ++ left) → left ≡ [] → Appends a b whole
 written-all a b whole left so_far none =
     Appends-same a b so_far.0 whole (sym (so_far.2 ∙ ap (λ bytes. so_far.0 ++ bytes) none ∙ append-nil so_far.0)) so_far.1
+
+-- what was written so far is a beginning of the whole
+pub written-begun : (a b : Option (List ℕ)) (whole left : List ℕ) → (done : List ℕ) × Appends a b done × (whole ≡ done ++ left) → AppendsFront a b whole
+written-begun a b whole left so_far =
+    AppendsFront-after a b b so_far.0 [] left whole so_far.1 (AppendsFront-all b b [] (Appends-nothing b)) so_far.2
 
 -- what is written next, and then more
 pub begun-front : (a b : Option (List ℕ)) (xs rest : List ℕ) → AppendsFront a b xs → AppendsFront a b (xs ++ rest)
@@ -67,6 +72,17 @@ none-after units counts w h =
       none-from units.printer counts.printer (unit_at w 18) h.printer,
       none-from units.typewriter counts.typewriter (unit_at w 19) h.typewriter,
       none-from units.paper_tape counts.paper_tape (unit_at w 20) h.paper_tape,
+    ) refl
+
+-- nothing is printed between two states whose units are the same
+pub none-between : (units : UnitSet) (w next : WorldState) → next.units ≡ w.units → printed_between units w next ≡ []
+none-between units w next e =
+    let same : (n : ℕ) → length (unit_at w n).rows ≡ length (unit_at next n).rows = λ n. rw e refl in
+    rw (
+      none-from units.card_punch (length (unit_at w 17).rows) (unit_at next 17) (same 17),
+      none-from units.printer (length (unit_at w 18).rows) (unit_at next 18) (same 18),
+      none-from units.typewriter (length (unit_at w 19).rows) (unit_at next 19) (same 19),
+      none-from units.paper_tape (length (unit_at w 20).rows) (unit_at next 20) (same 20),
     ) refl
 
 -- what was written since the rows of a state

@@ -3,7 +3,7 @@ use Rattle.std.specs.Prelude.{◌≡◌, ◌+◌, ℕ, Bool, true, false, List, 
 use Rattle.std.specs.Io.KnownBytes.{Appends}
 use Rattle.std.specs.Option.{option_or}
 use Rattle.mix_machine.specs.Do.{does, is_halt_next}
-use Rattle.mix_machine.specs.Transfers.{TransfersState, conflict_of, transfers_after}
+use Rattle.mix_machine.specs.Transfers.{TransfersState, conflict_of, transfer_by, transfers_after}
 use Rattle.mix_machine.specs.declared.transfers.Conflict.{Conflict}
 use Rattle.mix_machine.specs.World.{WorldState, unit_at}
 use Rattle.mix_machine.specs.declared.fault.MixFault.{MixFault}
@@ -66,6 +66,12 @@ StepMakes options number w next (Some Halted) old new = (does w Step ≡ Ok next
 StepMakes options number w next (Some (Faulted fault)) old new = (does w Step ≡ Err fault) × (next ≡ w) × Appends old new []
 StepMakes options number w next (Some (Conflicting c)) old new = ⊥
 StepMakes options number w next (Some UsedUp) old new = ⊥
+
+-- the next step is no halt, makes nothing of a transfer and alters no unit
+pub record IsPlain (w : WorldState) : Type 0 where
+  pub goes_on : is_halt_next w ≡ false
+  pub still : transfer_by w Step ≡ None
+  pub units : (next : WorldState) → does w Step ≡ Ok next → next.units ≡ w.units
 
 -- whether a step with this end was made: it is no fault
 abbrev pub is_made : Option RunEnd → Bool

@@ -15,6 +15,7 @@ ghost use Rattle.mix_run.specs.PrintOutput.{Prints, kept_of, outcome_of_run, par
 
 mod loaded;
 pub(crate) mod options;
+mod plain;
 pub(crate) mod row;
 mod rows;
 mod steps;

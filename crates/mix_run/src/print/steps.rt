@@ -10,6 +10,7 @@ ghost use Rattle.mix_run.specs.PrintSteps.{HasCounts, StepMakes, StepNotes, Step
 
 use crate::fault::ToolFault;
 use crate::print::options::PrintOptions;
+use crate::print::plain::plain_steps;
 use crate::print::rows::{RowCounts, print_new, row_counts};
 use crate::print::trace::{quiet_step, step_with_line};
 use crate::print::watch::{Conflicts, Watch, conflict_at, stops};
@@ -64,11 +65,20 @@ pub(super) fn print_steps<W: Out>(
         rows: row_counts(world),
         watch,
     };
-    let mut left = options.steps;
+    // (most steps are plain, and are done by themselves)
+    let mut left = plain_steps(
+        world,
+        &mut records.kept,
+        &records.watch,
+        options,
+        options.steps,
+    )?;
     while left > 0 {
         let number = options.steps - left + 1;
         match print_step(alloc, world, &mut records, number, options, out)? {
-            None => left -= 1,
+            None => {
+                left = plain_steps(world, &mut records.kept, &records.watch, options, left - 1)?
+            }
             Some(end) => {
                 return Ok(Stepped {
                     end,
@@ -83,42 +93,9 @@ pub(super) fn print_steps<W: Out>(
     })
 }
 
-// The step of a number, its line, if it is traced, and what it prints; its end, if it ends the run. (Only some steps look at the transfers.)
-#[inline(always)]
-fn print_step<W: Out>(
-    alloc: Global,
-    world: &mut World,
-    records: &mut Records,
-    number: u64,
-    options: PrintOptions,
-    out: &mut W,
-) -> Result<Option<RunEnd>, ToolFault>
-    requires count { W.failed out.old < 2 ^ 64 - 1 }
-    requires before { HasCounts world.old records.old.rows }
-    requires over { AreOver records.old.watch.over records.old.watch.transfers }
-    requires room { records.old.watch.conflicts.count < 2 ^ 64 - 1 }
-    ensures before { IfOk result (λ _. HasCounts world.new records.new.rows) }
-    ensures over { IfOk result (λ _. AreOver records.new.watch.over records.new.watch.transfers) }
-    ensures room { IfOk result (λ _. records.new.watch.conflicts.count ≤ records.old.watch.conflicts.count + 1) }
-    ensures printed { IfOk result (λ end. StepPrints (stops options.strict (conflict_of records.old.watch.transfers world.old Step)) options number
-        world.old world.new end (W.told out.old) (W.told out.new)) }
-    ensures noted { IfOk result (λ end. StepNotes world.old records.old.watch.transfers records.old.watch.conflicts
-        records.new.watch.transfers records.new.watch.conflicts end) }
-    ensures begun { IfErr result (λ _. AppendsFront (W.told out.old) (W.told out.new) (step_bytes options number records.old.watch.transfers world.old)) }
-    ensures write { CountsFailure (result ≡ Err ToolFault.Write) (W.failed out.old) (W.failed out.new) }
-    ensures only { IfErr result IsMemoryOrWrite }
-{
-    let quiet = records.watch.is_quiet(world);
-    if quiet {
-        made_step(alloc, world, records, number, options, out)
-    } else {
-        watched_step(alloc, world, records, number, options, out)
-    }
-}
-
-// A step where a transfer is under way, or may begin or end.
+// The step of a number, its line, if it is traced, and what it prints; its end, if it ends the run.
 #[inline(never)]
-fn watched_step<W: Out>(
+fn print_step<W: Out>(
     alloc: Global,
     world: &mut World,
     records: &mut Records,

@@ -1,13 +1,11 @@
 //! The transfers under way in a run, and the steps that conflict with one (1.3.1, "Input-output operators").
-ghost use Rattle.std.specs.Prelude.{◌≡◌, ◌<◌, ◌≤◌, ◌+◌, ◌-◌, ◌^◌, ◌&&◌, IfSome, None, [], false, true, nat_le, option_map};
-ghost use Rattle.mix_machine.specs.Decode.{instruction};
-ghost use Rattle.mix_machine.specs.Transfers.{AreOver, conflict_of, no_transfers, transfer_by, with_transfer};
+ghost use Rattle.std.specs.Prelude.{◌≡◌, ◌<◌, ◌≤◌, ◌+◌, ◌-◌, ◌^◌, IfSome, [], option_map};
+ghost use Rattle.mix_machine.specs.Transfers.{AreOver, conflict_of, no_transfers, with_transfer};
 ghost use Rattle.mix_machine.specs.declared.old.Change.TheVariants.{Step};
 ghost use Rattle.mix_run.specs.Print.{conflict_at, counted, listed, stops};
 ghost use Rattle.mix_run.specs.PrintSteps.{conflicts_after};
 
-use mix_machine::{Change, Conflict, Pending, Place, Transfers, UnitNo, World};
-use mix_word::decode_law;
+use mix_machine::{Change, Conflict, Pending, Transfers, UnitNo, World};
 
 /// A conflict of a step with a transfer under way (1.3.1), with the location and the clock in u before that step.
 #[derive(Clone, Copy)]
@@ -27,8 +25,8 @@ pub struct Conflicts {
 /// The transfers under way, a clock at which all of them are over, and the conflicts so far.
 #[derive(Drop)]
 pub(super) struct Watch {
-    transfers: Transfers,
-    over: u64,
+    pub(super) transfers: Transfers,
+    pub(super) over: u64,
     pub(super) conflicts: Conflicts,
 }
 
@@ -47,20 +45,6 @@ impl Watch {
                 first: None,
             },
         }
-    }
-
-    /// Whether the next step conflicts with nothing, and begins and ends no transfer. (It asks the clock and the code of the instruction alone.)
-    #[tactic(auto, using(crate::proofs::WatchLemmas::no_conflict))]
-    #[inline(always)]
-    pub(super) fn is_quiet(&self, world: &World) -> bool
-        requires { AreOver self.now.over self.now.transfers }
-        ensures apart { result ≡ true → conflict_of self.now.transfers world.now Step ≡ None }
-        ensures still { result ≡ true → transfer_by world.now Step ≡ None }
-    {
-        if world.clock() < self.over {
-            return false;
-        }
-        !may_transfer(world)
     }
 
     /// The conflict of the next step, if it is accepted and conflicts with a transfer.
@@ -140,36 +124,4 @@ pub(super) fn conflict_at(world: &World, conflict: Option<Conflict>) -> Option<C
         }),
         None => None,
     }
-}
-
-// Whether the next step may begin a transfer or end one: that it is an IOC, an IN or an OUT, or that there is none.
-#[inline(always)]
-fn may_transfer(world: &World) -> bool
-    ensures still { result ≡ false → transfer_by world.now Step ≡ None }
-{
-    decode_law();
-    match Place::of(world.loc()) {
-        None => true,
-        Some(place) => {
-            let code = code_at(world, place);
-            is_of_transfers(code)
-        }
-    }
-}
-
-// The code of the instruction at the location.
-#[inline(always)]
-fn code_at(world: &World, place: Place) -> u8
-    requires { place ≡ world.now.loc }
-    ensures { result ≡ (instruction world.now).code }
-{
-    world.cell(place).parts().code
-}
-
-// Whether C is that of IOC, IN or OUT.
-#[inline(always)]
-fn is_of_transfers(code: u8) -> bool
-    ensures { result ≡ (nat_le 35 code && nat_le code 37) }
-{
-    35 <= code && code <= 37
 }

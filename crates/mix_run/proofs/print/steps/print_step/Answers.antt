@@ -1,27 +1,20 @@
--- A step of a quiet watch is one that is made, with no conflict.
-use Rattle.std.proofs.Common.{◌≤◌, ◌+◌, arith}
-use Rattle.mix_run.proofs.PrintLemmas.{on-ok}
-use Rattle.mix_run.proofs.PrintRunLemmas.{quiet-notes, stops-none}
+-- A step that is not stopped by its conflict, and one that is.
+use Rattle.std.proofs.Common.{sym, ap, ◌∙◌}
+use Rattle.mix_run.specs.Print.{stops}
+use Rattle.mix_run.proofs.Written.{Appends-nothing}
 use Rattle.mix_run.proofs.print.steps.print_step.Goals as goal
 
-pub returns-then-quiet-clause-over : goal.returns-then-quiet-clause-over
-returns-then-quiet-clause-over g c = rw c.made_step.ensures.watch (on-ok _ _ c.requires.over)
+pub returns-clause-printed : goal.returns-clause-printed
+returns-clause-printed g c =
+    let free = ap (λ m. stops c.args.options.strict m) (sym c.conflict-conflict.ensures) ∙ sym c.stops-stop.ensures ∙ c.in-None.is in
+    rw free c.noted_step.ensures.printed
 
-pub returns-then-quiet-clause-room : goal.returns-then-quiet-clause-room
-returns-then-quiet-clause-room g c =
-    let room : c.args.records.now.watch.conflicts.count ≤ c.args.records.now.watch.conflicts.count + 1 = omega arith in
-    rw c.made_step.ensures.watch (on-ok _ _ room)
+pub returns-clause-begun : goal.returns-clause-begun
+returns-clause-begun g c =
+    let free = ap (λ m. stops c.args.options.strict m) (sym c.conflict-conflict.ensures) ∙ sym c.stops-stop.ensures ∙ c.in-None.is in
+    rw free c.noted_step.ensures.begun
 
-pub returns-then-quiet-clause-printed : goal.returns-then-quiet-clause-printed
-returns-then-quiet-clause-printed g c =
-    rw (c.is_quiet-quiet.ensures.apart c.if-quiet.true, stops-none c.args.options.strict) c.made_step.ensures.printed
-
-pub returns-then-quiet-clause-noted : goal.returns-then-quiet-clause-noted
-returns-then-quiet-clause-noted g c =
-    rw c.made_step.ensures.watch (quiet-notes _ c.args.options c.args.number c.args.records.now.watch.transfers c.args.world.now c.made_step.new.world
-    c.args.records.now.watch.conflicts _ _ (c.is_quiet-quiet.ensures.apart c.if-quiet.true) (c.is_quiet-quiet.ensures.still c.if-quiet.true)
-    c.made_step.ensures.printed)
-
-pub returns-then-quiet-clause-begun : goal.returns-then-quiet-clause-begun
-returns-then-quiet-clause-begun g c =
-    rw (c.is_quiet-quiet.ensures.apart c.if-quiet.true, stops-none c.args.options.strict) c.made_step.ensures.begun
+pub returns-in-Some-clause-printed : goal.returns-in-Some-clause-printed
+returns-in-Some-clause-printed g c =
+    let stopped = ap (λ m. stops c.args.options.strict m) (sym c.conflict-conflict.ensures) ∙ sym c.stops-stop.ensures ∙ c.in-Some.is in
+    rw stopped (c.in_ok-end-in-Some.ensures.stops, Appends-nothing _)
