@@ -1,5 +1,5 @@
 -- The conflicts with the units from one on.
-use Rattle.std.specs.Prelude.{ℕ, zero, suc, false, IfSome, slice_set, nat_lt, ◌+◌, ◌≡◌, ◌<◌, ◌≤◌, [], ◌∷◌, length, drop, slice_index_or, Option, Some, None, refl}
+use Rattle.std.specs.Prelude.{ℕ, zero, suc, false, max, nat_lt, ◌+◌, ◌≡◌, ◌<◌, ◌≤◌, [], ◌∷◌, length, drop, slice_index_or, Option, Some, None, refl}
 use Rattle.std.specs.Option.{option_or}
 use Rattle.std.proofs.Common.{sym, subst, add-one, arith}
 use Rattle.std.proofs.lemmas.Bool.Decides.{nat_tests}
@@ -9,11 +9,10 @@ use Rattle.mix_machine.specs.World.{WorldState}
 use Rattle.mix_machine.specs.Decode.{arguments_at}
 use Rattle.mix_machine.specs.UnitAction.{use_of, start_of}
 use Rattle.mix_machine.specs.Access.{operation_at, access_of}
-use Rattle.mix_machine.specs.Transfers.{TransfersState, AreOver, conflict_with, conflict_from, conflict_of}
+use Rattle.mix_machine.specs.Transfers.{TransfersState, end_of, last_end, conflict_with, conflict_from, conflict_of}
 use Rattle.mix_machine.specs.declared.old.Change.{Change}
 use Rattle.mix_machine.specs.declared.old.Change.TheVariants.{Step, SetReg, SetCell, SetLoc, SetOver, SetCmp, Break, Clear}
 use Rattle.mix_machine.specs.declared.access.Access.{Access}
-use Rattle.mix_machine.specs.declared.transfers.Pending.{Pending}
 
 conflict-next : (ts : TransfersState) (m n : ℕ) (a : Access) → n < length ts →
     conflict_from m (drop n ts) a ≡ option_or (conflict_with m (slice_index_or ts n None) a) (conflict_from (m + 1) (drop (suc n) ts) a)
@@ -33,6 +32,24 @@ conflict-none [] m zero a l = refl
 conflict-none [] m (suc n) a l = refl
 conflict-none (t ∷ ts) m zero a l = absurd (omega arith)
 conflict-none (t ∷ ts) m (suc n) a l = conflict-none ts m n a (omega arith)
+
+-- when the last of them ends
+last-end-next : (ts : TransfersState) (n : ℕ) → n < length ts → last_end (drop n ts) ≡ max (end_of (slice_index_or ts n None)) (last_end (drop (suc n) ts))
+last-end-next [] n l = absurd (omega arith)
+last-end-next (t ∷ ts) zero l = refl
+last-end-next (t ∷ ts) (suc n) l = last-end-next ts n (omega arith)
+
+pub last-end-step : (ts : TransfersState) (n : ℕ) → n < length ts → last_end (drop n ts) ≡ max (end_of (slice_index_or ts n None)) (last_end (drop (n + 1) ts))
+last-end-step ts n l =
+    subst (λ (k : ℕ). last_end (drop n ts) ≡ max (end_of (slice_index_or ts n None)) (last_end (drop k ts))) (sym (add-one n)) (last-end-next ts n l)
+
+pub last-end-none : (ts : TransfersState) (n : ℕ) → length ts ≤ n → last_end (drop n ts) ≡ 0
+last-end-none [] zero l = refl
+last-end-none [] (suc n) l = refl
+last-end-none (t ∷ ts) zero l = absurd (omega arith)
+last-end-none (t ∷ ts) (suc n) l = last-end-none ts n (omega arith)
+
+pub ruleset last_ends = (last-end-step, last-end-none)
 
 -- Where all transfers are over when a change is asked for, it conflicts with none.
 start-later : (u : Option UnitUse) (w : WorldState) (n : ℕ) → w.clock ≤ start_of u w n
@@ -56,29 +73,21 @@ access-later w (Clear p) = omega arith
 not-below : (m n : ℕ) → n ≤ m → nat_lt m n ≡ false
 not-below m n l = grind (arith, nat_tests)
 
-over-none : (ts : TransfersState) (m time : ℕ) (a : Access) → AreOver time ts → time ≤ a.start → conflict_from m ts a ≡ None
+max-left : (m n k : ℕ) → max m n ≤ k → m ≤ k
+max-left m n k l = omega (arith, l)
+
+max-right : (m n k : ℕ) → max m n ≤ k → n ≤ k
+max-right m n k l = omega (arith, l)
+
+over-none : (ts : TransfersState) (m time : ℕ) (a : Access) → last_end ts ≤ time → time ≤ a.start → conflict_from m ts a ≡ None
 over-none [] m time a h l = refl
-over-none (None ∷ ts) m time a h l = over-none ts (m + 1) time a h l
+over-none (None ∷ ts) m time a h l = over-none ts (m + 1) time a (max-right 0 (last_end ts) time h) l
 over-none (Some p ∷ ts) m time a h l =
-    rw (not-below a.start p.until (omega (arith, h.0))) (over-none ts (m + 1) time a h.1 l)
+    rw (not-below a.start p.until (omega (arith, max-left p.until (last_end ts) time h, l))) (over-none ts (m + 1) time a (max-right p.until (last_end ts) time h) l)
 
-pub all-over : (ts : TransfersState) (w : WorldState) (c : Change) (time : ℕ) → AreOver time ts → time ≤ w.clock → conflict_of ts w c ≡ None
-all-over ts w c time h l = over-none ts 0 time (access_of w c) h (omega (arith, access-later w c))
-
-over-later : (ts : TransfersState) (s t : ℕ) → AreOver s ts → s ≤ t → AreOver t ts
-over-later [] s t h l = tt
-over-later (None ∷ ts) s t h l = over-later ts s t h l
-over-later (Some p ∷ ts) s t h l = (omega (arith, h.0), over-later ts s t h.1 l)
-
-pub over-set : (ts : TransfersState) (n s t : ℕ) (x : Option Pending) → AreOver s ts → s ≤ t → IfSome x (λ p. p.until ≤ t) → AreOver t (slice_set ts n x)
-over-set [] n s t x h l e = tt
-over-set (None ∷ ts) zero s t None h l e = over-later ts s t h l
-over-set (None ∷ ts) zero s t (Some q) h l e = (e, over-later ts s t h l)
-over-set (Some p ∷ ts) zero s t None h l e = over-later ts s t h.1 l
-over-set (Some p ∷ ts) zero s t (Some q) h l e = (e, over-later ts s t h.1 l)
-over-set (None ∷ ts) (suc n) s t x h l e = over-set ts n s t x h l e
-over-set (Some p ∷ ts) (suc n) s t x h l e = (omega (arith, h.0), over-set ts n s t x h.1 l e)
-
-pub ruleset are_over = (over-set)
+pub all-over : (ts : TransfersState) (w : WorldState) (c : Change) (time : ℕ) → last_end ts ≤ time → time ≤ w.clock → conflict_of ts w c ≡ None
+all-over ts w c time h l = over-none ts 0 time (access_of w c) h (omega (arith, access-later w c, l))
 
 pub ruleset conflict_steps = (conflict-step, conflict-none, all-over)
+
+pub ruleset all_over = (all-over)

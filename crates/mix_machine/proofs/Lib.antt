@@ -12,6 +12,7 @@ pub mod Halting
 pub mod MarkLemmas
 pub mod PackLemmas
 pub mod PutLemmas
+pub mod QuietLemmas
 pub mod RegisterLemmas
 pub mod RowLemmas
 pub mod SameFields

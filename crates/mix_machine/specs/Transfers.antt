@@ -1,10 +1,10 @@
 -- The transfers under way, and which change conflicts with one. Until a transfer is over, a program must not use the
 -- cells of an IN, nor alter those of an OUT (1.3.1, "Input-output operators").
-use Rattle.std.specs.Prelude.{ℕ, ◌+◌, ◌≡◌, ◌≤◌, length, max, ◌&&◌, nat_lt, List, [], ◌∷◌, replicate, slice_set, Option, Some, None, if◌then◌else◌}
+use Rattle.std.specs.Prelude.{ℕ, Bool, true, not, ◌+◌, ◌≡◌, length, max, ◌&&◌, nat_le, nat_lt, List, [], ◌∷◌, replicate, slice_set, Option, Some, None, if◌then◌else◌}
 use Rattle.std.specs.Option.{option_or}
 use Rattle.mix_word.specs.Uses.{unit_count}
 use Rattle.mix_machine.specs.World.{WorldState}
-use Rattle.mix_machine.specs.Decode.{arguments_at}
+use Rattle.mix_machine.specs.Decode.{instruction, arguments_at}
 use Rattle.mix_machine.specs.Effects.{effects}
 use Rattle.mix_machine.specs.UnitAction.{transfer_end}
 use Rattle.mix_machine.specs.Access.{block_from, operation_at, access_of}
@@ -27,16 +27,20 @@ TransfersState = List (Option Pending)
 abbrev pub no_transfers : TransfersState
 no_transfers = replicate unit_count None
 
--- whether each of them is over at a time
-abbrev pub AreOver : ℕ → TransfersState → Type 0
-AreOver time [] = Unit {0}
-AreOver time (None ∷ ts) = AreOver time ts
-AreOver time (Some p ∷ ts) = (p.until ≤ time) × AreOver time ts
+-- the time at which a transfer ends, or 0
+abbrev pub end_of : Option Pending → ℕ
+end_of None = 0
+end_of (Some p) = p.until
 
--- what every value of the transfers meets: one for each unit, all over at a time
+-- the latest time at which one of them ends, or 0
+abbrev pub last_end : TransfersState → ℕ
+last_end [] = 0
+last_end (t ∷ ts) = max (end_of t) (last_end ts)
+
+-- what every value of the transfers meets: one for each unit, and when the last of them ends
 pub record AreTransfers (ts : TransfersState) (time : ℕ) : Type 0 where
   pub units : length ts ≡ unit_count
-  pub over : AreOver time ts
+  pub over : time ≡ last_end ts
 
 -- what becomes of the transfer of a unit, where there is such a unit
 abbrev pub becomes : ℕ → Option Pending → Option (ℕ × Option Pending)
@@ -110,3 +114,12 @@ conflict_from n (t ∷ ts) a = option_or (conflict_with n t a) (conflict_from (n
 -- which cell of which transfer a change conflicts with, from the state before it
 abbrev pub conflict_of : TransfersState → WorldState → Change → Option Conflict
 conflict_of ts w c = conflict_from 0 ts (access_of w c)
+
+-- whether the instruction at the location is an IOC, an IN or an OUT by its C, or there is none
+abbrev pub may_transfer : WorldState → Bool
+may_transfer w = if nat_lt w.loc 4000 then nat_le 35 (instruction w).code && nat_le (instruction w).code 37 else true
+
+-- Whether all transfers are over when the next step is asked for, and it is none that begins or ends one: it conflicts with
+-- none, and makes nothing of one.
+abbrev pub is_quiet : TransfersState → WorldState → Bool
+is_quiet ts w = nat_le (last_end ts) w.clock && not (may_transfer w)

@@ -1,17 +1,19 @@
 //! The transfers under way, and which change conflicts with one (1.3.1, "Input-output operators").
-ghost use Rattle.std.specs.Prelude.{◌≡◌, ◌<◌, ◌≤◌, ◌+◌, ℕ, false, Ok, Some, None, IfSome, drop, nat_lt, slice_index_or};
+ghost use Rattle.std.specs.Prelude.{◌≡◌, ◌<◌, ◌≤◌, ◌+◌, ℕ, false, Ok, Some, None, drop, nat_lt, slice_index_or};
 ghost use Rattle.mix_word.specs.Uses.{unit_count};
 ghost use Rattle.mix_machine.specs.World.{WorldState, IsWorld, cell_of, unit_at};
 ghost use Rattle.mix_machine.specs.Access.{has_cell, access_of};
 ghost use Rattle.mix_machine.specs.Do.{does};
 ghost use Rattle.mix_machine.specs.declared.old.Change.{Change};
 ghost use Rattle.mix_machine.specs.declared.transfers.Pending.{Pending};
-ghost use Rattle.mix_machine.specs.Transfers.{no_transfers, transfer_by, with_transfer, transfers_after, common, forbidden, conflict_in, conflict_with, conflict_from, conflict_of};
+ghost use Rattle.mix_machine.specs.Transfers.{TransfersState, last_end, no_transfers, transfer_by, with_transfer, transfers_after, common, forbidden, conflict_in, conflict_with, conflict_from, conflict_of};
 
 mod made;
+mod quiet;
 
 use crate::access::{Access, Span};
 use crate::old::Change;
+use crate::transfers::quiet::last_end;
 use crate::units::UnitNo;
 use crate::world::World;
 use mix_word::{Place, UNITS};
@@ -44,7 +46,7 @@ pub struct Conflict {
 #[derive(Drop)]
 pub struct Transfers {
     list: [Option<Pending>; UnitNo::COUNT],
-    // A clock at which all of them are over, which a change asks first.
+    // The latest clock at which one of them ends, which a change asks first.
     over: u64,
 }
 
@@ -78,15 +80,22 @@ impl Transfers {
         self.list[usize::from(unit.number())]
     }
 
+    /// The latest clock at which one of them ends, or 0: from then on all of them are over.
+    #[inline(always)]
+    pub fn last_end(&self) -> u64
+        ensures { result ≡ last_end self.now }
+    {
+        self.over
+    }
+
     /// Sets what a change made of a unit's transfer, as `World::transfer_by` says it.
-    #[tactic(auto, using(crate::proofs::ConflictLemmas::are_over))]
     pub fn set(&mut self, made: Option<(UnitNo, Option<Pending>)>)
         ensures { self.new ≡ with_transfer self.old made }
     {
         match made {
             Some((unit, transfer)) => {
                 self.list[usize::from(unit.number())] = transfer;
-                self.over = over_after(self.over, transfer);
+                self.over = last_end(&self.list);
             }
             None => {}
         }
@@ -128,17 +137,6 @@ impl Transfers {
             Some(unit) => conflict_with(unit, self.of(unit), access),
             None => unreachable!(),
         }
-    }
-}
-
-// A clock at which what was over at another one is over, and a transfer too.
-fn over_after(over: u64, transfer: Option<Pending>) -> u64
-    ensures kept { over ≤ result }
-    ensures ended { IfSome transfer (λ p. p.until ≤ result) }
-{
-    match transfer {
-        Some(pending) if pending.until > over => pending.until,
-        _ => over,
     }
 }
 
@@ -207,9 +205,10 @@ fn is_below_end(cell: u16, span: Span) -> bool
     u32::from(cell) < u32::from(span.first) + u32::from(span.count)
 }
 
-/// What follows from the definitions alone: the transfer that an accepted change begins ends at the time until which its unit is busy then, and
-/// a cell that is none of those that an accepted change writes stays as it was.
+/// What follows from the definitions alone: the transfer that an accepted change begins ends at the time until which its unit is busy then; a
+/// cell that is none of those that an accepted change writes stays as it was; and a change conflicts with none where all transfers are over.
 pub fn transfer_law()
     ensures until { (v w : WorldState) (c : Change) (n : ℕ) (p : Pending) → IsWorld v → does v c ≡ Ok w → transfer_by v c ≡ Some (n, Some p) → (unit_at w n).until ≡ p.until }
     ensures written { (v w : WorldState) (c : Change) (p : ℕ) → does v c ≡ Ok w → has_cell (access_of v c).written p ≡ false → cell_of w p ≡ cell_of v p }
+    ensures apart { (ts : TransfersState) (w : WorldState) (c : Change) → last_end ts ≤ w.clock → conflict_of ts w c ≡ None }
 {}

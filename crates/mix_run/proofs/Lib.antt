@@ -15,5 +15,4 @@ mod StretchLemmas
 mod TalkLemmas
 mod TalkMeets
 mod Truncation
-mod WatchLemmas
 mod Written

@@ -3,6 +3,7 @@
 ghost use Rattle.std.specs.Prelude.{◌≡◌, ◌<◌, ◌+◌, ◌++◌, List, Some, OnOk, IfErr, IfOk, length, take, true, false, is_some, if◌then◌else◌};
 ghost use Rattle.undo_core.specs.Replay.{replay};
 ghost use Rattle.mix_machine.specs.Do.{does};
+ghost use Rattle.mix_machine.specs.declared.old.Change.TheVariants.{Step};
 ghost use Rattle.mix_session.specs.Client.{conflict_after};
 ghost use Rattle.mix_session.specs.Conflicts.{transfers_at, conflict_at};
 ghost use Rattle.mix_session.specs.Known.{has_conflict, Knows, LooksAt, LooksOn};
@@ -139,6 +140,7 @@ impl Known {
     }
 
     // Whether a change conflicts that is done next.
+    #[inline(never)]
     fn look_at(&mut self, change: Change, journal: &Journal<World>) -> bool
         ensures waits { self.new.waits ≡ self.old.waits }
         ensures last { self.new.last ≡ self.old.last }
@@ -160,8 +162,22 @@ impl Known {
         ensures looks { self.old.waits ≡ true → LooksOn way journal.now self.old self.new result }
     {
         match way {
-            Way::New | Way::Again => self.look_ahead(Change::Step, journal),
+            Way::New | Way::Again => self.waits && self.look_at_step(journal),
             Way::Back => self.waits && self.last == journal.done(),
+        }
+    }
+
+    // Whether the next step conflicts. (Most have nothing to do with transfers, and these are known by a look.)
+    #[inline(always)]
+    fn look_at_step(&mut self, journal: &Journal<World>) -> bool
+        ensures waits { self.new.waits ≡ self.old.waits }
+        ensures last { self.new.last ≡ self.old.last }
+        ensures looks { LooksAt Step journal.now self.old self.new result }
+    {
+        if self.transfers.is_quiet(world_of(journal)) {
+            false
+        } else {
+            self.look_at(Change::Step, journal)
         }
     }
 }

@@ -1,7 +1,6 @@
 //! Plain steps, as most of a run are: they alter no unit, and are no halt.
 ghost use Rattle.std.specs.Prelude.{◌≡◌, ◌≤◌, ◌+◌, ◌-◌, ◌==◌, ◌&&◌, ◌||◌, IfOk, IfErr, false, nat_le};
 ghost use Rattle.mix_machine.specs.Decode.{instruction};
-ghost use Rattle.mix_machine.specs.Transfers.{AreOver};
 ghost use Rattle.mix_run.specs.Print.{printed};
 ghost use Rattle.mix_run.specs.PrintSteps.{IsPlain};
 
@@ -9,7 +8,7 @@ use crate::fault::ToolFault;
 use crate::print::options::PrintOptions;
 use crate::print::trace::quiet_step;
 use crate::print::watch::Watch;
-use mix_machine::{Old, Place, World, change_law};
+use mix_machine::{Old, Place, World, change_law, transfer_law};
 use mix_word::decode_law;
 use undo_core::Kept;
 
@@ -22,8 +21,7 @@ pub(super) fn plain_steps(
     options: PrintOptions,
     most: u64,
 ) -> Result<u64, ToolFault>
-    requires over { AreOver watch.now.over watch.now.transfers }
-    requires within { most ≤ options.steps }
+    requires { most ≤ options.steps }
     ensures fewer { IfOk result (λ left. left ≤ most) }
     ensures same { IfOk result (λ left. printed options (options.steps - most + 1) most watch.now.transfers world.old
         ≡ printed options (options.steps - left + 1) left watch.now.transfers world.new) }
@@ -31,10 +29,11 @@ pub(super) fn plain_steps(
     ensures only { IfErr result (λ fault. fault ≡ ToolFault.Memory) }
 {
     // (the clock goes no way but forward, so one look at it does for all steps)
-    if options.trace || world.clock() < watch.over {
+    if options.trace || world.clock() < watch.transfers.last_end() {
         return Ok(most);
     }
     change_law();
+    transfer_law();
     let mut left = most;
     while left > 0 {
         let more = may_be_more(world);

@@ -1,7 +1,7 @@
 //! Steps without history, and what they print.
 ghost use Rattle.std.specs.Prelude.{◌≡◌, ◌<◌, ◌≤◌, ◌+◌, ◌-◌, ◌^◌, IfOk, IfErr, Err, None};
 ghost use Rattle.std.specs.Io.KnownBytes.{Appends};
-ghost use Rattle.mix_machine.specs.Transfers.{AreOver, conflict_of};
+ghost use Rattle.mix_machine.specs.Transfers.{conflict_of};
 ghost use Rattle.mix_machine.specs.declared.old.Change.TheVariants.{Step};
 ghost use Rattle.mix_run.specs.Fault.{IsMemoryOrWrite};
 ghost use Rattle.mix_stream.specs.Stream.{AppendsFront, CountsFailure};
@@ -105,10 +105,8 @@ fn print_step<W: Out>(
 ) -> Result<Option<RunEnd>, ToolFault>
     requires count { W.failed out.old < 2 ^ 64 - 1 }
     requires before { HasCounts world.old records.old.rows }
-    requires over { AreOver records.old.watch.over records.old.watch.transfers }
     requires room { records.old.watch.conflicts.count < 2 ^ 64 - 1 }
     ensures before { IfOk result (λ _. HasCounts world.new records.new.rows) }
-    ensures over { IfOk result (λ _. AreOver records.new.watch.over records.new.watch.transfers) }
     ensures room { IfOk result (λ _. records.new.watch.conflicts.count ≤ records.old.watch.conflicts.count + 1) }
     ensures printed { IfOk result (λ end. StepPrints (stops options.strict (conflict_of records.old.watch.transfers world.old Step)) options number
         world.old world.new end (W.told out.old) (W.told out.new)) }
@@ -158,11 +156,9 @@ fn noted_step<W: Out>(
 ) -> Result<Option<RunEnd>, ToolFault>
     requires count { W.failed out.old < 2 ^ 64 - 1 }
     requires before { HasCounts world.old records.old.rows }
-    requires over { AreOver records.old.watch.over records.old.watch.transfers }
     requires conflict { conflict ≡ conflict_of records.old.watch.transfers world.old Step }
     requires room { records.old.watch.conflicts.count < 2 ^ 64 - 1 }
     ensures before { IfOk result (λ _. HasCounts world.new records.new.rows) }
-    ensures over { IfOk result (λ _. AreOver records.new.watch.over records.new.watch.transfers) }
     ensures room { IfOk result (λ _. records.new.watch.conflicts.count ≤ records.old.watch.conflicts.count + 1) }
     ensures printed { IfOk result (λ end. StepMakes options number world.old world.new end (W.told out.old) (W.told out.new)) }
     ensures noted { IfOk result (λ end. StepNotes world.old records.old.watch.transfers records.old.watch.conflicts

@@ -1,6 +1,6 @@
 //! The transfers under way in a run, and the steps that conflict with one (1.3.1, "Input-output operators").
-ghost use Rattle.std.specs.Prelude.{◌≡◌, ◌<◌, ◌≤◌, ◌+◌, ◌-◌, ◌^◌, IfSome, [], option_map};
-ghost use Rattle.mix_machine.specs.Transfers.{AreOver, conflict_of, no_transfers, with_transfer};
+ghost use Rattle.std.specs.Prelude.{◌≡◌, ◌<◌, ◌+◌, ◌-◌, ◌^◌, [], option_map};
+ghost use Rattle.mix_machine.specs.Transfers.{conflict_of, no_transfers, with_transfer};
 ghost use Rattle.mix_machine.specs.declared.old.Change.TheVariants.{Step};
 ghost use Rattle.mix_run.specs.Print.{conflict_at, counted, listed, stops};
 ghost use Rattle.mix_run.specs.PrintSteps.{conflicts_after};
@@ -22,11 +22,10 @@ pub struct Conflicts {
     pub first: Option<ConflictAt>,
 }
 
-/// The transfers under way, a clock at which all of them are over, and the conflicts so far.
+/// The transfers under way, and the conflicts so far.
 #[derive(Drop)]
 pub(super) struct Watch {
     pub(super) transfers: Transfers,
-    pub(super) over: u64,
     pub(super) conflicts: Conflicts,
 }
 
@@ -34,12 +33,10 @@ impl Watch {
     /// No transfer, and no conflict.
     pub(super) fn new() -> Watch
         ensures transfers { result.transfers ≡ no_transfers }
-        ensures over { AreOver result.over result.transfers }
         ensures conflicts { result.conflicts ≡ counted [] }
     {
         Watch {
             transfers: Transfers::none(),
-            over: 0,
             conflicts: Conflicts {
                 count: 0,
                 first: None,
@@ -60,34 +57,13 @@ impl Watch {
         made: Option<(UnitNo, Option<Pending>)>,
         found: Option<ConflictAt>,
     )
-        requires over { AreOver self.old.over self.old.transfers }
-        requires room { self.old.conflicts.count < 2 ^ 64 - 1 }
-        ensures over { AreOver self.new.over self.new.transfers }
+        requires { self.old.conflicts.count < 2 ^ 64 - 1 }
         ensures transfers { self.new.transfers ≡ with_transfer self.old.transfers made }
         ensures conflicts { self.new.conflicts ≡ conflicts_after self.old.conflicts (listed found) }
     {
-        // (copies, since the checker covers no struct that is passed by value twice)
-        let (given, before) = (made, self.conflicts);
-        self.over = over_after(self.over, given);
+        let before = self.conflicts;
         self.transfers.set(made);
         self.conflicts = with_conflict(before, found);
-    }
-}
-
-// A clock at which what was over at another one is over, and a transfer that was made too.
-fn over_after(over: u64, made: Option<(UnitNo, Option<Pending>)>) -> u64
-    ensures kept { over ≤ result }
-    ensures ended { IfSome made (λ m. IfSome m.1 (λ p. p.until ≤ result)) }
-{
-    match made {
-        Some((_, Some(pending))) => {
-            if pending.until > over {
-                pending.until
-            } else {
-                over
-            }
-        }
-        Some((_, None)) | None => over,
     }
 }
 

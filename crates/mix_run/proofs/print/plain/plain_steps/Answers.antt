@@ -3,7 +3,6 @@ use Rattle.std.proofs.Common.{◌≡◌, ◌+◌, ◌-◌, ◌∙◌, suc, sym, 
 use Rattle.mix_machine.specs.declared.old.Change.TheVariants.{Step}
 use Rattle.mix_run.specs.Print.{printed}
 use Rattle.mix_run.proofs.PlainLemmas.{plain-goes}
-use Rattle.mix_run.proofs.WatchLemmas.{no-conflict}
 use Rattle.mix_run.proofs.print.plain.plain_steps.Goals as goal
 
 pub loop-left-preserved : goal.loop-left-preserved
@@ -13,9 +12,9 @@ loop-left-preserved c =
     let left = c.loop-left.left in
     let more : left ≡ suc (left - 1) = omega (arith, c.loop-left-test.true) in
     let next : options.steps - (left - 1) + 1 ≡ options.steps - left + 1 + 1 =
-    omega (arith, c.loop-left-test.true, c.loop-left.invariant.within, c.requires.within) in
+    omega (arith, c.loop-left-test.true, c.loop-left.invariant.within, c.requires) in
     let plain = c.may_be_more-more.ensures c.if-more.false in
-    let apart = no-conflict ts c.loop-left.world c.args.watch.now.over c.requires.over c.loop-left.invariant.over in
+    let apart = c.transfer_law.ensures.apart ts c.loop-left.world Step c.loop-left.invariant.over in
     let done = rw c.in-None.is at c.in_ok-quiet_step.ensures.stepped in
     let goes = plain-goes options (options.steps - left + 1) left (left - 1) ts c.loop-left.world c.quiet_step.new.world more c.if-options.false
     apart plain done in

@@ -1,4 +1,5 @@
 use Rattle.std.proofs.Common.{◌≡◌, ◌≤◌, ◌+◌, ◌-◌}
+use Rattle.mix_machine.specs.Transfers.{last_end}
 use Rattle.mix_run.specs.Print.{printed}
 use Rattle.mix_run.proofs.print.plain.plain_steps.Given as goal
 
@@ -8,7 +9,7 @@ invariant-loop-left l = record {
   within : l.left ≤ l.fn.most;
   same : printed l.fn.options (l.fn.options.steps - l.fn.most + 1) l.fn.most l.watch.transfers l.fn.world
       ≡ printed l.fn.options (l.fn.options.steps - l.left + 1) l.left l.watch.transfers l.world;
-  over : l.watch.over ≤ l.world.clock;
+  over : last_end l.watch.transfers ≤ l.world.clock;
   units : l.world.units ≡ l.fn.world.units;
 }
 

@@ -33,7 +33,6 @@ loop-left-init g c =
       room = omega (arith, none);
       failed = refl;
       counts = same-counts c.args.world.now c.plain_steps.new.world _ c.in_ok-left.ensures.units c.row_counts.ensures;
-      over = c.new-watch.ensures.over;
     }
 
 pub loop-left-preserved : goal.loop-left-preserved
@@ -71,7 +70,6 @@ loop-left-preserved g c =
       );
       failed = c.in_ok-print_step.ensures.write.1 (λ e. cc) ∙ c.loop-left.invariant.failed;
       counts = same-counts next c.plain_steps-in-None.new.world _ c.in_ok-left-in-None.ensures.units c.in_ok-print_step.ensures.before;
-      over = c.in_ok-print_step.ensures.over;
     }
 
 pub returns-in_err-left-in-None-clause-begun : goal.returns-in_err-left-in-None-clause-begun

@@ -1,6 +1,5 @@
 use Rattle.std.proofs.Common.{◌≡◌, ◌≤◌, ◌+◌, ◌-◌, ◌++◌, List, ℕ}
 use Rattle.std.specs.Io.KnownBytes.{Appends}
-use Rattle.mix_machine.specs.Transfers.{AreOver}
 use Rattle.mix_run.specs.Print.{counted, printed, run_of}
 use Rattle.mix_run.specs.PrintSteps.{HasCounts, conflicts_after}
 use Rattle.mix_run.proofs.print.steps.print_steps.Given as goal
@@ -19,7 +18,6 @@ invariant-loop-left g l =
       room : l.records.watch.conflicts.count ≤ l.options.steps - l.left;
       failed : g.W.Out.failed l.out ≡ g.W.Out.failed l.fn.out;
       counts : HasCounts l.world l.records.rows;
-      over : AreOver l.records.watch.over l.records.watch.transfers;
     }
 
 abbrev pub decreases-loop-left : goal.decreases-loop-left
