@@ -45,7 +45,9 @@ impl<F: Files> Drop for FileLibrary<'_, F> {
 
 impl<'f, F: Files> FileLibrary<'f, F> {
     /// The files that a runtime reaches.
-    pub fn of(files: &'f F) -> FileLibrary<'f, F> {
+    pub fn of(files: &'f F) -> FileLibrary<'f, F>
+        ensures { result.files.now ≡ files.now }
+    {
         FileLibrary { files }
     }
 }
