@@ -110,7 +110,16 @@ run_solid = (
           steps_solid 2,
           (
             unit_solid 2,
-            (flag_solid 2 (codes "trace"), (flag_solid 2 (codes "strict"), (option_solid 2 (codes "keep"), (help_solid 2, tt)))),
+            (
+              flag_solid 2 (codes "trace"),
+              (
+                flag_solid 2 (codes "strict"),
+                (
+                  option_solid 2 (codes "keep"),
+                  (flag_solid 2 (codes "counts"), (flag_solid 2 (codes "json"), (flag_solid 2 (codes "latex"), (help_solid 2, tt)))),
+                ),
+              ),
+            ),
           ),
         ),
       ),

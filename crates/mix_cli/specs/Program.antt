@@ -75,8 +75,12 @@ run_inputs = with_rule (with_rule (with_rule (of_source (codes "run")) cards_opt
 abbrev pub limited_run : App
 limited_run = with_rule (with_rule run_inputs steps_option) unit_option
 
+abbrev pub kept_run : App
+kept_run = with_rule (with_rule (with_rule limited_run (flag_named (codes "trace"))) (flag_named (codes "strict"))) keep_option
+
+-- with its counts, and their form
 abbrev pub run_app : App
-run_app = with_rule (with_rule (with_rule limited_run (flag_named (codes "trace"))) (flag_named (codes "strict"))) keep_option
+run_app = with_rule (with_rule (with_rule kept_run (flag_named (codes "counts"))) (flag_named (codes "json"))) (flag_named (codes "latex"))
 
 abbrev pub dap_app : App
 dap_app = new_app (codes "dap")

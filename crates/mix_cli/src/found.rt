@@ -3,9 +3,9 @@
 ghost use Rattle.std.specs.Prelude.{◌≡◌, IfOk, IsSome, Some, map, true, string_bytes, option_map};
 ghost use Rattle.std.specs.List.{list_any};
 ghost use Rattle.clap.specs.Words.{all_of, first_of, found_of, rows_of};
-ghost use Rattle.mix_cli.specs.Plan.{is_set, names_unit, number_of, printing_of, prints, steps_of};
+ghost use Rattle.mix_cli.specs.Plan.{counts_of, form_of, is_set, names_unit, number_of, printing_of, prints, steps_of};
 
-use crate::words::Printing;
+use crate::words::{Format, Printing};
 use clap::ArgMatches;
 use std::alloc::{AllocError, Global};
 
@@ -82,6 +82,31 @@ pub(crate) fn is_set(words: &ArgMatches<'_>, id: &str) -> bool
     match first(words, id) {
         Some(text) => text == "true",
         None => false,
+    }
+}
+
+// The form of a table: CSV where no other is asked for.
+fn form_of(json: bool, latex: bool) -> Format
+    ensures { result ≡ form_of json latex }
+{
+    if latex {
+        Format::Latex
+    } else if json {
+        Format::Json
+    } else {
+        Format::Csv
+    }
+}
+
+/// The form of the table in which a run is counted, if it is.
+pub(crate) fn counts(words: &ArgMatches<'_>) -> Option<Format>
+    ensures { result ≡ counts_of (rows_of (found_of words.now)) }
+{
+    let (json, latex) = (is_set(words, "json"), is_set(words, "latex"));
+    if is_set(words, "counts") {
+        Some(form_of(json, latex))
+    } else {
+        None
     }
 }
 

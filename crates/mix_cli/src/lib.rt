@@ -9,4 +9,4 @@ mod program;
 mod words;
 
 pub use fault::{FAILED, LineFault, line_status};
-pub use words::{Plan, Printing, read_words};
+pub use words::{Format, Plan, Printing, read_words};

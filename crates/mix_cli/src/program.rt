@@ -2,7 +2,7 @@
 
 ghost use Rattle.std.specs.Prelude.{◌≡◌, IfOk, codes, true};
 ghost use Rattle.clap.specs.Words.{app_of, new_app, new_rule, with_rule, with_subcommand};
-ghost use Rattle.mix_cli.specs.Program.{bare_app, check_app, dap_app, debug_app, devices_option, limited_run, list_app, mixrev, of_source, of_sources, required_word, required_words, run_app, run_inputs, with_sources};
+ghost use Rattle.mix_cli.specs.Program.{bare_app, check_app, dap_app, debug_app, devices_option, kept_run, limited_run, list_app, mixrev, of_source, of_sources, required_word, required_words, run_app, run_inputs, with_sources};
 
 use crate::help::{
     ABOUT, LONG_VERSION, MORE, MORE_ON_CHECK, MORE_ON_DAP, MORE_ON_DEBUG, MORE_ON_LIST,
@@ -100,8 +100,9 @@ fn limited_run<'a>(alloc: Global) -> Result<Command<'a>, AllocError>
         .arg(unit_option(alloc))
 }
 
-fn run_command<'a>(alloc: Global) -> Result<Command<'a>, AllocError>
-    ensures app { IfOk result (λ c. app_of c ≡ run_app) }
+// And with what it writes beside or instead of the rows, and when it ends.
+fn kept_run<'a>(alloc: Global) -> Result<Command<'a>, AllocError>
+    ensures app { IfOk result (λ c. app_of c ≡ kept_run) }
 {
     limited_run(alloc)?
         .about("Runs a program to its halt and writes what it prints")
@@ -117,6 +118,20 @@ fn run_command<'a>(alloc: Global) -> Result<Command<'a>, AllocError>
             "Ends before a step that uses cells of a transfer that is not over",
         ))?
         .arg(keep_option(alloc))
+}
+
+// And with its counts, and their form.
+fn run_command<'a>(alloc: Global) -> Result<Command<'a>, AllocError>
+    ensures app { IfOk result (λ c. app_of c ≡ run_app) }
+{
+    kept_run(alloc)?
+        .arg(flag_named(
+            alloc,
+            "counts",
+            "Writes no rows, but a table of how often each instruction was executed, as CSV",
+        ))?
+        .arg(flag_named(alloc, "json", "Writes the counts as JSON"))?
+        .arg(flag_named(alloc, "latex", "Writes the counts as a table of LaTeX"))
 }
 
 fn dap_command<'a>(alloc: Global) -> Command<'a>

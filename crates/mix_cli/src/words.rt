@@ -9,14 +9,14 @@ ghost use Rattle.mix_cli.specs.Program.{mixrev};
 ghost use Rattle.mix_cli.specs.declared.fault.LineFault.{LineFault};
 
 use crate::fault::LineFault;
-use crate::found::{is_set, optional, required, several, steps, what_is_printed};
+use crate::found::{counts, is_set, optional, required, several, steps, what_is_printed};
 use crate::program::program;
 use clap::{ArgMatches, Error};
 use std::alloc::{AllocError, Global};
 
 /// What the program is to do: a bundle from standard input; the listing of a source; a check of sources, in JSON or not; a session of a source, with a deck where one is named, by a
 /// script, whose commands are echoed or not, or, where none is named, a talk; a run of a source, with cards, lines of the typewriter and a deck where they are named, of so many steps at
-/// most, 1 to 10^18, traced or not, strict or not, whose units are kept in a file where one is named; or to be a debug adapter. The texts are names of files.
+/// most, 1 to 10^18, traced or not, strict or not, whose units are kept in a file where one is named, and which is counted in a table of some form or not; or to be a debug adapter. The texts are names of files.
 #[derive(Drop)]
 pub enum Plan {
     Bundle,
@@ -41,8 +41,17 @@ pub enum Plan {
         trace: bool,
         strict: bool,
         keep: Option<String>,
+        counts: Option<Format>,
     },
     Dap,
+}
+
+/// The form of a table: comma-separated values, JSON, or a table of LaTeX.
+#[derive(Clone, Copy)]
+pub enum Format {
+    Csv,
+    Json,
+    Latex,
 }
 
 /// Of which units a run writes the rows (1.3.1): the card punch 17, the printer 18, the typewriter 19, the paper tape 20.
@@ -97,6 +106,7 @@ fn run_plan(alloc: Global, words: &ArgMatches<'_>) -> Result<Plan, AllocError>
         trace: is_set(words, "trace"),
         strict: is_set(words, "strict"),
         keep: optional(alloc, words, "keep")?,
+        counts: counts(words),
     })
 }
 

@@ -1,4 +1,5 @@
 mod CheckLemmas
+mod CountedLemmas
 mod CutLemmas
 mod DebugLemmas
 mod HearingLemmas

@@ -2,6 +2,7 @@ pub mod Asked
 pub mod Bundle
 pub mod Check
 pub mod Debug
+pub mod Counted
 pub mod Fault
 pub mod Hearing
 pub mod Keep
@@ -18,5 +19,6 @@ pub mod Reload
 pub mod Saves
 pub mod Sources
 pub mod Stretch
+pub mod Table
 pub mod Talk
 pub mod UnitsRead

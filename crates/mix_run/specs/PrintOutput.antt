@@ -1,5 +1,5 @@
 -- What `run` writes, answers and keeps: a function of the source or bundle, the deck, the cards, the lines for the typewriter, and what is asked for.
-use Rattle.std.specs.Prelude.{◌≡◌, ℕ, Bool, Option, option_and_then, List, [], Result, Ok, Err, length, nat_lt, if◌then◌else◌}
+use Rattle.std.specs.Prelude.{◌≡◌, ℕ, Bool, Option, None, Some, option_and_then, List, [], Result, Ok, Err, length, nat_lt, if◌then◌else◌}
 use Rattle.std.specs.Io.KnownBytes.{Appends, Keeps}
 use Rattle.mixal_asm.specs.Assembly.{assembly}
 use Rattle.mixal_asm.specs.Program.{ProgramValue}
@@ -13,6 +13,7 @@ use Rattle.mix_run.specs.declared.fault.ToolFault.TheVariants as faults
 use Rattle.mix_stream.specs.Stream.{AppendsFront}
 use Rattle.mix_run.specs.Bundle.{Cut, cut_of}
 use Rattle.mix_run.specs.Output.{max_bundle_bytes}
+use Rattle.mix_run.specs.Counted.{counted_run}
 use Rattle.mix_run.specs.Keep.{kept_if}
 use Rattle.mix_run.specs.Print.{Run, counted, line_at, run_of}
 use Rattle.mix_run.specs.UnitsRead.{deck_given}
@@ -20,6 +21,8 @@ use Rattle.mix_run.specs.declared.print.PrintAnswer.{PrintAnswer}
 use Rattle.mix_run.specs.declared.print.PrintAnswer.TheVariants.{Ran, Refused}
 use Rattle.mix_run.specs.declared.print.loaded.RanTo.{RanTo}
 use Rattle.mix_run.specs.declared.print.options.PrintOptions.{PrintOptions}
+use Rattle.mix_run.specs.declared.table.TableFormat.{TableFormat}
+use Rattle.mix_session.specs.Session.{opened}
 
 -- how `run` ends: with these bytes, this answer and this deck, or, with no byte written, for its deck or a text of a unit
 pub data PrintOutcome : Type 0 where
@@ -54,11 +57,25 @@ ran_to program run = record {
   conflict_line = option_and_then (λ c. line_at program c.loc) (counted run.met).first;
 }
 
+-- what is answered of a run
+abbrev pub answered : PrintOptions → ProgramValue → Run → PrintOutcome
+answered options program run = Answered run.bytes (Ran (ran_to program run)) (kept_if options.keep run.world)
+
 -- a program run on the machine that it is loaded into, with its units
+unfoldable pub printed_outcome : PrintOptions → ProgramValue → UnitsState → PrintOutcome
+printed_outcome options program units = answered options program (run_of options (loaded program.words program.start units))
+
+-- the same in a session, with its steps counted
+unfoldable pub counted_outcome : TableFormat → PrintOptions → ProgramValue → UnitsState → PrintOutcome
+counted_outcome format options program units = answered options program (counted_run format options.steps (opened program units))
+
+abbrev pub outcome_by : Option TableFormat → PrintOptions → ProgramValue → UnitsState → PrintOutcome
+outcome_by None options program units = printed_outcome options program units
+outcome_by (Some format) options program units = counted_outcome format options program units
+
+-- which of them is asked for
 unfoldable pub outcome_of_run : PrintOptions → ProgramValue → UnitsState → PrintOutcome
-outcome_of_run options program units =
-    let run = run_of options (loaded program.words program.start units) in
-    Answered run.bytes (Ran (ran_to program run)) (kept_if options.keep run.world)
+outcome_of_run options program units = outcome_by options.counts options program units
 
 -- an assembled source, with its units
 unfoldable pub print_outcome : PrintOptions → Result ProgramValue AsmFault → Result UnitsState DeckFault → PrintOutcome

@@ -14,6 +14,7 @@ mod print;
 mod reason;
 mod run;
 mod statuses;
+mod table;
 mod talk;
 mod units;
 
@@ -32,4 +33,5 @@ pub use print::{ConflictAt, Conflicts, PrintAnswer, PrintTexts, RanTo, RunEnd, r
 pub use reason::Reason;
 pub use run::run_debug;
 pub use statuses::{DONE, NOT_DONE, SOURCE_REFUSED};
+pub use table::TableFormat;
 pub use talk::{Streams, Talker, run_talk};

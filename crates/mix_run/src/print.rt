@@ -13,6 +13,7 @@ ghost use Rattle.mix_run.specs.Print.{counted, line_at, run_of};
 ghost use Rattle.mix_run.specs.UnitsRead.{deck_given};
 ghost use Rattle.mix_run.specs.PrintOutput.{Prints, kept_of, outcome_of_run, parts_of, print_outcome, print_output, units_asked, with_cards};
 
+mod counts;
 mod loaded;
 pub(crate) mod options;
 mod plain;
@@ -26,11 +27,13 @@ mod watch;
 use crate::beside::tell_report;
 use crate::bundle::{MAX_BUNDLE_BYTES, parts_of};
 use crate::fault::ToolFault;
+use crate::print::counts::count_loaded;
 use crate::print::loaded::print_loaded;
 use crate::print::options::PrintOptions;
 use crate::print::texts::units_with_texts;
 use crate::statuses::tell_refusal;
 pub use loaded::RanTo;
+use mix_machine::Units;
 use mix_refused::Refused;
 use mix_stream::{In, Out, read_up_to};
 use mixal_asm::{AsmFault, Program, assemble};
@@ -46,10 +49,33 @@ pub enum PrintAnswer {
     Refused(AsmFault),
 }
 
+// The run of a program with its units, as it is asked for.
+#[tactic(auto, unfolding(crate::specs::PrintOutput::outcome_of_run))]
+fn run_loaded<W: Out>(
+    alloc: Global,
+    program: Program,
+    units: Units,
+    options: PrintOptions,
+    kept: &mut Vec<u8>,
+    out: &mut W,
+) -> Result<PrintAnswer, ToolFault>
+    requires { W.failed out.old < 2 ^ 64 - 1 }
+    ensures output { Prints (outcome_of_run options program units) result (W.told out.old) (W.told out.new) }
+    ensures kept { OnOk result (kept.new.items ≡ kept.old.items ++ kept_of (outcome_of_run options program units)) }
+    ensures write { CountsFailure (result ≡ Err ToolFault.Write) (W.failed out.old) (W.failed out.new) }
+    ensures only { IfErr result IsMemoryOrWrite }
+    ensures ran { (f : AsmFault) → result ≢ Ok (PrintAnswer.Refused f) }
+{
+    match options.counts {
+        None => print_loaded(alloc, &program, units, options, kept, out),
+        Some(format) => count_loaded(alloc, program, units, format, options, kept, out),
+    }
+}
+
 // The units of an assembled source, and then its run; the deck of its bundle is a text.
 fn print_program<S, D: In, C: In, T: In, W: Out>(
     alloc: Global,
-    program: &Program,
+    program: Program,
     own: &[u8],
     texts: &mut PrintTexts<S, D, C, T>,
     options: PrintOptions,
@@ -61,9 +87,9 @@ fn print_program<S, D: In, C: In, T: In, W: Out>(
     requires typewriter_count { T.failed texts.old.typewriter < 2 ^ 64 - 1 }
     requires out_count { W.failed out.old < 2 ^ 64 - 1 }
     ensures output { (d c t : List ℕ) → D.rest texts.old.deck ≡ Some d → C.rest texts.old.cards ≡ Some c → T.rest texts.old.typewriter ≡ Some t
-        → Prints (print_outcome options (Ok program.now) (units_asked options (deck_given options.deck own.now d) c t)) result (W.told out.old) (W.told out.new) }
+        → Prints (print_outcome options (Ok program) (units_asked options (deck_given options.deck own.now d) c t)) result (W.told out.old) (W.told out.new) }
     ensures kept { (d c t : List ℕ) → D.rest texts.old.deck ≡ Some d → C.rest texts.old.cards ≡ Some c → T.rest texts.old.typewriter ≡ Some t
-        → OnOk result (kept.new.items ≡ kept.old.items ++ kept_of (print_outcome options (Ok program.now) (units_asked options (deck_given options.deck own.now d) c t))) }
+        → OnOk result (kept.new.items ≡ kept.old.items ++ kept_of (print_outcome options (Ok program) (units_asked options (deck_given options.deck own.now d) c t))) }
     ensures source { texts.new.source ≡ texts.old.source }
     ensures read { CountsFailure (result ≡ Err ToolFault.Read) (D.failed texts.old.deck + C.failed texts.old.cards + T.failed texts.old.typewriter)
         (D.failed texts.new.deck + C.failed texts.new.cards + T.failed texts.new.typewriter) }
@@ -94,7 +120,7 @@ fn print_program<S, D: In, C: In, T: In, W: Out>(
 {
     let (deck, cards, typewriter) = (&mut texts.deck, &mut texts.cards, &mut texts.typewriter);
     let units = units_with_texts(alloc, own, deck, cards, typewriter, options)?;
-    print_loaded(alloc, program, units, options, kept, out)
+    run_loaded(alloc, program, units, options, kept, out)
 }
 
 /// Assembles a source, or that of a bundle, and takes the deck of the bundle, or reads one if `options.deck` is true, which then is in the place of
@@ -102,7 +128,9 @@ fn print_program<S, D: In, C: In, T: In, W: Out>(
 /// `options.typewriter` is true a text of lines, which replace those that it gives to unit 19. Then it runs the loaded machine (1.3.1, 1.3.2) up to a halt, a fault, or `options.steps` steps, and, if `options.strict` is true, up to before the first step that conflicts with a transfer under way; it writes what it prints: each row of the
 /// units in `options.units` as soon as its step is done, without the blanks at its end and with a line feed, a page mark as a form feed alone. If
 /// `options.trace` is true, the line of each step is written before what it prints, as the command `trace` has it. If `options.keep` is true, the deck
-/// of what the units hold at the end is appended to `kept`. It keeps nothing of the steps, so it takes no more memory for many steps than for few. Where the source is refused, its first fault is the answer, nothing is
+/// of what the units hold at the end is appended to `kept`. It keeps nothing of the steps, so it takes no more memory for many steps than for few.
+/// But if `options.counts` has a form, the run is one of a session, which keeps its history, does at most 4,294,967,295 steps and looks for no conflict:
+/// then a table of how often each instruction was executed is written at its end, instead of what it prints and its trace. Where the source is refused, its first fault is the answer, nothing is
 /// written, and on the error output all are told, with their lines and marks. A script of the bundle is not executed. At most 41,943,041 bytes of the
 /// source or bundle are read, and 33,554,433 of each other text, all of them before the first byte is written; the deck is read after the
 /// source, the cards after the deck, and the lines for the typewriter after the cards. After a refusal or a read that failed nothing else is read.
@@ -191,7 +219,7 @@ pub fn run_printed<S: In, D: In, C: In, T: In, W: Out, E: Out>(
         }
         Ok(program) => {
             tell_report(alloc, name, parts.source, errors);
-            print_program(alloc, &program, parts.deck, texts, options, kept, out)
+            print_program(alloc, program, parts.deck, texts, options, kept, out)
         }
     }
 }

@@ -3,6 +3,8 @@ use Rattle.std.specs.Prelude.{◌≡◌, ◌≤◌, ℕ, Bool, true, false, not,
 use Rattle.std.specs.Option.{option_map_or}
 use Rattle.mixal_asm.specs.Assembly.{assembly}
 use Rattle.mix_machine.specs.units.deck.Deck.{deck_of}
+use Rattle.mix_cli.specs.declared.words.Format.{Format}
+use Rattle.mix_cli.specs.declared.words.Format.TheVariants as format
 use Rattle.mix_cli.specs.declared.words.Plan.{Plan}
 use Rattle.mix_cli.specs.declared.words.Plan.TheVariants as plan
 use Rattle.mix_cli.specs.declared.words.Printing.{Printing}
@@ -12,6 +14,8 @@ use Rattle.mix_run.specs.Output.{bundle_output, list_output}
 use Rattle.mix_run.specs.PrintOutput.{print_output}
 use Rattle.mix_run.specs.declared.print.options.PrintOptions.{PrintOptions}
 use Rattle.mix_run.specs.declared.print.options.UnitSet.{UnitSet}
+use Rattle.mix_run.specs.declared.table.TableFormat.{TableFormat}
+use Rattle.mix_run.specs.declared.table.TableFormat.TheVariants as table
 use Rattle.mix_run.specs.declared.talk.Streams.{Streams}
 use Rattle.mix_run.specs.declared.talk.aside.Talker.{Talker}
 use Rattle.mix_tool.specs.Ending.{PrintRuns, Runs, Seen, TalkRuns, Tells, not_opened}
@@ -33,7 +37,7 @@ names_of (plan.List source) = record { source = Some (string_bytes source); deck
 names_of (plan.Check sources json) = record { source = None; deck = None; cards = None; typewriter = None; script = None }
 names_of (plan.Debug source script devices echo) =
     record { source = Some (string_bytes source); deck = option_map string_bytes devices; cards = None; typewriter = None; script = option_map string_bytes script }
-names_of (plan.Run source cards typewriter devices steps printing trace strict keep) =
+names_of (plan.Run source cards typewriter devices steps printing trace strict keep counts) =
     record {
       source = Some (string_bytes source);
       deck = option_map string_bytes devices;
@@ -53,7 +57,7 @@ sources_of plan.Bundle = []
 sources_of (plan.List source) = []
 sources_of (plan.Check sources json) = map string_bytes sources.items
 sources_of (plan.Debug source script devices echo) = []
-sources_of (plan.Run source cards typewriter devices steps printing trace strict keep) = []
+sources_of (plan.Run source cards typewriter devices steps printing trace strict keep counts) = []
 sources_of plan.Dap = []
 
 -- all files of a plan, in the order in which they are opened
@@ -115,8 +119,14 @@ abbrev pub units_of : Printing → UnitSet
 units_of printing =
     record { card_punch = printing.punch; printer = printing.printer; typewriter = printing.typewriter; paper_tape = printing.tape }
 
-abbrev pub options_of : {Name : Type 0} → Option Name → Option Name → Option Name → ℕ → Printing → Bool → Bool → Option Name → PrintOptions
-options_of devices cards typewriter steps printing trace strict keep =
+-- the form of a table
+abbrev pub format_of : Format → TableFormat
+format_of format.Csv = table.Csv
+format_of format.Json = table.Json
+format_of format.Latex = table.Latex
+
+abbrev pub options_of : {Name : Type 0} → Option Name → Option Name → Option Name → ℕ → Printing → Bool → Bool → Option Name → Option Format → PrintOptions
+options_of devices cards typewriter steps printing trace strict keep counts =
     record {
       steps = steps;
       units = units_of printing;
@@ -126,6 +136,7 @@ options_of devices cards typewriter steps printing trace strict keep =
       trace = trace;
       strict = strict;
       keep = is_some keep;
+      counts = option_map format_of counts;
     }
 
 -- what is seen of some streams
@@ -159,8 +170,8 @@ RunsOn all (plan.Check sources json) given talker status before after =
 RunsOn all (plan.Debug source script devices echo) given talker status before after =
     DebugsOn all (string_bytes source) (names_of_session (string_bytes source) (option_map string_bytes devices) (option_map string_bytes script))
     (is_some devices) echo script given talker status before after
-RunsOn all (plan.Run source cards typewriter devices steps printing trace strict keep) given talker status before after =
-    PrintRuns (print_output (options_of devices cards typewriter steps printing trace strict keep) given.source given.deck given.cards given.typewriter)
+RunsOn all (plan.Run source cards typewriter devices steps printing trace strict keep counts) given talker status before after =
+    PrintRuns (print_output (options_of devices cards typewriter steps printing trace strict keep counts) given.source given.deck given.cards given.typewriter)
     (option_map string_bytes keep) status before after
 RunsOn all plan.Dap given talker status before after = status ≤ 2
 
@@ -182,7 +193,7 @@ reads_input plan.Bundle = true
 reads_input (plan.List source) = false
 reads_input (plan.Check sources json) = false
 reads_input (plan.Debug source script devices echo) = is_talk script
-reads_input (plan.Run source cards typewriter devices steps printing trace strict keep) = false
+reads_input (plan.Run source cards typewriter devices steps printing trace strict keep counts) = false
 reads_input plan.Dap = false
 
 -- whether a plan hears a client: the debug adapter does
@@ -191,7 +202,7 @@ hears_client plan.Bundle = false
 hears_client (plan.List source) = false
 hears_client (plan.Check sources json) = false
 hears_client (plan.Debug source script devices echo) = false
-hears_client (plan.Run source cards typewriter devices steps printing trace strict keep) = false
+hears_client (plan.Run source cards typewriter devices steps printing trace strict keep counts) = false
 hears_client plan.Dap = true
 
 -- whether nothing is told on the error output but a fault of the tool: of a talk and of a run other things are
@@ -200,7 +211,7 @@ is_quiet plan.Bundle = true
 is_quiet (plan.List source) = true
 is_quiet (plan.Check sources json) = true
 is_quiet (plan.Debug source script devices echo) = not (is_talk script)
-is_quiet (plan.Run source cards typewriter devices steps printing trace strict keep) = false
+is_quiet (plan.Run source cards typewriter devices steps printing trace strict keep counts) = false
 is_quiet plan.Dap = true
 
 -- what a run is told to keep what its units hold in: a file or nothing; no other plan is a run
@@ -209,5 +220,5 @@ keep_of plan.Bundle = None
 keep_of (plan.List source) = None
 keep_of (plan.Check sources json) = None
 keep_of (plan.Debug source script devices echo) = None
-keep_of (plan.Run source cards typewriter devices steps printing trace strict keep) = Some (option_map string_bytes keep)
+keep_of (plan.Run source cards typewriter devices steps printing trace strict keep counts) = Some (option_map string_bytes keep)
 keep_of plan.Dap = None

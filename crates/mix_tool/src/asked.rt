@@ -1,11 +1,11 @@
 //! What a plan asks for: the names of its files, and what is asked of its run.
 
-ghost use Rattle.std.specs.Prelude.{◌≡◌};
-ghost use Rattle.mix_tool.specs.Plan.{names_in, names_of, options_of};
+ghost use Rattle.std.specs.Prelude.{◌≡◌, option_map};
+ghost use Rattle.mix_tool.specs.Plan.{format_of, names_in, names_of, options_of};
 
 use crate::texts::Names;
-use mix_cli::{Plan, Printing};
-use mix_run::{PrintOptions, UnitSet};
+use mix_cli::{Format, Plan, Printing};
+use mix_run::{PrintOptions, TableFormat, UnitSet};
 
 /// The names of the files of a plan.
 pub(crate) fn names_in(plan: &Plan) -> Names<'_>
@@ -54,6 +54,27 @@ pub(crate) fn names_in(plan: &Plan) -> Names<'_>
     }
 }
 
+// The form of a table.
+fn format_of(format: Format) -> TableFormat
+    ensures { result ≡ format_of format }
+{
+    match format {
+        Format::Csv => TableFormat::Csv,
+        Format::Json => TableFormat::Json,
+        Format::Latex => TableFormat::Latex,
+    }
+}
+
+// The form of the table of a run, if it is counted.
+fn counts_of(counts: Option<Format>) -> Option<TableFormat>
+    ensures { result ≡ option_map format_of counts }
+{
+    match counts {
+        Some(format) => Some(format_of(format)),
+        None => None,
+    }
+}
+
 /// What is asked of a run.
 pub(crate) fn options_of(
     devices: &Option<String>,
@@ -64,8 +85,9 @@ pub(crate) fn options_of(
     trace: bool,
     strict: bool,
     keep: &Option<String>,
+    counts: Option<Format>,
 ) -> PrintOptions
-    ensures { result ≡ options_of devices.now cards.now typewriter.now steps printing trace strict keep.now }
+    ensures { result ≡ options_of devices.now cards.now typewriter.now steps printing trace strict keep.now counts }
 {
     PrintOptions {
         steps,
@@ -81,5 +103,6 @@ pub(crate) fn options_of(
         trace,
         strict,
         keep: keep.is_some(),
+        counts: counts_of(counts),
     }
 }

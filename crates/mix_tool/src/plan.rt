@@ -82,10 +82,11 @@ fn run_on<O: Opener + Library, C: In, R: In, W: Out, E: Out>(
             trace,
             strict,
             keep,
+            counts,
         } => {
             let (steps, trace, strict) = (*steps, *trace, *strict);
             let options = options_of(
-                devices, cards, typewriter, steps, *printing, trace, strict, keep,
+                devices, cards, typewriter, steps, *printing, trace, strict, keep, *counts,
             );
             let mut texts = texts.of_run();
             let (out, errors) = (&mut streams.out, &mut streams.errors);

@@ -84,6 +84,7 @@ fn plan_of(alloc: Global, line: &str) -> Option<Plan> {
             trace: words.next() == Some("trace"),
             strict: false,
             keep: named(alloc, words.next().unwrap_or("-"))?,
+            counts: None,
         }),
         _ => None,
     }

@@ -60,6 +60,7 @@ fn printed_by(alloc: Global, fields: &[&str], size: usize) -> Option<String> {
         trace,
         strict,
         keep,
+        counts: None,
     };
     let mut out = Sink::of(size, 0);
     let mut texts = PrintTexts {

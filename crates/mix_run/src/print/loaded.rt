@@ -6,7 +6,7 @@ ghost use Rattle.mix_stream.specs.Stream.{AppendsFront, CountsFailure};
 ghost use Rattle.mix_run.specs.Fault.{IsMemoryOrWrite};
 ghost use Rattle.mix_run.specs.Keep.{kept_if};
 ghost use Rattle.mix_run.specs.Print.{counted, line_at, run_of};
-ghost use Rattle.mix_run.specs.PrintOutput.{Prints, kept_of, outcome_of_run};
+ghost use Rattle.mix_run.specs.PrintOutput.{Prints, kept_of, printed_outcome};
 
 use crate::fault::ToolFault;
 use crate::keep::keep_units;
@@ -33,7 +33,7 @@ pub struct RanTo {
 }
 
 // The line of the source that put the last word into the cell at a location.
-fn line_at(program: &Program, loc: u16) -> Option<u32>
+pub(super) fn line_at(program: &Program, loc: u16) -> Option<u32>
     ensures { result ≡ line_at program.now loc }
 {
     let place = Place::of(loc)?;
@@ -75,7 +75,7 @@ fn print_and_keep<W: Out>(
 }
 
 /// A program, run on the machine that it is loaded into.
-#[tactic(auto, unfolding(crate::specs::PrintOutput::outcome_of_run))]
+#[tactic(auto, unfolding(crate::specs::PrintOutput::printed_outcome))]
 pub(super) fn print_loaded<W: Out>(
     alloc: Global,
     program: &Program,
@@ -85,8 +85,8 @@ pub(super) fn print_loaded<W: Out>(
     out: &mut W,
 ) -> Result<PrintAnswer, ToolFault>
     requires { W.failed out.old < 2 ^ 64 - 1 }
-    ensures output { Prints (outcome_of_run options program.now units) result (W.told out.old) (W.told out.new) }
-    ensures kept { OnOk result (kept.new.items ≡ kept.old.items ++ kept_of (outcome_of_run options program.now units)) }
+    ensures output { Prints (printed_outcome options program.now units) result (W.told out.old) (W.told out.new) }
+    ensures kept { OnOk result (kept.new.items ≡ kept.old.items ++ kept_of (printed_outcome options program.now units)) }
     ensures write { CountsFailure (result ≡ Err ToolFault.Write) (W.failed out.old) (W.failed out.new) }
     ensures only { IfErr result IsMemoryOrWrite }
     ensures ran { (f : AsmFault) → result ≢ Ok (PrintAnswer.Refused f) }

@@ -1,6 +1,8 @@
 //! What is asked of a run: how many steps, the rows of which units, whether a deck, cards and lines for the typewriter are given, whether its steps
-//! are traced, whether it ends before a conflict, and whether what the units hold at the end is kept.
+//! are traced, whether it ends before a conflict, whether what the units hold at the end is kept, and whether its steps are counted.
 ghost use Rattle.std.specs.Prelude.{◌≡◌, true, false};
+
+use crate::table::TableFormat;
 
 /// The units whose rows are printed (1.3.1): of the card punch, unit 17, the printer, 18, the typewriter, 19, and the paper tape, 20, those that
 /// are true.
@@ -49,4 +51,7 @@ pub struct PrintOptions {
     pub strict: bool,
     /// Whether the deck of what the units hold at the end is given.
     pub keep: bool,
+    /// The form of the table of how often each instruction was executed, which is written instead of the rows and the trace. Such a run keeps
+    /// its history, so many steps take much memory; it does at most 4,294,967,295 steps, and is never strict.
+    pub counts: Option<TableFormat>,
 }

@@ -1,0 +1,114 @@
+//! A field of a table, and what is written of it.
+ghost use Rattle.std.specs.Prelude.{◌≡◌, ◌++◌, OnOk};
+ghost use Rattle.std.specs.Fmt.{decimal};
+ghost use Rattle.mix_run.specs.Table.{FieldValue, field_text, missing_text, name_text};
+ghost use Rattle.mix_run.specs.Table.FieldValue.{Missing};
+
+use crate::table::TableFormat;
+use crate::table::text::add_text;
+use mix_refused::Memory;
+use std::alloc::Global;
+use std::marker::Model;
+
+// What a field is.
+#[derive(Drop)]
+enum Kind<'a> {
+    Number(u128),
+    Text(&'a [u8]),
+    Missing,
+}
+
+/// A field of a table: a number, a text, or nothing.
+#[derive(Drop)]
+pub(crate) struct Field<'a> {
+    kind: Kind<'a>,
+}
+
+impl<'a> Model for Field<'a> {
+    ghost use Rattle.mix_run.specs.Table.{FieldValue, value_of};
+
+    ghost Value = { FieldValue };
+
+    ghost view = { λ f. value_of f.kind };
+}
+
+impl<'a> Field<'a> {
+    pub(crate) const fn number(number: u128) -> Field<'a>
+        ensures { result ≡ FieldValue.Number number }
+    {
+        Field {
+            kind: Kind::Number(number),
+        }
+    }
+
+    pub(crate) const fn text(text: &'a [u8]) -> Field<'a>
+        ensures { result ≡ FieldValue.Text text.entry.now }
+    {
+        Field {
+            kind: Kind::Text(text),
+        }
+    }
+
+    pub(crate) const fn missing() -> Field<'a>
+        ensures { result ≡ FieldValue.Missing }
+    {
+        Field {
+            kind: Kind::Missing,
+        }
+    }
+}
+
+/// Appends the name of a column before its field, in JSON.
+pub(super) fn add_name(
+    alloc: Global,
+    text: &mut Vec<u8>,
+    format: TableFormat,
+    name: &Field<'_>,
+) -> Result<(), Memory>
+    ensures { OnOk result (text.new.items ≡ text.old.items ++ name_text format name.now) }
+{
+    match format {
+        TableFormat::Csv | TableFormat::Latex => Ok(()),
+        TableFormat::Json => {
+            add_field(alloc, text, format, name)?;
+            text.extend_from_slice(b":")?;
+            Ok(())
+        }
+    }
+}
+
+/// Appends a field.
+pub(super) fn add_field(
+    alloc: Global,
+    text: &mut Vec<u8>,
+    format: TableFormat,
+    field: &Field<'_>,
+) -> Result<(), Memory>
+    ensures { OnOk result (text.new.items ≡ text.old.items ++ field_text format field.now) }
+{
+    match &field.kind {
+        Kind::Number(number) => add_number(alloc, text, *number),
+        Kind::Text(bytes) => add_text(text, format, bytes),
+        Kind::Missing => {
+            text.extend_from_slice(missing(format))?;
+            Ok(())
+        }
+    }
+}
+
+fn missing(format: TableFormat) -> &'static [u8]
+    ensures { result.now ≡ missing_text format }
+{
+    match format {
+        TableFormat::Csv | TableFormat::Latex => b"",
+        TableFormat::Json => b"null",
+    }
+}
+
+fn add_number(alloc: Global, text: &mut Vec<u8>, number: u128) -> Result<(), Memory>
+    ensures { OnOk result (text.new.items ≡ text.old.items ++ decimal number) }
+{
+    let digits = format!(in alloc; "{number}")?;
+    text.extend_from_slice(digits.as_bytes())?;
+    Ok(())
+}
