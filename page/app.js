@@ -3,6 +3,7 @@
 import { cardsApart, isBundle, keptIn, partsOf, scriptOf } from "./bundle.js";
 import { Desk } from "./desk.js";
 import { $, counted, fourDigits, on } from "./dom.js";
+import { conflictOf } from "./sentence.js";
 import { commandsOf } from "./session.js";
 import { Talk } from "./talk.js";
 import { Time } from "./time.js";
@@ -55,8 +56,11 @@ export class App extends Desk {
     this.show(view, answer, before);
   }
 
-  act(command, before) {
-    return this.did(this.session.act([command]), before);
+  // Does a command; `conflict` is the text of the conflict at which it ends, if there is one.
+  async act(command, before, conflict) {
+    const found = await this.session.act([command]);
+    if (conflict) found.view.conflict = conflictOf(conflict);
+    this.did(found, before);
   }
 
   // Does a command, after all that was asked for before.
@@ -102,7 +106,8 @@ export class App extends Desk {
         this.tell(`The program has halted. ${button} once more goes on after the HLT, at location ${fourDigits(view.state.location)}.`);
         return;
       }
-      for await (const command of commandsOf(name, session, listing.breakCells)) await this.act(command, view);
+      const points = { cells: listing.breakCells, filters: $("conflicts").checked ? ["conflict"] : [] };
+      for await (const [command, conflict] of commandsOf(name, session, points)) await this.act(command, view, conflict);
     });
   }
 

@@ -89,7 +89,9 @@ export class Bars {
     const bars = this.bars(view, cells, f);
     const arrows = this.arrows(view.state, cells[0], cells[cells.length - 1]);
     const title = `Cells ${this.range.ends.join(" to ")} by ${this.by}${isByField ? ` (${field[0].trim()})` : ""}`;
-    $("bars").replaceChildren(barsOf({ title: `${title}, after ${counted(view.state.done, "change")}`, text: textOf(bars, arrows), bars, arrows }));
+    const conflict = view.conflict && cells.includes(view.conflict.cell) ? view.conflict : null;
+    const text = textOf(bars, arrows) + (conflict ? ` Conflict at ${conflict.cell}: ${conflict.use}.` : "");
+    $("bars").replaceChildren(barsOf({ title: `${title}, after ${counted(view.state.done, "change")}`, text, bars, arrows, conflict }));
     this.strip.show({ cells, valueOf: (word) => Number(fieldOf(word, f)), title });
     const all = this.range.cells.length;
     note("bars-more", all > cells.length ? `These are the first ${MAX_BARS} of ${counted(all, "cell")}.` : "");

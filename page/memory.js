@@ -14,13 +14,14 @@ function wordRow(name, label, asked) {
   return make("tr", { click: asked }, head, ...["word", "number", "chars", "was"].map((kind) => make("td", { class: kind })));
 }
 
-// Shows the word of a part in such a row, with what it was if it was altered.
-function showWord(row, part, { word, number, characters }, { altered, before }, more = "") {
+// Shows the word of a part in such a row, with what it was if it was altered, and perhaps its use by a unit.
+function showWord(row, part, { word, number, characters }, { altered, before }, more = [], use = "") {
   const isAltered = altered.has(part);
-  const was = isAltered && before.has(part) ? `was ${numberOf(before.get(part))}` : "";
-  [word, number, `“${characters}”`, was].forEach((text, index) => put(row.children[index + 1], text));
+  const was = isAltered && before.has(part) && `was ${numberOf(before.get(part))}`;
+  const listed = (texts) => texts.filter(Boolean).join(", ");
+  [word, number, `“${characters}”`, listed([was, use])].forEach((text, index) => put(row.children[index + 1], text));
   row.classList.toggle("altered", isAltered);
-  put(row.querySelector(".unseen"), [isAltered && "altered", more].filter(Boolean).join(", "));
+  put(row.querySelector(".unseen"), listed([isAltered && "altered", ...more]));
 }
 
 // Flags, location and clock: of each its name, the part that may be asked for, and what it holds.
@@ -91,7 +92,8 @@ export class Memory {
   show(view) {
     const { row, m } = instructionAt(view);
     const used = row && row.uses === "cell" && m >= 0 && m < CELLS ? m : null;
-    if (used !== null) this.middle = used;
+    const { cell: met, use } = view.conflict || {};
+    if (met !== undefined || used !== null) this.middle = met ?? used;
     else if (this.middle < 0) this.middle = Math.min(view.state.location, CELLS - 1);
     const ranges = { filled: view.state.cells.map(({ cell }) => cell), near: upTo(Math.max(0, this.middle - 8), this.middle + 16), range: this.range.cells };
     const all = ranges[this.which];
@@ -100,14 +102,16 @@ export class Memory {
     if (!shown.includes(this.current)) this.current = shown.includes(this.middle) ? this.middle : shown[0];
     const fresh = (cell) => wordRow(`cell ${cell}`, fourDigits(cell), () => this.app.ask(`cell ${cell}`, `cell ${cell}`));
     keepRows($("cell-rows"), shown, (cell) => cell, fresh, (element, cell) => {
-      showWord(element, `cell ${cell}`, view.wordIn(cell), view, cell === used && "M");
+      const isMet = cell === met;
+      showWord(element, `cell ${cell}`, view.wordIn(cell), view, [cell === used && "M", isMet && "conflict"], isMet && use);
       element.classList.toggle("here", cell === used);
+      element.classList.toggle("conflict", isMet);
       mark(element, "data-cell", cell);
       mark(element.querySelector("button"), "tabindex", cell === this.current ? "0" : "-1");
     });
     const more = all.length - shown.length;
     note("cells-more", more > 0 ? `${more} more are not shown: choose a range.` : all.length === 0 ? "All cells are zero." : "");
-    this.reveal(shown.find((cell) => view.altered.has(`cell ${cell}`)) ?? used);
+    this.reveal(met ?? shown.find((cell) => view.altered.has(`cell ${cell}`)) ?? used);
   }
 
   // Arrow keys walk from cell to cell.

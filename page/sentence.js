@@ -104,6 +104,12 @@ const MEANINGS = {
 // The fault that a command has met: the adapter gives it with the reply alone.
 const faultOf = (answer) => answer.body.result.trimEnd().split("\n").pop().split(": fault ")[1];
 
+// A conflict by its text, as `cell 2001 is altered while unit 18 prints it until 726`: the text, the cell, and which unit uses it until when.
+export function conflictOf(text) {
+  const words = text.split(" ");
+  return { text, cell: Number(words[1]), use: `unit ${words[6]} until ${words[words.length - 1]}` };
+}
+
 // What is told of a moment: `did`, `next`, whether it is of a fault, and `last`, what the last change did. `answer` is that to the command which led to
 // it from the view `before`; without one the moment is only looked at.
 export function toldOf({ answer, before, view, listing }) {
@@ -121,9 +127,10 @@ export function toldOf({ answer, before, view, listing }) {
   }
   if (refusal) return { last, did: `Refused: ${refusal}${MEANINGS[refusal] || ""}.`, next, isFault: true };
   const rows = printed(before, view);
-  if (state.halted) return { last, did: haltedAt(state, was) + rows, next: "Step or Run, pressed twice, goes on after the HLT. Back goes back." };
+  const conflict = view.conflict ? `Conflict: ${view.conflict.text}. ` : "";
+  if (state.halted) return { last, did: conflict + haltedAt(state, was) + rows, next: "Step or Run, pressed twice, goes on after the HLT. Back goes back." };
   const begin = listing.breakCells.includes(state.location) ? `Breakpoint at ${at}. ` : "";
-  return { last, did: begin + wayOf(before, was, state, last, rows), next };
+  return { last, did: conflict + begin + wayOf(before, was, state, last, rows), next };
 }
 
 function haltedAt({ done, clock }, was) {

@@ -121,13 +121,16 @@ export class Session {
     return found;
   }
 
-  // Where and why the program stops that runs from here, by `continue` or by `reverseContinue`, with breakpoints at some cells. None of it is kept.
-  async stop(way, cells) {
-    let requests = [["setInstructionBreakpoints", { breakpoints: cells.map((cell) => ({ instructionReference: String(6 * cell) })) }]];
-    for (let at = this.done; ; at = this.at) {
-      const [{ stopped }, { body }] = (await this.ask([...requests, [way, { threadId: 1 }], WHERE], at)).slice(requests.length);
-      this.at = body.done;
-      if (stopped.reason !== "pause" || way === "continue") return { done: body.done, reason: stopped.reason };
+  // Where and why the program stops that runs from a moment, by `continue` or by `reverseContinue`, with breakpoints at some cells, and filters of
+  // exceptions. None of it is kept. Where a fault is next, `isFault` says so; of a step that conflicts, `conflict` is the text.
+  async stop(way, { cells, filters }, from = this.done) {
+    const breakpoints = cells.map((cell) => ({ instructionReference: String(6 * cell) }));
+    let requests = [["setInstructionBreakpoints", { breakpoints }], ["setExceptionBreakpoints", { filters }]];
+    for (let at = from; ; at = this.at) {
+      const answers = await this.ask([...requests, [way, { threadId: 1 }], ["exceptionInfo", { threadId: 1 }], WHERE], at);
+      const [{ stopped: { reason, text } }, { success: isFault }, { body: { done } }] = answers.slice(requests.length);
+      this.at = done;
+      if (reason !== "pause" || way === "continue") return { done, reason, isFault, conflict: reason === "exception" && !isFault ? text : "" };
       requests = [];
     }
   }
@@ -175,28 +178,31 @@ export class Session {
   }
 }
 
-// The commands that a button asks for, one after another. Breakpoints are the page's, at some cells: the engine says where one is met, and what is kept
-// are the steps.
-export async function* commandsOf(name, session, cells) {
+// The commands that a button asks for, one after another, each perhaps with the text of the conflict at which it ends. The page has breakpoints at some
+// cells, and filters of exceptions, none or `conflict`: the engine says where one is met, and what is kept are the steps.
+export async function* commandsOf(name, session, points) {
   const { done, ahead } = session;
-  if (name === "step") yield ahead > 0 ? "forth 1" : "step 1";
-  if (name === "to-end" && ahead > 0) yield "forth all";
-  if (name === "back" && done > 0) yield "back 1";
-  if (name === "to-start" && done > 0) yield "back all";
+  if (name === "step") yield [ahead > 0 ? "forth 1" : "step 1"];
+  if (name === "to-end" && ahead > 0) yield ["forth all"];
+  if (name === "back" && done > 0) yield ["back 1"];
+  if (name === "to-start" && done > 0) yield ["back all"];
   if (name === "to-break" && done > 0) {
-    const end = await session.stop("reverseContinue", cells);
-    yield end.reason === "entry" ? "back all" : `back ${done - end.done}`;
+    const end = await session.stop("reverseContinue", points);
+    yield [end.reason === "entry" ? "back all" : `back ${done - end.done}`, end.conflict];
   }
-  if (name === "run") yield* runOf(session, cells);
+  if (name === "run") yield* runOf(session, points);
 }
 
-// Run does again what was taken back, up to a breakpoint or to its end. Then it goes on, by one step more where it stops at a fault, which is told then.
-async function* runOf(session, cells) {
+// Run does again what was taken back, up to a breakpoint, to a conflict, or to its end. Then it goes on, by one step more where it stops at a fault,
+// which is told then.
+async function* runOf(session, points) {
+  const { cells, filters } = points;
   if (session.ahead > 0) {
-    const met = await session.next(cells.map((cell) => `loc ${cell}`));
-    yield met ? `forth ${met - session.done}` : "forth all";
+    const met = await session.next([...cells.map((cell) => `loc ${cell}`), ...filters]);
+    const before = met && filters.length > 0 ? await session.stop("reverseContinue", points, met) : {};
+    yield met ? [`forth ${met - session.done}`, before.done === met - 1 && before.conflict] : ["forth all"];
     if (met || session.isHalted) return;
   }
-  const end = cells.length > 0 ? await session.stop("continue", cells) : { done: session.done + STEPS };
-  yield `run ${end.done - session.done + (end.reason === "exception" ? 1 : 0)}`;
+  const end = cells.length + filters.length > 0 ? await session.stop("continue", points) : { done: session.done + STEPS };
+  yield [`run ${end.done - session.done + (end.isFault ? 1 : 0)}`, end.conflict];
 }

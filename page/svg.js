@@ -45,8 +45,8 @@ function boxesOf(numbers, { x = 0, y, wide, high }, shade) {
 }
 
 // The bars: of each its `cell`, `value`, `text`, `isWritten`, and `was`, the value before the last change. `arrows` have a `name` and a `cell`, which
-// may be the one before the first bar or behind the last.
-export function barsOf({ title, text, bars, arrows }) {
+// may be the one before the first bar or behind the last. `conflict` has the `cell` that a unit uses, and its `use`.
+export function barsOf({ title, text, bars, arrows, conflict }) {
   const longest = LETTER * Math.max(...bars.map((bar) => bar.text.length));
   const pitch = Math.min(Math.max(32, longest + 6), Math.max(7, 880 / bars.length));
   const { least, y } = scaled(bars.flatMap(({ value, was }) => [value, was]), TOP, HIGH);
@@ -71,7 +71,14 @@ export function barsOf({ title, text, bars, arrows }) {
   };
   const line = shape("line", { x1: pitch * 0.8, x2: (bars.length + 1.2) * pitch, y1: y(0), y2: y(0), ...lined("axis", "soft") });
   const width = Math.max(160, (bars.length + 2) * pitch);
-  return picture({ id: "bars", title, text, width, height: foot + 30 + 12 * Math.max(0, ...under) }, [...bars.map(bar), line, ...arrows.map(arrow)]);
+  const height = foot + 30 + 12 * Math.max(0, ...under);
+  const shapes = [...bars.map(bar), line, ...arrows.map(arrow)];
+  if (!conflict) return picture({ id: "bars", title, text, width, height }, shapes);
+  const half = (LETTER * conflict.use.length) / 2 + 6;
+  const middle = Math.max(half, Math.min(width - half, x(conflict.cell)));
+  const frame = shape("rect", { x: x(conflict.cell) - pitch / 2, y: 1, width: pitch, height, ...lined("conflict", "mark", { "stroke-width": 2 }) });
+  const use = label(middle, height + 14, conflict.use, "mark", { "font-size": 11, "font-weight": "bold" });
+  return picture({ id: "bars", title, text, width, height: height + 20 }, [...shapes, frame, use]);
 }
 
 // The strip: of each column its `moment` and the `values` of the cells; `done` is the moment that is shown.
