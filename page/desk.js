@@ -2,6 +2,7 @@
 
 import { Bars } from "./bars.js";
 import { withCards } from "./bundle.js";
+import { Compare } from "./compare.js";
 import { $, copied, counted, doAll, onResize, put } from "./dom.js";
 import { showRefusal } from "./faults.js";
 import { Heat } from "./heat.js";
@@ -35,9 +36,9 @@ export class Desk {
     this.memory = new Memory(this);
     this.bars = new Bars(this);
     this.map = new TimeMap(this);
-    this.output = new Output();
+    this.output = new Output("papers");
     this.units = new Units(this);
-    this.parts = [this.memory, this.bars, this.map, this.output, this.units, new Heat(this)];
+    this.parts = [this.memory, this.bars, this.map, this.output, this.units, new Heat(this), new Compare(this)];
     for (const tab of document.querySelectorAll("#tabs button")) tab.addEventListener("click", () => this.choose(tab.dataset.tab));
     this.choose("program");
     // The bar of time stays at the top, and what is scrolled to comes below it.

@@ -45,8 +45,8 @@ export class Broken extends Error {}
 export class Machine {
   // The text of the worker's program, and the bytes of the module.
   constructor(program, module) {
+    Object.assign(this, { program, module });
     this.url = URL.createObjectURL(new Blob([program], { type: "text/javascript" }));
-    this.module = module;
     this.worker = null;
     this.holder = null; // whose session the engine holds
     this.drop = null;
@@ -78,8 +78,13 @@ export class Machine {
   // Ends the call that is under way, if there is one; the next one gets a new worker.
   stop() {
     if (!this.drop) return;
-    this.worker.terminate();
-    this.worker = null;
+    this.end();
     this.drop();
+  }
+
+  // Ends the thread, and with it the session that it holds.
+  end() {
+    if (this.worker) this.worker.terminate();
+    Object.assign(this, { worker: null, holder: null });
   }
 }

@@ -25,7 +25,7 @@ function showWord(row, part, { word, number, characters }, { altered, before }, 
 }
 
 // Flags, location and clock: of each its name, the part that may be asked for, and what it holds.
-const flagsOf = (state) => [
+export const flagsOf = (state) => [
   { name: "overflow", part: "over", text: state.over ? "on" : "off" },
   { name: "comparison", part: "cmp", text: COMPARED[state.cmp] },
   { name: "location", part: "", text: fourDigits(state.location) },

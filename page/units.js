@@ -76,33 +76,28 @@ export class Units {
   }
 }
 
-// The paper of the printer, the typewriter's and the punched rows, beside the program as soon as there is some.
-export class Output {
-  constructor() {
+// The paper of the printer, the typewriter's and the punched rows, in a box whose id is given; `whose` begins their names.
+export class Papers {
+  constructor(id, whose = "") {
+    Object.assign(this, { id, whose });
     this.drawn = new Map(); // of each unit the lines that are shown
   }
 
-  // Another program was opened: its paper begins at its first row.
-  forget() {
-    this.show({ units: [] });
-  }
-
+  // Shows what was written; the units that have written something.
   show({ state, units, altered }) {
     const written = units.filter(({ rows, pages }) => rows && (rows.length > 0 || pages.length > 0));
     for (const unit of this.drawn.keys()) if (!written.some((other) => other.unit === unit)) this.drawn.delete(unit);
-    keepRows($("papers"), written, ({ unit }) => unit, (unit) => this.box(unit), (box, unit) => {
+    keepRows($(this.id), written, ({ unit }) => unit, (unit) => this.box(unit), (box, unit) => {
       this.update(box, unit, altered.has(`unit ${unit.unit}`), BigInt(unit.until) > BigInt(state.clock));
     });
-    const rows = written.reduce((sum, unit) => sum + unit.rows.length, 0);
-    $("output").hidden = written.length === 0;
-    $("no-output").hidden = written.length > 0;
-    put($("tab-rows"), rows > 0 ? ` ${rows.toLocaleString("en")}` : "");
+    return written;
   }
 
   box({ kind, unit }) {
-    const title = make("h3", {}, make("b", {}, capital(kind)), make("span", { class: "about" }));
+    const name = this.whose + kind;
+    const title = make("h3", {}, make("b", {}, capital(name)), make("span", { class: "about" }));
     const look = { printer: " printer", "card punch": " punched" }[kind] || "";
-    const paper = make("div", { class: `paper${look}`, id: `paper-${unit}`, role: "region", tabindex: "0", "aria-label": `${kind}: what was written` });
+    const paper = make("div", { class: `paper${look}`, id: `${this.id.slice(0, -1)}-${unit}`, role: "region", tabindex: "0", "aria-label": `${name}: what was written` });
     return make("div", { class: "unit", "data-unit": unit }, title, paper);
   }
 
@@ -120,6 +115,22 @@ export class Output {
     put(box.querySelector(".about"), ` unit ${unit}, ${counted(rows.length, "row")}${isBusy ? `, busy until ${until} u` : ""}`);
     this.drawn.set(unit, lines);
     if (lines.length > old.length) paper.scrollTop = paper.children[same].offsetTop - paper.offsetTop - paper.clientTop;
+  }
+}
+
+// What the program has written, beside it as soon as there is some.
+export class Output extends Papers {
+  // Another program was opened: its paper begins at its first row.
+  forget() {
+    this.show({ units: [] });
+  }
+
+  show(view) {
+    const written = super.show(view);
+    const rows = written.reduce((sum, unit) => sum + unit.rows.length, 0);
+    $("output").hidden = written.length === 0;
+    $("no-output").hidden = written.length > 0;
+    put($("tab-rows"), rows > 0 ? ` ${rows.toLocaleString("en")}` : "");
   }
 }
 

@@ -18,6 +18,7 @@ import seen
 import tasks
 import timemap
 import tour
+import two
 import uses
 import walks
 from browser import Page
@@ -25,7 +26,7 @@ from firefox import Firefox
 from native import Count, Native
 from webkit import WebKit
 
-USES = (uses.examples, uses.breakpoints, uses.slider, uses.who, uses.faults, uses.cards, uses.share, looks.narrow, looks.keys, looks.names, looks.bounds, *repairs.REPAIRS, *says.SAYS, *guards.GUARDS, *seen.SEEN, *bars.BARS, *conflicts.CONFLICTS, *timemap.MAP, *heat.HEAT, *kept.KEPT, *frame.FRAME, *moment.MOMENT, *tour.TOUR, seen.contrast, tasks.tasks)
+USES = (uses.examples, uses.breakpoints, uses.slider, uses.who, uses.faults, uses.cards, uses.share, looks.narrow, looks.keys, looks.names, looks.bounds, *repairs.REPAIRS, *says.SAYS, *guards.GUARDS, *seen.SEEN, *bars.BARS, *conflicts.CONFLICTS, *timemap.MAP, *heat.HEAT, *kept.KEPT, *frame.FRAME, *moment.MOMENT, *tour.TOUR, *two.TWO, seen.contrast, tasks.tasks)
 IN_CHROMIUM = (looks.names, seen.contrast, *frame.FRAME)  # what asks Chromium itself
 OTHERS = {"--webkit": WebKit, "--firefox": Firefox}
 WALKS = range(1, 13)

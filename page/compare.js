@@ -1,0 +1,110 @@
+// Two runs side by side: the one that is shown, and another one that was kept, after as many changes. The other one has an engine of its own, which does
+// its commands again.
+
+import { $, counted, fourDigits, keepRows, make, note, on, put } from "./dom.js";
+import { Machine } from "./machine.js";
+import { flagsOf } from "./memory.js";
+import { Session } from "./session.js";
+import { Papers } from "./units.js";
+
+const CELLS_COMPARED = 100; // cells that differ
+const MOST_NAMES = 30; // of what differs
+
+const valueIn = ({ number, characters }) => `${number} “${characters}”`;
+
+// What is compared of a moment: names with what they hold.
+const comparedIn = ({ state }) => [...state.registers.map((register) => [`r${register.name}`, valueIn(register)]), ...flagsOf(state).map(({ name, text }) => [name, text])];
+
+export class Compare {
+  constructor(app) {
+    this.app = app;
+    this.machine = new Machine(app.machine.program, app.machine.module);
+    this.session = null; // the other run
+    this.papers = new Papers("other-papers", "the other run’s ");
+    on("compare-open", "click", () => app.enqueue(() => this.keep()));
+    on("compare-close", "click", () => this.close());
+    on("stop", "click", () => this.machine.stop());
+  }
+
+  // Keeps the run that is shown as the other one.
+  keep() {
+    const { texts, log, state } = this.app.session;
+    this.session = Object.assign(new Session(this.machine, texts, () => []), { log: [...log], state });
+    this.shown = null; // the moment that is compared
+    return this.ask();
+  }
+
+  close() {
+    this.session = null;
+    this.machine.end();
+    $("compare").hidden = true;
+    this.papers.show({ units: [] });
+    for (const row of $("papers").querySelectorAll(".differs")) row.classList.remove("differs");
+    showOutput();
+    $("compare-open").focus();
+  }
+
+  // Another program was opened: the other run stays.
+  forget() {}
+
+  show() {
+    if (this.session) this.app.enqueue(() => this.ask(), () => undefined);
+  }
+
+  // Shows both as they are after the changes that are done; the other one after all of its changes if these are fewer.
+  async ask() {
+    const { session, app: { view } } = this;
+    if (!session || this.shown === view) return;
+    this.shown = view;
+    const { view: other } = await session.look(Math.min(view.state.done, session.total));
+    if (session !== this.session) return;
+    const cells = differingCells(view, other);
+    const others = new Map(comparedIn(other));
+    const rows = comparedIn(view).map(([name, here]) => ({ name, here, there: others.get(name) }));
+    rows.push(...cells.slice(0, CELLS_COMPARED).map((cell) => ({ name: `cell ${fourDigits(cell)}`, here: valueIn(view.wordIn(cell)), there: valueIn(other.wordIn(cell)) })));
+    this.papers.show(other);
+    const printed = markRows();
+    showOutput();
+    $("compare").hidden = false;
+    const isBehind = view.state.done > session.total;
+    put($("compare-what"), `The other run has ${counted(session.total, "change")}${isBehind ? ", and is shown after the last of them" : ""}.`);
+    const different = [...rows.filter(({ here, there }) => here !== there).map(({ name }) => name), ...printed];
+    const more = different.length - MOST_NAMES;
+    put($("compare-text"), different.length > 0 ? `Different: ${different.slice(0, MOST_NAMES).join(", ")}${more > 0 ? `, and ${more} more` : ""}.` : "Nothing is different.");
+    keepRows($("compare-rows"), rows, ({ name }) => name, freshRow, ({ children }, { name, here, there }) => {
+      const isSame = here === there;
+      [`${name}${isSame ? "" : " ≠"}`, here, there].forEach((text, index) => put(children[index], text));
+      children[0].parentNode.classList.toggle("differs", !isSame);
+    });
+    note("compare-more", cells.length > CELLS_COMPARED ? `${cells.length - CELLS_COMPARED} more cells are different.` : "");
+  }
+}
+
+// The output is seen if one of both runs has written something.
+function showOutput() {
+  $("output").hidden = $("papers").childElementCount + $("other-papers").childElementCount === 0;
+}
+
+const freshRow = () => make("tr", {}, make("th", { scope: "row" }), make("td"), make("td"));
+
+// The cells that hold something else.
+function differingCells(view, other) {
+  const cells = new Set([...view.state.cells, ...other.state.cells].map(({ cell }) => cell));
+  return [...cells].filter((cell) => view.wordIn(cell).word !== other.wordIn(cell).word).sort((a, b) => a - b);
+}
+
+// Marks the rows that were written by one run alone, or otherwise by both; their names.
+function markRows() {
+  const linesOf = (box) => new Map([...$(box).children].map((unit) => [unit.dataset.unit, [...unit.querySelectorAll(".paper div:not(.page)")]]));
+  const [here, there] = [linesOf("papers"), linesOf("other-papers")];
+  return [...new Set([...here.keys(), ...there.keys()])].flatMap((unit) => {
+    const [mine, others] = [here.get(unit) || [], there.get(unit) || []];
+    const longer = mine.length > others.length ? mine : others;
+    return longer.flatMap((_, at) => {
+      const [one, two] = [mine[at], others[at]];
+      const isSame = one && two && one.textContent === two.textContent;
+      for (const row of [one, two]) if (row) row.classList.toggle("differs", !isSame);
+      return isSame ? [] : [`row ${at + 1} of unit ${unit}`];
+    });
+  });
+}
