@@ -1,6 +1,6 @@
 // The page: what a person asks for, by buttons, keys, commands and the slider.
 
-import { cardsApart, isBundle, keptIn, partsOf, scriptOf } from "./bundle.js";
+import { cardsApart, isBundle, openedOf, scriptOf } from "./bundle.js";
 import { Desk } from "./desk.js";
 import { $, counted, fourDigits, on } from "./dom.js";
 import { conflictOf } from "./sentence.js";
@@ -27,9 +27,7 @@ export class App extends Desk {
   edited() {
     this.isEdited = true;
     if (isBundle(this.listing.text)) {
-      const parts = partsOf(this.listing.text);
-      const { done, left, ...kept } = keptIn(parts.script);
-      this.open(parts, { ...kept, done: [], left: [...done, ...left] });
+      this.open(openedOf(this.listing.text, true));
       return;
     }
     clearTimeout(this.timer);
@@ -144,7 +142,7 @@ export class App extends Desk {
   }
 
   // Puts a program in, with its deck; does the lines of the script that are done, and shows those that are left.
-  open({ source, deck }, { done, left, breaks, bars }) {
+  open({ source, deck, done, left, breaks, bars }) {
     this.drop();
     return this.add(async () => {
       const { deck: others, cards } = cardsApart(deck);

@@ -16,13 +16,13 @@ export class Bars {
     this.app = app;
     this.strip = new Strip(app);
     this.code = new Set(); // the cells of instructions
-    this.range = new CellRange(app, "bars", () => this.isOpen, () => this.draw());
+    this.range = new CellRange(app, "bars", () => this.isOpen, () => this.show());
     on("bars-box", "toggle", () => {
-      this.draw();
+      this.show();
       this.range.ask();
     });
-    on("bars-by", "change", () => this.draw());
-    on("bars-field", "input", () => this.draw());
+    on("bars-by", "change", () => this.show());
+    on("bars-field", "input", () => this.show());
     on("bars", "click", ({ target }) => {
       const bar = target.closest("[data-cell]");
       if (bar) app.ask(`cell ${bar.dataset.cell}`, `cell ${bar.dataset.cell}`);
@@ -72,10 +72,6 @@ export class Bars {
   }
 
   show() {
-    this.draw();
-  }
-
-  draw() {
     const isByField = this.by === "field";
     $("bars-field").hidden = !isByField;
     document.querySelector("main").classList.toggle("bars", this.isOpen);

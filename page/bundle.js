@@ -14,7 +14,7 @@ const linesIn = (text) => linesOf(whole(text)).slice(0, -1); // without what is 
 const textOfLines = (lines) => lines.map((line) => `${line}\n`).join("");
 
 // The parts of a bundle.
-export function partsOf(text) {
+function partsOf(text) {
   const lines = linesOf(text);
   const find = (marker) => (lines.includes(marker) ? lines.indexOf(marker) : lines.length);
   const script = find("%SCRIPT");
@@ -40,7 +40,7 @@ export function scriptOf({ done, left, breaks, bars, lesson }) {
 }
 
 // What a script holds: the lines that are to be done at once, and what the page kept in it. Of another script all lines are to be done.
-export function keptIn(script) {
+function keptIn(script) {
   const lines = linesIn(script);
   const at = lines.includes(KEPT) ? lines.lastIndexOf(KEPT) : lines.length;
   const after = (name) => lines.slice(at + 1).filter((line) => line.startsWith(name)).map((line) => line.slice(name.length));
@@ -51,6 +51,13 @@ export function keptIn(script) {
     bars: after(BARS)[0] || "",
     lesson: after(LESSON)[0] || "",
   };
+}
+
+// What a bundle holds, to be opened; one that waits has nothing that is done at once.
+export function openedOf(bundle, waits) {
+  const { script, ...parts } = partsOf(bundle);
+  const kept = keptIn(script);
+  return { ...parts, ...kept, ...(waits ? { done: [], left: [...kept.done, ...kept.left] } : {}) };
 }
 
 // Where the cards are in the lines of a deck: after the header of unit 16, up to the next header.

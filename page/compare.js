@@ -4,6 +4,7 @@
 import { $, counted, fourDigits, keepRows, make, note, on, put } from "./dom.js";
 import { Machine } from "./machine.js";
 import { flagsOf } from "./memory.js";
+import { Picture } from "./pictures.js";
 import { Session } from "./session.js";
 import { Papers } from "./units.js";
 
@@ -15,27 +16,29 @@ const valueIn = ({ number, characters }) => `${number} “${characters}”`;
 // What is compared of a moment: names with what they hold.
 const comparedIn = ({ state }) => [...state.registers.map((register) => [`r${register.name}`, valueIn(register)]), ...flagsOf(state).map(({ name, text }) => [name, text])];
 
-export class Compare {
+export class Compare extends Picture {
   constructor(app) {
-    this.app = app;
+    super(app);
     this.machine = new Machine(app.machine.program, app.machine.module);
-    this.session = null; // the other run
     this.papers = new Papers("other-papers", "the other run’s ");
     on("compare-open", "click", () => app.enqueue(() => this.keep()));
     on("compare-close", "click", () => this.close());
     on("stop", "click", () => this.machine.stop());
   }
 
+  get isOpen() { return Boolean(this.session); }
+
   // Keeps the run that is shown as the other one.
   keep() {
     const { texts, log, state } = this.app.session;
     this.session = Object.assign(new Session(this.machine, texts, () => []), { log: [...log], state });
-    this.shown = null; // the moment that is compared
-    return this.ask();
+    this.forget();
+    this.show(this.app.view);
   }
 
   close() {
     this.session = null;
+    this.machine.stop();
     this.machine.end();
     $("compare").hidden = true;
     this.papers.show({ units: [] });
@@ -44,20 +47,19 @@ export class Compare {
     $("compare-open").focus();
   }
 
-  // Another program was opened: the other run stays.
-  forget() {}
-
-  show() {
-    if (this.session) this.app.enqueue(() => this.ask(), () => undefined);
+  show(view) {
+    this.look(view);
   }
 
-  // Shows both as they are after the changes that are done; the other one after all of its changes if these are fewer.
-  async ask() {
-    const { session, app: { view } } = this;
-    if (!session || this.shown === view) return;
-    this.shown = view;
-    const { view: other } = await session.look(Math.min(view.state.done, session.total));
-    if (session !== this.session) return;
+  // The other run as it is after as many changes as are done; after all of its changes if these are fewer.
+  async find() {
+    const { session, of: { state: { done } } } = this;
+    return (await session.look(Math.min(done, session.total))).view;
+  }
+
+  draw() {
+    const { found: other, of: view, session } = this;
+    if (!other || !session) return;
     const cells = differingCells(view, other);
     const others = new Map(comparedIn(other));
     const rows = comparedIn(view).map(([name, here]) => ({ name, here, there: others.get(name) }));

@@ -136,7 +136,7 @@ export class Desk {
     }
     this.memory.range.ask();
     this.bars.setProgram(program);
-    const warning = showSymbols(program, this);
+    const warning = showSymbols(program, found, this.memory);
     this.session = session;
     this.show(view);
     if (back) this.tell(`The text is as it was, and what was done with it is back: ${counted(session.log.length, "command")}.`);

@@ -5,16 +5,18 @@ export const $ = (id) => document.getElementById(id);
 // Does something whenever an event comes to an element.
 export const on = (id, event, work) => $(id).addEventListener(event, work);
 
-// A new element with attributes and children; a child that is a text stays a text.
-export function make(name, given = {}, ...children) {
-  const element = document.createElement(name);
+// An element with attributes and children; a child that is a text stays a text. Numbers have a tenth at most.
+export function furnished(element, given, children) {
   for (const [key, value] of Object.entries(given)) {
     if (typeof value === "function") element.addEventListener(key, value);
+    else if (typeof value === "number") element.setAttribute(key, Math.round(value * 10) / 10);
     else if (value !== null && value !== undefined && value !== false) element.setAttribute(key, value === true ? "" : value);
   }
   element.append(...children);
   return element;
 }
+
+export const make = (name, given = {}, ...children) => furnished(document.createElement(name), given, children);
 
 // Puts a text into an element if it is another one.
 export function put(element, text) {
@@ -25,6 +27,9 @@ export function put(element, text) {
 export function mark(element, name, value) {
   if (element.getAttribute(name) !== String(value)) element.setAttribute(name, value);
 }
+
+// Whether a button is pressed.
+export const isPressed = (id) => $(id).getAttribute("aria-pressed") === "true";
 
 // Shows a sentence, or nothing where it is empty.
 export function note(id, text) {
@@ -45,12 +50,27 @@ export function doAll(works) {
   if (faults.length > 0) throw faults[0];
 }
 
-// Where a key leads from a place in a list of so many; undefined where it leads nowhere. A page of the list has so many.
-export function walked(event, at, count, page) {
-  const step = { ArrowUp: -1, ArrowDown: 1, PageUp: -page, PageDown: page, Home: -Infinity, End: Infinity }[event.key];
-  if (!step || count === 0) return undefined;
-  event.preventDefault();
-  return Math.max(0, Math.min(count - 1, at + step));
+// Of the buttons of a box the one to which the tab key comes.
+export const stopIn = (box) => box.querySelector("button[tabindex='0']");
+
+export function setStop(box, button) {
+  const old = stopIn(box);
+  if (old) old.tabIndex = -1;
+  button.tabIndex = 0;
+}
+
+// Lets the arrow keys walk among the buttons of a box, of which a page has so many.
+export function walks(id, page) {
+  on(id, "keydown", (event) => {
+    const step = { ArrowUp: -1, ArrowDown: 1, PageUp: -page, PageDown: page, Home: -Infinity, End: Infinity }[event.key];
+    const buttons = [...$(id).querySelectorAll("button")];
+    if (!step || buttons.length === 0) return;
+    event.preventDefault();
+    const at = buttons.indexOf(stopIn($(id))) + step;
+    const next = buttons[Math.max(0, Math.min(buttons.length - 1, at))];
+    setStop($(id), next);
+    next.focus();
+  });
 }
 
 // Saves a text as a file.
@@ -100,7 +120,7 @@ export function keepRows(box, items, keyOf, create, update) {
     else box.insertBefore(row, at);
     update(row, item);
   }
-  if (isLost) (box.querySelector("button[tabindex='0']") || box.closest("[tabindex]") || box).focus();
+  if (isLost) (stopIn(box) || box.closest("[tabindex]") || box).focus();
 }
 
 export const fourDigits = (cell) => String(cell).padStart(4, "0");

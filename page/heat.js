@@ -1,7 +1,7 @@
 // Heat, for who asks for it: a tint of each line by how often it was executed so far, and of each cell that is shown by how many of all changes altered
 // it. The numbers are texts too: beside the line, and in the row of the cell.
 
-import { $, counted, mark, on, put } from "./dom.js";
+import { $, counted, isPressed, mark, on, put } from "./dom.js";
 import { Picture } from "./pictures.js";
 
 const MOST_CHANGES = 50000; // changes after which cells are not asked for
@@ -16,7 +16,7 @@ export class Heat extends Picture {
     });
   }
 
-  get isOpen() { return $("heat").getAttribute("aria-pressed") === "true"; }
+  get isOpen() { return isPressed("heat"); }
 
   show({ times }) {
     const { listing, memory, session } = this.app;

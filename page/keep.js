@@ -1,7 +1,7 @@
 // Lessons, opening, saving and sharing.
 
 import { $, copied, make, on, put, saved } from "./dom.js";
-import { bundleOf, keptIn, partsOf } from "./bundle.js";
+import { bundleOf, openedOf } from "./bundle.js";
 import { bundleIn, fragmentOf } from "./share.js";
 import { tooLarge } from "./source.js";
 import { momentOf } from "./memory.js";
@@ -72,19 +72,16 @@ export class Keep {
   async openLesson(lesson, bundle = lesson.bundle) {
     if (!(await this.isFree())) return;
     this.setLesson(lesson);
-    const parts = partsOf(bundle);
-    const { done, left } = keptIn(parts.script);
-    await this.app.open(parts, { done: [], left: [...done, ...left], breaks: [], bars: "" });
+    await this.app.open(openedOf(bundle, true));
   }
 
   // Opens a bundle that was saved or shared: what was done is done, the rest waits.
   async openBundle(bundle) {
-    const parts = partsOf(bundle);
-    const reason = tooLarge(parts.source);
+    const opened = openedOf(bundle, false);
+    const reason = tooLarge(opened.source);
     if (reason) throw new RangeError(reason);
-    const kept = keptIn(parts.script);
-    this.setLesson(this.lessons.find(({ name }) => name === kept.lesson) || null);
-    await this.app.open(parts, kept);
+    this.setLesson(this.lessons.find(({ name }) => name === opened.lesson) || null);
+    await this.app.open(opened);
   }
 
   async openFile() {

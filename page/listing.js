@@ -1,6 +1,6 @@
 // Beside each line of the source its location, its word and how often it was executed; a band over the line that is next, and one at a fault.
 
-import { $, fourDigits, make, mark, on, onResize, put, walked } from "./dom.js";
+import { $, fourDigits, make, mark, on, onResize, put, setStop, stopIn, walks } from "./dom.js";
 import { ZERO } from "./sentence.js";
 import { Source, sameIn } from "./source.js";
 
@@ -10,7 +10,6 @@ export class Listing {
     this.rows = []; // of each line its element, its button, and the parts that it has
     this.boxes = []; // of each line where it begins, and its height
     this.breaks = new Set();
-    this.focused = 0; // the one button that the tab key comes to
     this.found = []; // lines with a fault or a warning, each with its band
     this.times = new Map(); // how often cells were executed
     this.wordIn = () => ZERO;
@@ -19,15 +18,10 @@ export class Listing {
     on("gutter", "click", ({ target }) => {
       const index = this.rows.findIndex(({ row }) => row.contains(target));
       if (index < 0) return;
-      this.focus(index);
+      setStop($("gutter"), this.rows[index].button);
       app.toggle(index + 1);
     });
-    on("gutter", "keydown", (event) => {
-      const index = walked(event, this.focused, this.rows.length, 15);
-      if (index === undefined) return;
-      this.focus(index);
-      this.rows[index].button.focus();
-    });
+    walks("gutter", 15);
     onResize($("listing"), () => this.reveal(this.marked));
     window.addEventListener("beforeprint", () => this.rows.forEach((parts, index) => putPart(parts, "source", this.lines[index])));
     this.fit();
@@ -61,7 +55,7 @@ export class Listing {
     });
     this.rows.push(...fresh);
     $("gutter").append(...fresh.map(({ row }) => row));
-    if (this.focused >= this.rows.length) this.focus(this.rows.length - 1);
+    if (!stopIn($("gutter"))) setStop($("gutter"), this.rows[this.rows.length - 1].button);
     this.draw();
     this.place();
   }
@@ -160,12 +154,6 @@ export class Listing {
   // Scrolls so that a line is seen, in its box and in the window.
   reveal(line) {
     if (line > 0 && line <= this.rows.length) this.rows[line - 1].row.scrollIntoView({ block: "nearest", inline: "nearest" });
-  }
-
-  focus(index) {
-    if (this.rows[this.focused]) this.rows[this.focused].button.tabIndex = -1;
-    this.focused = index;
-    this.rows[index].button.tabIndex = 0;
   }
 }
 

@@ -1,7 +1,7 @@
 // What the machine holds: registers and flags, cells of the memory, symbols. What the last change altered is marked, with what it was before; each name
 // asks who wrote it.
 
-import { $, fourDigits, keepRows, make, mark, note, on, put, walked } from "./dom.js";
+import { $, fourDigits, keepRows, make, mark, note, on, put, stopIn, walks } from "./dom.js";
 import { CELLS, CellRange, upTo } from "./range.js";
 import { COMPARED, instructionAt, numberOf } from "./sentence.js";
 
@@ -59,11 +59,10 @@ export class Memory {
   constructor(app) {
     this.app = app;
     this.middle = 0; // the cell around which cells are shown
-    this.current = 0; // the cell that the tab key comes to
     this.shownCells = [];
-    this.range = new CellRange(app, "cells", () => this.which === "range", () => this.shown());
+    this.range = new CellRange(app, "cells", () => this.which === "range", () => this.show());
     on("cells-which", "change", () => this.chosen());
-    on("cell-rows", "keydown", (event) => this.walked(event));
+    walks("cell-rows", 10);
   }
 
   get which() { return $("cells-which").value; }
@@ -75,11 +74,7 @@ export class Memory {
   chosen() {
     $("cells-range").hidden = this.which !== "range";
     this.range.ask();
-    this.shown();
-  }
-
-  shown() {
-    if (this.app.view) this.show(this.app.view);
+    this.show();
   }
 
   // Shows the cells from a symbol on.
@@ -89,7 +84,9 @@ export class Memory {
     this.chosen();
   }
 
-  show(view) {
+  show() {
+    const { view } = this.app;
+    if (!view) return;
     const { row, m } = instructionAt(view);
     const used = row && row.uses === "cell" && m >= 0 && m < CELLS ? m : null;
     const { cell: met, use } = view.conflict || {};
@@ -99,7 +96,8 @@ export class Memory {
     const all = ranges[this.which];
     const shown = all.slice(0, CELLS_SHOWN);
     this.shownCells = shown;
-    if (!shown.includes(this.current)) this.current = shown.includes(this.middle) ? this.middle : shown[0];
+    const stop = stopIn($("cell-rows"));
+    const current = [stop && Number(stop.closest("tr").dataset.cell), this.middle].find((cell) => shown.includes(cell)) ?? shown[0];
     const fresh = (cell) => wordRow(`cell ${cell}`, fourDigits(cell), () => this.app.ask(`cell ${cell}`, `cell ${cell}`));
     keepRows($("cell-rows"), shown, (cell) => cell, fresh, (element, cell) => {
       const isMet = cell === met;
@@ -107,23 +105,11 @@ export class Memory {
       element.classList.toggle("here", cell === used);
       element.classList.toggle("conflict", isMet);
       mark(element, "data-cell", cell);
-      mark(element.querySelector("button"), "tabindex", cell === this.current ? "0" : "-1");
+      mark(element.querySelector("button"), "tabindex", cell === current ? "0" : "-1");
     });
     const more = all.length - shown.length;
     note("cells-more", more > 0 ? `${more} more are not shown: choose a range.` : all.length === 0 ? "All cells are zero." : "");
     this.reveal(met ?? shown.find((cell) => view.altered.has(`cell ${cell}`)) ?? used);
-  }
-
-  // Arrow keys walk from cell to cell.
-  walked(event) {
-    const buttons = [...$("cell-rows").querySelectorAll("button")];
-    const at = buttons.findIndex((button) => button.tabIndex === 0);
-    const next = buttons[walked(event, at, buttons.length, 10)];
-    if (!next) return;
-    buttons[at].tabIndex = -1;
-    next.tabIndex = 0;
-    this.current = Number(next.closest("tr").dataset.cell);
-    next.focus();
   }
 
   // Scrolls its box so that a cell is seen.
@@ -134,21 +120,18 @@ export class Memory {
   }
 }
 
-// Shows the symbols of a program, each with a button where it may be a cell; a warning of those that nobody defined.
-export function showSymbols({ symbols, rows }, { listing, memory }) {
-  const inserted = new Set(rows.filter(({ line }) => !line).map(({ cell }) => String(cell)));
-  const written = new Set(listing.lines.map((line) => line.split(/[ \t]/)[0].toUpperCase()));
-  const isUndefined = ({ name, number }) => inserted.has(number) && !written.has(name);
-  const row = (symbol) => {
-    const { name, value, number } = symbol;
+// Shows the symbols of a program, each with a button where it may be a cell; the warnings of those that nobody defined, of all that was found in it.
+export function showSymbols({ symbols }, found, memory) {
+  const warnings = [...new Set(found.filter(({ code }) => code === "undefined-symbol").map(({ text }) => text))];
+  const missing = new Set(warnings.map((text) => text.split(" ")[0].toUpperCase()));
+  const row = ({ name, value, number }) => {
     const show = { type: "button", "aria-label": `${name}: show the cells from there on`, click: () => memory.showFrom(name) };
     const isCell = Number(number) >= 0 && Number(number) < 4000;
-    const [isWrong, head] = [isUndefined(symbol), make("th", { scope: "row" }, isCell ? make("button", show, name) : name)];
+    const [isWrong, head] = [missing.has(name), make("th", { scope: "row" }, isCell ? make("button", show, name) : name)];
     return make("tr", { class: isWrong && "wrong" }, head, make("td", { class: "number" }, number), make("td", { class: "word" }, value), make("td", {}, isWrong ? "not defined" : ""));
   };
   $("no-symbols").hidden = symbols.length > 0;
   $("symbol-table").hidden = symbols.length === 0;
   $("symbol-rows").replaceChildren(...symbols.map(row));
-  const missing = symbols.filter(isUndefined).map(({ name, number }) => `${name} is not defined, so it is a cell of zero, ${number}`);
-  return missing.length > 0 ? `Warning: ${missing.join("; ")}.` : "";
+  return warnings.length > 0 ? `Warning: ${warnings.join("; ")}.` : "";
 }

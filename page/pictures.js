@@ -1,6 +1,6 @@
 // Pictures of all changes: a strip of moments below the bars, and the map of time.
 
-import { $, counted, mark, note, on, saved } from "./dom.js";
+import { $, counted, isPressed, mark, note, on, saved } from "./dom.js";
 import { fileOf, mapOf, stripOf } from "./svg.js";
 
 const COLUMNS = { strip: 60, map: 240 };
@@ -62,7 +62,7 @@ export class Strip extends Picture {
     on("bars-strip", "click", () => this.toggle(!this.isOpen));
   }
 
-  get isOpen() { return $("bars-strip").getAttribute("aria-pressed") === "true"; }
+  get isOpen() { return isPressed("bars-strip"); }
 
   toggle(isOpen) {
     mark($("bars-strip"), "aria-pressed", isOpen);

@@ -1,7 +1,7 @@
 // Pictures of cells as SVG, which can be saved as they are: bars, a strip of moments, a map of time, and values over time. Their colours are those of
 // the light page; in the window the style of the page overrides them.
 
-import { fourDigits } from "./dom.js";
+import { fourDigits, furnished } from "./dom.js";
 
 const PLACE = "http://www.w3.org/2000/svg";
 const LETTER = 6.7; // the width of a letter
@@ -10,13 +10,7 @@ const TOP = 30;
 const WIDE = 720; // of a strip and of a map
 const COLOURS = { ink: "#24211c", soft: "#5e5648", bar: "#224a69", mark: "#96281c", written: "#f6d98a" };
 
-// An element with attributes and children; a child that is a text stays a text.
-function shape(name, given = {}, ...children) {
-  const element = document.createElementNS(PLACE, name);
-  for (const [key, value] of Object.entries(given)) element.setAttribute(key, typeof value === "number" ? String(Math.round(value * 10) / 10) : value);
-  element.append(...children);
-  return element;
-}
+const shape = (name, given, ...children) => furnished(document.createElementNS(PLACE, name), given, children);
 
 const solid = (kind) => ({ class: kind, fill: COLOURS[kind] });
 const lined = (kind, colour, more) => ({ class: kind, fill: "none", stroke: COLOURS[colour], ...more });

@@ -189,7 +189,9 @@ def refused_text(page, native, count):
         page.put("text", text)
         count.row(f"refused: {text.splitlines()[0]}", cause in page.told(), page.told())
     page.put("text", " J1P LOP\n HLT\n END 0\n")
-    count.row("refused: an undefined symbol is told", page.told().startswith("Warning: LOP is not defined"), page.told())
+    wrong = page.script("return [...document.querySelectorAll('#symbol-rows .wrong')].map((row) => [row.firstChild.textContent, row.lastChild.textContent])")
+    count.same("refused: an undefined symbol, in the list of symbols", wrong, [["LOP", "not defined"]])
+    count.row("refused: an undefined symbol is told", page.told().startswith("Warning: LOP is defined nowhere: "), page.told())
 
 
 def ranges(page, native, count):
