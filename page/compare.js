@@ -57,22 +57,22 @@ export class Compare extends Picture {
     return (await session.look(Math.min(done, session.total))).view;
   }
 
+  // Nothing while another moment is shown already.
   draw() {
     const { found: other, of: view, session } = this;
-    if (!other || !session) return;
+    if (!other || !session || view !== this.app.view) return;
     const cells = differingCells(view, other);
     const others = new Map(comparedIn(other));
-    const rows = comparedIn(view).map(([name, here]) => ({ name, here, there: others.get(name) }));
-    rows.push(...cells.slice(0, CELLS_COMPARED).map((cell) => ({ name: `cell ${fourDigits(cell)}`, here: valueIn(view.wordIn(cell)), there: valueIn(other.wordIn(cell)) })));
+    const parts = comparedIn(view).map(([name, here]) => ({ name, here, there: others.get(name) }));
+    const held = cells.map((cell) => ({ name: `cell ${fourDigits(cell)}`, here: valueIn(view.wordIn(cell)), there: valueIn(other.wordIn(cell)) }));
+    const rows = [...parts, ...held.slice(0, CELLS_COMPARED)];
     this.papers.show(other);
     const printed = markRows();
     showOutput();
     $("compare").hidden = false;
     const isBehind = view.state.done > session.total;
     put($("compare-what"), `The other run has ${counted(session.total, "change")}${isBehind ? ", and is shown after the last of them" : ""}.`);
-    const different = [...rows.filter(({ here, there }) => here !== there).map(({ name }) => name), ...printed];
-    const more = different.length - MOST_NAMES;
-    put($("compare-text"), different.length > 0 ? `Different: ${different.slice(0, MOST_NAMES).join(", ")}${more > 0 ? `, and ${more} more` : ""}.` : "Nothing is different.");
+    put($("compare-text"), saidOf([...[...parts, ...held].filter(({ here, there }) => here !== there).map(({ name }) => name), ...printed]));
     keepRows($("compare-rows"), rows, ({ name }) => name, freshRow, ({ children }, { name, here, there }) => {
       const isSame = here === there;
       [`${name}${isSame ? "" : " ≠"}`, here, there].forEach((text, index) => put(children[index], text));
@@ -85,6 +85,12 @@ export class Compare extends Picture {
 // The output is seen if one of both runs has written something.
 function showOutput() {
   $("output").hidden = $("papers").childElementCount + $("other-papers").childElementCount === 0;
+}
+
+// What is different, in a sentence.
+function saidOf(names) {
+  const more = names.length - MOST_NAMES;
+  return names.length === 0 ? "Nothing is different." : `Different: ${names.slice(0, MOST_NAMES).join(", ")}${more > 0 ? `, and ${more} more` : ""}.`;
 }
 
 const freshRow = () => make("tr", {}, make("th", { scope: "row" }), make("td"), make("td"));

@@ -11,6 +11,7 @@ FIRST = """START IN 100(16)
  HLT
  END START
 """
+MANY = " ENTA 1\n ENT1 200\n STA 500,1\n DEC1 1\n J1P 2\n HLT\n END 0\n"
 ROW = "return [...document.querySelectorAll('#compare-rows tr')].filter((row) => row.firstChild.textContent.startsWith(arguments[0])).map((row) => [...row.children].slice(1).map((e) => e.textContent))"
 MARKED = "return [...document.querySelectorAll('#compare-rows .differs th')].map((e) => e.textContent)"
 PAPERS = "return ['papers', 'other-papers'].map((id) => [...document.querySelectorAll(`#${id} .paper div`)].map((e) => [e.textContent, e.classList.contains('differs')]))"
@@ -44,6 +45,8 @@ def other_cards(page, native, count):
         differs(f"dragged to {moment}", page, count, *parts)
         page.slide(moment)
         differs(f"slid to {moment}", page, count, *parts)
+    page.click("heat")
+    differs("shown again", page, count, *all_parts)
     natively("two: another card", page, native, count)
 
 
@@ -77,6 +80,20 @@ def other_program(page, native, count):
     count.same("two: 320 pixels", page.script(SIDEWAYS), 0)
 
 
+def many(page, native, count):
+    """Cells 501 to 700 are different, and rA and the first instruction: of 202 names 30 are in the sentence, of 201 cells 100 in the table."""
+    page.lesson(0)
+    page.put("text", MANY)
+    page.click("run")
+    page.click("compare-open")
+    page.put("text", MANY.replace("ENTA 1", "ENTA 2"))
+    page.click("run")
+    cells = ["cell 0000", *(f"cell {cell:04d}" for cell in range(501, 701))]
+    count.same("two: many: the text", page.text("compare-text"), f"Different: {', '.join(['rA', *cells[:29]])}, and 172 more.")
+    count.same("two: many: what is marked", page.script(MARKED), ["rA ≠", *(f"{cell} ≠" for cell in cells[:100])])
+    count.same("two: many: the table ends", page.text("compare-more"), "101 more cells are different.")
+
+
 def closed(page, native, count):
     """It ends by Close; a run that has written nothing, a text that is refused, an engine that is stopped."""
     page.lesson(0)
@@ -102,4 +119,4 @@ def closed(page, native, count):
     differs("opened again", page, count)
 
 
-TWO = (other_cards, other_program, closed)
+TWO = (other_cards, other_program, many, closed)
