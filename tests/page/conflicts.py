@@ -23,6 +23,7 @@ SECOND = "Conflict: cell 2000 is altered while unit 18 prints it until 105. "
 TWO = [(2001, "unit 18 until 51"), (2000, "unit 18 until 105")]
 MARKED = """return [...document.querySelectorAll('#cell-rows .conflict')].map((row) => [Number(row.dataset.cell), row.lastChild.textContent.split(', ').pop(),
     row.querySelector('.unseen').textContent.includes('conflict'), row.getBoundingClientRect().height > 0])"""
+NAMED = "return document.getElementById('conflicts').labels[0].textContent.trim()"
 # A button, the command that is kept, how the status begins, and the cell that is marked with its use.
 WAYS = [
     ("run", "run 4", FIRST, TWO[0]), ("run", "run 49", SECOND, TWO[1]), ("run", "run 1", "Halted after 54 changes", None),
@@ -49,7 +50,7 @@ def went(name, page, count, ways):
 def conflicts(page, native, count):
     """Both ways, over what was taken back too; without the box none of it."""
     page.lesson(0)
-    count.same("conflicts: the box", [page.one("conflicts").accessible_name, page.one("conflicts").is_selected()], ["Stop at conflicts", False])
+    count.same("conflicts: the box", [page.script(NAMED), page.one("conflicts").is_selected()], ["Stop at conflicts", False])
     page.put("text", LINE + DELAY)
     page.click("conflicts")
     went("conflicts", page, count, WAYS)
@@ -113,7 +114,7 @@ def conflict_bars(page, native, count):
     page.size(375, 700)
     page.click("to-break")
     page.tab("machine")
-    count.same("conflicts: a narrow window", [marked(page), page.one("conflicts").accessible_name], [[[*TWO[1], True, True]], "Stop at conflicts"])
+    count.same("conflicts: a narrow window", [marked(page), page.script(NAMED)], [[[*TWO[1], True, True]], "Stop at conflicts"])
 
 
 CONFLICTS = (conflicts, conflict_breaks, conflict_ends, conflict_bars)

@@ -108,7 +108,7 @@ def closed(page, native, count):
     count.row("two: a row that is missing is told", page.text("compare-text").endswith(", row 1 of unit 18."), page.text("compare-text"))
     page.put("text", " JUMP 0\n END 0\n")
     count.row("two: refused", page.told().startswith("Line 1: A2"), page.told())
-    name = page.one("compare-close").accessible_name
+    name = page.one("compare-close").get_attribute("aria-label")
     page.press_button(page.one("compare-close"))
     count.same("two: closed", [name, page.one("compare").is_displayed(), page.script(PAPERS), page.one("output").is_displayed()], ["Close the other run", False, [[], []], False])
     count.same("two: closed: the focus", page.script("return document.activeElement.id"), "compare-open")
