@@ -6,7 +6,9 @@
 
 ;;; Code:
 
+;; dap-mode asks which exception filters are set, but only its dap-ui defines where that is kept. Without dap-ui none is set.
 (require 'dap-mode)
+(defvar dap-exception-breakpoints nil)
 
 (defcustom dap-mixrev-command '("mixrev" "dap")
   "The debug adapter: its program and words."
