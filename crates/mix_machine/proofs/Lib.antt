@@ -11,6 +11,7 @@ pub mod EachLemmas
 pub mod Halting
 pub mod MarkLemmas
 pub mod PackLemmas
+pub mod PartLemmas
 pub mod PutLemmas
 pub mod QuietLemmas
 pub mod RegisterLemmas

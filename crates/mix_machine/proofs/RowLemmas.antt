@@ -3,10 +3,11 @@ use Rattle.std.proofs.Common.{ℕ, zero, suc, true, nat_lt, ◌≡◌, ◌+◌, 
 use Rattle.std.specs.Option.{option_and_then}
 use Rattle.std.proofs.lemmas.Bool.Decides.{nat_tests}
 use Rattle.std.proofs.lemmas.List.{drop-append-le, length-take-le, length-drop, length-map, reverse-append, take-append-drop, take_all, take_more, take_at, drop_at, map_push}
+use Rattle.undo_core.specs.Counts.{newest_part}
 use Rattle.undo_core.specs.Replay.{put_back}
 use Rattle.mix_word.specs.Word.{WordValue}
 use Rattle.mix_machine.specs.World.{WorldState}
-use Rattle.mix_machine.specs.Write.{put_value, set_value}
+use Rattle.mix_machine.specs.Write.{put_value, set_value, is_clock}
 use Rattle.mix_machine.specs.Cells.{cell_values, words_of, with_words, IsRow}
 use Rattle.mix_machine.specs.law.Restored.{Restored}
 use Rattle.mix_machine.specs.declared.old.Old.{Old}
@@ -16,6 +17,7 @@ use Rattle.mix_machine.specs.declared.pack.kind.Kind.TheVariants as kind
 use Rattle.mix_machine.specs.Pack.{header_of, last_of, last_value, long_word, said, value_by}
 use Rattle.mix_machine.proofs.CopyLemmas.{length-cell_values}
 use Rattle.mix_machine.proofs.PackLemmas.{said-last, row-header, put-alone}
+use Rattle.mix_machine.proofs.PartLemmas.{part-last, part-cells, part-one}
 use Rattle.mix_machine.proofs.SizeLemmas.{last-header}
 
 -- the header of a row of one cell
@@ -124,6 +126,7 @@ row-restored header place count a units left w v row within is done =
       some = some;
       back = ap (λ (os : List Old). put_back put_value os w) last ∙ values-put (words_of ws) place w (omega (arith, cells, words)) ∙ ap Some (sym done);
       cut = ap (said a) is ∙ sym (ap (take (length (said a (units ++ header ∷ [])) - count)) all ∙ take_at (said a rest) values _ first);
+      part = part-last count (said a (units ++ header ∷ [])) (said a rest) values all (part-cells count place (words_of ws) many);
     }
 
 -- the values that were put back first, of more
@@ -135,14 +138,15 @@ some-of-append (x ∷ xs) ys w some = some-of-append xs ys w (some-before (λ (t
   some-before f (Some t) h = refl
 
 -- values put back, those of a header among them
-pub header-restored : (all left values : List Old) (most count : ℕ) (w v : WorldState) → all ≡ left ++ values → length values ≡ count → 0 < count →
-    put_back put_value values w ≡ Some v → Restored all left w v count
-header-restored all left values most count w v is many some done =
+pub header-restored : (all left values : List Old) (count : ℕ) (w v : WorldState) → all ≡ left ++ values → length values ≡ count → 0 < count →
+    count ≤ newest_part is_clock count (reverse values) → put_back put_value values w ≡ Some v → Restored all left w v count
+header-restored all left values count w v is many some part done =
     let len : length left ≡ length all - count = omega (arith, many, ap length is, length-append left values) in
     record {
       some = some;
       back = ap (λ (os : List Old). put_back put_value os w) (ap (drop (length all - count)) is ∙ drop_at left values _ len) ∙ done;
       cut = sym (ap (take (length all - count)) is ∙ take_at left values _ len);
+      part = part-last count all left values is part;
     }
 
 -- where the last values can be put back, those of the last header can
@@ -162,5 +166,5 @@ last-fits all left value most w is more within fit = header-fits all left (value
 pub one-restored : (all left : List Old) (value : Old) (most : ℕ) (w v : WorldState) → all ≡ left ++ value ∷ [] → 0 < most → most ≤ length all →
     IsSome (put_back put_value (drop (length all - most) all) w) → v ≡ set_value w value → Restored all left w v 1
 one-restored all left value most w v is more within fit done =
-    header-restored all left (value ∷ []) most 1 w v is refl (omega arith)
+    header-restored all left (value ∷ []) 1 w v is refl (omega arith) (part-one value)
     (put-alone w v (value ∷ []) value refl (last-fits all left value most w is more within fit) done)

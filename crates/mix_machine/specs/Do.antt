@@ -63,6 +63,11 @@ abbrev pub is_halt_next : WorldState → Bool
 is_halt_next w =
     nat_lt w.loc 4000 && (instruction w).code == 5 && (instruction w).f == 2
 
+-- whether a change is a step, which ends by the clock that it keeps
+abbrev pub is_step : Change → Bool
+is_step Step = true
+is_step _ = false
+
 -- what is true of the values in a change, as the places that they name are those of cells
 abbrev pub IsReal : Change → Type 0
 IsReal Step = Unit {0}

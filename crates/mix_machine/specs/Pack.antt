@@ -212,6 +212,19 @@ abbrev pub last_value : Anchor → List ℕ → Option LastValue
 last_value a [] = None
 last_value a (header ∷ us) = option_and_then (λ k. value_by k (header / 16) a us) (kind_of header)
 
+-- whether the last value that a header of this kind and payload says is a clock
+abbrev pub clock_by : Kind → ℕ → Bool
+clock_by kind.Clock n = true
+clock_by kind.Moment n = true
+clock_by kind.WholeMoment n = true
+clock_by kind.Jump n = nat_eq (n % 2) 0
+clock_by kind.Store n = nat_eq (n % 2) 0
+clock_by kind.Short n = nat_eq (n / 16 % 2) 0
+clock_by _ n = false
+
+abbrev pub says_clock : ℕ → Bool
+says_clock header = option_map_or (λ k. clock_by k (header / 16)) (kind_of header) false
+
 -- at most so many values of units, of which the last one comes first
 abbrev pub values_before : ℕ → Anchor → List ℕ → List Old
 values_before zero a us = []

@@ -1,6 +1,6 @@
 -- A change as a list of writes. A write sets one place of the state to a value; what stood there before is an
 -- old value, the write's twin, and setting the old values again, last first, undoes the change.
-use Rattle.std.specs.Prelude.{ℕ, zero, suc, ◌+◌, ◌-◌, Bool, true, not, List, [], ◌∷◌, ◌++◌, length, take, drop, nat_le, nat_lt, Option, None, if◌then◌else◌}
+use Rattle.std.specs.Prelude.{ℕ, zero, suc, ◌+◌, ◌-◌, Bool, true, false, not, List, [], ◌∷◌, ◌++◌, length, take, drop, nat_le, nat_lt, Option, None, if◌then◌else◌}
 use Rattle.std.specs.Bool.{then_some}
 use Rattle.mix_word.specs.Word.{WordValue}
 use Rattle.mix_word.specs.declared.register.Reg.TheVariants as reg
@@ -48,6 +48,11 @@ value_at w (At n k) = At n (place_at w.units n)
 value_at w (Len n k) = Len n (length_at w.units n)
 value_at w (Item n i j v) = Item n i j (item_at w.units n i j)
 value_at w (Until n t) = Until n (until_at w.units n)
+
+-- whether a value is the clock: that of a step is the last value that it keeps
+abbrev pub is_clock : Old → Bool
+is_clock (Clock t) = true
+is_clock _ = false
 
 -- whether there is its place in the state, and a value is in the range of it
 abbrev pub fits : WorldState → Old → Bool

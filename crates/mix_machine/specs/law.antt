@@ -4,6 +4,7 @@ pub mod Apart
 pub mod Carried
 pub mod Fits
 pub mod Packed
+pub mod Parts
 pub mod Passed
 pub mod Plans
 pub mod Restored

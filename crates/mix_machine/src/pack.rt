@@ -1,6 +1,7 @@
 //! Old values in units of 32 bits.
 ghost use Rattle.std.specs.Prelude.{refl};
 ghost use Rattle.mix_machine.specs.Pack.{said};
+ghost use Rattle.mix_machine.specs.Write.{is_clock};
 ghost use Rattle.mix_machine.specs.law.Packed.{said-fewer};
 
 mod anchor;
@@ -18,6 +19,7 @@ mod stored;
 use crate::old::Old;
 pub use crate::pack::anchor::Anchor;
 pub(crate) use crate::pack::kind::Kind;
+use crate::pack::kind::says_clock;
 pub(crate) use crate::pack::moved::{Moved, MovedWith};
 pub(crate) use crate::pack::parts::{long, register, short};
 pub(crate) use crate::pack::reading::take_before;
@@ -37,6 +39,14 @@ impl Pack for Old {
 
     ghost said_fewer = { said-fewer };
 
+    ghost is_last = { is_clock };
+
+    /// Whether the value is the clock, in which a step ends.
+    #[inline(always)]
+    fn is_last(self) -> bool {
+        matches!(self, Old::Clock(_))
+    }
+
     /// The machine at its beginning.
     fn anchor() -> Anchor {
         Anchor { loc: 0, clock: 0 }
@@ -53,6 +63,15 @@ impl Pack for Old {
     fn take(units: &mut Vec<u32>, anchor: &mut Anchor) -> Option<Old> {
         let header = units.pop()?;
         reading::take_before(header, units, anchor)
+    }
+
+    /// Whether the last value of units is a clock, which their header says.
+    #[inline(always)]
+    fn is_ended(units: &[u32], _anchor: Anchor) -> bool {
+        match units.split_last() {
+            None => true,
+            Some((header, _)) => says_clock(*header),
+        }
     }
 
     /// The last value of units, if there is one.

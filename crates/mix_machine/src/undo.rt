@@ -1,7 +1,8 @@
 //! The machine as a state whose changes can be taken back by the values that they replaced.
 ghost use Rattle.mix_machine.specs.World.{IsWorld};
 ghost use Rattle.mix_machine.specs.Write.{put_value};
-ghost use Rattle.mix_machine.specs.Do.{does, kept_values, IsReal};
+ghost use Rattle.mix_machine.specs.Do.{does, kept_values, IsReal, is_step};
+ghost use Rattle.mix_machine.specs.law.Parts.{parts-does};
 ghost use Rattle.mix_machine.specs.law.Undone.{undone-does};
 
 use crate::fault::MixFault;
@@ -24,6 +25,14 @@ impl Undo for World {
     ghost keeps = { kept_values };
 
     ghost put = { put_value };
+
+    ghost ends = { is_step };
+
+    /// Whether the change is a step, which ends in its clock. Others keep one value that says no end.
+    #[inline(always)]
+    fn ends(change: &Change) -> bool {
+        matches!(change, Change::Step)
+    }
 
     /// Whether both are steps: those are what a journal has many of in a row.
     #[inline(always)]
@@ -55,6 +64,8 @@ impl Undo for World {
             None => unreachable!(),
         }
     }
+
+    ghost parts = { parts-does };
 
     ghost undoes = { undone-does };
 }

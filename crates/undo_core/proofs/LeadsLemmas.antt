@@ -4,6 +4,7 @@ use Rattle.std.proofs.lemmas.List.{reverse-append, take-append-drop, length-take
 use Rattle.undo_core.specs.Counts.{total}
 use Rattle.undo_core.specs.Replay.{replay, count_kept, put_back}
 use Rattle.undo_core.specs.Leads.{Leads}
+use Rattle.undo_core.proofs.CountLemmas.{total-last}
 use Rattle.undo_core.proofs.ReplayLemmas.{replay-append_some, count_kept-append, put_back-append}
 
 -- the first of a reversed list stands last
@@ -47,13 +48,6 @@ leads-put_back {S} {C} {O} {F} gives keeps put first (c ∷ cs) (n ∷ ns) kept 
     ap (λ (os : List O). put_back put os now) (sym (take-append-drop (length kept - n) kept))
     ∙ put_back-append put (take (length kept - n) kept) (drop (length kept - n) kept) now before undone
     ∙ leads-put_back gives keeps put first cs ns (take (length kept - n) kept) before older
-
-total-join : (xs ys : List ℕ) → total (xs ++ ys) ≡ total xs + total ys
-total-join [] ys = omega arith
-total-join (x ∷ xs) ys = let rest = total-join xs ys in omega (arith, rest)
-
-pub total-last : (xs : List ℕ) (n : ℕ) → total (xs ++ n ∷ []) ≡ total xs + n
-total-last xs n = let joined = total-join xs (n ∷ []) in omega (arith, joined)
 
 -- all values are counted
 pub leads-total : {S C O F : Type 0} (gives : S → C → Result S F) (keeps : S → C → List O) (put : S → O → Option S) (first : S)

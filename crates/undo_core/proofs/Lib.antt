@@ -1,5 +1,7 @@
 pub mod CountLemmas
+pub mod Ending
 pub mod LeadsLemmas
+pub mod Parting
 pub mod Redoing
 mod ReplayLemmas
 pub mod RunLemmas

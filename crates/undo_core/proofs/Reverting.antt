@@ -1,7 +1,7 @@
 -- The last of a list of old values is put back first.
-use Rattle.std.proofs.Common.{ℕ, ◌≡◌, ◌+◌, ◌-◌, ◌<◌, ◌≤◌, ◌++◌, ◌∙◌, List, [], ◌∷◌, Option, Some, None, IsSome, length, take, drop, refl, sym, ap, subst, arith, length-append}
-use Rattle.std.proofs.Math.Seq.{take-append_seam}
-use Rattle.std.proofs.lemmas.List.{length-take-le, take-take, take-append-drop, drop-append-le}
+use Rattle.std.proofs.Common.{ℕ, ◌≡◌, ◌+◌, ◌-◌, ◌<◌, ◌≤◌, ◌++◌, ◌∙◌, List, [], ◌∷◌, Option, Some, None, IsSome, length, take, drop, reverse, refl, sym, ap, subst, arith, length-append}
+use Rattle.std.proofs.Math.Seq.{take-append_seam, drop-append_seam}
+use Rattle.std.proofs.lemmas.List.{length-take-le, length-drop, length-reverse, reverse-append, take-take, take-append-drop, drop-append-le}
 use Rattle.std.specs.Option.{option_and_then}
 use Rattle.undo_core.specs.Replay.{put_back}
 
@@ -89,3 +89,12 @@ cut-some xs all n some is within =
     let len = cut-length xs all n is within in
     let place : length xs - some ≡ n - some = omega (arith, len) in
     ap (take (length xs - some)) is ∙ take-take (length xs - some) n all (omega (arith, len)) ∙ ap (λ k. take k all) place
+
+-- backwards, the first values of a list are those after the last ones
+pub front-reversed : {O : Type 0} (xs all : List O) (m : ℕ) → xs ≡ take (length all - m) all → m ≤ length all → reverse xs ≡ drop m (reverse all)
+front-reversed xs all m is within =
+    let k = length all - m in
+    let whole : reverse all ≡ reverse (drop k all) ++ reverse (take k all) = ap reverse (sym (take-append-drop k all)) ∙ reverse-append (take k all) (drop k all) in
+    let many : length (reverse (drop k all)) ≡ m = length-reverse (drop k all) ∙ length-drop k all ∙ omega (arith, within) in
+    ap reverse is ∙ sym (drop-append_seam (reverse (drop k all)) (reverse (take k all))) ∙ ap (λ n. drop n (reverse (drop k all) ++ reverse (take k all))) many
+    ∙ ap (drop m) (sym whole)

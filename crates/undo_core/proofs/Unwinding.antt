@@ -2,11 +2,10 @@
 use Rattle.std.proofs.Common.{◌≡◌, ℕ, zero, suc, nat_lt, true, false, ◌+◌, ◌-◌, ◌<◌, ◌≤◌, List, [], ◌∷◌, ◌++◌, length, take, drop, get_or, Option, Result, refl, sym, ◌∙◌, ap, subst, arith, length-append}
 use Rattle.std.proofs.lemmas.Bool.Decides.{nat_tests}
 use Rattle.std.proofs.lemmas.List.{length-take-le, length-drop, take_all, take_more, take-take, drop-take, drop-drop, get_or_append_left, get_or_at}
-use Rattle.undo_core.specs.Counts.{counts_of, count_large, parts_of, total}
+use Rattle.undo_core.specs.Counts.{parts_of, total}
 use Rattle.undo_core.specs.Replay.{replay, unwound, TakesBack}
 use Rattle.undo_core.specs.Leads.{IsSound, TakeBack}
-use Rattle.undo_core.proofs.CountLemmas.{length-counts}
-use Rattle.undo_core.proofs.LeadsLemmas.{total-last}
+use Rattle.undo_core.proofs.CountLemmas.{total-last}
 use Rattle.undo_core.proofs.Sound.{sound_replay, sound_total, last_of, back_sound}
 
 length-parts : {O : Type 0} (ns : List ℕ) (kept : List O) → length (parts_of ns kept) ≡ length ns
@@ -104,56 +103,44 @@ module _ {S C O F : Type 0} {gives : S → C → Result S F} {keeps : S → C �
       ] refl)
 
   -- what a journal keeps takes its changes back
-  pub take_back : (state : S) (kept : List O) (bytes large : List ℕ) → count_large bytes ≡ length large → IsSound gives keeps put state kept changes (counts_of bytes large) →
-      TakeBack gives put (unwound put kept state) (take (length (counts_of bytes large)) changes) kept bytes large
-  take_back state kept bytes large counted sound = record {
+  pub take_back : (state : S) (kept : List O) (counts : List ℕ) (done : ℕ) → done ≡ length counts → IsSound gives keeps put state kept changes counts →
+      TakeBack gives put (unwound put kept state) (take done changes) kept counts done
+  take_back state kept counts done counted sound = record {
     counted = counted;
     whole = sound_total sound;
-    parts = λ k below. each_part (length (counts_of bytes large)) state kept (counts_of bytes large) refl sound k (omega (arith, below, length-counts bytes large));
+    parts = rw counted (each_part (length counts) state kept counts refl sound);
   }
 
-module _ {S C O F : Type 0} {gives : S → C → Result S F} {put : S → O → Option S} {changes : List C} {first : S} {kept : List O} {bytes large : List ℕ} where
+module _ {S C O F : Type 0} {gives : S → C → Result S F} {put : S → O → Option S} {changes : List C} {first : S} {kept : List O} {counts : List ℕ} {left : ℕ} where
   -- the last part is read, and the others are left
-  pub take_back-rest : (left : List O) (fewer less : List ℕ) (count : ℕ) → TakeBack gives put first changes kept bytes large →
-      counts_of bytes large ≡ counts_of fewer less ++ count ∷ [] → count_large fewer ≡ length less → left ≡ take (length kept - count) kept →
-      TakeBack gives put first changes left fewer less
-  take_back-rest left fewer less count back ends counted is =
-      let ns = counts_of fewer less in
+  pub take_back-rest : (before : List O) (rest : List ℕ) (less count : ℕ) → TakeBack gives put first changes kept counts left →
+      counts ≡ rest ++ count ∷ [] → less + 1 ≡ left → before ≡ take (length kept - count) kept → TakeBack gives put first changes before rest less
+  take_back-rest before rest less count back ends one is =
       let whole = rw ends at back.whole in
-      let more = ap length ends ∙ length-append ns (count ∷ []) in
-      let front = total-last ns count in
+      let more = ap length ends ∙ length-append rest (count ∷ []) in
+      let front = total-last rest count in
       let len = length-take-le (length kept - count) kept (omega arith) in
       rw is record {
-        counted = counted;
+        counted = omega (arith, one, back.counted, more);
         whole = omega (arith, whole, front, len);
         parts = λ k below.
-            let there = back.parts k (omega (arith, below, more, length-counts bytes large, length-counts fewer less)) in
-            let value : get_or (parts_of (counts_of bytes large) kept) k [] ≡ get_or (parts_of ns (take (length kept - count) kept)) k [] =
-            ap (λ (l : List ℕ). get_or (parts_of l kept) k []) ends ∙ part-before ns count k kept whole (omega (arith, below, length-counts fewer less)) in
+            let there = back.parts k (omega (arith, below, more)) in
+            let value : get_or (parts_of counts kept) k [] ≡ get_or (parts_of rest (take (length kept - count) kept)) k [] =
+            ap (λ (l : List ℕ). get_or (parts_of l kept) k []) ends ∙ part-before rest count k kept whole below in
             subst (TakesBack gives put first changes k) value there;
       }
 
-  pub take_back-last : (values : List O) (fewer less : List ℕ) (count : ℕ) → TakeBack gives put first changes kept bytes large →
-      counts_of bytes large ≡ counts_of fewer less ++ count ∷ [] → values ≡ drop (length kept - count) kept →
-      TakesBack gives put first changes (length fewer) values
-  take_back-last values fewer less count back ends is =
-      let ns = counts_of fewer less in
+  pub take_back-last : (values : List O) (rest : List ℕ) (less count : ℕ) → TakeBack gives put first changes kept counts left →
+      counts ≡ rest ++ count ∷ [] → less + 1 ≡ left → values ≡ drop (length kept - count) kept → TakesBack gives put first changes less values
+  take_back-last values rest less count back ends one is =
       let whole = rw ends at back.whole in
-      let more = ap length ends ∙ length-append ns (count ∷ []) in
-      let there = back.parts (length fewer) (omega (arith, more, length-counts bytes large, length-counts fewer less)) in
-      let place : length fewer ≡ length ns = sym (length-counts fewer less) in
-      let value : get_or (parts_of (counts_of bytes large) kept) (length fewer) [] ≡ drop (length kept - count) kept =
-      ap (λ (l : List ℕ). get_or (parts_of l kept) (length fewer) []) ends ∙ ap (λ k. get_or (parts_of (ns ++ count ∷ []) kept) k []) place
-      ∙ part-last ns count kept whole in
-      subst (TakesBack gives put first changes (length fewer)) (value ∙ sym is) there
-
-  -- so many values are there
-  pub take_back-within : (fewer less : List ℕ) (count : ℕ) → TakeBack gives put first changes kept bytes large →
-      counts_of bytes large ≡ counts_of fewer less ++ count ∷ [] → count ≤ length kept
-  take_back-within fewer less count back ends =
-      let whole = rw ends at back.whole in
-      let all = total-last (counts_of fewer less) count in
-      omega (arith, whole, all)
+      let more = ap length ends ∙ length-append rest (count ∷ []) in
+      let there = back.parts less (omega (arith, more, one, back.counted)) in
+      let place : less ≡ length rest = omega (arith, more, one, back.counted) in
+      let value : get_or (parts_of counts kept) less [] ≡ drop (length kept - count) kept =
+      ap (λ (l : List ℕ). get_or (parts_of l kept) less []) ends ∙ ap (λ k. get_or (parts_of (rest ++ count ∷ []) kept) k []) place
+      ∙ part-last rest count kept whole in
+      subst (TakesBack gives put first changes less) (value ∙ sym is) there
 
 -- all of a list, by the number of its last item
 pub whole : {A : Type 0} (xs : List A) (n : ℕ) → n + 1 ≡ length xs → take (n + 1) xs ≡ xs

@@ -1,7 +1,7 @@
 -- How the values that a journal keeps lead back from its state to the first one.
-use Rattle.std.specs.Prelude.{◌≡◌, ℕ, ◌-◌, ◌<◌, ◌≤◌, List, [], ◌∷◌, length, take, drop, get_or, reverse, Option, Some, Result, Ok, IsSome}
+use Rattle.std.specs.Prelude.{◌≡◌, ℕ, ◌-◌, ◌<◌, ◌≤◌, Bool, List, [], ◌∷◌, length, take, drop, get_or, reverse, Option, Some, Result, Ok, IsSome}
 use Rattle.undo_core.specs.Replay.{replay, put_back, unwound, TakesBack}
-use Rattle.undo_core.specs.Counts.{counts_of, count_large, parts_of, total}
+use Rattle.undo_core.specs.Counts.{parts_of, total, counts_in, open_in, ArePlaces}
 use Rattle.undo_core.specs.Runs.{items_of, IsRising}
 use Rattle.undo_core.specs.declared.runs.Run.{Run}
 
@@ -30,16 +30,29 @@ pub record IsSound {S C O F : Type 0} (gives : S → C → Result S F) (keeps : 
   pub done : Leads gives keeps put (unwound put kept state) (reverse (take (length counts) changes)) (reverse counts) kept state
   pub ahead : IsSome (replay gives state (drop (length counts) changes))
 
+-- values of so many changes, all of which have ended
+pub record IsParted {O : Type 0} (last : O → Bool) (kept : List O) (places : List ℕ) (done : ℕ) : Type 0 where
+  pub counted : done ≡ length (counts_in last (reverse places) (reverse kept))
+  pub placed : ArePlaces (length kept) (reverse places)
+  pub ended : open_in last (reverse places) (reverse kept) ≡ 0
+
 -- the same of what a journal stores
-pub record IsStored {S C O F : Type 0} (gives : S → C → Result S F) (keeps : S → C → List O) (put : S → O → Option S)
-    (state : S) (kept : List O) (runs : List (Run C)) (bytes large : List ℕ) : Type 0 where
+pub record IsStored {S C O F : Type 0} (gives : S → C → Result S F) (keeps : S → C → List O) (put : S → O → Option S) (last : O → Bool)
+    (state : S) (kept : List O) (runs : List (Run C)) (places : List ℕ) (done : ℕ) : Type 0 where
   pub rising : IsRising 0 runs
-  pub counted : count_large bytes ≡ length large
-  pub sound : IsSound gives keeps put state kept (items_of 0 runs) (counts_of bytes large)
+  pub parted : IsParted last kept places done
+  pub sound : IsSound gives keeps put state kept (items_of 0 runs) (counts_in last (reverse places) (reverse kept))
 
 -- each part of the values takes back the change of its number
 pub record TakeBack {S C O F : Type 0} (gives : S → C → Result S F) (put : S → O → Option S) (first : S) (changes : List C)
-    (kept : List O) (bytes large : List ℕ) : Type 0 where
-  pub counted : count_large bytes ≡ length large
-  pub whole : total (counts_of bytes large) ≡ length kept
-  pub parts : (k : ℕ) → k < length bytes → TakesBack gives put first changes k (get_or (parts_of (counts_of bytes large) kept) k [])
+    (kept : List O) (counts : List ℕ) (left : ℕ) : Type 0 where
+  pub counted : left ≡ length counts
+  pub whole : total counts ≡ length kept
+  pub parts : (k : ℕ) → k < length counts → TakesBack gives put first changes k (get_or (parts_of counts kept) k [])
+
+-- the same, where the values, so many of them, are parted by what they say and at places
+pub record IsRead {S C O F : Type 0} (gives : S → C → Result S F) (put : S → O → Option S) (last : O → Bool) (first : S) (changes : List C)
+    (kept : List O) (count : ℕ) (places : List ℕ) (left : ℕ) : Type 0 where
+  pub all : count ≡ length kept
+  pub parted : IsParted last kept places left
+  pub back : TakeBack gives put first changes kept (counts_in last (reverse places) (reverse kept)) left

@@ -1,42 +1,37 @@
 //! A change that was done, added to those before it.
 ghost use Rattle.std.specs.Prelude.{◌≡◌, ◌+◌, ◌-◌, ◌<◌, ◌≤◌, ◌^◌, ◌++◌, [], ◌∷◌, length, take, get_or, vec_len, vec_capacity, IsTrue, OnOk, OnErr};
-ghost use Rattle.undo_core.specs.Counts.{counts_of, count_large};
+ghost use Rattle.undo_core.specs.Counts.{places_after};
 ghost use Rattle.undo_core.specs.Runs.{items_of, IsRising};
 
-use crate::counts::{append_count, append_small, is_small};
+use crate::places::note_end;
 use crate::runs::{Run, append, count_in, cut, lengthen};
 use crate::undo::Undo;
 use std::alloc::AllocError;
 
-/// Puts a change, which keeps so many values, in the place of all from the end of those done on. Out of memory, nothing is altered.
-// The same as the last one where none stands ahead is what a step mostly is, and asks for the least.
+/// Puts a change, which ends at so many values, in the place of all from the end of those done on. Out of memory, nothing is altered.
+// The same as the last one where none stands ahead is what a step mostly is, and asks for no memory.
 #[inline(always)]
 pub(crate) fn add<S: Undo>(
     changes: &mut Vec<Run<S::Change>>,
-    counts: &mut Vec<u8>,
-    large: &mut Vec<usize>,
+    places: &mut Vec<usize>,
+    done: usize,
     change: S::Change,
-    count: usize,
+    end: usize,
 ) -> Result<(), AllocError>
     requires rising { IsRising 0 changes.old.items }
-    requires within { length counts.old.items ≤ length (items_of 0 changes.old.items) }
-    requires sound { count_large counts.old.items ≡ length large.old.items }
+    requires within { done ≤ length (items_of 0 changes.old.items) }
+    requires few { done < 2 ^ 63 }
     ensures rising { OnOk result (IsRising 0 changes.new.items) }
-    ensures items { OnOk result (items_of 0 changes.new.items ≡ take (length counts.old.items) (items_of 0 changes.old.items) ++ change ∷ []) }
-    ensures sound { OnOk result (count_large counts.new.items ≡ length large.new.items) }
-    ensures counts { OnOk result (counts_of counts.new.items large.new.items ≡ counts_of counts.old.items large.old.items ++ count ∷ []) }
-    ensures more { OnOk result (length counts.new.items ≡ length counts.old.items + 1) }
+    ensures items { OnOk result (items_of 0 changes.new.items ≡ take done (items_of 0 changes.old.items) ++ change ∷ []) }
+    ensures places { OnOk result (places.new.items ≡ places_after (S.ends change) end places.old.items) }
     ensures same { OnErr result (changes.new.items ≡ changes.old.items) }
-    ensures same_counts { OnErr result (counts.new.items ≡ counts.old.items) }
-    ensures same_large { OnErr result (large.new.items ≡ large.old.items) }
+    ensures same_places { OnErr result (places.new.items ≡ places.old.items) }
 {
-    if is_small(count) && is_next::<S>(changes, counts.len(), &change) {
-        counts.reserve(1)?;
+    if S::ends(&change) && is_next::<S>(changes, done, &change) {
         lengthen(changes, change);
-        append_small(counts, large, count);
         Ok(())
     } else {
-        add_apart::<S>(changes, counts, large, change, count)
+        add_apart::<S>(changes, places, done, change, end)
     }
 }
 
@@ -44,28 +39,24 @@ pub(crate) fn add<S: Undo>(
 #[inline(never)]
 fn add_apart<S: Undo>(
     changes: &mut Vec<Run<S::Change>>,
-    counts: &mut Vec<u8>,
-    large: &mut Vec<usize>,
+    places: &mut Vec<usize>,
+    done: usize,
     change: S::Change,
-    count: usize,
+    end: usize,
 ) -> Result<(), AllocError>
     requires rising { IsRising 0 changes.old.items }
-    requires within { length counts.old.items ≤ length (items_of 0 changes.old.items) }
-    requires sound { count_large counts.old.items ≡ length large.old.items }
+    requires within { done ≤ length (items_of 0 changes.old.items) }
+    requires few { done < 2 ^ 63 }
     ensures rising { OnOk result (IsRising 0 changes.new.items) }
-    ensures items { OnOk result (items_of 0 changes.new.items ≡ take (length counts.old.items) (items_of 0 changes.old.items) ++ change ∷ []) }
-    ensures sound { OnOk result (count_large counts.new.items ≡ length large.new.items) }
-    ensures counts { OnOk result (counts_of counts.new.items large.new.items ≡ counts_of counts.old.items large.old.items ++ count ∷ []) }
-    ensures more { OnOk result (length counts.new.items ≡ length counts.old.items + 1) }
+    ensures items { OnOk result (items_of 0 changes.new.items ≡ take done (items_of 0 changes.old.items) ++ change ∷ []) }
+    ensures places { OnOk result (places.new.items ≡ places_after (S.ends change) end places.old.items) }
     ensures same { OnErr result (changes.new.items ≡ changes.old.items) }
-    ensures same_counts { OnErr result (counts.new.items ≡ counts.old.items) }
-    ensures same_large { OnErr result (large.new.items ≡ large.old.items) }
+    ensures same_places { OnErr result (places.new.items ≡ places.old.items) }
 {
     changes.reserve(1)?;
-    counts.reserve(1)?;
-    large.reserve(1)?;
-    put_last::<S>(changes, counts.len(), change);
-    append_count(counts, large, count);
+    places.reserve(1)?;
+    put_last::<S>(changes, done, change);
+    note_end::<S>(places, &change, end);
     Ok(())
 }
 

@@ -6,9 +6,9 @@ ghost use Rattle.undo_core.specs.Replay.{replay, count_kept};
 
 use crate::adding::add;
 use crate::changes::Changes;
-use crate::counts::{append_count, take_count};
-use crate::kept::{Kept, revert};
+use crate::kept::{Kept, revert, revert_part};
 use crate::past::Past;
+use crate::places::{leave_place, newest, note_end};
 use crate::runs::{Run, count_in, item_at};
 use crate::undo::Undo;
 use mix_refused::{Memory, Refused};
@@ -21,11 +21,12 @@ pub struct Journal<S: Undo> {
     state: S,
     // The old values of the changes done, one change after the other.
     kept: Kept<S::Old>,
-    // The changes done, as many as there are counts, and after them those ahead.
+    // The changes done, and after them those ahead.
     changes: Vec<Run<S::Change>>,
-    // How many values each change done keeps, and the large ones of these counts.
-    counts: Vec<u8>,
-    large: Vec<usize>,
+    // How many are done.
+    done: usize,
+    // How many values were kept after each change done of which no value says its end.
+    places: Vec<usize>,
 }
 
 impl<S: Undo> Model for Journal<S> {
@@ -37,9 +38,9 @@ impl<S: Undo> Model for Journal<S> {
 
     ghost Value = { History S S.Change };
 
-    ghost view = { λ j. record { first = unwound S.put j.kept.items j.state; changes = take (length j.counts.items) (items_of 0 j.changes.items); ahead = drop (length j.counts.items) (items_of 0 j.changes.items) } };
+    ghost view = { λ j. record { first = unwound S.put j.kept.items j.state; changes = take j.done (items_of 0 j.changes.items); ahead = drop j.done (items_of 0 j.changes.items) } };
 
-    ghost invariant = { λ j. IsStored S.gives S.keeps S.put j.state j.kept.items j.changes.items j.counts.items j.large.items };
+    ghost invariant = { λ j. IsStored S.gives S.keeps S.put S.Old.is_last j.state j.kept.items j.changes.items j.places.items j.done };
 }
 
 impl<S: Undo> Journal<S> {
@@ -53,8 +54,8 @@ impl<S: Undo> Journal<S> {
             state: s,
             kept: Kept::new(alloc),
             changes: Vec::new(alloc),
-            counts: Vec::new(alloc),
-            large: Vec::new(alloc),
+            done: 0,
+            places: Vec::new(alloc),
         }
     }
 
@@ -75,17 +76,14 @@ impl<S: Undo> Journal<S> {
     {
         let from = self.kept.len();
         self.state.apply(&change, &mut self.kept)?;
-        let many = self.kept.len() - from;
-        match add::<S>(
-            &mut self.changes,
-            &mut self.counts,
-            &mut self.large,
-            change,
-            many,
-        ) {
-            Ok(()) => Ok(()),
+        let end = self.kept.len();
+        match add::<S>(&mut self.changes, &mut self.places, self.done, change, end) {
+            Ok(()) => {
+                self.done += 1;
+                Ok(())
+            }
             Err(_) => {
-                revert(&mut self.state, &mut self.kept, many);
+                revert(&mut self.state, &mut self.kept, end - from);
                 Err(Refused::Memory)
             }
         }
@@ -103,10 +101,17 @@ impl<S: Undo> Journal<S> {
         ensures all { self.new.changes ++ self.new.ahead ≡ self.old.changes ++ self.old.ahead }
         ensures none { OnFalse result (self.new ≡ self.old) }
     {
-        let Some(count) = take_count(&mut self.counts, &mut self.large) else {
+        if self.done == 0 {
             return false;
-        };
-        revert(&mut self.state, &mut self.kept, count);
+        }
+        let count = self.kept.len();
+        leave_place(&mut self.places, count);
+        revert_part(
+            &mut self.state,
+            &mut self.kept,
+            count - newest(&self.places),
+        );
+        self.done -= 1;
         true
     }
 
@@ -125,14 +130,12 @@ impl<S: Undo> Journal<S> {
         if self.ahead() == 0 {
             return Ok(false);
         }
-        self.counts.reserve(1)?;
-        self.large.reserve(1)?;
-        let from = self.kept.len();
-        let change = item_at(&self.changes, self.counts.len());
+        self.places.reserve(1)?;
+        let change = item_at(&self.changes, self.done);
         match self.state.apply(&change, &mut self.kept) {
             Ok(()) => {
-                let count = self.kept.len() - from;
-                append_count(&mut self.counts, &mut self.large, count);
+                note_end::<S>(&mut self.places, &change, self.kept.len());
+                self.done += 1;
             }
             Err(Refused::Memory) => return Err(Memory),
             Err(Refused::Fault(_)) => unreachable!(),
@@ -151,7 +154,7 @@ impl<S: Undo> Journal<S> {
     pub fn changes(&self) -> Changes<'_, S::Change>
         ensures { result ≡ self.now.changes }
     {
-        Changes::of(&self.changes, self.counts.len())
+        Changes::of(&self.changes, self.done)
     }
 
     /// All changes, those done and after them those ahead. It takes no memory.
@@ -166,7 +169,8 @@ impl<S: Undo> Journal<S> {
         ensures of { result.of ≡ self.now }
         ensures left { result.left ≡ length self.now.changes }
     {
-        Past::of(self, self.kept.backwards(), &self.counts, &self.large)
+        let count = self.kept.len();
+        Past::of(self, self.kept.backwards(), count, &self.places, self.done)
     }
 
     /// Repeats the change with this number, counted from 0 over those done and those taken back, on
@@ -190,14 +194,15 @@ impl<S: Undo> Journal<S> {
         ensures count { result ≡ length self.now.changes }
         ensures few { result < 2 ^ 63 }
     {
-        self.counts.as_slice().len()
+        let _few = self.kept.len();
+        self.done
     }
 
     /// How many changes stand ahead. It takes no memory.
     pub fn ahead(&self) -> usize
         ensures { result ≡ length self.now.ahead }
     {
-        count_in(&self.changes) - self.counts.len()
+        count_in(&self.changes) - self.done
     }
 
     /// How many old values the changes done keep. It takes no memory.

@@ -1,5 +1,6 @@
 //! The old values that changes keep, in units of 32 bits.
-ghost use Rattle.std.specs.Prelude.{◌≡◌, ◌+◌, ◌-◌, ◌<◌, ◌≤◌, ◌^◌, ◌++◌, [], ◌∷◌, Some, IsSome, length, take, drop, MatchOption, OnOk, OnErr};
+ghost use Rattle.std.specs.Prelude.{◌≡◌, ◌+◌, ◌-◌, ◌<◌, ◌≤◌, ◌^◌, ◌++◌, [], ◌∷◌, Some, IsSome, length, take, drop, reverse, MatchOption, OnOk, OnErr};
+ghost use Rattle.undo_core.specs.Counts.{newest_part};
 ghost use Rattle.undo_core.specs.Replay.{put_back};
 
 use crate::pack::{Pack, PackAll};
@@ -46,8 +47,10 @@ impl<O: Pack> Kept<O> {
     /// How many values there are. It takes no memory.
     #[inline(always)]
     pub fn len(&self) -> usize
-        ensures { result ≡ length self.now.items }
+        ensures count { result ≡ length self.now.items }
+        ensures few { result < 2 ^ 63 }
     {
+        let _units = self.units.as_slice().len();
         self.count
     }
 
@@ -130,6 +133,48 @@ impl<O: Pack> Kept<O> {
     {
         Backwards::of(&self.units, self.anchor)
     }
+}
+
+/// Puts back the values that the last change keeps, of at most so many, and removes them: the last value, and those before it down to one that ends
+/// the change before. Returns how many. It takes no memory.
+#[inline(always)]
+pub(crate) fn revert_part<S: Undo>(state: &mut S, kept: &mut Kept<S::Old>, most: usize) -> usize
+    requires some { 0 < most }
+    requires within { most ≤ length kept.old.items }
+    requires fits { IsSome (put_back S.put (drop (length kept.old.items - most) kept.old.items) state.old) }
+    ensures is { result ≡ newest_part S.Old.is_last most (reverse kept.old.items) }
+    ensures back { put_back S.put (drop (length kept.old.items - result) kept.old.items) state.old ≡ Some state.new }
+    ensures cut { kept.new.items ≡ take (length kept.old.items - result) kept.old.items }
+{
+    let part = restore_part(state, &mut kept.units, &mut kept.anchor, most);
+    kept.count -= part;
+    part
+}
+
+// The same of what units say.
+#[inline(always)]
+fn restore_part<S: Undo>(
+    state: &mut S,
+    units: &mut Vec<u32>,
+    anchor: &mut <S::Old as Pack>::Anchor,
+    most: usize,
+) -> usize
+    requires some { 0 < most }
+    requires within { most ≤ length (S.Old.said anchor.old units.old.items) }
+    requires fits { IsSome (put_back S.put (drop (length (S.Old.said anchor.old units.old.items) - most) (S.Old.said anchor.old units.old.items)) state.old) }
+    ensures is { result ≡ newest_part S.Old.is_last most (reverse (S.Old.said anchor.old units.old.items)) }
+    ensures within { result ≤ most }
+    ensures back { put_back S.put (drop (length (S.Old.said anchor.old units.old.items) - result) (S.Old.said anchor.old units.old.items)) state.old ≡ Some state.new }
+    ensures cut { S.Old.said anchor.new units.new.items ≡ take (length (S.Old.said anchor.old units.old.items) - result) (S.Old.said anchor.old units.old.items) }
+{
+    let mut many = state.restore_some(units, anchor, most);
+    while many < most {
+        if S::Old::is_ended(units, *anchor) {
+            return many;
+        }
+        many += state.restore_some(units, anchor, most - many);
+    }
+    many
 }
 
 /// Puts back the last `count` values of `kept`, the last one first, and removes them. It takes no

@@ -3,11 +3,11 @@
 
 mod adding;
 mod changes;
-mod counts;
 mod journal;
 mod kept;
 mod pack;
 mod past;
+mod places;
 mod runs;
 mod undo;
 mod values;

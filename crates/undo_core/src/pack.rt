@@ -1,5 +1,6 @@
 //! Values that can be kept in units of 32 bits, one after the other.
-ghost use Rattle.std.specs.Prelude.{◌≡◌, ◌+◌, ◌*◌, ◌<◌, ◌≤◌, ℕ, ◌++◌, [], ◌∷◌, List, MatchOption, length, take, refl, vec_len, vec_capacity};
+ghost use Rattle.std.specs.Prelude.{◌≡◌, ◌+◌, ◌*◌, ◌<◌, ◌≤◌, ℕ, Bool, true, ◌++◌, [], ◌∷◌, List, MatchOption, length, take, reverse, refl, vec_len, vec_capacity};
+ghost use Rattle.undo_core.specs.Counts.{is_ended};
 ghost use Rattle.undo_core.specs.Pack.{unit_list};
 ghost use Rattle.std.proofs.Common.{arith};
 
@@ -17,6 +18,13 @@ pub trait Pack: Copy {
 
     /// Units say no more than three values each.
     ghost said_fewer: { (anchor : Self.Anchor) (units : List ℕ) → length (said anchor units) ≤ 3 * length units };
+
+    /// Whether a change ends in a value as this, where it ends in a value that says so.
+    ghost is_last: { Self → Bool };
+
+    /// Whether it is one of those in which changes end.
+    fn is_last(self) -> bool
+        ensures { result ≡ is_last self };
 
     /// The anchor of no units.
     fn anchor() -> Self::Anchor;
@@ -41,6 +49,18 @@ pub trait Pack: Copy {
         ensures is { MatchOption result (said anchor (units.now ++ unit_list more) ≡ [])
             (λ last. said anchor (units.now ++ unit_list more) ≡ said last.anchor (take last.left units.now ++ unit_list last.more) ++ last.value ∷ []) }
         ensures within { MatchOption result (said anchor (units.now ++ unit_list more) ≡ []) (λ last. last.left ≤ length units.now) };
+
+    /// Whether units, which say some values, end in one in which changes end.
+    #[inline(always)]
+    fn is_ended(units: &[u32], anchor: Self::Anchor) -> bool
+        requires { 0 < length (said anchor units.now) }
+        ensures { result ≡ is_ended is_last (reverse (said anchor units.now)) }
+    {
+        match Self::last(units, None, anchor) {
+            Some(last) => last.value.is_last(),
+            None => true,
+        }
+    }
 }
 
 /// Values that are packed together, which may take fewer units than each of them by itself.
@@ -69,7 +89,7 @@ pub struct Last<O: Copy, A: Copy> {
     pub anchor: A,
 }
 
-/// A number is a unit, whatever is known.
+/// A number is a unit, whatever is known, and ends its change.
 impl Pack for u32 {
     type Anchor = ();
 
@@ -78,6 +98,12 @@ impl Pack for u32 {
     ghost said_none = { λ _. refl };
 
     ghost said_fewer = { λ _ units. omega arith };
+
+    ghost is_last = { λ _. true };
+
+    fn is_last(self) -> bool {
+        true
+    }
 
     fn anchor() {}
 

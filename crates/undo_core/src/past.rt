@@ -1,9 +1,9 @@
 //! A journal read from its last change backwards.
-ghost use Rattle.std.specs.Prelude.{◌≡◌, ◌+◌, length, MatchOption};
+ghost use Rattle.std.specs.Prelude.{◌≡◌, ◌+◌, MatchOption};
 ghost use Rattle.undo_core.specs.Replay.{TakesBack};
 
-use crate::counts::last_count;
 use crate::journal::Journal;
+use crate::places::{before_place, last_part};
 use crate::undo::Undo;
 use crate::values::{Backwards, Values};
 use std::marker::Model;
@@ -13,41 +13,44 @@ use std::marker::Model;
 pub struct Past<'a, S: Undo> {
     journal: &'a Journal<S>,
     kept: Backwards<'a, S::Old>,
-    counts: &'a [u8],
-    large: &'a [usize],
+    // how many values and changes they are, and the places at which changes end
+    count: usize,
+    places: &'a [usize],
+    left: usize,
 }
 
 impl<'a, S: Undo> Model for Past<'a, S> {
-    ghost use Rattle.std.specs.Prelude.{length};
     ghost use Rattle.undo_core.specs.History.{Reading};
-    ghost use Rattle.undo_core.specs.Leads.{TakeBack};
+    ghost use Rattle.undo_core.specs.Leads.{IsRead};
 
     ghost Value = { Reading S S.Change };
 
-    ghost view = { λ p. record { of = p.journal.now; left = length p.counts.now } };
+    ghost view = { λ p. record { of = p.journal.now; left = p.left } };
 
-    ghost invariant = { λ p. TakeBack S.gives S.put p.journal.now.first p.journal.now.changes p.kept p.counts.now p.large.now };
+    ghost invariant = { λ p. IsRead S.gives S.put S.Old.is_last p.journal.now.first p.journal.now.changes p.kept p.count p.places.now p.left };
 }
 
 impl<'a, S: Undo> Past<'a, S> {
-    ghost use Rattle.undo_core.specs.Leads.{TakeBack};
+    ghost use Rattle.undo_core.specs.Leads.{IsRead};
 
     /// All that a journal keeps.
     pub(crate) fn of(
         journal: &'a Journal<S>,
         kept: Backwards<'a, S::Old>,
-        counts: &'a [u8],
-        large: &'a [usize],
+        count: usize,
+        places: &'a [usize],
+        left: usize,
     ) -> Past<'a, S>
-        requires { TakeBack S.gives S.put journal.now.first journal.now.changes kept counts.now large.now }
+        requires { IsRead S.gives S.put S.Old.is_last journal.now.first journal.now.changes kept count places.now left }
         ensures of { result.of ≡ journal.now }
-        ensures left { result.left ≡ length counts.now }
+        ensures left { result.left ≡ left }
     {
         Past {
             journal,
             kept,
-            counts,
-            large,
+            count,
+            places,
+            left,
         }
     }
 
@@ -57,11 +60,16 @@ impl<'a, S: Undo> Past<'a, S> {
         ensures left { MatchOption result (self.old.left ≡ 0) (λ _. self.old.left ≡ self.new.left + 1) }
         ensures back { MatchOption result (self.new.left ≡ 0) (λ values. TakesBack S.gives S.put self.old.of.first self.old.of.changes self.new.left values) }
     {
-        let (counts, large, count) = last_count(self.counts, self.large)?;
-        let values = Values::of(self.kept.copied(), count);
-        self.kept = self.kept.before(count);
-        self.counts = counts;
-        self.large = large;
+        if self.left == 0 {
+            return None;
+        }
+        let places = before_place(self.places, self.count);
+        let many = last_part(&self.kept, self.count, places);
+        let values = Values::of(self.kept.copied(), many);
+        self.kept = self.kept.before(many);
+        self.count -= many;
+        self.places = places;
+        self.left -= 1;
         Some(values)
     }
 }

@@ -1,6 +1,7 @@
 //! A state whose changes can be taken back by the values that they overwrote.
-ghost use Rattle.std.specs.Prelude.{◌≡◌, ◌<◌, ◌≤◌, ◌-◌, ◌++◌, List, Option, Result, Some, Ok, Err, IsOk, IsSome, IsTrue, OnOk, OnErr, length, take, drop};
+ghost use Rattle.std.specs.Prelude.{◌≡◌, ◌<◌, ◌≤◌, ◌-◌, ◌++◌, Bool, List, Option, Result, Some, Ok, Err, IsOk, IsSome, IsTrue, OnOk, OnErr, length, take, drop, reverse};
 ghost use Rattle.mix_refused.specs.Refused.{IfFault, IfMemory};
+ghost use Rattle.undo_core.specs.Counts.{IsPart, newest_part};
 ghost use Rattle.undo_core.specs.Replay.{put_back};
 
 use crate::kept::Kept;
@@ -31,6 +32,13 @@ pub trait Undo: Drop {
     /// The state with one value put back, or none where the value doesn't fit.
     ghost put: { Self → Self.Old → Option Self };
 
+    /// Whether the last value that a change overwrites says its end, and no other does. If not, none of its values does.
+    ghost ends: { Self.Change → Bool };
+
+    /// Whether the last value of a change says its end.
+    fn ends(change: &Self::Change) -> bool
+        ensures { result ≡ ends change.now };
+
     /// Whether two changes are the same. A journal keeps equal ones that follow each other once; where this is false for them, each for itself.
     fn is_same(one: &Self::Change, other: &Self::Change) -> bool
         ensures { IsTrue result → one.now ≡ other.now }
@@ -58,7 +66,8 @@ pub trait Undo: Drop {
         requires { IsSome (put self.old old) }
         ensures { put self.old old ≡ Some self.new };
 
-    /// Takes the last value of units off, and puts it back, and maybe some before it, but at most so many in all. Returns how many. It takes no memory.
+    /// Takes the last value of units off, and puts it back, and maybe some before it, but at most so many in all, and none that ends a change before
+    /// that of the last one. Returns how many. It takes no memory.
     #[inline(always)]
     fn restore_some(
         &mut self,
@@ -73,6 +82,7 @@ pub trait Undo: Drop {
         ensures within { result ≤ most }
         ensures back { put_back put (drop (length (Self.Old.said anchor.old units.old.items) - result) (Self.Old.said anchor.old units.old.items)) self.old ≡ Some self.new }
         ensures cut { Self.Old.said anchor.new units.new.items ≡ take (length (Self.Old.said anchor.old units.old.items) - result) (Self.Old.said anchor.old units.old.items) }
+        ensures part { result ≤ newest_part Self.Old.is_last most (reverse (Self.Old.said anchor.old units.old.items)) }
     {
         match Self::Old::take(units, anchor) {
             Some(value) => self.restore(value),
@@ -94,6 +104,9 @@ pub trait Undo: Drop {
             }
         }
     }
+
+    /// What an accepted change overwrites says its end, or nothing of it does.
+    ghost parts: { (s t : Self) (c : Self.Change) → is_real s c → gives s c ≡ Ok t → IsPart Self.Old.is_last (ends c) (keeps s c) };
 
     /// Putting back the values that an accepted change overwrote gives the state before it.
     ghost undoes: { (s t : Self) (c : Self.Change) → is_real s c → gives s c ≡ Ok t → put_back put (keeps s c) t ≡ Some s };

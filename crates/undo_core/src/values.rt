@@ -1,5 +1,7 @@
 //! Old values read from the last one backwards, without a copy.
-ghost use Rattle.std.specs.Prelude.{◌≡◌, ◌+◌, ◌-◌, ◌≤◌, ◌++◌, [], ◌∷◌, ◌==◌, length, take, drop, MatchOption};
+ghost use Rattle.std.specs.Prelude.{◌≡◌, ◌+◌, ◌-◌, ◌≤◌, ◌++◌, [], ◌∷◌, ◌==◌, ℕ, suc, length, take, drop, reverse, MatchOption};
+ghost use Rattle.undo_core.specs.Counts.{run_of};
+ghost use Rattle.undo_core.specs.Pack.{unit_list};
 
 use crate::pack::Pack;
 use std::marker::{Model, PhantomData};
@@ -34,6 +36,36 @@ impl<'a, O: Pack> Backwards<'a, O> {
             more: None,
             anchor,
             of: PhantomData,
+        }
+    }
+
+    // How many of the last values, at most so many, come before one in which changes end.
+    pub(crate) fn run(&self, most: usize) -> usize
+        ensures is { result ≡ run_of O.is_last most (reverse self.now) }
+        ensures within { result ≤ most }
+    {
+        let mut front = self.copied();
+        let mut left = most;
+        while left > 0 {
+            match front.open_before() {
+                None => return most - left,
+                Some(rest) => front = rest,
+            }
+            left -= 1;
+        }
+        most
+    }
+
+    // Those before the last value, if there is one in which changes do not end.
+    #[tactic(auto, using(crate::proofs::Ending::run_nothing, crate::proofs::Ending::run_ended, crate::proofs::Ending::run_open))]
+    #[inline(always)]
+    fn open_before(&self) -> Option<Backwards<'a, O>>
+        ensures { MatchOption result ((most : ℕ) → run_of O.is_last most (reverse self.now) ≡ 0)
+            (λ rest. (most : ℕ) → run_of O.is_last (suc most) (reverse self.now) ≡ suc (run_of O.is_last most (reverse rest))) }
+    {
+        match self.last() {
+            None => None,
+            Some((value, rest)) => { if value.is_last() { None } else { Some(rest) } }
         }
     }
 

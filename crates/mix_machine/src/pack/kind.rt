@@ -1,6 +1,6 @@
 //! The kinds of packed values, and the headers that say them.
 ghost use Rattle.std.specs.Prelude.{◌≡◌, ◌<◌, ◌^◌, ◌/◌, MatchOption};
-ghost use Rattle.mix_machine.specs.Pack.{header_of, kind_of};
+ghost use Rattle.mix_machine.specs.Pack.{header_of, kind_of, says_clock};
 
 /// What a header says of its values: the location, the clock, a register, a row of cells, the overflow toggle or the comparison indicator, a
 /// breakpoint, or of an input-output unit its place, its length, a word of it or its time. A long register is one whose word takes more than
@@ -62,5 +62,18 @@ impl Kind {
         ensures { result ≡ header_of self payload }
     {
         payload * 16 + self as u32
+    }
+}
+
+/// Whether the last value that a header says is a clock.
+#[inline(always)]
+pub(crate) fn says_clock(header: u32) -> bool
+    ensures { result ≡ says_clock header }
+{
+    match Kind::of(header) {
+        Some(Kind::Clock | Kind::Moment | Kind::WholeMoment) => true,
+        Some(Kind::Jump | Kind::Store) => header / 16 % 2 == 0,
+        Some(Kind::Short) => header / 16 / 16 % 2 == 0,
+        _ => false,
     }
 }

@@ -1,5 +1,5 @@
 //! A counter that refuses to pass nine, and what a journal of it answers.
-ghost use Rattle.std.specs.Prelude.{◌≡◌, ◌+◌, [], ◌∷◌, Some, Ok, Err, nat_le, refl, if◌then◌else◌};
+ghost use Rattle.std.specs.Prelude.{◌≡◌, ◌+◌, [], ◌∷◌, Some, Ok, Err, true, nat_le, refl, if◌then◌else◌};
 ghost use Rattle.mix_machine_tests.specs.declared.tests.counter.CounterFault.TheVariants.{PastNine};
 
 use std::alloc::Global;
@@ -30,7 +30,15 @@ impl Undo for Counter {
 
     ghost put = { λ _ o. Some (record { number = o }) };
 
+    ghost ends = { λ _. true };
+
+    ghost parts = { λ s t c real given. refl };
+
     ghost undoes = { λ s t c real given. refl };
+
+    fn ends(_change: &u8) -> bool {
+        true
+    }
 
     fn is_same(one: &u8, other: &u8) -> bool {
         *one == *other

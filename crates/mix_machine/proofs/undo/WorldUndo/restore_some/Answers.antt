@@ -4,6 +4,7 @@ use Rattle.undo_core.specs.Replay.{put_back}
 use Rattle.mix_machine.specs.Pack.{said}
 use Rattle.mix_machine.specs.Write.{put_value}
 use Rattle.mix_machine.specs.declared.old.Old.{Old}
+use Rattle.mix_machine.proofs.PartLemmas.{part-longer}
 use Rattle.mix_machine.proofs.undo.WorldUndo.restore_some.Goals as goal
 
 pub restore_by-requires-clause-within : goal.restore_by-requires-clause-within
@@ -25,3 +26,7 @@ pub returns-clause-cut : goal.returns-clause-cut
 returns-clause-cut c =
     let n = c.restore_by.result in
     c.restore_by.ensures.restored.cut ∙ ap (λ (vs : List Old). take (length vs - n) vs) (sym (ap (said c.args.anchor.now) c.in-Some.ensures.items))
+
+pub returns-clause-part : goal.returns-clause-part
+returns-clause-part c =
+    part-longer c.restore_by.result c.args.most _ _ (ap (said c.args.anchor.now) c.in-Some.ensures.items) c.restore_by.ensures.restored.part c.restore_by.ensures.within

@@ -7,6 +7,7 @@ use Rattle.mix_machine.specs.Write.{set_value}
 use Rattle.mix_machine.specs.declared.old.Old.TheVariants as old
 use Rattle.mix_machine.specs.Pack.{said, short_word, wide_bits, before_jump, jump_said}
 use Rattle.mix_machine.proofs.PutLemmas.{three-put}
+use Rattle.mix_machine.proofs.PartLemmas.{at-most}
 use Rattle.mix_machine.proofs.RowLemmas.{header-fits, header-restored}
 use Rattle.mix_machine.proofs.StepLemmas.{jump-says}
 use Rattle.mix_machine.proofs.world.World.restore_jump.Goals as goal
@@ -65,4 +66,4 @@ returns-clause-restored c =
     let there = set_value (set_value c.args.self.now (old.Clock b.clock)) (old.Loc b.loc) in
     let state = c.set_value.ensures ∙ ap (λ (s : WorldState). set_value s (old.Reg reg.J c.short.result)) (rw c.before_jump.ensures at c.go_to.ensures)
     ∙ ap (λ (v : WordValue). set_value there (old.Reg reg.J v)) held in
-    rw c.before_jump.ensures (header-restored _ (said b units) (jump_said n a) 3 3 c.args.self.now _ is refl (omega arith) (put.done ∙ ap Some (sym state)))
+    rw c.before_jump.ensures (header-restored _ (said b units) (jump_said n a) 3 c.args.self.now _ is refl (omega arith) (at-most 3) (put.done ∙ ap Some (sym state)))

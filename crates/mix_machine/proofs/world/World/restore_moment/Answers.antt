@@ -2,6 +2,7 @@
 use Rattle.std.proofs.Common.{◌≡◌, ◌/◌, ◌++◌, ◌∷◌, [], ◌∙◌, ap, sym, refl, arith, Some}
 use Rattle.mix_machine.specs.Pack.{said, before_moment, moment_said}
 use Rattle.mix_machine.proofs.PutLemmas.{two-put}
+use Rattle.mix_machine.proofs.PartLemmas.{at-most}
 use Rattle.mix_machine.proofs.RowLemmas.{header-fits, header-restored}
 use Rattle.mix_machine.proofs.StepLemmas.{moment-says}
 use Rattle.mix_machine.proofs.world.World.restore_moment.Goals as goal
@@ -36,4 +37,4 @@ returns-clause-restored c =
     let fit = header-fits _ (said b units) (moment_said n a) c.args.most c.args.self.now is (omega (arith, c.if-most-lt2.false)) c.requires.within c.requires.fits in
     let put = two-put c.args.self.now b.loc b.clock fit in
     rw c.before_moment.ensures
-    (header-restored _ (said b units) (moment_said n a) 2 2 c.args.self.now _ is refl (omega arith) (put.done ∙ ap Some (sym (rw c.before_moment.ensures at c.go_to.ensures))))
+    (header-restored _ (said b units) (moment_said n a) 2 c.args.self.now _ is refl (omega arith) (at-most 2) (put.done ∙ ap Some (sym (rw c.before_moment.ensures at c.go_to.ensures))))

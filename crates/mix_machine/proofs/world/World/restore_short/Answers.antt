@@ -6,6 +6,7 @@ use Rattle.mix_machine.specs.Write.{set_value}
 use Rattle.mix_machine.specs.declared.old.Old.TheVariants as old
 use Rattle.mix_machine.specs.Pack.{said, short_word, wide_bits, before_short, short_said}
 use Rattle.mix_machine.proofs.PutLemmas.{three-put}
+use Rattle.mix_machine.proofs.PartLemmas.{at-most}
 use Rattle.mix_machine.proofs.RowLemmas.{header-fits, header-restored}
 use Rattle.mix_machine.proofs.StepLemmas.{short-says}
 use Rattle.mix_machine.proofs.world.World.restore_short.Goals as goal
@@ -64,4 +65,4 @@ returns-clause-restored c =
     let there = set_value (set_value c.args.self.now (old.Clock b.clock)) (old.Loc b.loc) in
     let state = c.set_value.ensures ∙ ap (λ (s : WorldState). set_value s (old.Reg c.short_register-reg.result c.short-word.result)) (rw c.before_short.ensures at c.go_to.ensures)
     ∙ ap (λ (v : WordValue). set_value there (old.Reg c.short_register-reg.result v)) held in
-    rw c.before_short.ensures (header-restored _ (said b units) (short_said c.short_register-reg.result n a) 3 3 c.args.self.now _ is refl (omega arith) (put.done ∙ ap Some (sym state)))
+    rw c.before_short.ensures (header-restored _ (said b units) (short_said c.short_register-reg.result n a) 3 c.args.self.now _ is refl (omega arith) (at-most 3) (put.done ∙ ap Some (sym state)))

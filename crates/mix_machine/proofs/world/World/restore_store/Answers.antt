@@ -6,6 +6,7 @@ use Rattle.mix_machine.specs.Write.{set_value}
 use Rattle.mix_machine.specs.declared.old.Old.TheVariants as old
 use Rattle.mix_machine.specs.Pack.{said, before_store, store_said}
 use Rattle.mix_machine.proofs.PutLemmas.{after_two}
+use Rattle.mix_machine.proofs.PartLemmas.{at-most}
 use Rattle.mix_machine.proofs.RowLemmas.{header-restored}
 use Rattle.mix_machine.proofs.StoreLemmas.{store-back}
 use Rattle.mix_machine.proofs.world.World.restore_store.Goals as goal
@@ -35,4 +36,4 @@ returns-in-Some-pop-clause-restored c =
     let state = c.set_value.ensures ∙ ap (λ (s : WorldState). set_value s (old.Cell place c.long.result)) (rw c.before_store.ensures at c.go_to.ensures)
     ∙ ap (λ (v : WordValue). set_value (after_two c.args.self.now b.loc b.clock) (old.Cell place v)) c.long.ensures in
     rw c.before_store.ensures
-    (header-restored _ (said b c.pop.new.self.items) (store_said place c.in-Some-pop.bits a) 3 3 c.args.self.now _ back.0 refl (omega arith) (back.1.done ∙ ap Some (sym state)))
+    (header-restored _ (said b c.pop.new.self.items) (store_said place c.in-Some-pop.bits a) 3 c.args.self.now _ back.0 refl (omega arith) (at-most 3) (back.1.done ∙ ap Some (sym state)))

@@ -5,4 +5,4 @@ use Rattle.undo_core.proofs.journal.Journal.ahead.Goals as goal
 pub overflow_sub-result : goal.overflow_sub-result
 overflow_sub-result g c =
     let count = rw c.deref.ensures.value at c.count_in.ensures.count in
-    omega (arith, count, c.len.ensures, c.self.inside.counts.ok.0, stored_within c.self.invariant)
+    omega (arith, count, stored_within c.self.invariant)

@@ -1,6 +1,8 @@
 -- A new change leaves a sound journal with the same first state, and the state before it gives what `apply` gave.
-use Rattle.undo_core.proofs.Sound.{done_by, count_of, fault_of}
-use Rattle.undo_core.proofs.Stored.{stored_go, stored_given, stored_first, stored_replay, stored_stands, stored_within}
+use Rattle.std.proofs.Common.{◌≡◌, ◌+◌, ◌∙◌, refl, ap, arith}
+use Rattle.undo_core.specs.Counts.{places_after}
+use Rattle.undo_core.proofs.Sound.{done_by, fault_of}
+use Rattle.undo_core.proofs.Stored.{stored_go, stored_given, stored_first, stored_replay, stored_stands, stored_within, stored_few}
 use Rattle.undo_core.proofs.journal.Journal.go.Goals as goal
 
 pub returns-in_err-apply-clause-fault : goal.returns-in_err-apply-clause-fault
@@ -11,25 +13,29 @@ returns-in_err-apply-clause-fault g c =
 pub add-requires-clause-within : goal.add-requires-clause-within
 add-requires-clause-within g c = stored_within c.self.invariant
 
+pub add-requires-clause-few : goal.add-requires-clause-few
+add-requires-clause-few g c = omega (arith, c.len-from.ensures.few, c.len-from.ensures.count, stored_few c.self.invariant)
+
+pub overflow_add-self : goal.overflow_add-self
+overflow_add-self g c = omega (arith, c.len-from.ensures.few, c.len-from.ensures.count, stored_few c.self.invariant)
+
 pub invariant_of-self-in-Ok : goal.invariant_of-self-in-Ok
 invariant_of-self-in-Ok g c =
-    stored_go c.self.invariant c.add.new.changes.items c.add.new.counts.items c.add.new.large.items
-    (done_by c.in_ok-apply.ensures.given (g.met.S.Undo.undoes _ _ _ c.in_ok-apply.ensures.real c.in_ok-apply.ensures.given) c.in_ok-apply.ensures.kept
-    (count_of _ _ _ c.len-from.result c.len.result c.in_ok-apply.ensures.kept c.len-from.ensures c.len.ensures))
-    c.in-Ok.ensures.rising c.in-Ok.ensures.items c.in-Ok.ensures.sound c.in-Ok.ensures.counts
+    stored_go c.self.invariant (g.S.Undo.ends c.args.change) c.add.new.changes.items c.add.new.places.items (c.self.inside.done + 1)
+    (done_by c.in_ok-apply.ensures.given (g.met.S.Undo.undoes _ _ _ c.in_ok-apply.ensures.real c.in_ok-apply.ensures.given) c.in_ok-apply.ensures.kept refl)
+    (g.met.S.Undo.parts _ _ _ c.in_ok-apply.ensures.real c.in_ok-apply.ensures.given)
+    c.in-Ok.ensures.rising c.in-Ok.ensures.items (c.in-Ok.ensures.places ∙ ap (λ n. places_after (g.S.Undo.ends c.args.change) n c.self.inside.places.items) c.len-end.ensures.count) refl
 
 pub returns-in-Ok-clause-first : goal.returns-in-Ok-clause-first
 returns-in-Ok-clause-first g c =
     rw (← c.self.view_is) (stored_first c.self.invariant
-    (done_by c.in_ok-apply.ensures.given (g.met.S.Undo.undoes _ _ _ c.in_ok-apply.ensures.real c.in_ok-apply.ensures.given) c.in_ok-apply.ensures.kept
-    (count_of _ _ _ c.len-from.result c.len.result c.in_ok-apply.ensures.kept c.len-from.ensures c.len.ensures)))
+    (done_by c.in_ok-apply.ensures.given (g.met.S.Undo.undoes _ _ _ c.in_ok-apply.ensures.real c.in_ok-apply.ensures.given) c.in_ok-apply.ensures.kept refl))
 
 pub returns-in-Ok-clause-given : goal.returns-in-Ok-clause-given
 returns-in-Ok-clause-given g c =
-    rw (← c.self.view_is) (stored_given c.self.invariant c.add.new.changes.items c.add.new.counts.items c.add.new.large.items
-    (done_by c.in_ok-apply.ensures.given (g.met.S.Undo.undoes _ _ _ c.in_ok-apply.ensures.real c.in_ok-apply.ensures.given) c.in_ok-apply.ensures.kept
-    (count_of _ _ _ c.len-from.result c.len.result c.in_ok-apply.ensures.kept c.len-from.ensures c.len.ensures))
-    c.in-Ok.ensures.items c.in-Ok.ensures.counts)
+    rw (← c.self.view_is) (stored_given c.self.invariant c.add.new.changes.items (c.self.inside.done + 1)
+    (done_by c.in_ok-apply.ensures.given (g.met.S.Undo.undoes _ _ _ c.in_ok-apply.ensures.real c.in_ok-apply.ensures.given) c.in_ok-apply.ensures.kept refl)
+    c.in-Ok.ensures.items refl)
 
 pub returns-in-Ok-clause-stands : goal.returns-in-Ok-clause-stands
 returns-in-Ok-clause-stands g c = rw (← c.self.view_is) (stored_stands c.self.invariant)
