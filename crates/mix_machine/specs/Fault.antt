@@ -1,6 +1,8 @@
 -- The faults of the machine: number and text.
-use Rattle.std.specs.Prelude.{ℕ, List, ◌++◌, codes}
+use Rattle.std.specs.Prelude.{ℕ, ◌==◌, List, ◌++◌, codes, Result, Ok, Err, if◌then◌else◌}
 use Rattle.std.specs.Fmt.{decimal}
+use Rattle.mix_refused.specs.declared.refused.Refused.{Refused}
+use Rattle.mix_refused.specs.declared.refused.Refused.TheVariants.{Fault, Memory}
 use Rattle.mix_machine.specs.declared.fault.MixFault.{MixFault}
 use Rattle.mix_machine.specs.declared.fault.MixFault.TheVariants.{NoOperation, FloatingOperation, IndexOverSix, LargeAddress, NoCell, NoField, IndexOverflow, NegativeShift, NoUnit, WrongDirection, NoBlock, BadControl, UnitFull, ClockFull, NoCellAtLocation}
 
@@ -20,6 +22,29 @@ fault_number BadControl = 12
 fault_number UnitFull = 13
 fault_number ClockFull = 14
 fault_number NoCellAtLocation = 15
+
+-- the fault of a number
+abbrev pub fault_of : ℕ → MixFault
+fault_of n =
+    if n == 1 then NoOperation else
+    if n == 2 then FloatingOperation else
+    if n == 3 then IndexOverSix else
+    if n == 4 then LargeAddress else
+    if n == 5 then NoCell else
+    if n == 6 then NoField else
+    if n == 7 then IndexOverflow else
+    if n == 8 then NegativeShift else
+    if n == 9 then NoUnit else
+    if n == 10 then WrongDirection else
+    if n == 11 then NoBlock else
+    if n == 12 then BadControl else
+    if n == 13 then UnitFull else
+    if n == 14 then ClockFull else
+    NoCellAtLocation
+
+-- what a byte tells of a change: 0 that it is done, 255 that there is no memory, and the number of a fault that it is this
+abbrev pub answer_of : ℕ → Result (Unit {0}) (Refused MixFault)
+answer_of n = if n == 0 then Ok tt else if n == 255 then Err Memory else Err (Fault (fault_of n))
 
 abbrev pub fault_text : MixFault → List ℕ
 fault_text NoOperation = codes "no such operation"

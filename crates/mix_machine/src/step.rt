@@ -4,6 +4,7 @@ ghost use Rattle.mix_word.specs.Table.{decode_of};
 ghost use Rattle.mix_word.specs.Word.{parts_of};
 ghost use Rattle.mix_machine.specs.Decode.{arguments_of};
 ghost use Rattle.mix_machine.specs.Do.{plan_of, step_or_fault};
+ghost use Rattle.mix_machine.specs.Fault.{answer_of};
 ghost use Rattle.mix_machine.specs.Order.{applies};
 ghost use Rattle.mix_machine.specs.law.Stages.{of_address, fault_among};
 ghost use Rattle.mix_machine.specs.law.Carried.{Carried};
@@ -16,12 +17,14 @@ mod naming;
 mod operand;
 mod operation;
 mod rare;
+mod told;
 mod transfer;
 mod unit;
 
 use crate::decode::Arguments;
 use crate::fault::MixFault;
 use crate::old::{Change, Old};
+use crate::step::told::{answer_of, told};
 use crate::world::World;
 use mix_word::{Decoded, Place, Word, decode};
 use undo_core::{Kept, Refused};
@@ -38,15 +41,25 @@ impl World {
             None => Err(Refused::Fault(MixFault::NoCellAtLocation)),
             Some(place) => {
                 let word = self.cell(place);
-                self.step_of_word(word, kept)
+                answer_of(self.step_told(word, kept))
             }
         }
     }
 
-    // A step of the instruction in a word, at a cell.
+    // A step of the instruction in a word, at a cell, and a byte that tells what it comes to.
     // (one function, in which the operations that programs do most are inlined, each being called there alone. With them it is too long for the
     // compiler to inline it where a step is done: it would drop the attribute from one of the functions in it, and call that with more arguments)
     #[inline(never)]
+    fn step_told(&mut self, word: Word, kept: &mut Kept<Old>) -> u8
+        requires cell { self.old.loc < 4000 }
+        ensures { Carried (step_or_fault (decode_of (parts_of word).code (parts_of word).f) self.old (arguments_of self.old (parts_of word))) self.old self.new kept.old.items kept.new.items (answer_of result) }
+    {
+        let answer = self.step_of_word(word, kept);
+        told(answer)
+    }
+
+    // The same.
+    #[inline(always)]
     fn step_of_word(&mut self, word: Word, kept: &mut Kept<Old>) -> Result<(), Refused<MixFault>>
         requires cell { self.old.loc < 4000 }
         ensures { Carried (step_or_fault (decode_of (parts_of word).code (parts_of word).f) self.old (arguments_of self.old (parts_of word))) self.old self.new kept.old.items kept.new.items result }
