@@ -2,8 +2,10 @@ mod CheckLemmas
 mod CountedLemmas
 mod CutLemmas
 mod DebugLemmas
+mod DrawnLemmas
 mod HearingLemmas
 mod KeepLemmas
+mod MapLemmas
 mod PersonLemmas
 mod PlainLemmas
 mod PrintLemmas

@@ -2,10 +2,12 @@ pub mod Asked
 pub mod Bundle
 pub mod Check
 pub mod Debug
+pub mod Drawn
 pub mod Counted
 pub mod Fault
 pub mod Hearing
 pub mod Keep
+pub mod Map
 pub mod Opening
 pub mod Output
 pub mod Person

@@ -9,6 +9,7 @@ mod commands;
 mod fault;
 mod keep;
 mod list;
+mod map;
 mod opener;
 mod print;
 mod reason;

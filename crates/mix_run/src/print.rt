@@ -8,13 +8,15 @@ ghost use Rattle.mix_machine.specs.declared.units.deck_fault.DeckFault.{DeckFaul
 ghost use Rattle.mix_run.specs.Fault.{IsMemoryOrWrite};
 ghost use Rattle.mix_stream.specs.Stream.{AppendsFront, ConsumesAtMost, CountsFailure};
 ghost use Rattle.mix_run.specs.Output.{max_bundle_bytes};
+ghost use Rattle.mix_run.specs.Drawn.{DrawnProgram, DrawnRun, Draws};
 ghost use Rattle.mix_run.specs.Keep.{kept_if};
 ghost use Rattle.mix_run.specs.Print.{counted, line_at, run_of};
 ghost use Rattle.mix_run.specs.UnitsRead.{deck_given};
 ghost use Rattle.mix_run.specs.PrintOutput.{Prints, kept_of, outcome_of_run, parts_of, print_outcome, print_output, units_asked, with_cards};
 
 mod counts;
-mod loaded;
+mod drawn;
+pub(crate) mod loaded;
 pub(crate) mod options;
 mod plain;
 pub(crate) mod row;
@@ -28,6 +30,7 @@ use crate::beside::tell_report;
 use crate::bundle::{MAX_BUNDLE_BYTES, parts_of};
 use crate::fault::ToolFault;
 use crate::print::counts::count_loaded;
+use crate::print::drawn::draw_loaded;
 use crate::print::loaded::print_loaded;
 use crate::print::options::PrintOptions;
 use crate::print::texts::units_with_texts;
@@ -57,18 +60,26 @@ fn run_loaded<W: Out>(
     units: Units,
     options: PrintOptions,
     kept: &mut Vec<u8>,
+    map: &mut Vec<u8>,
     out: &mut W,
 ) -> Result<PrintAnswer, ToolFault>
     requires { W.failed out.old < 2 ^ 64 - 1 }
     ensures output { Prints (outcome_of_run options program units) result (W.told out.old) (W.told out.new) }
     ensures kept { OnOk result (kept.new.items ≡ kept.old.items ++ kept_of (outcome_of_run options program units)) }
+    ensures map { OnOk result (DrawnRun options program units map.old.items map.new.items) }
     ensures write { CountsFailure (result ≡ Err ToolFault.Write) (W.failed out.old) (W.failed out.new) }
     ensures only { IfErr result IsMemoryOrWrite }
     ensures ran { (f : AsmFault) → result ≢ Ok (PrintAnswer.Refused f) }
 {
     match options.counts {
-        None => print_loaded(alloc, &program, units, options, kept, out),
-        Some(format) => count_loaded(alloc, program, units, format, options, kept, out),
+        Some(format) => count_loaded(alloc, program, units, format, options, kept, map, out),
+        None => {
+            if options.map {
+                draw_loaded(alloc, program, units, options, kept, map, out)
+            } else {
+                print_loaded(alloc, &program, units, options, kept, out)
+            }
+        }
     }
 }
 
@@ -80,6 +91,7 @@ fn print_program<S, D: In, C: In, T: In, W: Out>(
     texts: &mut PrintTexts<S, D, C, T>,
     options: PrintOptions,
     kept: &mut Vec<u8>,
+    map: &mut Vec<u8>,
     out: &mut W,
 ) -> Result<PrintAnswer, ToolFault>
     requires deck_count { D.failed texts.old.deck < 2 ^ 64 - 1 }
@@ -90,6 +102,8 @@ fn print_program<S, D: In, C: In, T: In, W: Out>(
         → Prints (print_outcome options (Ok program) (units_asked options (deck_given options.deck own.now d) c t)) result (W.told out.old) (W.told out.new) }
     ensures kept { (d c t : List ℕ) → D.rest texts.old.deck ≡ Some d → C.rest texts.old.cards ≡ Some c → T.rest texts.old.typewriter ≡ Some t
         → OnOk result (kept.new.items ≡ kept.old.items ++ kept_of (print_outcome options (Ok program) (units_asked options (deck_given options.deck own.now d) c t))) }
+    ensures map { (d c t : List ℕ) → D.rest texts.old.deck ≡ Some d → C.rest texts.old.cards ≡ Some c → T.rest texts.old.typewriter ≡ Some t
+        → OnOk result (DrawnProgram options (Ok program) (units_asked options (deck_given options.deck own.now d) c t) map.old.items map.new.items) }
     ensures source { texts.new.source ≡ texts.old.source }
     ensures read { CountsFailure (result ≡ Err ToolFault.Read) (D.failed texts.old.deck + C.failed texts.old.cards + T.failed texts.old.typewriter)
         (D.failed texts.new.deck + C.failed texts.new.cards + T.failed texts.new.typewriter) }
@@ -120,7 +134,7 @@ fn print_program<S, D: In, C: In, T: In, W: Out>(
 {
     let (deck, cards, typewriter) = (&mut texts.deck, &mut texts.cards, &mut texts.typewriter);
     let units = units_with_texts(alloc, own, deck, cards, typewriter, options)?;
-    run_loaded(alloc, program, units, options, kept, out)
+    run_loaded(alloc, program, units, options, kept, map, out)
 }
 
 /// Assembles a source, or that of a bundle, and takes the deck of the bundle, or reads one if `options.deck` is true, which then is in the place of
@@ -130,7 +144,9 @@ fn print_program<S, D: In, C: In, T: In, W: Out>(
 /// `options.trace` is true, the line of each step is written before what it prints, as the command `trace` has it. If `options.keep` is true, the deck
 /// of what the units hold at the end is appended to `kept`. It keeps nothing of the steps, so it takes no more memory for many steps than for few.
 /// But if `options.counts` has a form, the run is one of a session, which keeps its history, does at most 4,294,967,295 steps and looks for no conflict:
-/// then a table of how often each instruction was executed is written at its end, instead of what it prints and its trace. Where the source is refused, its first fault is the answer, nothing is
+/// then a table of how often each instruction was executed is written at its end, instead of what it prints and its trace.
+/// If `options.map` is true, the map of its steps, an SVG picture of its lines against its changes, is appended to `map`; for that the steps are done in such a session
+/// too. Where the source is refused, its first fault is the answer, nothing is
 /// written, and on the error output all are told, with their lines and marks. A script of the bundle is not executed. At most 41,943,041 bytes of the
 /// source or bundle are read, and 33,554,433 of each other text, all of them before the first byte is written; the deck is read after the
 /// source, the cards after the deck, and the lines for the typewriter after the cards. After a refusal or a read that failed nothing else is read.
@@ -142,6 +158,7 @@ pub fn run_printed<S: In, D: In, C: In, T: In, W: Out, E: Out>(
     texts: &mut PrintTexts<S, D, C, T>,
     options: PrintOptions,
     kept: &mut Vec<u8>,
+    map: &mut Vec<u8>,
     out: &mut W,
     errors: &mut E,
 ) -> Result<PrintAnswer, ToolFault>
@@ -158,6 +175,10 @@ pub fn run_printed<S: In, D: In, C: In, T: In, W: Out, E: Out>(
     // What is kept is the deck of what its units hold then.
     ensures kept { (b d c t : List ℕ) → S.rest texts.old.source ≡ Some b → D.rest texts.old.deck ≡ Some d → C.rest texts.old.cards ≡ Some c
         → T.rest texts.old.typewriter ≡ Some t → OnOk result (kept.new.items ≡ kept.old.items ++ kept_of (print_output options b d c t)) }
+
+    // The map that is asked for is that of its steps.
+    ensures map { (b d c t : List ℕ) → S.rest texts.old.source ≡ Some b → D.rest texts.old.deck ≡ Some d → C.rest texts.old.cards ≡ Some c
+        → T.rest texts.old.typewriter ≡ Some t → OnOk result (Draws options b d c t map.old.items map.new.items) }
 
     // A read or a write has failed exactly where that is answered.
     ensures read { CountsFailure (result ≡ Err ToolFault.Read)
@@ -219,7 +240,7 @@ pub fn run_printed<S: In, D: In, C: In, T: In, W: Out, E: Out>(
         }
         Ok(program) => {
             tell_report(alloc, name, parts.source, errors);
-            print_program(alloc, program, parts.deck, texts, options, kept, out)
+            print_program(alloc, program, parts.deck, texts, options, kept, map, out)
         }
     }
 }

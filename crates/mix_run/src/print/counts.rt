@@ -6,6 +6,7 @@ ghost use Rattle.mix_session.specs.Command.{after};
 ghost use Rattle.mix_session.specs.Tally.{tally_in};
 ghost use Rattle.mix_session.specs.Timeline.{world_of};
 ghost use Rattle.mix_run.specs.Counted.{count_row, count_rows, count_rows_at, counted_run, counted_steps, counts_table, end_of, max_counted, number_or, run_end};
+ghost use Rattle.mix_run.specs.Drawn.{DrawnRun};
 ghost use Rattle.mix_run.specs.Fault.{IsMemoryOrWrite};
 ghost use Rattle.mix_run.specs.Print.{ended, line_at};
 ghost use Rattle.mix_run.specs.PrintOutput.{Prints, counted_outcome, kept_of, ran_to};
@@ -14,6 +15,7 @@ ghost use Rattle.mix_run.specs.Table.{rows_text};
 use crate::fault::ToolFault;
 use crate::keep::keep_units;
 use crate::print::PrintAnswer;
+use crate::print::drawn::draw_if;
 use crate::print::loaded::{RanTo, line_at};
 use crate::print::options::PrintOptions;
 use crate::print::steps::RunEnd;
@@ -39,11 +41,13 @@ pub(super) fn count_loaded<W: Out>(
     format: TableFormat,
     options: PrintOptions,
     kept: &mut Vec<u8>,
+    map: &mut Vec<u8>,
     out: &mut W,
 ) -> Result<PrintAnswer, ToolFault>
     requires { W.failed out.old < 2 ^ 64 - 1 }
     ensures output { Prints (counted_outcome format options program units) result (W.told out.old) (W.told out.new) }
     ensures kept { OnOk result (kept.new.items ≡ kept.old.items ++ kept_of (counted_outcome format options program units)) }
+    ensures map { OnOk result (DrawnRun options program units map.old.items map.new.items) }
     ensures write { CountsFailure (result ≡ Err ToolFault.Write) (W.failed out.old) (W.failed out.new) }
     ensures only { IfErr result IsMemoryOrWrite }
     ensures ran { (f : AsmFault) → result ≢ Ok (PrintAnswer.Refused f) }
@@ -52,13 +56,14 @@ pub(super) fn count_loaded<W: Out>(
     let end = run_steps(&mut session, options.steps)?;
     let text = counts_table(alloc, &session, format)?;
     keep_units(alloc, session.world(), options.keep, kept)?;
+    draw_if(alloc, &session, options.map, map)?;
     write_all(out, &text)?;
     Ok(PrintAnswer::Ran(counted_to(&session, end)))
 }
 
-// So many steps at most, up to a halt or a fault.
+/// So many steps at most, up to a halt or a fault.
 #[tactic(auto, unfolding(crate::specs::Counted::counted_steps))]
-fn run_steps(session: &mut Session, steps: u64) -> Result<RunEnd, Memory>
+pub(super) fn run_steps(session: &mut Session, steps: u64) -> Result<RunEnd, Memory>
     ensures program { session.new.program ≡ session.old.program }
     ensures run { let effect = counted_steps steps session.old.timeline in
         IfOk result (λ end. (session.new.timeline ≡ after effect) × (end ≡ end_of effect.answer)) }

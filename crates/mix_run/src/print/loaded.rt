@@ -6,7 +6,7 @@ ghost use Rattle.mix_stream.specs.Stream.{AppendsFront, CountsFailure};
 ghost use Rattle.mix_run.specs.Fault.{IsMemoryOrWrite};
 ghost use Rattle.mix_run.specs.Keep.{kept_if};
 ghost use Rattle.mix_run.specs.Print.{counted, line_at, run_of};
-ghost use Rattle.mix_run.specs.PrintOutput.{Prints, kept_of, printed_outcome};
+ghost use Rattle.mix_run.specs.PrintOutput.{Prints, answered, kept_of, printed_outcome};
 
 use crate::fault::ToolFault;
 use crate::keep::keep_units;
@@ -33,7 +33,7 @@ pub struct RanTo {
 }
 
 // The line of the source that put the last word into the cell at a location.
-pub(super) fn line_at(program: &Program, loc: u16) -> Option<u32>
+pub(crate) fn line_at(program: &Program, loc: u16) -> Option<u32>
     ensures { result ≡ line_at program.now loc }
 {
     let place = Place::of(loc)?;
@@ -74,6 +74,38 @@ fn print_and_keep<W: Out>(
     Ok(stepped)
 }
 
+/// A program, run on a machine that it is loaded into.
+pub(super) fn print_world<W: Out>(
+    alloc: Global,
+    program: &Program,
+    world: &mut World,
+    options: PrintOptions,
+    kept: &mut Vec<u8>,
+    out: &mut W,
+) -> Result<PrintAnswer, ToolFault>
+    requires { W.failed out.old < 2 ^ 64 - 1 }
+    ensures output { Prints (answered options program.now (run_of options world.old)) result (W.told out.old) (W.told out.new) }
+    ensures kept { OnOk result (kept.new.items ≡ kept.old.items ++ kept_of (answered options program.now (run_of options world.old))) }
+    ensures write { CountsFailure (result ≡ Err ToolFault.Write) (W.failed out.old) (W.failed out.new) }
+    ensures only { IfErr result IsMemoryOrWrite }
+    ensures ran { (f : AsmFault) → result ≢ Ok (PrintAnswer.Refused f) }
+{
+    let Stepped { end, conflicts } = print_and_keep(alloc, world, options, kept, out)?;
+    let (loc, clock) = (world.loc(), world.clock());
+    let line = line_at(program, loc);
+    // (a copy, since the checker covers no struct that is passed by value twice)
+    let given = conflicts;
+    let conflict_line = line_of_first(program, given);
+    Ok(PrintAnswer::Ran(RanTo {
+        end,
+        loc,
+        clock,
+        line,
+        conflicts,
+        conflict_line,
+    }))
+}
+
 /// A program, run on the machine that it is loaded into.
 #[tactic(auto, unfolding(crate::specs::PrintOutput::printed_outcome))]
 pub(super) fn print_loaded<W: Out>(
@@ -92,18 +124,5 @@ pub(super) fn print_loaded<W: Out>(
     ensures ran { (f : AsmFault) → result ≢ Ok (PrintAnswer.Refused f) }
 {
     let mut world = World::load(alloc, program.words(), program.start(), units)?;
-    let Stepped { end, conflicts } = print_and_keep(alloc, &mut world, options, kept, out)?;
-    let (loc, clock) = (world.loc(), world.clock());
-    let line = line_at(program, loc);
-    // (a copy, since the checker covers no struct that is passed by value twice)
-    let given = conflicts;
-    let conflict_line = line_of_first(program, given);
-    Ok(PrintAnswer::Ran(RanTo {
-        end,
-        loc,
-        clock,
-        line,
-        conflicts,
-        conflict_line,
-    }))
+    print_world(alloc, program, &mut world, options, kept, out)
 }

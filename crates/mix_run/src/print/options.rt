@@ -1,5 +1,5 @@
 //! What is asked of a run: how many steps, the rows of which units, whether a deck, cards and lines for the typewriter are given, whether its steps
-//! are traced, whether it ends before a conflict, whether what the units hold at the end is kept, and whether its steps are counted.
+//! are traced, whether it ends before a conflict, whether what the units hold at the end is kept, whether its steps are counted, and whether its map is drawn.
 ghost use Rattle.std.specs.Prelude.{◌≡◌, true, false};
 
 use crate::table::TableFormat;
@@ -54,4 +54,7 @@ pub struct PrintOptions {
     /// The form of the table of how often each instruction was executed, which is written instead of the rows and the trace. Such a run keeps
     /// its history, so many steps take much memory; it does at most 4,294,967,295 steps, and is never strict.
     pub counts: Option<TableFormat>,
+    /// Whether the map of its steps is given. For that the program is run in a session too, which keeps its history, does at most 4,294,967,295
+    /// steps, and is never strict.
+    pub map: bool,
 }

@@ -2,6 +2,7 @@
 use Rattle.std.proofs.lemmas.Result.{err_from_is_err_and}
 use Rattle.mix_run.specs.PrintOutput.{units_asked}
 use Rattle.mix_run.specs.UnitsRead.{deck_given}
+use Rattle.mix_run.proofs.DrawnLemmas.{drawn-units}
 use Rattle.mix_run.proofs.PrintOutputLemmas.{Prints-no_units, Prints-units, kept-units}
 use Rattle.mix_run.proofs.print.print_program.Goals as goal
 
@@ -20,3 +21,8 @@ pub returns-clause-kept : goal.returns-clause-kept
 returns-clause-kept g c d k t hd hk ht =
     let units = units_asked c.args.options (deck_given c.args.options.deck c.args.own.now d) k t in
     kept-units c.args.options c.args.program units _ _ _ _ (c.in_ok-units.ensures.units d k t hd hk ht) c.run_loaded.ensures.kept
+
+pub returns-clause-map : goal.returns-clause-map
+returns-clause-map g c d k t hd hk ht =
+    let units = units_asked c.args.options (deck_given c.args.options.deck c.args.own.now d) k t in
+    drawn-units c.args.options c.args.program units _ _ _ _ (c.in_ok-units.ensures.units d k t hd hk ht) c.run_loaded.ensures.map

@@ -4,6 +4,7 @@ use Rattle.mix_machine.specs.units.deck.Deck.{deck_of}
 use Rattle.mix_run.specs.PrintOutput.{with_cards}
 use Rattle.mix_run.specs.UnitsRead.{deck_given}
 use Rattle.mix_run.specs.declared.print.PrintAnswer.TheVariants.{Refused}
+use Rattle.mix_run.proofs.DrawnLemmas.{drawn-parts, drawn-refused}
 use Rattle.mix_run.proofs.PrintOutputLemmas.{Prints-parts, Prints-refused, kept-parts, kept-refused, parts-read, parts-taken}
 use Rattle.mix_run.proofs.RunLemmas.{ConsumesAtMost-none}
 use Rattle.mix_run.proofs.print.run_printed.Goals as goal
@@ -27,6 +28,11 @@ returns-in-Err-Fault-clause-kept g c b d k t hb hd hk ht =
     kept-refused c.args.options b _ _ d k t _ _ (c.deref.ensures.value ∙ (c.in_ok-text.ensures.whole b hb).0) c.parts_of-parts.ensures.source
     (rw c.in-Err-Fault.field-0-is at c.in-Err-Fault.ensures.fault)
 
+pub returns-in-Err-Fault-clause-map : goal.returns-in-Err-Fault-clause-map
+returns-in-Err-Fault-clause-map g c b d k t hb hd hk ht =
+    drawn-refused c.args.options b _ _ d k t _ _ (c.deref.ensures.value ∙ (c.in_ok-text.ensures.whole b hb).0) c.parts_of-parts.ensures.source
+    (rw c.in-Err-Fault.field-0-is at c.in-Err-Fault.ensures.fault)
+
 pub returns-in-Err-Fault-clause-deck : goal.returns-in-Err-Fault-clause-deck
 returns-in-Err-Fault-clause-deck g c = ConsumesAtMost-none _ _
 
@@ -45,6 +51,11 @@ pub returns-clause-kept : goal.returns-clause-kept
 returns-clause-kept g c b d k t hb hd hk ht =
     kept-parts c.args.options b _ _ _ d k t _ _ _ _ (c.deref.ensures.value ∙ (c.in_ok-text.ensures.whole b hb).0) c.parts_of-parts.ensures.source
     c.parts_of-parts.ensures.deck c.in-Ok.ensures.ok (c.print_program.ensures.kept d k t hd hk ht)
+
+pub returns-clause-map : goal.returns-clause-map
+returns-clause-map g c b d k t hb hd hk ht =
+    drawn-parts c.args.options b _ _ _ d k t _ _ _ _ (c.deref.ensures.value ∙ (c.in_ok-text.ensures.whole b hb).0) c.parts_of-parts.ensures.source
+    c.parts_of-parts.ensures.deck c.in-Ok.ensures.ok (c.print_program.ensures.map d k t hd hk ht)
 
 pub returns-clause-bad_source : goal.returns-clause-bad_source
 returns-clause-bad_source g c b f hb refused =

@@ -1,0 +1,14 @@
+-- One column more.
+use Rattle.std.proofs.Common.{◌≡◌, ◌∙◌, arith, sym}
+use Rattle.mix_run.proofs.MapLemmas.{end-here, end-next}
+use Rattle.mix_run.proofs.map.shade.end_from.Goals as goal
+
+pub loop-column-preserved : goal.loop-column-preserved
+loop-column-preserved c =
+    let next = end-next c.args.sheet.now c.args.counts.now c.args.place c.args.dark c.loop-column.column (sym c.is_like.ensures ∙ c.loop-column-test.true) in
+    record { within = omega (arith, next.0); end = sym next.1 ∙ c.loop-column.invariant.end }
+
+pub returns : goal.returns
+returns c =
+    sym (end-here c.args.sheet.now c.args.counts.now c.args.place c.args.dark c.loop-column.column (sym c.is_like.ensures ∙ c.loop-column-test.false))
+    ∙ c.loop-column.invariant.end
