@@ -116,7 +116,16 @@ run_solid = (
                 flag_solid 2 (codes "strict"),
                 (
                   option_solid 2 (codes "keep"),
-                  (flag_solid 2 (codes "counts"), (flag_solid 2 (codes "json"), (flag_solid 2 (codes "latex"), (help_solid 2, tt)))),
+                  (
+                    option_solid 2 (codes "svg"),
+                    (
+                      flag_solid 2 (codes "counts"),
+                      (
+                        option_solid 2 (codes "writes"),
+                        (flag_solid 2 (codes "csv"), (flag_solid 2 (codes "json"), (flag_solid 2 (codes "latex"), (help_solid 2, tt)))),
+                      ),
+                    ),
+                  ),
                 ),
               ),
             ),

@@ -1,26 +1,29 @@
 -- What the words of a command line ask for.
 use Rattle.std.specs.Prelude.{ℕ, ◌^◌, ◌==◌, ◌&&◌, Bool, true, false, not, List, [], length, map, nat_le, nat_lt, if◌then◌else◌, Option, Some, None, option_and_then, option_map, unwrap_or, codes, string_bytes}
 use Rattle.std.specs.List.{list_all, list_any}
-use Rattle.std.specs.Option.{option_map_or}
+use Rattle.std.specs.Option.{is_some, option_map_or}
 use Rattle.std.specs.Char.{digit_value}
 use Rattle.std.specs.Str.{bytes_eq}
 use Rattle.std.specs.Str.Parse.{digits_value, without_leading_plus}
 use Rattle.clap.specs.Words.{Kinds, Row, Text, all_of, fault_of, first_of, subcommand_of}
 use Rattle.mix_cli.specs.Program.{mixrev}
+use Rattle.mix_cli.specs.declared.words.AskedTable.{AskedTable}
 use Rattle.mix_cli.specs.declared.words.Format.{Format}
 use Rattle.mix_cli.specs.declared.words.Format.TheVariants.{Csv, Json, Latex}
 use Rattle.mix_cli.specs.declared.words.Plan.{Plan}
 use Rattle.mix_cli.specs.declared.words.Plan.TheVariants as plan
 use Rattle.mix_cli.specs.declared.words.Printing.{Printing}
+use Rattle.mix_cli.specs.declared.words.TableRows.{TableRows}
+use Rattle.mix_cli.specs.declared.words.TableRows.TheVariants.{Counts, Trace, Writes}
 
 -- a bundle; a listing of a source; a check of some sources, in JSON or not; a session of a source, of a script where it is named, and of a deck where it is named, with the commands of the script echoed or not; a run of a source, of
--- cards, lines of the typewriter and a deck where they are named, of so many steps at most, of what is printed, traced or not, strict or not, whose units are kept in a file where one is named, and which is counted in a table of some form or not; the debug adapter
+-- cards, lines of the typewriter and a deck where they are named, of so many steps at most, of what is printed, traced or not, strict or not, whose units are kept in a file and whose picture is saved in one where they are named, and of which a table is asked for or not, with the part whose changes it is of where one is named; the debug adapter
 pub data Planned : Type 0 where
   bundle : Planned
   lists : Text → Planned
   checks : List Text → Bool → Planned
   debugs : Text → Option Text → Option Text → Bool → Planned
-  runs : Text → Option Text → Option Text → Option Text → ℕ → Printing → Bool → Bool → Option Text → Option Format → Planned
+  runs : Text → Option Text → Option Text → Option Text → ℕ → Printing → Bool → Bool → Option Text → Option Text → Option AskedTable → Option Text → Planned
   adapts : Planned
 
 abbrev pub planned_of : Plan → Planned
@@ -28,9 +31,9 @@ planned_of plan.Bundle = bundle
 planned_of (plan.List source) = lists (string_bytes source)
 planned_of (plan.Check sources json) = checks (map string_bytes sources.items) json
 planned_of (plan.Debug source script devices echo) = debugs (string_bytes source) (option_map string_bytes script) (option_map string_bytes devices) echo
-planned_of (plan.Run source cards typewriter devices steps printing trace strict keep counts) =
+planned_of (plan.Run source cards typewriter devices steps printing trace strict keep svg table part) =
     runs (string_bytes source) (option_map string_bytes cards) (option_map string_bytes typewriter) (option_map string_bytes devices) steps printing trace
-    strict (option_map string_bytes keep) counts
+    strict (option_map string_bytes keep) (option_map string_bytes svg) table (option_map string_bytes part)
 planned_of plan.Dap = adapts
 
 -- the number that a text writes in decimal digits, where it is below 2^64
@@ -59,14 +62,22 @@ printing_of rows = record { punch = prints rows 17; printer = prints rows 18; ty
 abbrev pub is_set : Text → List Row → Bool
 is_set id rows = option_map_or (λ text. bytes_eq text (codes "true")) (first_of id rows) false
 
--- the form of a table: CSV where no other is asked for
-abbrev pub form_of : Bool → Bool → Format
-form_of json latex = if latex then Latex else if json then Json else Csv
+-- the form that is asked for, if one is
+abbrev pub form_of : List Row → Option Format
+form_of rows =
+    if is_set (codes "latex") rows then Some Latex else
+    if is_set (codes "json") rows then Some Json else
+    if is_set (codes "csv") rows then Some Csv else None
 
--- the form of the table in which a run is counted, if it is
-abbrev pub counts_of : List Row → Option Format
-counts_of rows =
-    if is_set (codes "counts") rows then Some (form_of (is_set (codes "json") rows) (is_set (codes "latex") rows)) else None
+-- what a table is of: the counts, or else the changes of a part, or else, where a form is asked for, the steps of a trace
+abbrev pub rows_asked : Bool → Bool → Bool → Option TableRows
+rows_asked counts writes traces = if counts then Some Counts else if writes then Some Writes else if traces then Some Trace else None
+
+-- the table that is asked for, if one is: CSV where no form is
+abbrev pub table_of : List Row → Option AskedTable
+table_of rows =
+    option_map (λ of. record { of = of; format = unwrap_or (form_of rows) Csv })
+    (rows_asked (is_set (codes "counts") rows) (is_some (first_of (codes "writes") rows)) (is_set (codes "trace") rows && is_some (form_of rows)))
 
 -- of the words after `list`
 abbrev pub list_planned : List Row → Option Planned
@@ -88,7 +99,7 @@ run_planned rows =
     option_map
     (λ source. runs source (first_of (codes "cards") rows) (first_of (codes "typewriter") rows) (first_of (codes "devices") rows) (steps_of rows)
     (printing_of rows) (is_set (codes "trace") rows) (is_set (codes "strict") rows) (first_of (codes "keep") rows)
-    (counts_of rows))
+    (first_of (codes "svg") rows) (table_of rows) (first_of (codes "writes") rows))
     (first_of (codes "SOURCE") rows)
 
 -- of the words after the name of a subcommand, as clap finds them

@@ -34,6 +34,12 @@ typewriter_option = option_named (codes "typewriter")
 abbrev pub keep_option : Rule
 keep_option = option_named (codes "keep")
 
+abbrev pub svg_option : Rule
+svg_option = option_named (codes "svg")
+
+abbrev pub writes_option : Rule
+writes_option = option_named (codes "writes")
+
 -- `--steps N`, a number from 1 on
 abbrev pub steps_option : Rule
 steps_option = record (option_named (codes "steps")) { parser = Some (Unsigned 1 max_steps) }
@@ -78,9 +84,13 @@ limited_run = with_rule (with_rule run_inputs steps_option) unit_option
 abbrev pub kept_run : App
 kept_run = with_rule (with_rule (with_rule limited_run (flag_named (codes "trace"))) (flag_named (codes "strict"))) keep_option
 
--- with its counts, and their form
+-- with its picture, and what it is a table of
+abbrev pub tabled_run : App
+tabled_run = with_rule (with_rule (with_rule kept_run svg_option) (flag_named (codes "counts"))) writes_option
+
+-- with the form of the table
 abbrev pub run_app : App
-run_app = with_rule (with_rule (with_rule kept_run (flag_named (codes "counts"))) (flag_named (codes "json"))) (flag_named (codes "latex"))
+run_app = with_rule (with_rule (with_rule tabled_run (flag_named (codes "csv"))) (flag_named (codes "json"))) (flag_named (codes "latex"))
 
 abbrev pub dap_app : App
 dap_app = new_app (codes "dap")

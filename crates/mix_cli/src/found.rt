@@ -3,9 +3,10 @@
 ghost use Rattle.std.specs.Prelude.{◌≡◌, IfOk, IsSome, Some, map, true, string_bytes, option_map};
 ghost use Rattle.std.specs.List.{list_any};
 ghost use Rattle.clap.specs.Words.{all_of, first_of, found_of, rows_of};
-ghost use Rattle.mix_cli.specs.Plan.{counts_of, form_of, is_set, names_unit, number_of, printing_of, prints, steps_of};
+ghost use Rattle.std.specs.Option.{is_some};
+ghost use Rattle.mix_cli.specs.Plan.{form_of, is_set, names_unit, number_of, printing_of, prints, rows_asked, steps_of, table_of};
 
-use crate::words::{Format, Printing};
+use crate::words::{AskedTable, Format, Printing, TableRows};
 use clap::ArgMatches;
 use std::alloc::{AllocError, Global};
 
@@ -85,29 +86,54 @@ pub(crate) fn is_set(words: &ArgMatches<'_>, id: &str) -> bool
     }
 }
 
-// The form of a table: CSV where no other is asked for.
-fn form_of(json: bool, latex: bool) -> Format
-    ensures { result ≡ form_of json latex }
+// Whether an option with a value is there.
+fn is_given(words: &ArgMatches<'_>, id: &str) -> bool
+    ensures { result ≡ is_some (first_of id.now (rows_of (found_of words.now))) }
 {
-    if latex {
-        Format::Latex
-    } else if json {
-        Format::Json
-    } else {
-        Format::Csv
-    }
+    first(words, id).is_some()
 }
 
-/// The form of the table in which a run is counted, if it is.
-pub(crate) fn counts(words: &ArgMatches<'_>) -> Option<Format>
-    ensures { result ≡ counts_of (rows_of (found_of words.now)) }
+// The form that is asked for, if one is.
+fn form_of(words: &ArgMatches<'_>) -> Option<Format>
+    ensures { result ≡ form_of (rows_of (found_of words.now)) }
 {
-    let (json, latex) = (is_set(words, "json"), is_set(words, "latex"));
-    if is_set(words, "counts") {
-        Some(form_of(json, latex))
+    if is_set(words, "latex") {
+        Some(Format::Latex)
+    } else if is_set(words, "json") {
+        Some(Format::Json)
+    } else if is_set(words, "csv") {
+        Some(Format::Csv)
     } else {
         None
     }
+}
+
+// What a table is of.
+fn rows_asked(counts: bool, writes: bool, traces: bool) -> Option<TableRows>
+    ensures { result ≡ rows_asked counts writes traces }
+{
+    if counts {
+        Some(TableRows::Counts)
+    } else if writes {
+        Some(TableRows::Writes)
+    } else if traces {
+        Some(TableRows::Trace)
+    } else {
+        None
+    }
+}
+
+/// The table that is asked for, if one is.
+pub(crate) fn table(words: &ArgMatches<'_>) -> Option<AskedTable>
+    ensures { result ≡ table_of (rows_of (found_of words.now)) }
+{
+    let form = form_of(words);
+    let traces = is_set(words, "trace") && form.is_some();
+    let of = rows_asked(is_set(words, "counts"), is_given(words, "writes"), traces)?;
+    Some(AskedTable {
+        of,
+        format: form.unwrap_or(Format::Csv),
+    })
 }
 
 // The number that a text writes.

@@ -38,8 +38,11 @@ A step that uses cells of a transfer that is not over is a mistake, such as a st
 The first of them is told there, and how many there are; with --strict the run ends before it.
 With --trace the line of each step, with what it altered, comes before what it prints.
 With --keep the tapes and disks are there for the next program: it reads that file with --devices.
+With --svg the picture has the lines of the source against the steps of the run, the darker, the oftener a line was executed.
 With --counts a table has a row for each instruction that was executed: the line of the source, the location, how often, and
-the time in u. Such a run keeps its history, so a program without an end needs --steps.
+the time in u. With --writes it has a row for each change of a part, with its values before and after. With --trace and one
+of --csv, --json and --latex it has a row for each step. A run with --svg, --counts or --writes keeps its history, so a program
+without an end needs --steps.
 A bundle may take the place of a source: its deck is taken, unless --devices names another, and its script is left out.
 
 Example:

@@ -9,4 +9,4 @@ mod program;
 mod words;
 
 pub use fault::{FAILED, LineFault, line_status};
-pub use words::{Format, Plan, Printing, read_words};
+pub use words::{AskedTable, Format, Plan, Printing, TableRows, read_words};

@@ -2,7 +2,7 @@
 
 ghost use Rattle.std.specs.Prelude.{◌≡◌, false};
 ghost use Rattle.clap.specs.Words.{rule_of};
-ghost use Rattle.mix_cli.specs.Program.{cards_option, devices_option, flag_named, keep_option, option_named, steps_option, typewriter_option, unit_option};
+ghost use Rattle.mix_cli.specs.Program.{cards_option, devices_option, flag_named, keep_option, option_named, steps_option, svg_option, typewriter_option, unit_option, writes_option};
 
 use clap::builder::ValueParser;
 use clap::{Arg, ArgAction};
@@ -78,6 +78,30 @@ pub(crate) fn keep_option<'a>(alloc: Global) -> Arg<'a>
         "keep",
         "FILE",
         "Writes what tapes, disks and cards hold at the end, as a deck for another run",
+    )
+}
+
+pub(crate) fn svg_option<'a>(alloc: Global) -> Arg<'a>
+    ensures rule { rule_of result ≡ svg_option }
+    ensures local { result.global ≡ false }
+{
+    option_named(
+        alloc,
+        "svg",
+        "FILE",
+        "Writes a picture of the run as SVG: which lines were executed when, and how often",
+    )
+}
+
+pub(crate) fn writes_option<'a>(alloc: Global) -> Arg<'a>
+    ensures rule { rule_of result ≡ writes_option }
+    ensures local { result.global ≡ false }
+{
+    option_named(
+        alloc,
+        "writes",
+        "PART",
+        "Writes no rows, but a table of each change of this part, such as A, OV, 100 or X+1, as CSV",
     )
 }
 

@@ -2,15 +2,15 @@
 
 ghost use Rattle.std.specs.Prelude.{◌≡◌, IfOk, codes, true};
 ghost use Rattle.clap.specs.Words.{app_of, new_app, new_rule, with_rule, with_subcommand};
-ghost use Rattle.mix_cli.specs.Program.{bare_app, check_app, dap_app, debug_app, devices_option, kept_run, limited_run, list_app, mixrev, of_source, of_sources, required_word, required_words, run_app, run_inputs, with_sources};
+ghost use Rattle.mix_cli.specs.Program.{bare_app, check_app, dap_app, debug_app, devices_option, kept_run, limited_run, list_app, mixrev, of_source, of_sources, required_word, required_words, run_app, run_inputs, tabled_run, with_sources};
 
 use crate::help::{
     ABOUT, LONG_VERSION, MORE, MORE_ON_CHECK, MORE_ON_DAP, MORE_ON_DEBUG, MORE_ON_LIST,
     MORE_ON_RUN, SOURCE, VERSION,
 };
 use crate::options::{
-    cards_option, devices_option, flag_named, keep_option, steps_option, typewriter_option,
-    unit_option,
+    cards_option, devices_option, flag_named, keep_option, steps_option, svg_option,
+    typewriter_option, unit_option, writes_option,
 };
 use clap::{Arg, ArgAction, Command};
 use std::alloc::{AllocError, Global};
@@ -120,18 +120,28 @@ fn kept_run<'a>(alloc: Global) -> Result<Command<'a>, AllocError>
         .arg(keep_option(alloc))
 }
 
-// And with its counts, and their form.
-fn run_command<'a>(alloc: Global) -> Result<Command<'a>, AllocError>
-    ensures app { IfOk result (λ c. app_of c ≡ run_app) }
+// And with its picture, and what it is a table of.
+fn tabled_run<'a>(alloc: Global) -> Result<Command<'a>, AllocError>
+    ensures app { IfOk result (λ c. app_of c ≡ tabled_run) }
 {
     kept_run(alloc)?
+        .arg(svg_option(alloc))?
         .arg(flag_named(
             alloc,
             "counts",
             "Writes no rows, but a table of how often each instruction was executed, as CSV",
         ))?
-        .arg(flag_named(alloc, "json", "Writes the counts as JSON"))?
-        .arg(flag_named(alloc, "latex", "Writes the counts as a table of LaTeX"))
+        .arg(writes_option(alloc))
+}
+
+// And with the form of the table.
+fn run_command<'a>(alloc: Global) -> Result<Command<'a>, AllocError>
+    ensures app { IfOk result (λ c. app_of c ≡ run_app) }
+{
+    tabled_run(alloc)?
+        .arg(flag_named(alloc, "csv", "Writes the table, or the trace, as CSV"))?
+        .arg(flag_named(alloc, "json", "Writes the table, or the trace, as JSON"))?
+        .arg(flag_named(alloc, "latex", "Writes the table, or the trace, as LaTeX"))
 }
 
 fn dap_command<'a>(alloc: Global) -> Command<'a>

@@ -9,14 +9,15 @@ ghost use Rattle.mix_cli.specs.Program.{mixrev};
 ghost use Rattle.mix_cli.specs.declared.fault.LineFault.{LineFault};
 
 use crate::fault::LineFault;
-use crate::found::{counts, is_set, optional, required, several, steps, what_is_printed};
+use crate::found::{is_set, optional, required, several, steps, table, what_is_printed};
 use crate::program::program;
 use clap::{ArgMatches, Error};
 use std::alloc::{AllocError, Global};
 
 /// What the program is to do: a bundle from standard input; the listing of a source; a check of sources, in JSON or not; a session of a source, with a deck where one is named, by a
 /// script, whose commands are echoed or not, or, where none is named, a talk; a run of a source, with cards, lines of the typewriter and a deck where they are named, of so many steps at
-/// most, 1 to 10^18, traced or not, strict or not, whose units are kept in a file where one is named, and which is counted in a table of some form or not; or to be a debug adapter. The texts are names of files.
+/// most, 1 to 10^18, traced or not, strict or not, whose units are kept in a file and whose picture is saved in one where they are named, and of which a table is asked for or not, with the part whose changes it is of where one
+/// is named; or to be a debug adapter. The texts are names of files, but that of the part.
 #[derive(Drop)]
 pub enum Plan {
     Bundle,
@@ -41,9 +42,26 @@ pub enum Plan {
         trace: bool,
         strict: bool,
         keep: Option<String>,
-        counts: Option<Format>,
+        svg: Option<String>,
+        table: Option<AskedTable>,
+        part: Option<String>,
     },
     Dap,
+}
+
+/// What is written instead of the rows of the units: a table of this, in this form.
+#[derive(Clone, Copy)]
+pub struct AskedTable {
+    pub of: TableRows,
+    pub format: Format,
+}
+
+/// What a table has a row for: each instruction that was executed, each step, or each change of a part.
+#[derive(Clone, Copy)]
+pub enum TableRows {
+    Counts,
+    Trace,
+    Writes,
 }
 
 /// The form of a table: comma-separated values, JSON, or a table of LaTeX.
@@ -106,7 +124,9 @@ fn run_plan(alloc: Global, words: &ArgMatches<'_>) -> Result<Plan, AllocError>
         trace: is_set(words, "trace"),
         strict: is_set(words, "strict"),
         keep: optional(alloc, words, "keep")?,
-        counts: counts(words),
+        svg: optional(alloc, words, "svg")?,
+        table: table(words),
+        part: optional(alloc, words, "writes")?,
     })
 }
 
