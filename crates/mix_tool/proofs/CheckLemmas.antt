@@ -120,7 +120,7 @@ client-unnamed plan.Bundle hears = refl
 client-unnamed (plan.List source) hears = absurd cc
 client-unnamed (plan.Check sources json) hears = refl
 client-unnamed (plan.Debug source script devices echo) hears = absurd cc
-client-unnamed (plan.Run source cards typewriter devices steps printing trace strict keep counts) hears = absurd cc
+client-unnamed (plan.Run source cards typewriter devices steps printing trace strict keep svg table part) hears = absurd cc
 client-unnamed plan.Dap hears = refl
 
 -- a plan with lines for the typewriter names a file

@@ -1,16 +1,15 @@
 -- A line that is told, or where memory is refused for it another.
 use Rattle.std.proofs.Common.{◌≡◌, ◌≤◌, ◌⊎◌, ℕ, List, ◌∷◌, ◌++◌, Option, None, Some, Result, Ok, Err, IfOk, ⊎_elim, ap, ◌∙◌, arith, inl, inr, subst}
-use Rattle.std.specs.Prelude.{OnOk, unwrap_or}
+use Rattle.std.specs.Prelude.{OnOk}
 use Rattle.std.specs.Result.{MatchResult}
 use Rattle.mix_run.specs.Output.{IsStatus}
 use Rattle.mix_run.specs.declared.fault.ToolFault.{ToolFault}
-use Rattle.mix_run.specs.Opening.{Asks, named}
+use Rattle.mix_run.specs.Opening.{named}
 use Rattle.mix_run.specs.declared.print.PrintAnswer.{PrintAnswer}
 use Rattle.mix_run.specs.declared.print.PrintAnswer.TheVariants as answers
 use Rattle.mix_run.specs.declared.print.steps.RunEnd.{RunEnd}
 use Rattle.mix_run.specs.declared.print.steps.RunEnd.TheVariants as ends
-use Rattle.mix_tool.proofs.CheckLemmas.{asks-nothing}
-use Rattle.mix_tool.specs.Ending.{Creates, EndsWith, IsAmong, created_after, status_of_end, status_of_print, status_of_run}
+use Rattle.mix_tool.specs.Ending.{IsAmong, status_of_end, status_of_print, status_of_run}
 
 pub either_told : {S E : Type 0} (r : Result S E) (P : List ℕ → Type 0) (bytes : S → List ℕ) (line other : List ℕ)
     → IfOk r (λ s. bytes s ≡ line) → MatchResult r (λ s. P (bytes s)) (λ _. P other) → P line ⊎ P other
@@ -33,36 +32,6 @@ pub among_same : (source : List ℕ) (d e l m : Option (List ℕ)) (name : List 
 among_same source d e l m name p q h =
     subst (λ (o : Option (List ℕ)). IsAmong (source ∷ (named o ++ named m)) name) p
     (subst (λ (o : Option (List ℕ)). IsAmong (source ∷ (named d ++ named o)) name) q h)
-
--- a run that came to its end has created its file, and no other has
-creates_run : (keep : Option (List ℕ)) (run : Result PrintAnswer ToolFault) (status answered : ℕ) (old new : Option (List (List ℕ)))
-    → status ≡ status_of_print run → EndsWith (created_after keep run) status answered → Asks old new (created_after keep run) → Creates keep answered old new
-creates_run None run status answered old new e end created = created
-creates_run (Some name) (Err fault) status answered old new e end created = rw (end ∙ e) (inl created)
-creates_run (Some name) (Ok (answers.Refused fault)) status answered old new e end created = rw (end ∙ e) created
-creates_run (Some name) (Ok (answers.Ran ran)) status answered old new e end created =
-    ⊎_elim (λ same. go ran.end answered (same ∙ e)) (λ two. rw two (inr created)) end
-  where
-    go : (end : RunEnd) (n : ℕ) → n ≡ status_of_end end → Creates (Some name) n old new
-    go ends.Halted n is = rw is created
-    go (ends.Faulted fault) n is = rw is created
-    go (ends.Conflicting conflict) n is = rw is created
-    go ends.UsedUp n is = rw is created
-
-some_same : (a b : Option (List ℕ)) → Some a ≡ Some b → a ≡ b
-some_same a b e = ap (λ (o : Option (Option (List ℕ))). unwrap_or o a) e
-
--- that is so for what was asked for
-pub creates_asked : (keep asked : Option (List ℕ)) (run : Result PrintAnswer ToolFault) (status answered : ℕ) (old new : Option (List (List ℕ)))
-    → Some keep ≡ Some asked → status ≡ status_of_print run → EndsWith (created_after keep run) status answered
-    → Asks old new (created_after keep run) → Creates asked answered old new
-creates_asked keep asked run status answered old new same e end created =
-    subst (λ (k : Option (List ℕ)). Creates k answered old new) (some_same keep asked same) (creates_run keep run status answered old new e end created)
-
--- a run that is not made creates nothing
-pub creates_none : (keep : Option (List ℕ)) (status : ℕ) (old new : Option (List (List ℕ))) → status ≡ 2 → new ≡ old → Creates keep status old new
-creates_none None status old new e same = rw same (asks-nothing old)
-creates_none (Some name) status old new e same = rw (e, same) (inl (asks-nothing old))
 
 -- the status of a run is 0 to 3
 pub print_range : (run : Result PrintAnswer ToolFault) (status : ℕ) → status ≡ status_of_print run → status ≤ 3

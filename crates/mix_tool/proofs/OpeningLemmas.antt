@@ -24,7 +24,7 @@ pub missing-one : (all : Files) (name : List ℕ) (reason : Reason) (a b : Optio
     → Asks a b (name ∷ []) → Opens all (name ∷ []) a b (Some (name, reason))
 missing-one all name reason a b given asks = missing-case name reason (all name) a b given asks
 
-asks-then : (a b c : Option (List (List ℕ))) (xs ys : List (List ℕ)) → Asks a b xs → Asks b c ys → Asks a c (xs ++ ys)
+pub asks-then : (a b c : Option (List (List ℕ))) (xs ys : List (List ℕ)) → Asks a b xs → Asks b c ys → Asks a c (xs ++ ys)
 asks-then None None None xs ys h k = tt
 asks-then None None (Some z) xs ys h k = absurd k
 asks-then None (Some y) c xs ys h k = absurd h

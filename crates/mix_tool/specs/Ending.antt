@@ -5,7 +5,7 @@ use Rattle.mix_stream.specs.Stream.{AppendsFront}
 use Rattle.mix_run.specs.Bundle.{OriginValue}
 use Rattle.mix_run.specs.Fault.{tool_fault_text}
 use Rattle.mix_run.specs.Output.{Meets, Outcome}
-use Rattle.mix_run.specs.PrintOutput.{PrintOutcome, Prints}
+use Rattle.mix_run.specs.PrintOutput.{PrintOutcome, Prints, kept_of}
 use Rattle.mix_run.specs.Talk.{TalksWith}
 use Rattle.mix_run.specs.declared.print.PrintAnswer.{PrintAnswer}
 use Rattle.mix_run.specs.declared.print.PrintAnswer.TheVariants as answers
@@ -18,7 +18,7 @@ use Rattle.mix_machine.specs.units.Units.{UnitsState}
 use Rattle.mix_machine.specs.declared.units.deck_fault.DeckFault.{DeckFault}
 use Rattle.mix_run.specs.declared.fault.ToolFault.{ToolFault}
 use Rattle.mix_run.specs.declared.fault.ToolFault.TheVariants as faults
-use Rattle.mix_run.specs.Opening.{Asks, Files}
+use Rattle.mix_run.specs.Opening.{Asks, Files, Saved, noted}
 use Rattle.mix_run.specs.Reason.{reason_text}
 use Rattle.mix_run.specs.declared.reason.Reason.{Reason}
 
@@ -116,27 +116,39 @@ abbrev pub status_of_print : Result PrintAnswer ToolFault → ℕ
 status_of_print (Ok answer) = status_of_answer answer
 status_of_print (Err fault) = 2
 
--- the file that is created after a run: the one that is named for what its units hold, if the run has come to its end
-abbrev pub created_after : Option (List ℕ) → Result PrintAnswer ToolFault → List (List ℕ)
-created_after None run = []
-created_after (Some name) (Ok (answers.Ran ran)) = name ∷ []
-created_after (Some name) (Ok (answers.Refused fault)) = []
-created_after (Some name) (Err fault) = []
+-- what is saved after a run: all that is to be saved, if the run has come to its end
+abbrev pub saved_after : {A : Type 0} → List A → Result PrintAnswer ToolFault → List A
+saved_after all (Ok (answers.Ran ran)) = all
+saved_after all (Ok (answers.Refused fault)) = []
+saved_after all (Err fault) = []
 
 -- the status is that of the run, or 2 if a file that is created for it is not written
 abbrev pub EndsWith : List (List ℕ) → ℕ → ℕ → Type 0
 EndsWith [] status answered = answered ≡ status
 EndsWith (name ∷ names) status answered = (answered ≡ status) ⊎ (answered ≡ 2)
 
--- a run was made: what it printed and answered is the outcome, its status is answered, and what its units hold is kept in a file, if one is named
-abbrev pub PrintRuns : PrintOutcome → Option (List ℕ) → ℕ → Seen → Seen → Type 0
-PrintRuns outcome keep status before after =
-    (run : Result PrintAnswer ToolFault) × Prints outcome run before.out after.out × EndsWith (created_after keep run) (status_of_print run) status
+-- a run was made: what it printed and answered is the outcome, and its status is answered, where these files are created for it
+abbrev pub PrintRuns : PrintOutcome → List (List ℕ) → ℕ → Seen → Seen → Type 0
+PrintRuns outcome names status before after =
+    (run : Result PrintAnswer ToolFault) × Prints outcome run before.out after.out × EndsWith (saved_after names run) (status_of_print run) status
 
--- the files that a run creates, by its status: the one that is named for what its units hold, where the run has come to its end
-abbrev pub Creates : Option (List ℕ) → ℕ → Option (List (List ℕ)) → Option (List (List ℕ)) → Type 0
-Creates None status old new = Asks old new []
-Creates (Some name) zero old new = Asks old new (name ∷ [])
-Creates (Some name) (suc zero) old new = Asks old new []
-Creates (Some name) (suc (suc zero)) old new = Asks old new [] ⊎ Asks old new (name ∷ [])
-Creates (Some name) (suc (suc (suc status))) old new = Asks old new (name ∷ [])
+-- what holds by the status of a run: this if the run has come to its end, and else that; 2 leaves open which
+abbrev pub ByEnd : ℕ → Type 0 → Type 0 → Type 0
+ByEnd zero Ended Other = Ended
+ByEnd (suc zero) Ended Other = Other
+ByEnd (suc (suc zero)) Ended Other = Other ⊎ Ended
+ByEnd (suc (suc (suc status))) Ended Other = Ended
+
+-- the files that a run creates, if it has come to its end
+abbrev pub Creates : List (List ℕ) → ℕ → Option (List (List ℕ)) → Option (List (List ℕ)) → Type 0
+Creates names status old new = ByEnd status (Asks old new names) (Asks old new [])
+
+-- a text that is saved in a file, if one is named for it
+abbrev pub saved_as : Option (List ℕ) → List ℕ → List Saved
+saved_as None text = []
+saved_as (Some name) text = (name, text) ∷ []
+
+-- what a run saves, if it has come to its end: in one file the deck of what its units hold, and in another one its map
+abbrev pub Saves : PrintOutcome → (List ℕ → Type 0) → Option (List ℕ) → Option (List ℕ) → ℕ → Option (List Saved) → Option (List Saved) → Type 0
+Saves outcome IsDrawn keep svg status old new =
+    ByEnd status ((map : List ℕ) × IsDrawn map × (new ≡ noted old (saved_as keep (kept_of outcome) ++ saved_as svg map))) (new ≡ old)

@@ -1,15 +1,19 @@
 -- What a plan does: the files that it opens, in their order, and the run that it makes on their texts.
-use Rattle.std.specs.Prelude.{◌≡◌, ◌≤◌, ℕ, Bool, true, false, not, List, [], ◌∷◌, ◌++◌, Option, None, Some, option_map, is_some, map, string_bytes}
+use Rattle.std.specs.Prelude.{◌≡◌, ◌≤◌, ⊤, ℕ, Bool, true, false, not, List, [], ◌∷◌, ◌++◌, Option, None, Some, option_and_then, option_map, is_some, map, string_bytes}
 use Rattle.std.specs.Option.{option_map_or}
 use Rattle.mixal_asm.specs.Assembly.{assembly}
 use Rattle.mix_machine.specs.units.deck.Deck.{deck_of}
+use Rattle.mix_cli.specs.declared.words.AskedTable.{AskedTable}
 use Rattle.mix_cli.specs.declared.words.Format.{Format}
 use Rattle.mix_cli.specs.declared.words.Format.TheVariants as format
 use Rattle.mix_cli.specs.declared.words.Plan.{Plan}
 use Rattle.mix_cli.specs.declared.words.Plan.TheVariants as plan
 use Rattle.mix_cli.specs.declared.words.Printing.{Printing}
+use Rattle.mix_cli.specs.declared.words.TableRows.{TableRows}
+use Rattle.mix_cli.specs.declared.words.TableRows.TheVariants as rows
 use Rattle.mix_run.specs.Check.{Named, check_output}
 use Rattle.mix_run.specs.Debug.{debug_output, origin_given}
+use Rattle.mix_run.specs.Drawn.{Draws}
 use Rattle.mix_run.specs.Output.{bundle_output, list_output}
 use Rattle.mix_run.specs.PrintOutput.{print_output}
 use Rattle.mix_run.specs.declared.print.options.PrintOptions.{PrintOptions}
@@ -18,8 +22,8 @@ use Rattle.mix_run.specs.declared.table.TableFormat.{TableFormat}
 use Rattle.mix_run.specs.declared.table.TableFormat.TheVariants as table
 use Rattle.mix_run.specs.declared.talk.Streams.{Streams}
 use Rattle.mix_run.specs.declared.talk.aside.Talker.{Talker}
-use Rattle.mix_tool.specs.Ending.{PrintRuns, Runs, Seen, TalkRuns, Tells, not_opened}
-use Rattle.mix_run.specs.Opening.{Files, Missing, missing_of, named, opened_text, text_of}
+use Rattle.mix_tool.specs.Ending.{PrintRuns, Runs, Saves, Seen, TalkRuns, Tells, not_opened}
+use Rattle.mix_run.specs.Opening.{Files, Missing, Saved, missing_of, named, opened_text, text_of}
 use Rattle.mix_tool.specs.declared.texts.Names.{Names}
 use Rattle.mix_tool.specs.declared.texts.Texts.{Texts}
 
@@ -37,7 +41,7 @@ names_of (plan.List source) = record { source = Some (string_bytes source); deck
 names_of (plan.Check sources json) = record { source = None; deck = None; cards = None; typewriter = None; script = None }
 names_of (plan.Debug source script devices echo) =
     record { source = Some (string_bytes source); deck = option_map string_bytes devices; cards = None; typewriter = None; script = option_map string_bytes script }
-names_of (plan.Run source cards typewriter devices steps printing trace strict keep counts) =
+names_of (plan.Run source cards typewriter devices steps printing trace strict keep svg table part) =
     record {
       source = Some (string_bytes source);
       deck = option_map string_bytes devices;
@@ -57,7 +61,7 @@ sources_of plan.Bundle = []
 sources_of (plan.List source) = []
 sources_of (plan.Check sources json) = map string_bytes sources.items
 sources_of (plan.Debug source script devices echo) = []
-sources_of (plan.Run source cards typewriter devices steps printing trace strict keep counts) = []
+sources_of (plan.Run source cards typewriter devices steps printing trace strict keep svg table part) = []
 sources_of plan.Dap = []
 
 -- all files of a plan, in the order in which they are opened
@@ -125,8 +129,15 @@ format_of format.Csv = table.Csv
 format_of format.Json = table.Json
 format_of format.Latex = table.Latex
 
-abbrev pub options_of : {Name : Type 0} → Option Name → Option Name → Option Name → ℕ → Printing → Bool → Bool → Option Name → Option Format → PrintOptions
-options_of devices cards typewriter steps printing trace strict keep counts =
+-- the form of the table in which a run is counted, if it is; no other table is written yet
+abbrev pub counted_in : TableRows → Format → Option TableFormat
+counted_in rows.Counts format = Some (format_of format)
+counted_in rows.Trace format = None
+counted_in rows.Writes format = None
+
+abbrev pub options_of : {Name : Type 0} → Option Name → Option Name → Option Name → ℕ → Printing → Bool → Bool → Option Name → Option Name → Option AskedTable
+    → PrintOptions
+options_of devices cards typewriter steps printing trace strict keep svg table =
     record {
       steps = steps;
       units = units_of printing;
@@ -136,7 +147,8 @@ options_of devices cards typewriter steps printing trace strict keep counts =
       trace = trace;
       strict = strict;
       keep = is_some keep;
-      counts = option_map format_of counts;
+      counts = option_and_then (λ (asked : AskedTable). counted_in asked.of asked.format) table;
+      map = is_some svg;
     }
 
 -- what is seen of some streams
@@ -170,9 +182,9 @@ RunsOn all (plan.Check sources json) given talker status before after =
 RunsOn all (plan.Debug source script devices echo) given talker status before after =
     DebugsOn all (string_bytes source) (names_of_session (string_bytes source) (option_map string_bytes devices) (option_map string_bytes script))
     (is_some devices) echo script given talker status before after
-RunsOn all (plan.Run source cards typewriter devices steps printing trace strict keep counts) given talker status before after =
-    PrintRuns (print_output (options_of devices cards typewriter steps printing trace strict keep counts) given.source given.deck given.cards given.typewriter)
-    (option_map string_bytes keep) status before after
+RunsOn all (plan.Run source cards typewriter devices steps printing trace strict keep svg table part) given talker status before after =
+    PrintRuns (print_output (options_of devices cards typewriter steps printing trace strict keep svg table) given.source given.deck given.cards given.typewriter)
+    (named (option_map string_bytes keep) ++ named (option_map string_bytes svg)) status before after
 RunsOn all plan.Dap given talker status before after = status ≤ 2
 
 -- the first file that can't be opened is told and why, and the status is 2; if there is none, the run is made
@@ -193,7 +205,7 @@ reads_input plan.Bundle = true
 reads_input (plan.List source) = false
 reads_input (plan.Check sources json) = false
 reads_input (plan.Debug source script devices echo) = is_talk script
-reads_input (plan.Run source cards typewriter devices steps printing trace strict keep counts) = false
+reads_input (plan.Run source cards typewriter devices steps printing trace strict keep svg table part) = false
 reads_input plan.Dap = false
 
 -- whether a plan hears a client: the debug adapter does
@@ -202,7 +214,7 @@ hears_client plan.Bundle = false
 hears_client (plan.List source) = false
 hears_client (plan.Check sources json) = false
 hears_client (plan.Debug source script devices echo) = false
-hears_client (plan.Run source cards typewriter devices steps printing trace strict keep counts) = false
+hears_client (plan.Run source cards typewriter devices steps printing trace strict keep svg table part) = false
 hears_client plan.Dap = true
 
 -- whether nothing is told on the error output but a fault of the tool: of a talk and of a run other things are
@@ -211,14 +223,22 @@ is_quiet plan.Bundle = true
 is_quiet (plan.List source) = true
 is_quiet (plan.Check sources json) = true
 is_quiet (plan.Debug source script devices echo) = not (is_talk script)
-is_quiet (plan.Run source cards typewriter devices steps printing trace strict keep counts) = false
+is_quiet (plan.Run source cards typewriter devices steps printing trace strict keep svg table part) = false
 is_quiet plan.Dap = true
 
--- what a run is told to keep what its units hold in: a file or nothing; no other plan is a run
-abbrev pub keep_of : Plan → Option (Option (List ℕ))
-keep_of plan.Bundle = None
-keep_of (plan.List source) = None
-keep_of (plan.Check sources json) = None
-keep_of (plan.Debug source script devices echo) = None
-keep_of (plan.Run source cards typewriter devices steps printing trace strict keep counts) = Some (option_map string_bytes keep)
-keep_of plan.Dap = None
+-- the files that a run creates: for what its units hold, and for its map; no other plan is a run
+abbrev pub creates_of : Plan → Option (List (List ℕ))
+creates_of plan.Bundle = None
+creates_of (plan.List source) = None
+creates_of (plan.Check sources json) = None
+creates_of (plan.Debug source script devices echo) = None
+creates_of (plan.Run source cards typewriter devices steps printing trace strict keep svg table part) = Some (named (option_map string_bytes keep) ++ named (option_map string_bytes svg))
+creates_of plan.Dap = None
+
+-- what a run on its texts saves
+abbrev pub SavesOn : Plan → Given → ℕ → Option (List Saved) → Option (List Saved) → Type 0
+SavesOn (plan.Run source cards typewriter devices steps printing trace strict keep svg table part) given status old new =
+    let options = options_of devices cards typewriter steps printing trace strict keep svg table in
+    Saves (print_output options given.source given.deck given.cards given.typewriter)
+    (Draws options given.source given.deck given.cards given.typewriter []) (option_map string_bytes keep) (option_map string_bytes svg) status old new
+SavesOn other given status old new = ⊤

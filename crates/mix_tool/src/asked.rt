@@ -1,10 +1,11 @@
 //! What a plan asks for: the names of its files, and what is asked of its run.
 
-ghost use Rattle.std.specs.Prelude.{◌≡◌, option_map};
-ghost use Rattle.mix_tool.specs.Plan.{format_of, names_in, names_of, options_of};
+ghost use Rattle.std.specs.Prelude.{◌≡◌, option_and_then};
+ghost use Rattle.mix_tool.specs.Plan.{counted_in, format_of, names_in, names_of, options_of};
+ghost use Rattle.mix_cli.specs.declared.words.AskedTable.{AskedTable};
 
 use crate::texts::Names;
-use mix_cli::{Format, Plan, Printing};
+use mix_cli::{AskedTable, Format, Plan, Printing, TableRows};
 use mix_run::{PrintOptions, TableFormat, UnitSet};
 
 /// The names of the files of a plan.
@@ -65,12 +66,21 @@ fn format_of(format: Format) -> TableFormat
     }
 }
 
-// The form of the table of a run, if it is counted.
-fn counts_of(counts: Option<Format>) -> Option<TableFormat>
-    ensures { result ≡ option_map format_of counts }
+// The form of the table in which a run is counted, if it is; no other table is written yet.
+fn counted_in(of: TableRows, format: Format) -> Option<TableFormat>
+    ensures { result ≡ counted_in of format }
 {
-    match counts {
-        Some(format) => Some(format_of(format)),
+    match of {
+        TableRows::Counts => Some(format_of(format)),
+        TableRows::Trace | TableRows::Writes => None,
+    }
+}
+
+fn counts_of(table: Option<AskedTable>) -> Option<TableFormat>
+    ensures { result ≡ option_and_then (λ (asked : AskedTable). counted_in asked.of asked.format) table }
+{
+    match table {
+        Some(asked) => counted_in(asked.of, asked.format),
         None => None,
     }
 }
@@ -85,9 +95,10 @@ pub(crate) fn options_of(
     trace: bool,
     strict: bool,
     keep: &Option<String>,
-    counts: Option<Format>,
+    svg: &Option<String>,
+    table: Option<AskedTable>,
 ) -> PrintOptions
-    ensures { result ≡ options_of devices.now cards.now typewriter.now steps printing trace strict keep.now counts }
+    ensures { result ≡ options_of devices.now cards.now typewriter.now steps printing trace strict keep.now svg.now table }
 {
     PrintOptions {
         steps,
@@ -103,6 +114,7 @@ pub(crate) fn options_of(
         trace,
         strict,
         keep: keep.is_some(),
-        counts: counts_of(counts),
+        counts: counts_of(table),
+        map: svg.is_some(),
     }
 }

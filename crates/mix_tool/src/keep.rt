@@ -1,8 +1,8 @@
-//! What the units hold at the end of a run, kept in a file.
+//! What the units hold at the end of a run, and its map, each saved in a file.
 
-ghost use Rattle.std.specs.Prelude.{◌≡◌, ◌≢◌, ◌≤◌, ◌∷◌, [], map, true, option_map, string_bytes};
-ghost use Rattle.mix_run.specs.Opening.{Asks, noted};
-ghost use Rattle.mix_tool.specs.Ending.{EndsWith, created_after};
+ghost use Rattle.std.specs.Prelude.{◌≡◌, ◌≢◌, ◌≤◌, ◌∷◌, ◌++◌, [], None, true, option_map, string_bytes};
+ghost use Rattle.mix_run.specs.Opening.{Asks, named, noted};
+ghost use Rattle.mix_tool.specs.Ending.{EndsWith, saved_after, saved_as};
 
 use crate::ending::{not_opened_line, not_written_line, tell_beside};
 use mix_cli::FAILED;
@@ -24,56 +24,84 @@ fn unsaved_line(
     }
 }
 
-// Saves a text in a file. What prevents that is told.
+// Saves a text in a file, if one is named for it. What prevents that is told.
 fn is_saved<O: Opener, E: Out>(
     files: &mut O,
     alloc: Global,
-    name: &str,
+    name: &Option<String>,
     text: &[u8],
     errors: &mut E,
 ) -> bool
-    ensures created { Asks (O.created files.old) (O.created files.new) (name.now ∷ []) }
-    ensures saved { O.saved files.new ≡ noted (O.saved files.old) ((name.now, text.now) ∷ []) }
+    ensures created { Asks (O.created files.old) (O.created files.new) (named (option_map string_bytes name.now)) }
+    ensures saved { O.saved files.new ≡ noted (O.saved files.old) (saved_as (option_map string_bytes name.now) text.now) }
     ensures asked { O.asked files.new ≡ O.asked files.old }
+    ensures unnamed { named (option_map string_bytes name.now) ≡ [] → result ≡ true }
     ensures quiet { result ≡ true → errors.new ≡ errors.old }
 {
-    match files.save(alloc, name.as_bytes(), text) {
-        Ok(()) => true,
-        Err(refused) => {
-            tell_beside(unsaved_line(alloc, name, refused), errors);
-            false
-        }
+    match name {
+        None => true,
+        Some(name) => match files.save(alloc, name.as_bytes(), text) {
+            Ok(()) => true,
+            Err(refused) => {
+                tell_beside(unsaved_line(alloc, name, refused), errors);
+                false
+            }
+        },
     }
 }
 
-/// Saves the deck of a run that has come to its end in a file, if one is named for it. The status is that of the run, or 2 if it is not saved.
-pub(crate) fn keep_deck<O: Opener, E: Out>(
+// Saves both texts of a run; the map is saved even if the deck is not.
+fn are_saved<O: Opener, E: Out>(
     files: &mut O,
     alloc: Global,
     keep: &Option<String>,
-    outcome: Result<PrintAnswer, ToolFault>,
     deck: &[u8],
+    svg: &Option<String>,
+    map: &[u8],
+    errors: &mut E,
+) -> bool
+    ensures created { Asks (O.created files.old) (O.created files.new) (named (option_map string_bytes keep.now) ++ named (option_map string_bytes svg.now)) }
+    ensures saved { O.saved files.new
+        ≡ noted (O.saved files.old) (saved_as (option_map string_bytes keep.now) deck.now ++ saved_as (option_map string_bytes svg.now) map.now) }
+    ensures asked { O.asked files.new ≡ O.asked files.old }
+    ensures unnamed { named (option_map string_bytes keep.now) ++ named (option_map string_bytes svg.now) ≡ [] → result ≡ true }
+    ensures quiet { result ≡ true → errors.new ≡ errors.old }
+{
+    let kept = is_saved(files, alloc, keep, deck, errors);
+    let drawn = is_saved(files, alloc, svg, map, errors);
+    kept && drawn
+}
+
+/// Saves the deck and the map of a run that has come to its end, each in a file, if one is named for it. The status is that of the run, or 2 if one of them
+/// is not saved.
+pub(crate) fn save_files<O: Opener, E: Out>(
+    files: &mut O,
+    alloc: Global,
+    keep: &Option<String>,
+    deck: &[u8],
+    svg: &Option<String>,
+    map: &[u8],
+    outcome: Result<PrintAnswer, ToolFault>,
     status: u8,
     errors: &mut E,
 ) -> u8
-    ensures created { Asks (O.created files.old) (O.created files.new) (created_after (option_map string_bytes keep.now) outcome) }
-    ensures saved { O.saved files.new ≡ noted (O.saved files.old) (map (λ name. (name, deck.now)) (created_after (option_map string_bytes keep.now) outcome)) }
+    ensures created { Asks (O.created files.old) (O.created files.new)
+        (saved_after (named (option_map string_bytes keep.now) ++ named (option_map string_bytes svg.now)) outcome) }
+    ensures saved { O.saved files.new ≡ noted (O.saved files.old)
+        (saved_after (saved_as (option_map string_bytes keep.now) deck.now ++ saved_as (option_map string_bytes svg.now) map.now) outcome) }
     ensures asked { O.asked files.new ≡ O.asked files.old }
-    ensures status { EndsWith (created_after (option_map string_bytes keep.now) outcome) status result }
+    ensures status { EndsWith (saved_after (named (option_map string_bytes keep.now) ++ named (option_map string_bytes svg.now)) outcome) status result }
     ensures range { status ≤ 3 → result ≤ 3 }
     ensures well { result ≢ 2 → (result ≡ status) × (errors.new ≡ errors.old) }
 {
-    match keep {
-        None => status,
-        Some(name) => match outcome {
-            Ok(PrintAnswer::Ran(_)) => {
-                if is_saved(files, alloc, name, deck, errors) {
-                    status
-                } else {
-                    FAILED
-                }
+    match outcome {
+        Ok(PrintAnswer::Ran(_)) => {
+            if are_saved(files, alloc, keep, deck, svg, map, errors) {
+                status
+            } else {
+                FAILED
             }
-            Ok(PrintAnswer::Refused(_)) | Err(_) => status,
-        },
+        }
+        Ok(PrintAnswer::Refused(_)) | Err(_) => status,
     }
 }

@@ -7,13 +7,13 @@ ghost use Rattle.mix_dap.specs.Dialogue.{DialogueAs, TellsBroken};
 ghost use Rattle.mix_stream.specs.Stream.{CountsFailure};
 ghost use Rattle.mix_run.specs.Opening.{Asks, Files, asked_of, missing_of};
 ghost use Rattle.mix_tool.specs.Ending.{Creates};
-ghost use Rattle.mix_tool.specs.Plan.{AreFresh, Given, HoldTexts, DoneAfter, IsDone, RunsOn, files_of, given_of, hears_client, in_order, is_quiet, keep_of, reads_input, seen, sources_of};
+ghost use Rattle.mix_tool.specs.Plan.{AreFresh, Given, HoldTexts, DoneAfter, IsDone, RunsOn, SavesOn, creates_of, files_of, given_of, hears_client, in_order, is_quiet, names_of, reads_input, seen, sources_of};
 
 use crate::asked::{names_in, options_of};
 use crate::check::check_files;
 use crate::debug::debug_on;
 use crate::ending::{print_status, status, tell_not_opened, unread};
-use crate::keep::keep_deck;
+use crate::keep::save_files;
 use crate::texts::{Texts, open_texts};
 use mix_cli::Plan;
 use mix_dap::{Library, serve_from};
@@ -40,7 +40,8 @@ fn run_on<O: Opener + Library, C: In, R: In, W: Out, E: Out>(
         → DoneAfter (missing_of all (sources_of plan.now))
         (RunsOn all plan.now given streams.old.talker result (seen R.rest W.told E.told E.failed streams.old) (seen R.rest W.told E.told E.failed streams.new))
         result (seen R.rest W.told E.told E.failed streams.old) (seen R.rest W.told E.told E.failed streams.new) }
-    ensures created { (keep : Option (List ℕ)) → keep_of plan.now ≡ Some keep → Creates keep result (O.created files.old) (O.created files.new) }
+    ensures created { (names : List (List ℕ)) → creates_of plan.now ≡ Some names → Creates names result (O.created files.old) (O.created files.new) }
+    ensures saved { (given : Given) → HoldTexts O.Reader.rest texts given → SavesOn plan.now given result (O.saved files.old) (O.saved files.new) }
     ensures input { reads_input plan.now ≡ false → streams.new.input ≡ streams.old.input }
     ensures client { hears_client plan.now ≡ false → client.new ≡ client.old }
     ensures served { hears_client plan.now ≡ true → result ≢ 2
@@ -82,16 +83,20 @@ fn run_on<O: Opener + Library, C: In, R: In, W: Out, E: Out>(
             trace,
             strict,
             keep,
-            counts,
+            svg,
+            table,
+            part: _,
         } => {
             let (steps, trace, strict) = (*steps, *trace, *strict);
             let options = options_of(
-                devices, cards, typewriter, steps, *printing, trace, strict, keep, *counts,
+                devices, cards, typewriter, steps, *printing, trace, strict, keep, svg, *table,
             );
             let mut texts = texts.of_run();
             let (out, errors) = (&mut streams.out, &mut streams.errors);
-            let mut deck = Vec::new(alloc);
-            let outcome = run_printed(alloc, source, &mut texts, options, &mut deck, out, errors);
+            let (mut deck, mut map) = (Vec::new(alloc), Vec::new(alloc));
+            let outcome = run_printed(
+                alloc, source, &mut texts, options, &mut deck, &mut map, out, errors,
+            );
             let failures = (texts.deck.failures(), texts.cards.failures());
             let file = unread(source, devices.as_deref(), cards.as_deref(), failures);
             let lines = (0, texts.typewriter.failures());
@@ -99,7 +104,7 @@ fn run_on<O: Opener + Library, C: In, R: In, W: Out, E: Out>(
             // (a copy, since the checker covers no value of this kind that is passed twice)
             let again = outcome;
             let status = print_status(alloc, source, outcome, Some(file), errors);
-            keep_deck(files, alloc, keep, again, &deck, status, errors)
+            save_files(files, alloc, keep, &deck, svg, &map, again, status, errors)
         }
         Plan::Dap => {
             let (out, errors) = (&mut streams.out, &mut streams.errors);
@@ -114,8 +119,8 @@ fn run_on<O: Opener + Library, C: In, R: In, W: Out, E: Out>(
 ///
 /// The status is that of the run. It is 2 where the tool itself fails; then that fault stands on the error output, as
 /// `mixrev: T2 read failed: NAME`, or for the first file that cannot be opened `mixrev: T4 not opened: NAME: REASON`. A write there that
-/// fails changes no status. A run writes what its units hold at the end to the file that is named for it; if that can't be created or written, T4 or T3 says so,
-/// and the status is 2. Of a talk the prompts and the help stand there too, of a run where it came to if not to a halt, and of both a refused source
+/// fails changes no status. A run writes what its units hold at the end, and its map, each to the file that is named for it; if that can't be created or written, T4 or
+/// T3 says so, and the status is 2. Of a talk the prompts and the help stand there too, of a run where it came to if not to a halt, and of both a refused source
 /// with its line and a mark.
 pub fn run_plan<O: Opener + Library, C: In, R: In, W: Out, E: Out>(
     files: &mut O,
@@ -138,8 +143,12 @@ pub fn run_plan<O: Opener + Library, C: In, R: In, W: Out, E: Out>(
         → IsDone all plan.now streams.old.talker result (seen R.rest W.told E.told E.failed streams.old)
         (seen R.rest W.told E.told E.failed streams.new) }
 
-    // A run creates the file that it keeps its units in, when it has come to its end, and no other.
-    ensures created { (keep : Option (List ℕ)) → keep_of plan.now ≡ Some keep → Creates keep result (O.created files.old) (O.created files.new) }
+    // A run creates the files that its units are kept and its map is drawn in, when it has come to its end, and no other.
+    ensures created { (names : List (List ℕ)) → creates_of plan.now ≡ Some names → Creates names result (O.created files.old) (O.created files.new) }
+
+    // There it saves the deck of what its units hold, and its map.
+    ensures saved { (all : Files) → O.holds files.old ≡ Some all
+        → SavesOn plan.now (given_of all (names_of plan.now)) result (O.saved files.old) (O.saved files.new) }
 
     // Of a plan whose texts are all files the input is not read.
     ensures input { reads_input plan.now ≡ false → streams.new.input ≡ streams.old.input }

@@ -100,6 +100,7 @@ fn open_text<'n, O: Opener>(
     ensures named { IfErr result (λ _. named (option_map (λ n. n.now) name.entry) ≢ []) }
     ensures same { O.holds files.new ≡ O.holds files.old }
     ensures nothing_created { O.created files.new ≡ O.created files.old }
+    ensures nothing_saved { O.saved files.new ≡ O.saved files.old }
 {
     match name {
         None => Ok(Text { reader: None }),
@@ -126,6 +127,7 @@ pub(crate) fn open_texts<'n, O: Opener>(
     ensures named { IfErr result (λ _. in_order (names_in names.entry) ≢ []) }
     ensures same { O.holds files.new ≡ O.holds files.old }
     ensures nothing_created { O.created files.new ≡ O.created files.old }
+    ensures nothing_saved { O.saved files.new ≡ O.saved files.old }
 {
     let source = open_text(files, names.source)?;
     let deck = open_text(files, names.deck)?;

@@ -84,7 +84,9 @@ fn plan_of(alloc: Global, line: &str) -> Option<Plan> {
             trace: words.next() == Some("trace"),
             strict: false,
             keep: named(alloc, words.next().unwrap_or("-"))?,
-            counts: None,
+            svg: named(alloc, words.next().unwrap_or("-"))?,
+            table: None,
+            part: None,
         }),
         _ => None,
     }

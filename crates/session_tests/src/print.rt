@@ -61,6 +61,7 @@ fn printed_by(alloc: Global, fields: &[&str], size: usize) -> Option<String> {
         strict,
         keep,
         counts: None,
+        map: false,
     };
     let mut out = Sink::of(size, 0);
     let mut texts = PrintTexts {
@@ -70,13 +71,14 @@ fn printed_by(alloc: Global, fields: &[&str], size: usize) -> Option<String> {
         typewriter: Chunks::of(&typewriter_text, size, 0),
     };
     let mut errors = Sink::of(ALL, 0);
-    let mut kept = Vec::new(alloc);
+    let (mut kept, mut map) = (Vec::new(alloc), Vec::new(alloc));
     let answer = run_printed(
         alloc,
         "f",
         &mut texts,
         options,
         &mut kept,
+        &mut map,
         &mut out,
         &mut errors,
     );

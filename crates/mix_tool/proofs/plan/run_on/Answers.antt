@@ -1,9 +1,10 @@
 -- The run of a plan is that of its texts; a client is served.
 use Rattle.std.proofs.Common.{None, ap, inl, refl, sym, ◌∙◌}
 use Rattle.mix_tool.specs.Ending.{status_of_print}
-use Rattle.mix_tool.specs.Plan.{keep_of}
+use Rattle.mix_tool.specs.Plan.{creates_of}
 use Rattle.mix_tool.proofs.CheckLemmas.{asks-nothing}
-use Rattle.mix_tool.proofs.EndingLemmas.{creates_asked, print_range}
+use Rattle.mix_tool.proofs.EndingLemmas.{print_range}
+use Rattle.mix_tool.proofs.SavingLemmas.{creates-asked, saves-run}
 use Rattle.mix_tool.proofs.plan.run_on.Goals as goal
 
 pub returns-in-Bundle-clause-done : goal.returns-in-Bundle-clause-done
@@ -26,25 +27,35 @@ pub returns-in-Debug-clause-opened : goal.returns-in-Debug-clause-opened
 returns-in-Debug-clause-opened g c all e = rw (c.in-Debug.is, c.debug_on.ensures.unasked) (asks-nothing _)
 
 pub returns-in-Run-clause-opened : goal.returns-in-Run-clause-opened
-returns-in-Run-clause-opened g c all e = rw (c.in-Run.is, c.keep_deck.ensures.asked) (asks-nothing _)
+returns-in-Run-clause-opened g c all e = rw (c.in-Run.is, c.save_files.ensures.asked) (asks-nothing _)
 
 pub returns-in-Run-clause-done : goal.returns-in-Run-clause-done
 returns-in-Run-clause-done g c all given e holds =
     let texts = c.of_run-texts.ensures in
     let prints = c.run_printed-outcome.ensures.output given.source given.deck given.cards given.typewriter
     (rw texts holds.source) (rw texts holds.deck) (rw texts holds.cards) (rw texts holds.typewriter) in
-    rw c.in-Run.is (c.run_printed-outcome.result, rw c.options_of-options.ensures at prints, rw c.print_status-status.ensures at c.keep_deck.ensures.status)
+    rw c.in-Run.is (c.run_printed-outcome.result, rw c.options_of-options.ensures at prints, rw c.print_status-status.ensures at c.save_files.ensures.status)
 
 pub returns-in-Run-clause-created : goal.returns-in-Run-clause-created
-returns-in-Run-clause-created g c keep e =
-    creates_asked _ keep _ _ _ _ _ (sym (ap keep_of c.in-Run.is) ∙ e) c.print_status-status.ensures c.keep_deck.ensures.status c.keep_deck.ensures.created
+returns-in-Run-clause-created g c names e =
+    creates-asked _ names _ _ _ _ _ (sym (ap creates_of c.in-Run.is) ∙ e) c.print_status-status.ensures c.save_files.ensures.status c.save_files.ensures.created
+
+pub returns-in-Run-clause-saved : goal.returns-in-Run-clause-saved
+returns-in-Run-clause-saved g c given holds =
+    let texts = c.of_run-texts.ensures in
+    let kept = c.run_printed-outcome.ensures.kept given.source given.deck given.cards given.typewriter
+    (rw texts holds.source) (rw texts holds.deck) (rw texts holds.cards) (rw texts holds.typewriter) in
+    let drawn = c.run_printed-outcome.ensures.map given.source given.deck given.cards given.typewriter
+    (rw texts holds.source) (rw texts holds.deck) (rw texts holds.cards) (rw texts holds.typewriter) in
+    rw c.in-Run.is (saves-run _ _ _ _ _ _ _ _ _ _ _ _ (rw c.options_of-options.ensures at kept) (rw c.options_of-options.ensures at drawn)
+    c.print_status-status.ensures c.save_files.ensures.status c.save_files.ensures.saved)
 
 pub returns-in-Run-clause-range : goal.returns-in-Run-clause-range
-returns-in-Run-clause-range g c = c.keep_deck.ensures.range (print_range _ _ c.print_status-status.ensures)
+returns-in-Run-clause-range g c = c.save_files.ensures.range (print_range _ _ c.print_status-status.ensures)
 
 pub returns-in-Run-clause-written : goal.returns-in-Run-clause-written
 returns-in-Run-clause-written g c well =
-    let same = (c.keep_deck.ensures.well well).0 in
+    let same = (c.save_files.ensures.well well).0 in
     c.run_printed-outcome.ensures.write.1 (λ failed. well (same ∙ c.print_status-status.ensures ∙ ap status_of_print failed))
 
 pub returns-in-Dap-clause-served : goal.returns-in-Dap-clause-served

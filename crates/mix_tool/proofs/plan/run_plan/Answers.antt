@@ -3,7 +3,7 @@ use Rattle.std.proofs.Common.{◌∙◌, Some, ap, refl, subst}
 use Rattle.mix_run.specs.Opening.{Missing, missing_of}
 use Rattle.mix_tool.specs.Plan.{FileNames, HoldTexts, RunsOn, files_of, given_of, in_order, names_in, names_of, seen, sources_of}
 use Rattle.mix_tool.proofs.CheckLemmas.{client-unnamed, done-as, plan-missing, plan-opened}
-use Rattle.mix_tool.proofs.EndingLemmas.{creates_none}
+use Rattle.mix_tool.proofs.SavingLemmas.{creates-none, saves-none}
 use Rattle.mix_tool.proofs.plan.run_plan.Goals as goal
 
 pub returns-in-Ok-clause-opened : goal.returns-in-Ok-clause-opened
@@ -54,7 +54,15 @@ pub returns-in-Err-clause-broken : goal.returns-in-Err-clause-broken
 returns-in-Err-clause-broken g c hears = absurd (c.in-Err.ensures.named (ap in_order c.names_in.ensures ∙ client-unnamed c.args.plan.now hears))
 
 pub returns-in-Ok-clause-created : goal.returns-in-Ok-clause-created
-returns-in-Ok-clause-created g c keep e = rw c.open_texts.ensures.nothing_created at (c.run_on.ensures.created keep e)
+returns-in-Ok-clause-created g c names e = rw c.open_texts.ensures.nothing_created at (c.run_on.ensures.created names e)
 
 pub returns-in-Err-clause-created : goal.returns-in-Err-clause-created
-returns-in-Err-clause-created g c keep e = creates_none keep _ _ _ c.tell_not_opened.ensures.status c.open_texts.ensures.nothing_created
+returns-in-Err-clause-created g c names e = creates-none names _ _ _ c.tell_not_opened.ensures.status c.open_texts.ensures.nothing_created
+
+pub returns-in-Ok-clause-saved : goal.returns-in-Ok-clause-saved
+returns-in-Ok-clause-saved g c all e =
+    let holds = subst (λ (n : FileNames). HoldTexts g.O.Reader.In.rest c.in-Ok.texts (given_of all n)) c.names_in.ensures (c.in-Ok.ensures.texts all e) in
+    rw c.open_texts.ensures.nothing_saved at (c.run_on.ensures.saved (given_of all (names_of c.args.plan.now)) holds)
+
+pub returns-in-Err-clause-saved : goal.returns-in-Err-clause-saved
+returns-in-Err-clause-saved g c all e = saves-none c.args.plan.now _ _ _ _ c.tell_not_opened.ensures.status c.open_texts.ensures.nothing_saved

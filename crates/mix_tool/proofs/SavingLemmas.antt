@@ -1,0 +1,106 @@
+-- What a run saves, by its status.
+use Rattle.std.proofs.Common.{◌≡◌, ◌≢◌, ◌∙◌, ◌⊎◌, ⊎_elim, ◌×◌, ℕ, Bool, true, false, List, [], ◌∷◌, ◌++◌, Option, None, Some, Result, Ok, Err, ap, inl, inr, refl, sym, subst}
+use Rattle.std.specs.Prelude.{OnOk, unwrap_or}
+use Rattle.mix_run.specs.Opening.{Asks, Saved, named, noted, noted_one}
+use Rattle.mix_run.specs.declared.fault.ToolFault.{ToolFault}
+use Rattle.mix_run.specs.declared.print.PrintAnswer.{PrintAnswer}
+use Rattle.mix_run.specs.declared.print.PrintAnswer.TheVariants as answers
+use Rattle.mix_run.specs.declared.print.steps.RunEnd.{RunEnd}
+use Rattle.mix_run.specs.declared.print.steps.RunEnd.TheVariants as ends
+use Rattle.mix_cli.specs.declared.words.Plan.{Plan}
+use Rattle.mix_cli.specs.declared.words.Plan.TheVariants as plan
+use Rattle.mix_tool.proofs.CheckLemmas.{asks-nothing}
+use Rattle.mix_tool.specs.Plan.{Given, SavesOn}
+use Rattle.mix_tool.specs.Ending.{ByEnd, Creates, EndsWith, saved_after, saved_as, status_of_end, status_of_print}
+
+-- some files are saved, and then others
+pub noted-both : (old : Option (List Saved)) (xs ys : List Saved) → noted (noted old xs) ys ≡ noted old (xs ++ ys)
+noted-both old [] ys = refl
+noted-both old (x ∷ xs) ys = noted-both (noted_one old x) xs ys
+
+-- of two files none is named, so neither is
+pub none-named : (a b : Option (List ℕ)) → named a ++ named b ≡ [] → (named a ≡ []) × (named b ≡ [])
+none-named None b e = (refl, e)
+none-named (Some name) b e = absurd cc
+
+-- all are saved, or one is not
+pub ends-saved : (names : List (List ℕ)) (status : ℕ) → EndsWith names status status
+ends-saved [] status = refl
+ends-saved (name ∷ names) status = inl refl
+
+pub ends-unsaved : (names : List (List ℕ)) (saved : Bool) (status : ℕ) → (names ≡ [] → saved ≡ true) → saved ≡ false → EndsWith names status 2
+ends-unsaved [] true status unnamed e = absurd cc
+ends-unsaved [] false status unnamed e = absurd (true-not-false (unnamed refl))
+  where
+    true-not-false : false ≡ true → ⊥
+    true-not-false e = cc
+ends-unsaved (name ∷ names) saved status unnamed e = inr refl
+
+-- what holds after a run: this if it came to its end, and else that
+abbrev pub AfterEnd : Result PrintAnswer ToolFault → Type 0 → Type 0 → Type 0
+AfterEnd (Ok (answers.Ran ran)) Ended Other = Ended
+AfterEnd (Ok (answers.Refused fault)) Ended Other = Other
+AfterEnd (Err fault) Ended Other = Other
+
+either-status : (names : List (List ℕ)) (status answered : ℕ) → EndsWith names status answered → (answered ≡ status) ⊎ (answered ≡ 2)
+either-status [] status answered e = inl e
+either-status (name ∷ names) status answered e = e
+
+by-end : (names : List (List ℕ)) (run : Result PrintAnswer ToolFault) (status answered : ℕ) (Ended Other : Type 0) → status ≡ status_of_print run
+    → EndsWith (saved_after names run) status answered → AfterEnd run Ended Other → ByEnd answered Ended Other
+by-end names (Err fault) status answered Ended Other e end h = rw (end ∙ e) (inl h)
+by-end names (Ok (answers.Refused fault)) status answered Ended Other e end h = rw (end ∙ e) h
+by-end names (Ok (answers.Ran ran)) status answered Ended Other e end h =
+    ⊎_elim (λ same. go ran.end answered (same ∙ e)) (λ two. rw two (inr h)) (either-status names status answered end)
+  where
+    go : (end : RunEnd) (n : ℕ) → n ≡ status_of_end end → ByEnd n Ended Other
+    go ends.Halted n is = rw is h
+    go (ends.Faulted fault) n is = rw is h
+    go (ends.Conflicting conflict) n is = rw is h
+    go ends.UsedUp n is = rw is h
+
+created-after : (names : List (List ℕ)) (run : Result PrintAnswer ToolFault) (old new : Option (List (List ℕ))) → Asks old new (saved_after names run)
+    → AfterEnd run (Asks old new names) (Asks old new [])
+created-after names (Ok (answers.Ran ran)) old new h = h
+created-after names (Ok (answers.Refused fault)) old new h = h
+created-after names (Err fault) old new h = h
+
+saves-after : (run : Result PrintAnswer ToolFault) (keep svg : Option (List ℕ)) (deck kept map : List ℕ) (IsDrawn : List ℕ → Type 0) (old new : Option (List Saved))
+    → OnOk run (deck ≡ kept) → OnOk run (IsDrawn map) → new ≡ noted old (saved_after (saved_as keep deck ++ saved_as svg map) run)
+    → AfterEnd run ((m : List ℕ) × IsDrawn m × (new ≡ noted old (saved_as keep kept ++ saved_as svg m))) (new ≡ old)
+saves-after (Ok (answers.Ran ran)) keep svg deck kept map IsDrawn old new same drawn saved =
+    (map, drawn, saved ∙ ap (λ d. noted old (saved_as keep d ++ saved_as svg map)) same)
+saves-after (Ok (answers.Refused fault)) keep svg deck kept map IsDrawn old new same drawn saved = saved
+saves-after (Err fault) keep svg deck kept map IsDrawn old new same drawn saved = saved
+
+-- and it has saved its texts
+pub saves-run : (names : List (List ℕ)) (run : Result PrintAnswer ToolFault) (keep svg : Option (List ℕ)) (deck kept map : List ℕ) (IsDrawn : List ℕ → Type 0)
+    (status answered : ℕ) (old new : Option (List Saved)) → OnOk run (deck ≡ kept) → OnOk run (IsDrawn map)
+    → status ≡ status_of_print run → EndsWith (saved_after names run) status answered
+    → new ≡ noted old (saved_after (saved_as keep deck ++ saved_as svg map) run)
+    → ByEnd answered ((m : List ℕ) × IsDrawn m × (new ≡ noted old (saved_as keep kept ++ saved_as svg m))) (new ≡ old)
+saves-run names run keep svg deck kept map IsDrawn status answered old new same drawn e end saved =
+    by-end names run status answered _ _ e end (saves-after run keep svg deck kept map IsDrawn old new same drawn saved)
+
+-- the files that are asked of a plan
+some-same : (a b : List (List ℕ)) → Some a ≡ Some b → a ≡ b
+some-same a b e = ap (λ (o : Option (List (List ℕ))). unwrap_or o a) e
+
+pub creates-asked : (names asked : List (List ℕ)) (run : Result PrintAnswer ToolFault) (status answered : ℕ) (old new : Option (List (List ℕ)))
+    → Some names ≡ Some asked → status ≡ status_of_print run → EndsWith (saved_after names run) status answered
+    → Asks old new (saved_after names run) → Creates asked answered old new
+creates-asked names asked run status answered old new same e end created =
+    subst (λ (l : List (List ℕ)). Creates l answered old new) (some-same names asked same)
+    (by-end names run status answered _ _ e end (created-after names run old new created))
+
+-- a run that is not made creates nothing and saves nothing
+pub creates-none : (names : List (List ℕ)) (status : ℕ) (old new : Option (List (List ℕ))) → status ≡ 2 → new ≡ old → Creates names status old new
+creates-none names status old new e same = rw (e, same) (inl (asks-nothing old))
+
+pub saves-none : (p : Plan) (given : Given) (status : ℕ) (old new : Option (List Saved)) → status ≡ 2 → new ≡ old → SavesOn p given status old new
+saves-none plan.Bundle given status old new e same = tt
+saves-none (plan.List source) given status old new e same = tt
+saves-none (plan.Check sources json) given status old new e same = tt
+saves-none (plan.Debug source script devices echo) given status old new e same = tt
+saves-none (plan.Run source cards typewriter devices steps printing trace strict keep svg table part) given status old new e same = rw e (inl same)
+saves-none plan.Dap given status old new e same = tt
