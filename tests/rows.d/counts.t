@@ -32,11 +32,15 @@ The counts of a run as a table. ENT1, INCA, DEC1 and J1P take 1u, STA 2u, HLT 10
   \bottomrule
   \end{tabular}
 
-If both forms are asked for it is LaTeX. A form without counts does nothing.
+If several forms are asked for, LaTeX comes before JSON and JSON before CSV. A form alone does nothing.
 
   $ mixrev run sum.mixal --latex --counts --json </dev/null | head -n 1
   \begin{tabular}{rrrr}
-  $ mixrev run sum.mixal --json --latex </dev/null
+  $ mixrev run sum.mixal --counts --csv --json </dev/null | head -n 1
+  [
+  $ mixrev run sum.mixal --counts --csv </dev/null | head -n 1
+  line,location,count,time
+  $ mixrev run sum.mixal --json --latex --csv </dev/null
 
 No line of the source put a word into cell 1: it is +0, a NOP of 1u.
 
