@@ -41,8 +41,8 @@ With --keep the tapes and disks are there for the next program: it reads that fi
 With --svg the picture has the lines of the source against the steps of the run, the darker, the oftener a line was executed.
 With --counts a table has a row for each instruction that was executed: the line of the source, the location, how often, and
 the time in u. With --writes it has a row for each change of a part, with its values before and after. With --trace and one
-of --csv, --json and --latex it has a row for each step. A run with --svg, --counts or --writes keeps its history, so a program
-without an end needs --steps.
+of --csv, --json and --latex it has a row for each step. A run with --svg or --counts keeps its history, so a program without
+an end needs --steps.
 A bundle may take the place of a source: its deck is taken, unless --devices names another, and its script is left out.
 
 Example:

@@ -101,7 +101,7 @@ pub(crate) fn writes_option<'a>(alloc: Global) -> Arg<'a>
         alloc,
         "writes",
         "PART",
-        "Writes no rows, but a table of each change of this part, such as A, OV, 100 or X+1, as CSV",
+        "Writes no rows, but a table of each change of this part, such as A, over, 100 or X+1, as CSV",
     )
 }
 

@@ -15,6 +15,7 @@ mod ReloadLemmas
 mod RunLemmas
 mod SourceLemmas
 mod StretchLemmas
+mod TabledLemmas
 mod TalkLemmas
 mod TalkMeets
 mod Truncation

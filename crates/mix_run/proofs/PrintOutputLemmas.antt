@@ -61,27 +61,27 @@ pub gives-no_fault : (expected : Result UnitsState DeckFault) (units : UnitsStat
 gives-no_fault expected units fault made refused = cc
 
 -- no units
-pub Prints-no_units : (options : PrintOptions) (program : ProgramValue) (units : Result UnitsState DeckFault) (fault : ToolFault) (told : Option (List ℕ)) →
-    GivesUnits units (Err fault) → Prints (print_outcome options (Ok program) units) (Err fault) told told
+pub Prints-no_units : (options : PrintOptions) (part : List ℕ) (program : ProgramValue) (units : Result UnitsState DeckFault) (fault : ToolFault) (told : Option (List ℕ)) →
+    GivesUnits units (Err fault) → Prints (print_outcome options part (Ok program) units) (Err fault) told told
 unfolding print_outcome
-Prints-no_units options program units faults.Memory told h = (0, omega arith, Appends-nothing told)
-Prints-no_units options program units faults.Read told h = Keeps-same told
-Prints-no_units options program units (faults.Deck fault) told h = rw h (refl, Keeps-same told)
-Prints-no_units options program units faults.Write told h = absurd h
-Prints-no_units options program units faults.Long told h = absurd h
+Prints-no_units options part program units faults.Memory told h = (0, omega arith, Appends-nothing told)
+Prints-no_units options part program units faults.Read told h = Keeps-same told
+Prints-no_units options part program units (faults.Deck fault) told h = rw h (refl, Keeps-same told)
+Prints-no_units options part program units faults.Write told h = absurd h
+Prints-no_units options part program units faults.Long told h = absurd h
 
 -- units
-pub Prints-units : (options : PrintOptions) (program : ProgramValue) (given : Result UnitsState DeckFault) (units : UnitsState) (done : Result PrintAnswer ToolFault)
-    (old new : Option (List ℕ)) → given ≡ Ok units → Prints (outcome_of_run options program units) done old new →
-    Prints (print_outcome options (Ok program) given) done old new
+pub Prints-units : (options : PrintOptions) (part : List ℕ) (program : ProgramValue) (given : Result UnitsState DeckFault) (units : UnitsState) (done : Result PrintAnswer ToolFault)
+    (old new : Option (List ℕ)) → given ≡ Ok units → Prints (outcome_of_run options part program units) done old new →
+    Prints (print_outcome options part (Ok program) given) done old new
 unfolding print_outcome
-Prints-units options program given units done old new made met = rw made met
+Prints-units options part program given units done old new made met = rw made met
 
-pub kept-units : (options : PrintOptions) (program : ProgramValue) (given : Result UnitsState DeckFault) (units : UnitsState) (done : Result PrintAnswer ToolFault)
-    (old new : List ℕ) → given ≡ Ok units → OnOk done (new ≡ old ++ kept_of (outcome_of_run options program units))
-    → OnOk done (new ≡ old ++ kept_of (print_outcome options (Ok program) given))
+pub kept-units : (options : PrintOptions) (part : List ℕ) (program : ProgramValue) (given : Result UnitsState DeckFault) (units : UnitsState) (done : Result PrintAnswer ToolFault)
+    (old new : List ℕ) → given ≡ Ok units → OnOk done (new ≡ old ++ kept_of (outcome_of_run options part program units))
+    → OnOk done (new ≡ old ++ kept_of (print_outcome options part (Ok program) given))
 unfolding print_outcome
-kept-units options program given units done old new made kept = rw made kept
+kept-units options part program given units done old new made kept = rw made kept
 
 -- the parts of a text that was read up to one byte more than a bundle may have
 pub parts-read : (text read : List ℕ) → read ≡ take 41943041 text
@@ -95,39 +95,39 @@ parts-taken text read source program fault e s taken refused =
     let same : assembly source ≡ assembly (parts_of text).source = ap assembly s ∙ (parts-read text read e).0 in cc
 
 -- a refused source
-pub Prints-refused : (options : PrintOptions) (text read source deck cards typewriter : List ℕ) (fault : AsmFault) (answer : PrintAnswer) (told : Option (List ℕ)) →
+pub Prints-refused : (options : PrintOptions) (part : List ℕ) (text read source deck cards typewriter : List ℕ) (fault : AsmFault) (answer : PrintAnswer) (told : Option (List ℕ)) →
     read ≡ take 41943041 text → source ≡ (parts_of read).source → assembly source ≡ Err fault → answer ≡ Refused fault
-    → Prints (print_output options text deck cards typewriter) (Ok answer) told told
+    → Prints (print_output options part text deck cards typewriter) (Ok answer) told told
 unfolding print_output print_outcome
-Prints-refused options text read source deck cards typewriter fault answer told e s f is =
+Prints-refused options part text read source deck cards typewriter fault answer told e s f is =
     let here : assembly (parts_of text).source ≡ Err fault = sym (parts-read text read e).0 ∙ sym (ap assembly s) ∙ f in
     rw (here, is) (refl, Appends-nothing told)
 
-pub kept-refused : (options : PrintOptions) (text read source deck cards typewriter : List ℕ) (fault : AsmFault) (old : List ℕ) →
+pub kept-refused : (options : PrintOptions) (part : List ℕ) (text read source deck cards typewriter : List ℕ) (fault : AsmFault) (old : List ℕ) →
     read ≡ take 41943041 text → source ≡ (parts_of read).source → assembly source ≡ Err fault
-    → old ≡ old ++ kept_of (print_output options text deck cards typewriter)
+    → old ≡ old ++ kept_of (print_output options part text deck cards typewriter)
 unfolding print_output print_outcome
-kept-refused options text read source deck cards typewriter fault old e s f =
+kept-refused options part text read source deck cards typewriter fault old e s f =
     let here : assembly (parts_of text).source ≡ Err fault = sym (parts-read text read e).0 ∙ sym (ap assembly s) ∙ f in
     rw here (sym (append-nil old))
 
 -- a source, with the deck of its bundle
-pub Prints-parts : (options : PrintOptions) (text read source own deck cards typewriter : List ℕ) (program : ProgramValue) (done : Result PrintAnswer ToolFault)
+pub Prints-parts : (options : PrintOptions) (part : List ℕ) (text read source own deck cards typewriter : List ℕ) (program : ProgramValue) (done : Result PrintAnswer ToolFault)
     (old new : Option (List ℕ)) → read ≡ take 41943041 text → source ≡ (parts_of read).source → own ≡ (parts_of read).deck → assembly source ≡ Ok program →
-    Prints (print_outcome options (Ok program) (units_asked options (deck_given options.deck own deck) cards typewriter)) done old new
-    → Prints (print_output options text deck cards typewriter) done old new
+    Prints (print_outcome options part (Ok program) (units_asked options (deck_given options.deck own deck) cards typewriter)) done old new
+    → Prints (print_output options part text deck cards typewriter) done old new
 unfolding print_output
-Prints-parts options text read source own deck cards typewriter program done old new e s o made met =
+Prints-parts options part text read source own deck cards typewriter program done old new e s o made met =
     let here : assembly (parts_of text).source ≡ Ok program = sym (parts-read text read e).0 ∙ sym (ap assembly s) ∙ made in
     let deck-here : own ≡ (parts_of text).deck = o ∙ (parts-read text read e).1 in
     rw here (rw deck-here at met)
 
-pub kept-parts : (options : PrintOptions) (text read source own deck cards typewriter : List ℕ) (program : ProgramValue) (done : Result PrintAnswer ToolFault)
+pub kept-parts : (options : PrintOptions) (part : List ℕ) (text read source own deck cards typewriter : List ℕ) (program : ProgramValue) (done : Result PrintAnswer ToolFault)
     (old new : List ℕ) → read ≡ take 41943041 text → source ≡ (parts_of read).source → own ≡ (parts_of read).deck → assembly source ≡ Ok program →
-    OnOk done (new ≡ old ++ kept_of (print_outcome options (Ok program) (units_asked options (deck_given options.deck own deck) cards typewriter)))
-    → OnOk done (new ≡ old ++ kept_of (print_output options text deck cards typewriter))
+    OnOk done (new ≡ old ++ kept_of (print_outcome options part (Ok program) (units_asked options (deck_given options.deck own deck) cards typewriter)))
+    → OnOk done (new ≡ old ++ kept_of (print_output options part text deck cards typewriter))
 unfolding print_output
-kept-parts options text read source own deck cards typewriter program done old new e s o made kept =
+kept-parts options part text read source own deck cards typewriter program done old new e s o made kept =
     let here : assembly (parts_of text).source ≡ Ok program = sym (parts-read text read e).0 ∙ sym (ap assembly s) ∙ made in
     let deck-here : own ≡ (parts_of text).deck = o ∙ (parts-read text read e).1 in
     rw here (rw deck-here at kept)

@@ -1,5 +1,5 @@
 -- Which map a run draws, if that is asked for: that of the same steps in a session.
-use Rattle.std.specs.Prelude.{◌≡◌, ℕ, Bool, true, false, List, ◌++◌, Result, Ok, Err}
+use Rattle.std.specs.Prelude.{◌≡◌, ℕ, Bool, true, false, List, ◌++◌, Option, Result, Ok, Err}
 use Rattle.mixal_asm.specs.Assembly.{assembly}
 use Rattle.mixal_asm.specs.Program.{ProgramValue}
 use Rattle.mixal_asm.specs.declared.fault.AsmFault.{AsmFault}
@@ -8,11 +8,14 @@ use Rattle.mix_machine.specs.declared.units.deck_fault.DeckFault.{DeckFault}
 use Rattle.mix_session.specs.Command.{after}
 use Rattle.mix_session.specs.Session.{opened}
 use Rattle.mix_session.specs.Timeline.{Timeline}
+use Rattle.mix_session.specs.declared.fault.Refusal.{Refusal}
 use Rattle.mix_run.specs.Counted.{counted_steps}
 use Rattle.mix_run.specs.Map.{IsMap}
 use Rattle.mix_run.specs.PrintOutput.{parts_of, units_asked}
+use Rattle.mix_run.specs.StepTable.{step_table}
 use Rattle.mix_run.specs.UnitsRead.{deck_given}
 use Rattle.mix_run.specs.declared.print.options.PrintOptions.{PrintOptions}
+use Rattle.mix_run.specs.declared.print.tabled.StepTable.{StepTable}
 
 -- after some bytes there are those of the map of the changes done
 abbrev pub Drawn : ProgramValue → Timeline → List ℕ → List ℕ → Type 0
@@ -23,18 +26,25 @@ abbrev pub DrawnIf : Bool → ProgramValue → Timeline → List ℕ → List �
 DrawnIf true program t old new = Drawn program t old new
 DrawnIf false program t old new = new ≡ old
 
+-- a run for which a map is drawn: it is asked for, and no part of which a table is to be is none
+abbrev pub is_drawn : Bool → Result (Option StepTable) Refusal → Bool
+is_drawn map (Ok table) = map
+is_drawn map (Err refusal) = false
+
 -- a program with its units, after as many steps as are asked for, or up to a halt or a fault
-abbrev pub DrawnRun : PrintOptions → ProgramValue → UnitsState → List ℕ → List ℕ → Type 0
-DrawnRun options program units old new = DrawnIf options.map program (after (counted_steps options.steps (opened program units).timeline)) old new
+abbrev pub DrawnRun : PrintOptions → List ℕ → ProgramValue → UnitsState → List ℕ → List ℕ → Type 0
+DrawnRun options part program units old new =
+    DrawnIf (is_drawn options.map (step_table options.table part (opened program units))) program
+    (after (counted_steps options.steps (opened program units).timeline)) old new
 
 -- an assembled source, with its units
-unfoldable pub DrawnProgram : PrintOptions → Result ProgramValue AsmFault → Result UnitsState DeckFault → List ℕ → List ℕ → Type 0
-DrawnProgram options (Err fault) units old new = new ≡ old
-DrawnProgram options (Ok program) (Err fault) old new = new ≡ old
-DrawnProgram options (Ok program) (Ok units) old new = DrawnRun options program units old new
+unfoldable pub DrawnProgram : PrintOptions → List ℕ → Result ProgramValue AsmFault → Result UnitsState DeckFault → List ℕ → List ℕ → Type 0
+DrawnProgram options part (Err fault) units old new = new ≡ old
+DrawnProgram options part (Ok program) (Err fault) old new = new ≡ old
+DrawnProgram options part (Ok program) (Ok units) old new = DrawnRun options part program units old new
 
 -- a bundle or a source, a deck that is given in place of its own, cards, and lines for the typewriter
-unfoldable pub Draws : PrintOptions → List ℕ → List ℕ → List ℕ → List ℕ → List ℕ → List ℕ → Type 0
-Draws options text deck cards typewriter old new =
+unfoldable pub Draws : PrintOptions → List ℕ → List ℕ → List ℕ → List ℕ → List ℕ → List ℕ → List ℕ → Type 0
+Draws options part text deck cards typewriter old new =
     let parts = parts_of text in
-    DrawnProgram options (assembly parts.source) (units_asked options (deck_given options.deck parts.deck deck) cards typewriter) old new
+    DrawnProgram options part (assembly parts.source) (units_asked options (deck_given options.deck parts.deck deck) cards typewriter) old new

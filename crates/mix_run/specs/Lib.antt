@@ -20,6 +20,7 @@ pub mod Refusal
 pub mod Reload
 pub mod Saves
 pub mod Sources
+pub mod StepTable
 pub mod Stretch
 pub mod Table
 pub mod Talk

@@ -5,6 +5,7 @@ use Rattle.mixal_asm.specs.Assembly.{assembly}
 use Rattle.mixal_asm.specs.Program.{ProgramValue}
 use Rattle.mixal_asm.specs.declared.fault.AsmFault.{AsmFault}
 use Rattle.mix_machine.specs.Loaded.{loaded}
+use Rattle.mix_machine.specs.World.{WorldState}
 use Rattle.mix_machine.specs.units.Units.{UnitsState}
 use Rattle.mix_machine.specs.units.deck.Deck.{deck_of, text_of_unit}
 use Rattle.mix_machine.specs.declared.units.deck_fault.DeckFault.{DeckFault}
@@ -15,14 +16,20 @@ use Rattle.mix_run.specs.Bundle.{Cut, cut_of}
 use Rattle.mix_run.specs.Output.{max_bundle_bytes}
 use Rattle.mix_run.specs.Counted.{counted_run}
 use Rattle.mix_run.specs.Keep.{kept_if}
-use Rattle.mix_run.specs.Print.{Run, counted, line_at, run_of}
+use Rattle.mix_run.specs.Print.{Run, counted, line_at}
+use Rattle.mix_run.specs.StepTable.{run_told, step_table}
 use Rattle.mix_run.specs.UnitsRead.{deck_given}
 use Rattle.mix_run.specs.declared.print.PrintAnswer.{PrintAnswer}
-use Rattle.mix_run.specs.declared.print.PrintAnswer.TheVariants.{Ran, Refused}
+use Rattle.mix_run.specs.declared.print.PrintAnswer.TheVariants.{NoPart, Ran, Refused}
 use Rattle.mix_run.specs.declared.print.loaded.RanTo.{RanTo}
+use Rattle.mix_run.specs.declared.print.options.AskedTable.{AskedTable}
 use Rattle.mix_run.specs.declared.print.options.PrintOptions.{PrintOptions}
+use Rattle.mix_run.specs.declared.print.options.TableOf.{TableOf}
+use Rattle.mix_run.specs.declared.print.options.TableOf.TheVariants as of
+use Rattle.mix_run.specs.declared.print.tabled.StepTable.{StepTable}
 use Rattle.mix_run.specs.declared.table.TableFormat.{TableFormat}
 use Rattle.mix_session.specs.Session.{opened}
+use Rattle.mix_session.specs.declared.fault.Refusal.{Refusal}
 
 -- how `run` ends: with these bytes, this answer and this deck, or, with no byte written, for its deck or a text of a unit
 pub data PrintOutcome : Type 0 where
@@ -61,37 +68,53 @@ ran_to program run = record {
 abbrev pub answered : PrintOptions → ProgramValue → Run → PrintOutcome
 answered options program run = Answered run.bytes (Ran (ran_to program run)) (kept_if options.keep run.world)
 
+-- a run told by what it prints or by a table of its steps; nothing is run where the part that the table is of is none
+abbrev pub told_by : PrintOptions → ProgramValue → WorldState → Result (Option StepTable) Refusal → PrintOutcome
+told_by options program w (Ok table) = answered options program (run_told table options program w)
+told_by options program w (Err refusal) = Answered [] (NoPart refusal) []
+
 -- a program run on the machine that it is loaded into, with its units
-unfoldable pub printed_outcome : PrintOptions → ProgramValue → UnitsState → PrintOutcome
-printed_outcome options program units = answered options program (run_of options (loaded program.words program.start units))
+unfoldable pub printed_outcome : PrintOptions → List ℕ → ProgramValue → UnitsState → PrintOutcome
+printed_outcome options part program units =
+    told_by options program (loaded program.words program.start units) (step_table options.table part (opened program units))
 
 -- the same in a session, with its steps counted
 unfoldable pub counted_outcome : TableFormat → PrintOptions → ProgramValue → UnitsState → PrintOutcome
 counted_outcome format options program units = answered options program (counted_run format options.steps (opened program units))
 
-abbrev pub outcome_by : Option TableFormat → PrintOptions → ProgramValue → UnitsState → PrintOutcome
-outcome_by None options program units = printed_outcome options program units
-outcome_by (Some format) options program units = counted_outcome format options program units
+-- the form of the counts, if they are what a table is of
+abbrev pub counts_in : TableOf → TableFormat → Option TableFormat
+counts_in of.Counts format = Some format
+counts_in of.Trace format = None
+counts_in of.Writes format = None
 
--- which of them is asked for
-unfoldable pub outcome_of_run : PrintOptions → ProgramValue → UnitsState → PrintOutcome
-outcome_of_run options program units = outcome_by options.counts options program units
+abbrev pub counts_asked : Option AskedTable → Option TableFormat
+counts_asked None = None
+counts_asked (Some asked) = counts_in asked.of asked.format
+
+abbrev pub outcome_by : Option TableFormat → PrintOptions → List ℕ → ProgramValue → UnitsState → PrintOutcome
+outcome_by None options part program units = printed_outcome options part program units
+outcome_by (Some format) options part program units = counted_outcome format options program units
+
+-- which of them is asked for, and of which part
+unfoldable pub outcome_of_run : PrintOptions → List ℕ → ProgramValue → UnitsState → PrintOutcome
+outcome_of_run options part program units = outcome_by (counts_asked options.table) options part program units
 
 -- an assembled source, with its units
-unfoldable pub print_outcome : PrintOptions → Result ProgramValue AsmFault → Result UnitsState DeckFault → PrintOutcome
-print_outcome options (Err fault) units = Answered [] (Refused fault) []
-print_outcome options (Ok program) (Err fault) = UnitsRefused fault
-print_outcome options (Ok program) (Ok units) = outcome_of_run options program units
+unfoldable pub print_outcome : PrintOptions → List ℕ → Result ProgramValue AsmFault → Result UnitsState DeckFault → PrintOutcome
+print_outcome options part (Err fault) units = Answered [] (Refused fault) []
+print_outcome options part (Ok program) (Err fault) = UnitsRefused fault
+print_outcome options part (Ok program) (Ok units) = outcome_of_run options part program units
 
 -- the source and the deck of a text: those of a bundle; a text that is longer than a bundle may be is a source alone
 unfoldable pub parts_of : List ℕ → Cut
 parts_of text = if nat_lt max_bundle_bytes (length text) then record { source = text; deck = []; script = [] } else cut_of text
 
 -- a bundle or a source, a deck that is given in place of its own, cards, and lines for the typewriter
-unfoldable pub print_output : PrintOptions → List ℕ → List ℕ → List ℕ → List ℕ → PrintOutcome
-print_output options text deck cards typewriter =
+unfoldable pub print_output : PrintOptions → List ℕ → List ℕ → List ℕ → List ℕ → List ℕ → PrintOutcome
+print_output options part text deck cards typewriter =
     let parts = parts_of text in
-    print_outcome options (assembly parts.source) (units_asked options (deck_given options.deck parts.deck deck) cards typewriter)
+    print_outcome options part (assembly parts.source) (units_asked options (deck_given options.deck parts.deck deck) cards typewriter)
 
 -- the bytes that an outcome writes
 abbrev pub bytes_of : PrintOutcome → List ℕ

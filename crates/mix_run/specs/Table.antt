@@ -2,19 +2,24 @@
 use Rattle.std.specs.Prelude.{ℕ, ◌+◌, ◌-◌, ◌/◌, ◌%◌, ◌==◌, ◌||◌, Bool, true, false, nat_lt, List, [], ◌∷◌, ◌++◌, codes, length, flat_map, get_or, if◌then◌else◌}
 use Rattle.std.specs.Fmt.{decimal}
 use Rattle.std.specs.List.{list_any, range_with_len}
+use Rattle.mix_word.specs.Word.{WordValue}
+use Rattle.mix_word.specs.declared.word.Sign.{Sign}
+use Rattle.mix_word.specs.declared.word.Sign.TheVariants.{Plus, Minus}
 use Rattle.mix_run.specs.declared.table.field.Kind.{Kind}
 use Rattle.mix_run.specs.declared.table.field.Kind.TheVariants as kind
 use Rattle.mix_run.specs.declared.table.TableFormat.{TableFormat}
 use Rattle.mix_run.specs.declared.table.TableFormat.TheVariants.{Csv, Json, Latex}
 
--- a field of a table: a number, a text, or nothing
+-- a field of a table: a number, a word as a number with its sign, a text, or nothing
 pub data FieldValue : Type 0 where
   Number : ℕ → FieldValue
+  Signed : WordValue → FieldValue
   Text : List ℕ → FieldValue
   Missing : FieldValue
 
 abbrev pub value_of : Kind → FieldValue
 value_of (kind.Number n) = Number n
+value_of (kind.Signed word) = Signed word
 value_of (kind.Text text) = Text text.now
 value_of kind.Missing = Missing
 
@@ -76,8 +81,26 @@ missing_text Csv = []
 missing_text Json = codes "null"
 missing_text Latex = []
 
+-- what a minus has before the digits and after them: in LaTeX it is set in a formula
+abbrev pub before_digits : TableFormat → Sign → List ℕ
+before_digits format Plus = []
+before_digits Csv Minus = codes "-"
+before_digits Json Minus = codes "-"
+before_digits Latex Minus = codes "$-"
+
+abbrev pub after_digits : TableFormat → Sign → List ℕ
+after_digits format Plus = []
+after_digits Csv Minus = []
+after_digits Json Minus = []
+after_digits Latex Minus = codes "$"
+
+-- the number of a word: that of -0 is -0
+unfoldable pub signed_field : TableFormat → WordValue → List ℕ
+signed_field format word = before_digits format word.sign ++ (decimal word.magnitude ++ after_digits format word.sign)
+
 abbrev pub field_text : TableFormat → FieldValue → List ℕ
 field_text format (Number n) = decimal n
+field_text format (Signed word) = signed_field format word
 field_text format (Text text) = text_of format text
 field_text format Missing = missing_text format
 

@@ -29,7 +29,7 @@ pub use mix_session::{
     back_and_forth_law,
 };
 pub use opener::{Opener, Unread, Unsaved};
-pub use print::options::{PrintOptions, UnitSet};
+pub use print::options::{AskedTable, PrintOptions, TableOf, UnitSet};
 pub use print::{ConflictAt, Conflicts, PrintAnswer, PrintTexts, RanTo, RunEnd, run_printed};
 pub use reason::Reason;
 pub use run::run_debug;

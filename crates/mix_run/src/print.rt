@@ -8,36 +8,37 @@ ghost use Rattle.mix_machine.specs.declared.units.deck_fault.DeckFault.{DeckFaul
 ghost use Rattle.mix_run.specs.Fault.{IsMemoryOrWrite};
 ghost use Rattle.mix_stream.specs.Stream.{AppendsFront, ConsumesAtMost, CountsFailure};
 ghost use Rattle.mix_run.specs.Output.{max_bundle_bytes};
-ghost use Rattle.mix_run.specs.Drawn.{DrawnProgram, DrawnRun, Draws};
+ghost use Rattle.mix_run.specs.Drawn.{DrawnProgram, Draws};
 ghost use Rattle.mix_run.specs.Keep.{kept_if};
 ghost use Rattle.mix_run.specs.Print.{counted, line_at, run_of};
 ghost use Rattle.mix_run.specs.UnitsRead.{deck_given};
-ghost use Rattle.mix_run.specs.PrintOutput.{Prints, kept_of, outcome_of_run, parts_of, print_outcome, print_output, units_asked, with_cards};
+ghost use Rattle.mix_run.specs.PrintOutput.{Prints, kept_of, parts_of, print_outcome, print_output, units_asked, with_cards};
 
 mod counts;
 mod drawn;
 pub(crate) mod loaded;
 pub(crate) mod options;
+mod part;
 mod plain;
 pub(crate) mod row;
 mod rows;
 mod steps;
+pub(crate) mod tabled;
 mod texts;
+mod told;
 mod trace;
 mod watch;
 
 use crate::beside::tell_report;
 use crate::bundle::{MAX_BUNDLE_BYTES, parts_of};
 use crate::fault::ToolFault;
-use crate::print::counts::count_loaded;
-use crate::print::drawn::draw_loaded;
-use crate::print::loaded::print_loaded;
 use crate::print::options::PrintOptions;
 use crate::print::texts::units_with_texts;
+use crate::print::told::run_loaded;
 use crate::statuses::tell_refusal;
 pub use loaded::RanTo;
-use mix_machine::Units;
 use mix_refused::Refused;
+use mix_session::Refusal;
 use mix_stream::{In, Out, read_up_to};
 use mixal_asm::{AsmFault, Program, assemble};
 use std::alloc::Global;
@@ -45,42 +46,12 @@ pub use steps::RunEnd;
 pub use texts::PrintTexts;
 pub use watch::{ConflictAt, Conflicts};
 
-/// What is answered of a run: where it came to, or the first fault of its source.
+/// What is answered of a run: where it came to, or the first fault of its source, or why the part that its table was to be of is none.
 #[derive(Clone, Copy)]
 pub enum PrintAnswer {
     Ran(RanTo),
     Refused(AsmFault),
-}
-
-// The run of a program with its units, as it is asked for.
-#[tactic(auto, unfolding(crate::specs::PrintOutput::outcome_of_run))]
-fn run_loaded<W: Out>(
-    alloc: Global,
-    program: Program,
-    units: Units,
-    options: PrintOptions,
-    kept: &mut Vec<u8>,
-    map: &mut Vec<u8>,
-    out: &mut W,
-) -> Result<PrintAnswer, ToolFault>
-    requires { W.failed out.old < 2 ^ 64 - 1 }
-    ensures output { Prints (outcome_of_run options program units) result (W.told out.old) (W.told out.new) }
-    ensures kept { OnOk result (kept.new.items ≡ kept.old.items ++ kept_of (outcome_of_run options program units)) }
-    ensures map { OnOk result (DrawnRun options program units map.old.items map.new.items) }
-    ensures write { CountsFailure (result ≡ Err ToolFault.Write) (W.failed out.old) (W.failed out.new) }
-    ensures only { IfErr result IsMemoryOrWrite }
-    ensures ran { (f : AsmFault) → result ≢ Ok (PrintAnswer.Refused f) }
-{
-    match options.counts {
-        Some(format) => count_loaded(alloc, program, units, format, options, kept, map, out),
-        None => {
-            if options.map {
-                draw_loaded(alloc, program, units, options, kept, map, out)
-            } else {
-                print_loaded(alloc, &program, units, options, kept, out)
-            }
-        }
-    }
+    NoPart(Refusal),
 }
 
 // The units of an assembled source, and then its run; the deck of its bundle is a text.
@@ -90,6 +61,7 @@ fn print_program<S, D: In, C: In, T: In, W: Out>(
     own: &[u8],
     texts: &mut PrintTexts<S, D, C, T>,
     options: PrintOptions,
+    part: &[u8],
     kept: &mut Vec<u8>,
     map: &mut Vec<u8>,
     out: &mut W,
@@ -99,11 +71,11 @@ fn print_program<S, D: In, C: In, T: In, W: Out>(
     requires typewriter_count { T.failed texts.old.typewriter < 2 ^ 64 - 1 }
     requires out_count { W.failed out.old < 2 ^ 64 - 1 }
     ensures output { (d c t : List ℕ) → D.rest texts.old.deck ≡ Some d → C.rest texts.old.cards ≡ Some c → T.rest texts.old.typewriter ≡ Some t
-        → Prints (print_outcome options (Ok program) (units_asked options (deck_given options.deck own.now d) c t)) result (W.told out.old) (W.told out.new) }
+        → Prints (print_outcome options part.now (Ok program) (units_asked options (deck_given options.deck own.now d) c t)) result (W.told out.old) (W.told out.new) }
     ensures kept { (d c t : List ℕ) → D.rest texts.old.deck ≡ Some d → C.rest texts.old.cards ≡ Some c → T.rest texts.old.typewriter ≡ Some t
-        → OnOk result (kept.new.items ≡ kept.old.items ++ kept_of (print_outcome options (Ok program) (units_asked options (deck_given options.deck own.now d) c t))) }
+        → OnOk result (kept.new.items ≡ kept.old.items ++ kept_of (print_outcome options part.now (Ok program) (units_asked options (deck_given options.deck own.now d) c t))) }
     ensures map { (d c t : List ℕ) → D.rest texts.old.deck ≡ Some d → C.rest texts.old.cards ≡ Some c → T.rest texts.old.typewriter ≡ Some t
-        → OnOk result (DrawnProgram options (Ok program) (units_asked options (deck_given options.deck own.now d) c t) map.old.items map.new.items) }
+        → OnOk result (DrawnProgram options part.now (Ok program) (units_asked options (deck_given options.deck own.now d) c t) map.old.items map.new.items) }
     ensures source { texts.new.source ≡ texts.old.source }
     ensures read { CountsFailure (result ≡ Err ToolFault.Read) (D.failed texts.old.deck + C.failed texts.old.cards + T.failed texts.old.typewriter)
         (D.failed texts.new.deck + C.failed texts.new.cards + T.failed texts.new.typewriter) }
@@ -134,7 +106,7 @@ fn print_program<S, D: In, C: In, T: In, W: Out>(
 {
     let (deck, cards, typewriter) = (&mut texts.deck, &mut texts.cards, &mut texts.typewriter);
     let units = units_with_texts(alloc, own, deck, cards, typewriter, options)?;
-    run_loaded(alloc, program, units, options, kept, map, out)
+    run_loaded(alloc, program, units, options, part, kept, map, out)
 }
 
 /// Assembles a source, or that of a bundle, and takes the deck of the bundle, or reads one if `options.deck` is true, which then is in the place of
@@ -143,11 +115,12 @@ fn print_program<S, D: In, C: In, T: In, W: Out>(
 /// units in `options.units` as soon as its step is done, without the blanks at its end and with a line feed, a page mark as a form feed alone. If
 /// `options.trace` is true, the line of each step is written before what it prints, as the command `trace` has it. If `options.keep` is true, the deck
 /// of what the units hold at the end is appended to `kept`. It keeps nothing of the steps, so it takes no more memory for many steps than for few.
-/// But if `options.counts` has a form, the run is one of a session, which keeps its history, does at most 4,294,967,295 steps and looks for no conflict:
-/// then a table of how often each instruction was executed is written at its end, instead of what it prints and its trace.
+/// If `options.table` is one, a table is written instead of the rows and the lines, and no conflict is looked for. That of the counts, how often each
+/// instruction was executed, is written at the end of the run, which is one of a session, keeps its history and does at most 4,294,967,295 steps. The
+/// tables of the steps, all of them or those that altered the part which `part` names as `show writes` has it, are written row by row.
 /// If `options.map` is true, the map of its steps, an SVG picture of its lines against its changes, is appended to `map`; for that the steps are done in such a session
 /// too. Where the source is refused, its first fault is the answer, nothing is
-/// written, and on the error output all are told, with their lines and marks. A script of the bundle is not executed. At most 41,943,041 bytes of the
+/// written, and on the error output all are told, with their lines and marks. Where `part` names no part, why is the answer, and nothing is run or written. A script of the bundle is not executed. At most 41,943,041 bytes of the
 /// source or bundle are read, and 33,554,433 of each other text, all of them before the first byte is written; the deck is read after the
 /// source, the cards after the deck, and the lines for the typewriter after the cards. After a refusal or a read that failed nothing else is read.
 ///
@@ -157,6 +130,7 @@ pub fn run_printed<S: In, D: In, C: In, T: In, W: Out, E: Out>(
     name: &str,
     texts: &mut PrintTexts<S, D, C, T>,
     options: PrintOptions,
+    part: &[u8],
     kept: &mut Vec<u8>,
     map: &mut Vec<u8>,
     out: &mut W,
@@ -170,15 +144,15 @@ pub fn run_printed<S: In, D: In, C: In, T: In, W: Out, E: Out>(
 
     // What is printed is what the loaded machine prints, run to its end, and the answer says where it came to.
     ensures output { (b d c t : List ℕ) → S.rest texts.old.source ≡ Some b → D.rest texts.old.deck ≡ Some d → C.rest texts.old.cards ≡ Some c
-        → T.rest texts.old.typewriter ≡ Some t → Prints (print_output options b d c t) result (W.told out.old) (W.told out.new) }
+        → T.rest texts.old.typewriter ≡ Some t → Prints (print_output options part.now b d c t) result (W.told out.old) (W.told out.new) }
 
     // What is kept is the deck of what its units hold then.
     ensures kept { (b d c t : List ℕ) → S.rest texts.old.source ≡ Some b → D.rest texts.old.deck ≡ Some d → C.rest texts.old.cards ≡ Some c
-        → T.rest texts.old.typewriter ≡ Some t → OnOk result (kept.new.items ≡ kept.old.items ++ kept_of (print_output options b d c t)) }
+        → T.rest texts.old.typewriter ≡ Some t → OnOk result (kept.new.items ≡ kept.old.items ++ kept_of (print_output options part.now b d c t)) }
 
     // The map that is asked for is that of its steps.
     ensures map { (b d c t : List ℕ) → S.rest texts.old.source ≡ Some b → D.rest texts.old.deck ≡ Some d → C.rest texts.old.cards ≡ Some c
-        → T.rest texts.old.typewriter ≡ Some t → OnOk result (Draws options b d c t map.old.items map.new.items) }
+        → T.rest texts.old.typewriter ≡ Some t → OnOk result (Draws options part.now b d c t map.old.items map.new.items) }
 
     // A read or a write has failed exactly where that is answered.
     ensures read { CountsFailure (result ≡ Err ToolFault.Read)
@@ -240,7 +214,9 @@ pub fn run_printed<S: In, D: In, C: In, T: In, W: Out, E: Out>(
         }
         Ok(program) => {
             tell_report(alloc, name, parts.source, errors);
-            print_program(alloc, program, parts.deck, texts, options, kept, map, out)
+            print_program(
+                alloc, program, parts.deck, texts, options, part, kept, map, out,
+            )
         }
     }
 }

@@ -37,6 +37,7 @@ among_same source d e l m name p q h =
 pub print_range : (run : Result PrintAnswer ToolFault) (status : ℕ) → status ≡ status_of_print run → status ≤ 3
 print_range (Err fault) status e = omega (arith, e)
 print_range (Ok (answers.Refused fault)) status e = omega (arith, e)
+print_range (Ok (answers.NoPart refusal)) status e = omega (arith, e)
 print_range (Ok (answers.Ran ran)) status e = go ran.end e
   where
     go : (end : RunEnd) → status ≡ status_of_end end → status ≤ 3

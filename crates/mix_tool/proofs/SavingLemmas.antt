@@ -40,6 +40,7 @@ ends-unsaved (name ∷ names) saved status unnamed e = inr refl
 abbrev pub AfterEnd : Result PrintAnswer ToolFault → Type 0 → Type 0 → Type 0
 AfterEnd (Ok (answers.Ran ran)) Ended Other = Ended
 AfterEnd (Ok (answers.Refused fault)) Ended Other = Other
+AfterEnd (Ok (answers.NoPart refusal)) Ended Other = Other
 AfterEnd (Err fault) Ended Other = Other
 
 either-status : (names : List (List ℕ)) (status answered : ℕ) → EndsWith names status answered → (answered ≡ status) ⊎ (answered ≡ 2)
@@ -50,6 +51,7 @@ by-end : (names : List (List ℕ)) (run : Result PrintAnswer ToolFault) (status 
     → EndsWith (saved_after names run) status answered → AfterEnd run Ended Other → ByEnd answered Ended Other
 by-end names (Err fault) status answered Ended Other e end h = rw (end ∙ e) (inl h)
 by-end names (Ok (answers.Refused fault)) status answered Ended Other e end h = rw (end ∙ e) h
+by-end names (Ok (answers.NoPart refusal)) status answered Ended Other e end h = rw (end ∙ e) (inl h)
 by-end names (Ok (answers.Ran ran)) status answered Ended Other e end h =
     ⊎_elim (λ same. go ran.end answered (same ∙ e)) (λ two. rw two (inr h)) (either-status names status answered end)
   where
@@ -63,6 +65,7 @@ created-after : (names : List (List ℕ)) (run : Result PrintAnswer ToolFault) (
     → AfterEnd run (Asks old new names) (Asks old new [])
 created-after names (Ok (answers.Ran ran)) old new h = h
 created-after names (Ok (answers.Refused fault)) old new h = h
+created-after names (Ok (answers.NoPart refusal)) old new h = h
 created-after names (Err fault) old new h = h
 
 saves-after : (run : Result PrintAnswer ToolFault) (keep svg : Option (List ℕ)) (deck kept map : List ℕ) (IsDrawn : List ℕ → Type 0) (old new : Option (List Saved))
@@ -71,6 +74,7 @@ saves-after : (run : Result PrintAnswer ToolFault) (keep svg : Option (List ℕ)
 saves-after (Ok (answers.Ran ran)) keep svg deck kept map IsDrawn old new same drawn saved =
     (map, drawn, saved ∙ ap (λ d. noted old (saved_as keep d ++ saved_as svg map)) same)
 saves-after (Ok (answers.Refused fault)) keep svg deck kept map IsDrawn old new same drawn saved = saved
+saves-after (Ok (answers.NoPart refusal)) keep svg deck kept map IsDrawn old new same drawn saved = saved
 saves-after (Err fault) keep svg deck kept map IsDrawn old new same drawn saved = saved
 
 -- and it has saved its texts

@@ -1,5 +1,5 @@
 -- What a plan does: the files that it opens, in their order, and the run that it makes on their texts.
-use Rattle.std.specs.Prelude.{◌≡◌, ◌≤◌, ⊤, ℕ, Bool, true, false, not, List, [], ◌∷◌, ◌++◌, Option, None, Some, option_and_then, option_map, is_some, map, string_bytes}
+use Rattle.std.specs.Prelude.{◌≡◌, ◌≤◌, ⊤, ℕ, Bool, true, false, not, List, [], ◌∷◌, ◌++◌, Option, None, Some, option_map, is_some, map, string_bytes}
 use Rattle.std.specs.Option.{option_map_or}
 use Rattle.mixal_asm.specs.Assembly.{assembly}
 use Rattle.mix_machine.specs.units.deck.Deck.{deck_of}
@@ -16,7 +16,10 @@ use Rattle.mix_run.specs.Debug.{debug_output, origin_given}
 use Rattle.mix_run.specs.Drawn.{Draws}
 use Rattle.mix_run.specs.Output.{bundle_output, list_output}
 use Rattle.mix_run.specs.PrintOutput.{print_output}
+use Rattle.mix_run.specs.declared.print.options.AskedTable.{AskedTable as RunTable}
 use Rattle.mix_run.specs.declared.print.options.PrintOptions.{PrintOptions}
+use Rattle.mix_run.specs.declared.print.options.TableOf.{TableOf}
+use Rattle.mix_run.specs.declared.print.options.TableOf.TheVariants as of
 use Rattle.mix_run.specs.declared.print.options.UnitSet.{UnitSet}
 use Rattle.mix_run.specs.declared.table.TableFormat.{TableFormat}
 use Rattle.mix_run.specs.declared.table.TableFormat.TheVariants as table
@@ -129,11 +132,19 @@ format_of format.Csv = table.Csv
 format_of format.Json = table.Json
 format_of format.Latex = table.Latex
 
--- the form of the table in which a run is counted, if it is; no other table is written yet
-abbrev pub counted_in : TableRows → Format → Option TableFormat
-counted_in rows.Counts format = Some (format_of format)
-counted_in rows.Trace format = None
-counted_in rows.Writes format = None
+-- what a table is of
+abbrev pub rows_of : TableRows → TableOf
+rows_of rows.Counts = of.Counts
+rows_of rows.Trace = of.Trace
+rows_of rows.Writes = of.Writes
+
+abbrev pub table_of : AskedTable → RunTable
+table_of asked = record { of = rows_of asked.of; format = format_of asked.format }
+
+-- the part whose changes a table has; no text is the name of none
+abbrev pub part_of : Option (List ℕ) → List ℕ
+part_of None = []
+part_of (Some part) = part
 
 abbrev pub options_of : {Name : Type 0} → Option Name → Option Name → Option Name → ℕ → Printing → Bool → Bool → Option Name → Option Name → Option AskedTable
     → PrintOptions
@@ -147,7 +158,7 @@ options_of devices cards typewriter steps printing trace strict keep svg table =
       trace = trace;
       strict = strict;
       keep = is_some keep;
-      counts = option_and_then (λ (asked : AskedTable). counted_in asked.of asked.format) table;
+      table = option_map table_of table;
       map = is_some svg;
     }
 
@@ -183,7 +194,7 @@ RunsOn all (plan.Debug source script devices echo) given talker status before af
     DebugsOn all (string_bytes source) (names_of_session (string_bytes source) (option_map string_bytes devices) (option_map string_bytes script))
     (is_some devices) echo script given talker status before after
 RunsOn all (plan.Run source cards typewriter devices steps printing trace strict keep svg table part) given talker status before after =
-    PrintRuns (print_output (options_of devices cards typewriter steps printing trace strict keep svg table) given.source given.deck given.cards given.typewriter)
+    PrintRuns (print_output (options_of devices cards typewriter steps printing trace strict keep svg table) (part_of (option_map string_bytes part)) given.source given.deck given.cards given.typewriter)
     (named (option_map string_bytes keep) ++ named (option_map string_bytes svg)) status before after
 RunsOn all plan.Dap given talker status before after = status ≤ 2
 
@@ -239,6 +250,6 @@ creates_of plan.Dap = None
 abbrev pub SavesOn : Plan → Given → ℕ → Option (List Saved) → Option (List Saved) → Type 0
 SavesOn (plan.Run source cards typewriter devices steps printing trace strict keep svg table part) given status old new =
     let options = options_of devices cards typewriter steps printing trace strict keep svg table in
-    Saves (print_output options given.source given.deck given.cards given.typewriter)
-    (Draws options given.source given.deck given.cards given.typewriter []) (option_map string_bytes keep) (option_map string_bytes svg) status old new
+    Saves (print_output options (part_of (option_map string_bytes part)) given.source given.deck given.cards given.typewriter)
+    (Draws options (part_of (option_map string_bytes part)) given.source given.deck given.cards given.typewriter []) (option_map string_bytes keep) (option_map string_bytes svg) status old new
 SavesOn other given status old new = ⊤

@@ -1,12 +1,11 @@
 //! What a plan asks for: the names of its files, and what is asked of its run.
 
-ghost use Rattle.std.specs.Prelude.{◌≡◌, option_and_then};
-ghost use Rattle.mix_tool.specs.Plan.{counted_in, format_of, names_in, names_of, options_of};
-ghost use Rattle.mix_cli.specs.declared.words.AskedTable.{AskedTable};
+ghost use Rattle.std.specs.Prelude.{◌≡◌, option_map, string_bytes};
+ghost use Rattle.mix_tool.specs.Plan.{format_of, names_in, names_of, options_of, part_of, rows_of, table_of};
 
 use crate::texts::Names;
-use mix_cli::{AskedTable, Format, Plan, Printing, TableRows};
-use mix_run::{PrintOptions, TableFormat, UnitSet};
+use mix_cli::{Format, Plan, Printing, TableRows};
+use mix_run::{AskedTable, PrintOptions, TableFormat, TableOf, UnitSet};
 
 /// The names of the files of a plan.
 pub(crate) fn names_in(plan: &Plan) -> Names<'_>
@@ -66,22 +65,37 @@ fn format_of(format: Format) -> TableFormat
     }
 }
 
-// The form of the table in which a run is counted, if it is; no other table is written yet.
-fn counted_in(of: TableRows, format: Format) -> Option<TableFormat>
-    ensures { result ≡ counted_in of format }
+// What a table is of.
+fn rows_of(rows: TableRows) -> TableOf
+    ensures { result ≡ rows_of rows }
 {
-    match of {
-        TableRows::Counts => Some(format_of(format)),
-        TableRows::Trace | TableRows::Writes => None,
+    match rows {
+        TableRows::Counts => TableOf::Counts,
+        TableRows::Trace => TableOf::Trace,
+        TableRows::Writes => TableOf::Writes,
     }
 }
 
-fn counts_of(table: Option<AskedTable>) -> Option<TableFormat>
-    ensures { result ≡ option_and_then (λ (asked : AskedTable). counted_in asked.of asked.format) table }
+// The table that is asked for, if one is.
+fn table_of(table: Option<mix_cli::AskedTable>) -> Option<AskedTable>
+    ensures { result ≡ option_map table_of table }
 {
     match table {
-        Some(asked) => counted_in(asked.of, asked.format),
+        Some(asked) => Some(AskedTable {
+            of: rows_of(asked.of),
+            format: format_of(asked.format),
+        }),
         None => None,
+    }
+}
+
+/// The part whose changes a table has.
+pub(crate) fn part_of(part: &Option<String>) -> &str
+    ensures { result.now ≡ part_of (option_map string_bytes part.now) }
+{
+    match part {
+        Some(part) => part.as_str(),
+        None => "",
     }
 }
 
@@ -96,7 +110,7 @@ pub(crate) fn options_of(
     strict: bool,
     keep: &Option<String>,
     svg: &Option<String>,
-    table: Option<AskedTable>,
+    table: Option<mix_cli::AskedTable>,
 ) -> PrintOptions
     ensures { result ≡ options_of devices.now cards.now typewriter.now steps printing trace strict keep.now svg.now table }
 {
@@ -114,7 +128,7 @@ pub(crate) fn options_of(
         trace,
         strict,
         keep: keep.is_some(),
-        counts: counts_of(table),
+        table: table_of(table),
         map: svg.is_some(),
     }
 }

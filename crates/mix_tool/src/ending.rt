@@ -6,7 +6,9 @@ ghost use Rattle.mix_run.specs.Opening.{named};
 
 use crate::conflicts::{conflict_line, tell_conflicts};
 use mix_cli::FAILED;
-use mix_run::{DONE, NOT_DONE, PrintAnswer, RanTo, Reason, RunEnd, SOURCE_REFUSED, ToolFault};
+use mix_run::{
+    DONE, NOT_DONE, PrintAnswer, RanTo, Reason, Refusal, RunEnd, SOURCE_REFUSED, ToolFault,
+};
 use mix_stream::{Out, write_all};
 use std::alloc::{AllocError, Global};
 
@@ -186,6 +188,11 @@ pub(crate) fn place(alloc: Global, name: &str, line: Option<u32>) -> Result<Stri
     }
 }
 
+// Why the part that a table is to be of is none.
+fn no_part_line(alloc: Global, refusal: Refusal, part: &str) -> Result<String, AllocError> {
+    format!(in alloc; "mixrev: {refusal}: {part}\n")
+}
+
 // The status of a run that came to its end.
 fn status_of_end(end: RunEnd) -> u8
     ensures { result ≡ status_of_end end }
@@ -196,12 +203,13 @@ fn status_of_end(end: RunEnd) -> u8
     }
 }
 
-/// The status of what a run answers; which of its steps conflict with a transfer is told, where it came to, if not to a halt, and a fault is.
+/// The status of what a run answers; why the part of its table is none is told; which of its steps conflict with a transfer is told, where it came to, if not to a halt, and a fault is.
 pub(crate) fn print_status<E: Out>(
     alloc: Global,
     name: &str,
     outcome: Result<PrintAnswer, ToolFault>,
     file: Option<&str>,
+    part: &str,
     errors: &mut E,
 ) -> u8
     ensures { result ≡ status_of_print outcome }
@@ -209,6 +217,10 @@ pub(crate) fn print_status<E: Out>(
     match outcome {
         Err(fault) => status_beside(alloc, Err(fault), file, errors),
         Ok(PrintAnswer::Refused(_)) => SOURCE_REFUSED,
+        Ok(PrintAnswer::NoPart(refusal)) => {
+            tell_beside(no_part_line(alloc, refusal, part), errors);
+            FAILED
+        }
         Ok(PrintAnswer::Ran(ran)) => ran_status(alloc, name, &ran, errors),
     }
 }

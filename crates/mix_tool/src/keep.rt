@@ -102,6 +102,6 @@ pub(crate) fn save_files<O: Opener, E: Out>(
                 FAILED
             }
         }
-        Ok(PrintAnswer::Refused(_)) | Err(_) => status,
+        Ok(PrintAnswer::Refused(_) | PrintAnswer::NoPart(_)) | Err(_) => status,
     }
 }

@@ -9,7 +9,7 @@ ghost use Rattle.mix_run.specs.Opening.{Asks, Files, asked_of, missing_of};
 ghost use Rattle.mix_tool.specs.Ending.{Creates};
 ghost use Rattle.mix_tool.specs.Plan.{AreFresh, Given, HoldTexts, DoneAfter, IsDone, RunsOn, SavesOn, creates_of, files_of, given_of, hears_client, in_order, is_quiet, names_of, reads_input, seen, sources_of};
 
-use crate::asked::{names_in, options_of};
+use crate::asked::{names_in, options_of, part_of};
 use crate::check::check_files;
 use crate::debug::debug_on;
 use crate::ending::{print_status, status, tell_not_opened, unread};
@@ -85,17 +85,26 @@ fn run_on<O: Opener + Library, C: In, R: In, W: Out, E: Out>(
             keep,
             svg,
             table,
-            part: _,
+            part,
         } => {
             let (steps, trace, strict) = (*steps, *trace, *strict);
             let options = options_of(
                 devices, cards, typewriter, steps, *printing, trace, strict, keep, svg, *table,
             );
             let mut texts = texts.of_run();
+            let part = part_of(part);
             let (out, errors) = (&mut streams.out, &mut streams.errors);
             let (mut deck, mut map) = (Vec::new(alloc), Vec::new(alloc));
             let outcome = run_printed(
-                alloc, source, &mut texts, options, &mut deck, &mut map, out, errors,
+                alloc,
+                source,
+                &mut texts,
+                options,
+                part.as_bytes(),
+                &mut deck,
+                &mut map,
+                out,
+                errors,
             );
             let failures = (texts.deck.failures(), texts.cards.failures());
             let file = unread(source, devices.as_deref(), cards.as_deref(), failures);
@@ -103,7 +112,7 @@ fn run_on<O: Opener + Library, C: In, R: In, W: Out, E: Out>(
             let file = unread(file, None, typewriter.as_deref(), lines);
             // (a copy, since the checker covers no value of this kind that is passed twice)
             let again = outcome;
-            let status = print_status(alloc, source, outcome, Some(file), errors);
+            let status = print_status(alloc, source, outcome, Some(file), part, errors);
             save_files(files, alloc, keep, &deck, svg, &map, again, status, errors)
         }
         Plan::Dap => {

@@ -60,7 +60,7 @@ fn printed_by(alloc: Global, fields: &[&str], size: usize) -> Option<String> {
         trace,
         strict,
         keep,
-        counts: None,
+        table: None,
         map: false,
     };
     let mut out = Sink::of(size, 0);
@@ -77,6 +77,7 @@ fn printed_by(alloc: Global, fields: &[&str], size: usize) -> Option<String> {
         "f",
         &mut texts,
         options,
+        b"",
         &mut kept,
         &mut map,
         &mut out,
@@ -114,6 +115,7 @@ fn push_answer(told: &mut String, answer: Result<PrintAnswer, ToolFault>) -> Opt
     match answer {
         Ok(PrintAnswer::Ran(ran)) => push_end(told, ran),
         Ok(PrintAnswer::Refused(fault)) => write!(told, "refused: {fault}").ok(),
+        Ok(PrintAnswer::NoPart(refusal)) => write!(told, "no part: {refusal}").ok(),
         Err(fault) => write!(told, "failed: {fault}").ok(),
     }
 }

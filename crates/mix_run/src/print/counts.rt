@@ -3,10 +3,11 @@ ghost use Rattle.std.specs.Prelude.{◌≡◌, ◌≢◌, ◌<◌, ◌++◌, ◌
 ghost use Rattle.mixal_asm.specs.declared.fault.AsmFault.{AsmFault};
 ghost use Rattle.mix_stream.specs.Stream.{CountsFailure};
 ghost use Rattle.mix_session.specs.Command.{after};
+ghost use Rattle.mix_session.specs.Session.{opened};
 ghost use Rattle.mix_session.specs.Tally.{tally_in};
 ghost use Rattle.mix_session.specs.Timeline.{world_of};
 ghost use Rattle.mix_run.specs.Counted.{count_row, count_rows, count_rows_at, counted_run, counted_steps, counts_table, end_of, max_counted, number_or, run_end};
-ghost use Rattle.mix_run.specs.Drawn.{DrawnRun};
+ghost use Rattle.mix_run.specs.Drawn.{DrawnIf};
 ghost use Rattle.mix_run.specs.Fault.{IsMemoryOrWrite};
 ghost use Rattle.mix_run.specs.Print.{ended, line_at};
 ghost use Rattle.mix_run.specs.PrintOutput.{Prints, counted_outcome, kept_of, ran_to};
@@ -47,7 +48,7 @@ pub(super) fn count_loaded<W: Out>(
     requires { W.failed out.old < 2 ^ 64 - 1 }
     ensures output { Prints (counted_outcome format options program units) result (W.told out.old) (W.told out.new) }
     ensures kept { OnOk result (kept.new.items ≡ kept.old.items ++ kept_of (counted_outcome format options program units)) }
-    ensures map { OnOk result (DrawnRun options program units map.old.items map.new.items) }
+    ensures map { OnOk result (DrawnIf options.map program (after (counted_steps options.steps (opened program units).timeline)) map.old.items map.new.items) }
     ensures write { CountsFailure (result ≡ Err ToolFault.Write) (W.failed out.old) (W.failed out.new) }
     ensures only { IfErr result IsMemoryOrWrite }
     ensures ran { (f : AsmFault) → result ≢ Ok (PrintAnswer.Refused f) }
@@ -193,8 +194,8 @@ fn add_cell(
     Ok(false)
 }
 
-// The line of the source that put its word into a cell.
-fn line_field(program: &Program, number: u16) -> Field<'static>
+/// The line of the source that put its word into a cell.
+pub(super) fn line_field(program: &Program, number: u16) -> Field<'static>
     ensures { result ≡ number_or (line_at program.now number) }
 {
     match line_at(program, number) {

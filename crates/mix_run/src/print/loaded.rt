@@ -6,13 +6,16 @@ ghost use Rattle.mix_stream.specs.Stream.{AppendsFront, CountsFailure};
 ghost use Rattle.mix_run.specs.Fault.{IsMemoryOrWrite};
 ghost use Rattle.mix_run.specs.Keep.{kept_if};
 ghost use Rattle.mix_run.specs.Print.{counted, line_at, run_of};
-ghost use Rattle.mix_run.specs.PrintOutput.{Prints, answered, kept_of, printed_outcome};
+ghost use Rattle.mix_run.specs.StepTable.{run_told};
+ghost use Rattle.mix_run.specs.PrintOutput.{Prints, answered, kept_of};
+ghost use Rattle.mix_machine.specs.Loaded.{loaded};
 
 use crate::fault::ToolFault;
 use crate::keep::keep_units;
 use crate::print::PrintAnswer;
 use crate::print::options::PrintOptions;
 use crate::print::steps::{RunEnd, Stepped, print_steps};
+use crate::print::tabled::{StepTable, write_table};
 use crate::print::watch::Conflicts;
 use mix_machine::{Place, Units, World};
 use mix_stream::Out;
@@ -53,23 +56,56 @@ fn line_of_first(program: &Program, conflicts: Conflicts) -> Option<u32>
     }
 }
 
+// Steps, and their table if one is asked for, and else what they print.
+fn tell_steps<W: Out>(
+    alloc: Global,
+    program: &Program,
+    world: &mut World,
+    table: &Option<StepTable>,
+    options: PrintOptions,
+    out: &mut W,
+) -> Result<Stepped, ToolFault>
+    requires { W.failed out.old < 2 ^ 64 - 1 }
+    ensures told { let run = run_told table.now options program.now world.old in
+        IfOk result (λ s. (s.end ≡ run.end) × (s.conflicts ≡ counted run.met) × (world.new ≡ run.world) × Appends (W.told out.old) (W.told out.new) run.bytes) }
+    ensures begun { AppendsFront (W.told out.old) (W.told out.new) (run_told table.now options program.now world.old).bytes }
+    ensures write { CountsFailure (result ≡ Err ToolFault.Write) (W.failed out.old) (W.failed out.new) }
+    ensures only { IfErr result IsMemoryOrWrite }
+{
+    match table {
+        None => print_steps(alloc, world, options, out),
+        Some(table) => {
+            let end = write_table(alloc, program, table, options.steps, world, out)?;
+            Ok(Stepped {
+                end,
+                conflicts: Conflicts {
+                    count: 0,
+                    first: None,
+                },
+            })
+        }
+    }
+}
+
 // Steps, and then the deck of what the units hold.
 fn print_and_keep<W: Out>(
     alloc: Global,
+    program: &Program,
     world: &mut World,
+    table: &Option<StepTable>,
     options: PrintOptions,
     kept: &mut Vec<u8>,
     out: &mut W,
 ) -> Result<Stepped, ToolFault>
     requires { W.failed out.old < 2 ^ 64 - 1 }
-    ensures printed { let run = run_of options world.old in
+    ensures printed { let run = run_told table.now options program.now world.old in
         IfOk result (λ s. (s.end ≡ run.end) × (s.conflicts ≡ counted run.met) × (world.new ≡ run.world) × Appends (W.told out.old) (W.told out.new) run.bytes) }
-    ensures kept { OnOk result (kept.new.items ≡ kept.old.items ++ kept_if options.keep (run_of options world.old).world) }
-    ensures begun { AppendsFront (W.told out.old) (W.told out.new) (run_of options world.old).bytes }
+    ensures kept { OnOk result (kept.new.items ≡ kept.old.items ++ kept_if options.keep (run_told table.now options program.now world.old).world) }
+    ensures begun { AppendsFront (W.told out.old) (W.told out.new) (run_told table.now options program.now world.old).bytes }
     ensures write { CountsFailure (result ≡ Err ToolFault.Write) (W.failed out.old) (W.failed out.new) }
     ensures only { IfErr result IsMemoryOrWrite }
 {
-    let stepped = print_steps(alloc, world, options, out)?;
+    let stepped = tell_steps(alloc, program, world, table, options, out)?;
     keep_units(alloc, world, options.keep, kept)?;
     Ok(stepped)
 }
@@ -79,18 +115,21 @@ pub(super) fn print_world<W: Out>(
     alloc: Global,
     program: &Program,
     world: &mut World,
+    table: &Option<StepTable>,
     options: PrintOptions,
     kept: &mut Vec<u8>,
     out: &mut W,
 ) -> Result<PrintAnswer, ToolFault>
     requires { W.failed out.old < 2 ^ 64 - 1 }
-    ensures output { Prints (answered options program.now (run_of options world.old)) result (W.told out.old) (W.told out.new) }
-    ensures kept { OnOk result (kept.new.items ≡ kept.old.items ++ kept_of (answered options program.now (run_of options world.old))) }
+    ensures output { Prints (answered options program.now (run_told table.now options program.now world.old)) result (W.told out.old) (W.told out.new) }
+    ensures kept { OnOk result (kept.new.items ≡ kept.old.items ++ kept_of (answered options program.now (run_told table.now options program.now world.old))) }
     ensures write { CountsFailure (result ≡ Err ToolFault.Write) (W.failed out.old) (W.failed out.new) }
     ensures only { IfErr result IsMemoryOrWrite }
     ensures ran { (f : AsmFault) → result ≢ Ok (PrintAnswer.Refused f) }
 {
-    let Stepped { end, conflicts } = print_and_keep(alloc, world, options, kept, out)?;
+    let Stepped { end, conflicts } = print_and_keep(
+        alloc, program, world, table, options, kept, out,
+    )?;
     let (loc, clock) = (world.loc(), world.clock());
     let line = line_at(program, loc);
     // (a copy, since the checker covers no struct that is passed by value twice)
@@ -106,8 +145,7 @@ pub(super) fn print_world<W: Out>(
     }))
 }
 
-/// A program, run on the machine that it is loaded into.
-#[tactic(auto, unfolding(crate::specs::PrintOutput::printed_outcome))]
+/// A program, run on the machine that it is loaded into, and what it prints.
 pub(super) fn print_loaded<W: Out>(
     alloc: Global,
     program: &Program,
@@ -117,12 +155,12 @@ pub(super) fn print_loaded<W: Out>(
     out: &mut W,
 ) -> Result<PrintAnswer, ToolFault>
     requires { W.failed out.old < 2 ^ 64 - 1 }
-    ensures output { Prints (printed_outcome options program.now units) result (W.told out.old) (W.told out.new) }
-    ensures kept { OnOk result (kept.new.items ≡ kept.old.items ++ kept_of (printed_outcome options program.now units)) }
+    ensures output { Prints (answered options program.now (run_of options (loaded program.now.words program.now.start units))) result (W.told out.old) (W.told out.new) }
+    ensures kept { OnOk result (kept.new.items ≡ kept.old.items ++ kept_of (answered options program.now (run_of options (loaded program.now.words program.now.start units)))) }
     ensures write { CountsFailure (result ≡ Err ToolFault.Write) (W.failed out.old) (W.failed out.new) }
     ensures only { IfErr result IsMemoryOrWrite }
     ensures ran { (f : AsmFault) → result ≢ Ok (PrintAnswer.Refused f) }
 {
     let mut world = World::load(alloc, program.words(), program.start(), units)?;
-    print_world(alloc, program, &mut world, options, kept, out)
+    print_world(alloc, program, &mut world, &None, options, kept, out)
 }

@@ -1,5 +1,5 @@
 //! What is asked of a run: how many steps, the rows of which units, whether a deck, cards and lines for the typewriter are given, whether its steps
-//! are traced, whether it ends before a conflict, whether what the units hold at the end is kept, whether its steps are counted, and whether its map is drawn.
+//! are traced, whether it ends before a conflict, whether what the units hold at the end is kept, whether a table is written, and whether its map is drawn.
 ghost use Rattle.std.specs.Prelude.{◌≡◌, true, false};
 
 use crate::table::TableFormat;
@@ -32,6 +32,21 @@ impl UnitSet {
     };
 }
 
+/// What a table is of: how often each instruction was executed, or each step, or each step that altered a part of the machine.
+#[derive(Clone, Copy)]
+pub enum TableOf {
+    Counts,
+    Trace,
+    Writes,
+}
+
+/// What a table is of, and its form.
+#[derive(Clone, Copy)]
+pub struct AskedTable {
+    pub of: TableOf,
+    pub format: TableFormat,
+}
+
 /// What is asked of a run.
 #[derive(Clone, Copy)]
 pub struct PrintOptions {
@@ -51,9 +66,9 @@ pub struct PrintOptions {
     pub strict: bool,
     /// Whether the deck of what the units hold at the end is given.
     pub keep: bool,
-    /// The form of the table of how often each instruction was executed, which is written instead of the rows and the trace. Such a run keeps
-    /// its history, so many steps take much memory; it does at most 4,294,967,295 steps, and is never strict.
-    pub counts: Option<TableFormat>,
+    /// The table that is written instead of the rows and the lines of the steps. Such a run is never strict. For that of the counts it keeps
+    /// its history, so many steps take much memory, and does at most 4,294,967,295 steps.
+    pub table: Option<AskedTable>,
     /// Whether the map of its steps is given. For that the program is run in a session too, which keeps its history, does at most 4,294,967,295
     /// steps, and is never strict.
     pub map: bool,

@@ -1,12 +1,13 @@
 //! A field of a table, and what is written of it.
 ghost use Rattle.std.specs.Prelude.{◌≡◌, ◌++◌, OnOk};
 ghost use Rattle.std.specs.Fmt.{decimal};
-ghost use Rattle.mix_run.specs.Table.{FieldValue, field_text, missing_text, name_text};
+ghost use Rattle.mix_run.specs.Table.{FieldValue, after_digits, before_digits, field_text, missing_text, name_text, signed_field};
 ghost use Rattle.mix_run.specs.Table.FieldValue.{Missing};
 
 use crate::table::TableFormat;
 use crate::table::text::add_text;
 use mix_refused::Memory;
+use mix_word::{Sign, Word};
 use std::alloc::Global;
 use std::marker::Model;
 
@@ -14,11 +15,12 @@ use std::marker::Model;
 #[derive(Drop)]
 enum Kind<'a> {
     Number(u128),
+    Signed(Word),
     Text(&'a [u8]),
     Missing,
 }
 
-/// A field of a table: a number, a text, or nothing.
+/// A field of a table: a number, a word as a number with its sign, a text, or nothing.
 #[derive(Drop)]
 pub(crate) struct Field<'a> {
     kind: Kind<'a>,
@@ -38,6 +40,14 @@ impl<'a> Field<'a> {
     {
         Field {
             kind: Kind::Number(number),
+        }
+    }
+
+    pub(crate) const fn signed(word: Word) -> Field<'a>
+        ensures { result ≡ FieldValue.Signed word }
+    {
+        Field {
+            kind: Kind::Signed(word),
         }
     }
 
@@ -88,6 +98,7 @@ pub(super) fn add_field(
 {
     match &field.kind {
         Kind::Number(number) => add_number(alloc, text, *number),
+        Kind::Signed(word) => add_signed(alloc, text, format, *word),
         Kind::Text(bytes) => add_text(text, format, bytes),
         Kind::Missing => {
             text.extend_from_slice(missing(format))?;
@@ -111,4 +122,39 @@ fn add_number(alloc: Global, text: &mut Vec<u8>, number: u128) -> Result<(), Mem
     let digits = format!(in alloc; "{number}")?;
     text.extend_from_slice(digits.as_bytes())?;
     Ok(())
+}
+
+// The number of a word, with a minus if it has one.
+#[tactic(auto, unfolding(crate::specs::Table::signed_field))]
+fn add_signed(
+    alloc: Global,
+    text: &mut Vec<u8>,
+    format: TableFormat,
+    word: Word,
+) -> Result<(), Memory>
+    ensures { OnOk result (text.new.items ≡ text.old.items ++ signed_field format word) }
+{
+    text.extend_from_slice(before_digits(format, word.sign()))?;
+    add_number(alloc, text, u128::from(word.magnitude()))?;
+    text.extend_from_slice(after_digits(format, word.sign()))?;
+    Ok(())
+}
+
+fn before_digits(format: TableFormat, sign: Sign) -> &'static [u8]
+    ensures { result.now ≡ before_digits format sign }
+{
+    match (sign, format) {
+        (Sign::Plus, _) => b"",
+        (Sign::Minus, TableFormat::Csv | TableFormat::Json) => b"-",
+        (Sign::Minus, TableFormat::Latex) => b"$-",
+    }
+}
+
+fn after_digits(format: TableFormat, sign: Sign) -> &'static [u8]
+    ensures { result.now ≡ after_digits format sign }
+{
+    match (sign, format) {
+        (Sign::Minus, TableFormat::Latex) => b"$",
+        (Sign::Minus, TableFormat::Csv | TableFormat::Json) | (Sign::Plus, _) => b"",
+    }
 }

@@ -20,17 +20,17 @@ returns-in-Err-Memory-clause-typewriter g c = ConsumesAtMost-none _ _
 
 pub returns-in-Err-Fault-clause-output : goal.returns-in-Err-Fault-clause-output
 returns-in-Err-Fault-clause-output g c b d k t hb hd hk ht =
-    Prints-refused c.args.options b _ _ d k t _ _ _ (c.deref.ensures.value ∙ (c.in_ok-text.ensures.whole b hb).0) c.parts_of-parts.ensures.source
+    Prints-refused c.args.options c.args.part.now b _ _ d k t _ _ _ (c.deref.ensures.value ∙ (c.in_ok-text.ensures.whole b hb).0) c.parts_of-parts.ensures.source
     (rw c.in-Err-Fault.field-0-is at c.in-Err-Fault.ensures.fault) (ap Refused c.in-Err-Fault.fault-is)
 
 pub returns-in-Err-Fault-clause-kept : goal.returns-in-Err-Fault-clause-kept
 returns-in-Err-Fault-clause-kept g c b d k t hb hd hk ht =
-    kept-refused c.args.options b _ _ d k t _ _ (c.deref.ensures.value ∙ (c.in_ok-text.ensures.whole b hb).0) c.parts_of-parts.ensures.source
+    kept-refused c.args.options c.args.part.now b _ _ d k t _ _ (c.deref.ensures.value ∙ (c.in_ok-text.ensures.whole b hb).0) c.parts_of-parts.ensures.source
     (rw c.in-Err-Fault.field-0-is at c.in-Err-Fault.ensures.fault)
 
 pub returns-in-Err-Fault-clause-map : goal.returns-in-Err-Fault-clause-map
 returns-in-Err-Fault-clause-map g c b d k t hb hd hk ht =
-    drawn-refused c.args.options b _ _ d k t _ _ (c.deref.ensures.value ∙ (c.in_ok-text.ensures.whole b hb).0) c.parts_of-parts.ensures.source
+    drawn-refused c.args.options c.args.part.now b _ _ d k t _ _ (c.deref.ensures.value ∙ (c.in_ok-text.ensures.whole b hb).0) c.parts_of-parts.ensures.source
     (rw c.in-Err-Fault.field-0-is at c.in-Err-Fault.ensures.fault)
 
 pub returns-in-Err-Fault-clause-deck : goal.returns-in-Err-Fault-clause-deck
@@ -44,17 +44,17 @@ returns-in-Err-Fault-clause-typewriter g c = ConsumesAtMost-none _ _
 
 pub returns-clause-output : goal.returns-clause-output
 returns-clause-output g c b d k t hb hd hk ht =
-    Prints-parts c.args.options b _ _ _ d k t _ _ _ _ (c.deref.ensures.value ∙ (c.in_ok-text.ensures.whole b hb).0) c.parts_of-parts.ensures.source
+    Prints-parts c.args.options c.args.part.now b _ _ _ d k t _ _ _ _ (c.deref.ensures.value ∙ (c.in_ok-text.ensures.whole b hb).0) c.parts_of-parts.ensures.source
     c.parts_of-parts.ensures.deck c.in-Ok.ensures.ok (c.print_program.ensures.output d k t hd hk ht)
 
 pub returns-clause-kept : goal.returns-clause-kept
 returns-clause-kept g c b d k t hb hd hk ht =
-    kept-parts c.args.options b _ _ _ d k t _ _ _ _ (c.deref.ensures.value ∙ (c.in_ok-text.ensures.whole b hb).0) c.parts_of-parts.ensures.source
+    kept-parts c.args.options c.args.part.now b _ _ _ d k t _ _ _ _ (c.deref.ensures.value ∙ (c.in_ok-text.ensures.whole b hb).0) c.parts_of-parts.ensures.source
     c.parts_of-parts.ensures.deck c.in-Ok.ensures.ok (c.print_program.ensures.kept d k t hd hk ht)
 
 pub returns-clause-map : goal.returns-clause-map
 returns-clause-map g c b d k t hb hd hk ht =
-    drawn-parts c.args.options b _ _ _ d k t _ _ _ _ (c.deref.ensures.value ∙ (c.in_ok-text.ensures.whole b hb).0) c.parts_of-parts.ensures.source
+    drawn-parts c.args.options c.args.part.now b _ _ _ d k t _ _ _ _ (c.deref.ensures.value ∙ (c.in_ok-text.ensures.whole b hb).0) c.parts_of-parts.ensures.source
     c.parts_of-parts.ensures.deck c.in-Ok.ensures.ok (c.print_program.ensures.map d k t hd hk ht)
 
 pub returns-clause-bad_source : goal.returns-clause-bad_source

@@ -34,7 +34,7 @@ returns-in-Run-clause-done g c all given e holds =
     let texts = c.of_run-texts.ensures in
     let prints = c.run_printed-outcome.ensures.output given.source given.deck given.cards given.typewriter
     (rw texts holds.source) (rw texts holds.deck) (rw texts holds.cards) (rw texts holds.typewriter) in
-    rw c.in-Run.is (c.run_printed-outcome.result, rw c.options_of-options.ensures at prints, rw c.print_status-status.ensures at c.save_files.ensures.status)
+    rw c.in-Run.is (c.run_printed-outcome.result, rw (c.options_of-options.ensures, c.as_bytes.ensures, c.part_of-part.ensures) at prints, rw c.print_status-status.ensures at c.save_files.ensures.status)
 
 pub returns-in-Run-clause-created : goal.returns-in-Run-clause-created
 returns-in-Run-clause-created g c names e =
@@ -47,7 +47,8 @@ returns-in-Run-clause-saved g c given holds =
     (rw texts holds.source) (rw texts holds.deck) (rw texts holds.cards) (rw texts holds.typewriter) in
     let drawn = c.run_printed-outcome.ensures.map given.source given.deck given.cards given.typewriter
     (rw texts holds.source) (rw texts holds.deck) (rw texts holds.cards) (rw texts holds.typewriter) in
-    rw c.in-Run.is (saves-run _ _ _ _ _ _ _ _ _ _ _ _ (rw c.options_of-options.ensures at kept) (rw c.options_of-options.ensures at drawn)
+    rw c.in-Run.is (saves-run _ _ _ _ _ _ _ _ _ _ _ _ (rw (c.options_of-options.ensures, c.as_bytes.ensures, c.part_of-part.ensures) at kept)
+    (rw (c.options_of-options.ensures, c.as_bytes.ensures, c.part_of-part.ensures) at drawn)
     c.print_status-status.ensures c.save_files.ensures.status c.save_files.ensures.saved)
 
 pub returns-in-Run-clause-range : goal.returns-in-Run-clause-range

@@ -3,7 +3,7 @@ use Rattle.std.proofs.Common.{◌∙◌}
 use Rattle.std.proofs.lemmas.Result.{err_from_is_err_and}
 use Rattle.mix_run.specs.PrintOutput.{counted_outcome}
 use Rattle.mix_run.proofs.CountedLemmas.{counted-answers, no-bytes}
-use Rattle.mix_run.proofs.DrawnLemmas.{drawn-run}
+use Rattle.mix_run.proofs.DrawnLemmas.{draws-counts}
 use Rattle.mix_run.proofs.print.counts.count_loaded.Goals as goal
 
 pub returns-in_err-session-clause-output : goal.returns-in_err-session-clause-output
@@ -39,5 +39,5 @@ returns-clause-output g c =
 
 pub returns-clause-map : goal.returns-clause-map
 returns-clause-map g c =
-    drawn-run c.args.options c.args.program c.args.units c.in_ok-session.session c.run_steps.new.session _ _ c.in_ok-session.ensures
+    draws-counts c.args.options.map c.args.options.steps c.args.program c.args.units c.in_ok-session.session c.run_steps.new.session _ _ c.in_ok-session.ensures
     c.in_ok-end.ensures.program c.in_ok-end.ensures.run.0 c.in_ok-draw_if.ensures

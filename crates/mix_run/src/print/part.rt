@@ -1,0 +1,93 @@
+//! The table of steps that is asked for, and the part of the machine that it is of.
+ghost use Rattle.std.specs.Prelude.{◌≡◌, ◌++◌, IfOk, Ok, codes};
+ghost use Rattle.mix_session.specs.Client.{condition_at};
+ghost use Rattle.mix_run.specs.StepTable.{part_of, part_named, step_table, table_of};
+
+use crate::print::options::{AskedTable, TableOf};
+use crate::print::tabled::StepTable;
+use mix_machine::Part;
+use mix_refused::Memory;
+use mix_session::{Condition, Refusal, Session};
+use std::alloc::Global;
+
+/// The name of a part after `cell`, which may be left out.
+pub(super) fn cell_named(alloc: Global, part: &[u8]) -> Result<Vec<u8>, Memory>
+    ensures { IfOk result (λ text. text.items ≡ codes "cell " ++ part.now) }
+{
+    let mut text = Vec::new(alloc);
+    text.extend_from_slice(b"cell ")?;
+    text.extend_from_slice(part)?;
+    Ok(text)
+}
+
+/// The table of steps that is asked for, if one is; why the part that it is to be of is none.
+#[tactic(auto, unfolding(crate::specs::StepTable::step_table))]
+pub(super) fn step_table(
+    session: &Session,
+    asked: Option<AskedTable>,
+    part: &[u8],
+    cell: &[u8],
+) -> Result<Option<StepTable>, Refusal>
+    requires { cell.now ≡ codes "cell " ++ part.now }
+    ensures { result ≡ step_table asked part.now session.now }
+{
+    match asked {
+        None => Ok(None),
+        Some(asked) => table_of(session, asked, part, cell),
+    }
+}
+
+fn table_of(
+    session: &Session,
+    asked: AskedTable,
+    part: &[u8],
+    cell: &[u8],
+) -> Result<Option<StepTable>, Refusal>
+    requires { cell.now ≡ codes "cell " ++ part.now }
+    ensures { result ≡ table_of asked.of asked (part_named session.now part.now) }
+{
+    match asked.of {
+        TableOf::Counts => Ok(None),
+        TableOf::Trace => Ok(Some(StepTable {
+            format: asked.format,
+            part: None,
+        })),
+        TableOf::Writes => match part_named(session, part, cell) {
+            Err(refusal) => Err(refusal),
+            Ok(part) => Ok(Some(StepTable {
+                format: asked.format,
+                part: Some(part),
+            })),
+        },
+    }
+}
+
+// The part that a text names, as in `show writes`, where `cell` may be left out.
+fn part_named(session: &Session, part: &[u8], cell: &[u8]) -> Result<Part, Refusal>
+    requires { cell.now ≡ codes "cell " ++ part.now }
+    ensures { result ≡ part_named session.now part.now }
+{
+    match part_at(session, part) {
+        Err(Refusal::BadArgument) => part_at(session, cell),
+        other => other,
+    }
+}
+
+fn part_at(session: &Session, text: &[u8]) -> Result<Part, Refusal>
+    ensures { result ≡ part_of (condition_at session.now text.now) }
+{
+    match session.condition(text) {
+        Err(refusal) => Err(refusal),
+        Ok(condition) => part_of(&condition),
+    }
+}
+
+// The part that a condition is on, if it is one that it alters.
+fn part_of(condition: &Condition) -> Result<Part, Refusal>
+    ensures { result ≡ part_of (Ok condition.now) }
+{
+    match condition {
+        Condition::Alters(part) => Ok(*part),
+        Condition::At(_) | Condition::Conflicts => Err(Refusal::BadArgument),
+    }
+}
