@@ -109,22 +109,23 @@ export class App extends Desk {
     });
   }
 
-  // Shows a moment while the slider is dragged; where more come than can be shown, the last.
-  preview(moment) {
+  // Shows a moment while the slider is dragged; where more come than can be shown, the last. A key on the slider ends at once what it begins, so nothing
+  // is looked at before the events that come together are done.
+  async preview(moment) {
     const isUnderWay = this.wanted !== undefined;
     this.wanted = moment;
     if (isUnderWay) return;
-    this.enqueue(async () => {
+    await this.enqueue(async () => {
       const { session } = this;
+      await new Promise((resolve) => setTimeout(resolve));
       for (let seen; seen !== this.wanted && this.time.isDragged; ) {
         seen = this.wanted;
         const { view } = await session.look(seen, true);
         if (session !== this.session) break;
         this.show(view);
       }
-    }).then(() => {
-      this.wanted = undefined;
     });
+    this.wanted = undefined;
   }
 
   toggle(asked) {

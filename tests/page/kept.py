@@ -1,5 +1,6 @@
 """The engine holds one session: what is sent for one thing done stays small, and a session that is lost is done again, once."""
 from repairs import commands
+from selenium.webdriver.common.keys import Keys
 from uses import natively
 
 LOOP = """START ENT2 5
@@ -47,6 +48,10 @@ def requests(page, native, count):
     for name, found in (("little", first), ("a million changes", seen())):
         messages = [sent for one in found for sent in one]
         count.row(f"requests: few after {name}, and none begins anew", len(messages) <= 8 and all(not is_new and number <= 4 for is_new, number in messages), found)
+    page.script("document.getElementById('slider').focus()")
+    page.press(Keys.ARROW_LEFT)
+    found = page.script(TAKEN)
+    count.row("requests: a key on the slider asks for one moment, once", len(found) <= 2 and commands(page)[-1].startswith("goto "), found)
     natively("requests", page, native, count)
 
 
