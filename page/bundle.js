@@ -10,7 +10,7 @@ const LEFT = "* still to do: ";
 
 const linesOf = (text) => text.replace(/\r\n?/g, "\n").split("\n");
 const whole = (text) => (text === "" || text.endsWith("\n") ? text : `${text}\n`);
-const linesIn = (text) => linesOf(whole(text)).slice(0, -1); // without what is behind the last end of a line
+export const linesIn = (text) => linesOf(whole(text)).slice(0, -1); // without what is behind the last end of a line
 const textOfLines = (lines) => lines.map((line) => `${line}\n`).join("");
 
 // The parts of a bundle.
@@ -87,8 +87,9 @@ export function withCards(deck, cards) {
   return textOfLines(lines);
 }
 
-// The card on a line of the deck, from 1; 0 where the line holds none.
-export function cardOnLine(deck, line) {
+// Where a line of a deck with its cards is seen: among the cards, or in the deck that has so many lines of them apart.
+export function placeOf(deck, line, apart) {
   const [from, to] = placeOfCards(linesOf(deck)) || [0, 0];
-  return line > from && line <= to ? line - from : 0;
+  if (line > from && line <= to) return `Card ${line - from}`;
+  return `Deck, line ${line > to ? line - apart : line}`;
 }

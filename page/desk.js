@@ -1,7 +1,7 @@
 // The texts, the session of what they say, and what is seen of where it is. What is asked for is done one after another.
 
 import { Bars } from "./bars.js";
-import { withCards } from "./bundle.js";
+import { linesIn, withCards } from "./bundle.js";
 import { Compare } from "./compare.js";
 import { $, copied, counted, doAll, onResize, put } from "./dom.js";
 import { showRefusal } from "./faults.js";
@@ -50,7 +50,7 @@ export class Desk {
   // What is to be assembled and loaded. Cards of which one looks like a header go apart, so that they are refused as cards.
   get texts() {
     const [source, deck, cards] = [this.listing.text, $("deck").value, $("cards").value];
-    return /^%/m.test(cards) ? { source, deck, cards } : { source, deck: withCards(deck, cards) };
+    return /^%/m.test(cards) ? { source, deck, cards, apart: 0 } : { source, deck: withCards(deck, cards), apart: linesIn(cards).length };
   }
 
   // Does something after all that was asked for before; what it gives, or nothing where it fails or was dropped. Whatever fails is told.

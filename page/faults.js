@@ -2,7 +2,7 @@
 // warning of a source is shown at its line.
 
 import { $, counted, note } from "./dom.js";
-import { cardOnLine } from "./bundle.js";
+import { placeOf } from "./bundle.js";
 import { OPERATIONS, PSEUDO } from "./operations.js";
 
 const isFault = ({ severity }) => severity === "error";
@@ -20,8 +20,7 @@ export function showRefusal(refusal, found, texts, listing) {
     listing.reveal(number);
     return [`Line ${line}: ${what}`, cause, more > 0 ? counted(more, "more fault") : ""].filter(Boolean).join(". ");
   }
-  const card = text === "cards" ? number : cardOnLine(texts.deck, number);
-  const told = `${card ? `Card ${card}` : `Deck, line ${line}`}: ${what}`;
+  const told = `${text === "cards" ? `Card ${line}` : placeOf(texts.deck, number, texts.apart)}: ${what}`;
   note("deck-fault", told);
   $("given").open = true;
   return told;

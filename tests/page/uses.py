@@ -191,7 +191,10 @@ def cards(page, native, count):
     count.row("cards: refused", re.match(r"Card 1: K4 ", page.text("deck-fault")), page.text("deck-fault"))
     page.put("cards", "A\n%UNIT 18\n")
     count.row("cards: a header is no card", re.match(r"Card 2: K4 ", page.text("deck-fault")), page.text("deck-fault"))
-    page.put("cards", "A\n")
+    page.put("cards", "A\nB\n")
+    page.put("deck", "%UNIT 16\n%UNIT 19\n?\n")
+    count.row("cards: a fault of the deck, at its line there", re.match(r"Deck, line 3: K4 ", page.text("deck-fault")), page.text("deck-fault"))
+    page.put("deck", "")
     count.same("cards: good again", page.one("deck-fault").is_displayed(), False)
 
 
