@@ -43,6 +43,7 @@ def narrow(page, native, count):
             count.same(f"320 pixels: lesson {number + 1}, {tab}", page.script(sideways), 0)
     for name in ("help", "share"):
         page.click(name)
+        page.wait(lambda: page.all("dialog[open]"))  # the link is packed first
         count.same(f"320 pixels: {name}", page.script("const d = document.querySelector('dialog[open]'); return [d.scrollWidth <= d.clientWidth, d.getBoundingClientRect().right <= innerWidth]"), [True, True])
         page.press(Keys.ESCAPE)
     page.tab("machine")
