@@ -1,10 +1,11 @@
 -- What a run saves, by its status.
-use Rattle.std.proofs.Common.{◌≡◌, ◌≢◌, ◌∙◌, ◌⊎◌, ⊎_elim, ◌×◌, ℕ, Bool, true, false, List, [], ◌∷◌, ◌++◌, Option, None, Some, Result, Ok, Err, ap, inl, inr, refl, sym, subst}
+use Rattle.std.proofs.Common.{◌≡◌, ◌≢◌, ◌∙◌, ◌⊎◌, ⊎_elim, ℕ, Bool, true, false, List, [], ◌∷◌, ◌++◌, Option, None, Some, Result, Ok, Err, ap, inl, inr, refl, sym, subst}
 use Rattle.std.specs.Prelude.{OnOk, unwrap_or}
 use Rattle.mix_run.specs.Opening.{Asks, Saved, named, noted, noted_one}
 use Rattle.mix_run.specs.declared.fault.ToolFault.{ToolFault}
 use Rattle.mix_run.specs.declared.print.PrintAnswer.{PrintAnswer}
 use Rattle.mix_run.specs.declared.print.PrintAnswer.TheVariants as answers
+use Rattle.mix_run.specs.declared.print.options.PrintOptions.{PrintOptions}
 use Rattle.mix_run.specs.declared.print.steps.RunEnd.{RunEnd}
 use Rattle.mix_run.specs.declared.print.steps.RunEnd.TheVariants as ends
 use Rattle.mix_cli.specs.declared.words.Plan.{Plan}
@@ -77,14 +78,21 @@ saves-after (Ok (answers.Refused fault)) keep svg deck kept map IsDrawn old new 
 saves-after (Ok (answers.NoPart refusal)) keep svg deck kept map IsDrawn old new same drawn saved = saved
 saves-after (Err fault) keep svg deck kept map IsDrawn old new same drawn saved = saved
 
--- and it has saved its texts
-pub saves-run : (names : List (List ℕ)) (run : Result PrintAnswer ToolFault) (keep svg : Option (List ℕ)) (deck kept map : List ℕ) (IsDrawn : List ℕ → Type 0)
-    (status answered : ℕ) (old new : Option (List Saved)) → OnOk run (deck ≡ kept) → OnOk run (IsDrawn map)
+-- and it has saved its texts: those that a run gives of which this is asked
+pub saves-run : (options asked : PrintOptions) (names : List (List ℕ)) (run : Result PrintAnswer ToolFault) (keep svg : Option (List ℕ))
+    (kept : PrintOptions → List ℕ) (IsDrawn : PrintOptions → List ℕ → List ℕ → Type 0) (no_deck no_map deck map deck_seen map_seen : List ℕ)
+    (status answered : ℕ) (old new : Option (List Saved)) → options ≡ asked → no_deck ≡ [] → no_map ≡ []
+    → OnOk run (deck ≡ no_deck ++ kept options) → OnOk run (IsDrawn options no_map map) → deck_seen ≡ deck → map_seen ≡ map
     → status ≡ status_of_print run → EndsWith (saved_after names run) status answered
-    → new ≡ noted old (saved_after (saved_as keep deck ++ saved_as svg map) run)
-    → ByEnd answered ((m : List ℕ) × IsDrawn m × (new ≡ noted old (saved_as keep kept ++ saved_as svg m))) (new ≡ old)
-saves-run names run keep svg deck kept map IsDrawn status answered old new same drawn e end saved =
-    by-end names run status answered _ _ e end (saves-after run keep svg deck kept map IsDrawn old new same drawn saved)
+    → new ≡ noted old (saved_after (saved_as keep deck_seen ++ saved_as svg map_seen) run)
+    → ByEnd answered ((m : List ℕ) × IsDrawn asked [] m × (new ≡ noted old (saved_as keep (kept asked) ++ saved_as svg m))) (new ≡ old)
+saves-run options asked names run keep svg kept IsDrawn no_deck no_map deck map deck_seen map_seen status answered old new same deck_none map_none same_deck drawn deck_is map_is
+    e end saved =
+    let deck_kept = subst (λ (o : PrintOptions). OnOk run (deck ≡ kept o)) same (subst (λ (l : List ℕ). OnOk run (deck ≡ l ++ kept options)) deck_none same_deck) in
+    let map_drawn = subst (λ (o : PrintOptions). OnOk run (IsDrawn o [] map)) same (subst (λ (l : List ℕ). OnOk run (IsDrawn options l map)) map_none drawn) in
+    let here = saved ∙ ap (λ d. noted old (saved_after (saved_as keep d ++ saved_as svg map_seen) run)) deck_is
+    ∙ ap (λ m. noted old (saved_after (saved_as keep deck ++ saved_as svg m) run)) map_is in
+    by-end names run status answered _ _ e end (saves-after run keep svg deck (kept asked) map (IsDrawn asked []) old new deck_kept map_drawn here)
 
 -- the files that are asked of a plan
 some-same : (a b : List (List ℕ)) → Some a ≡ Some b → a ≡ b

@@ -113,7 +113,8 @@ fn run_on<O: Opener + Library, C: In, R: In, W: Out, E: Out>(
             // (a copy, since the checker covers no value of this kind that is passed twice)
             let again = outcome;
             let status = print_status(alloc, source, outcome, Some(file), part, errors);
-            save_files(files, alloc, keep, &deck, svg, &map, again, status, errors)
+            let (kept, drawn) = (deck.as_slice(), map.as_slice());
+            save_files(files, alloc, keep, kept, svg, drawn, again, status, errors)
         }
         Plan::Dap => {
             let (out, errors) = (&mut streams.out, &mut streams.errors);

@@ -1,7 +1,10 @@
 -- The run of a plan is that of its texts; a client is served.
 use Rattle.std.proofs.Common.{None, ap, inl, refl, sym, ◌∙◌}
+use Rattle.std.specs.Prelude.{option_map, string_bytes}
+use Rattle.mix_run.specs.Drawn.{Draws}
+use Rattle.mix_run.specs.PrintOutput.{kept_of, print_output}
 use Rattle.mix_tool.specs.Ending.{status_of_print}
-use Rattle.mix_tool.specs.Plan.{creates_of}
+use Rattle.mix_tool.specs.Plan.{creates_of, part_of}
 use Rattle.mix_tool.proofs.CheckLemmas.{asks-nothing}
 use Rattle.mix_tool.proofs.EndingLemmas.{print_range}
 use Rattle.mix_tool.proofs.SavingLemmas.{creates-asked, saves-run}
@@ -34,7 +37,7 @@ returns-in-Run-clause-done g c all given e holds =
     let texts = c.of_run-texts.ensures in
     let prints = c.run_printed-outcome.ensures.output given.source given.deck given.cards given.typewriter
     (rw texts holds.source) (rw texts holds.deck) (rw texts holds.cards) (rw texts holds.typewriter) in
-    rw c.in-Run.is (c.run_printed-outcome.result, rw (c.options_of-options.ensures, c.as_bytes.ensures, c.part_of-part.ensures) at prints, rw c.print_status-status.ensures at c.save_files.ensures.status)
+    rw c.in-Run.is (c.run_printed-outcome.result, rw (c.options_of-options.ensures, c.as_bytes.ensures.value, c.part_of-part.ensures) at prints, rw c.print_status-status.ensures at c.save_files.ensures.status)
 
 pub returns-in-Run-clause-created : goal.returns-in-Run-clause-created
 returns-in-Run-clause-created g c names e =
@@ -43,12 +46,15 @@ returns-in-Run-clause-created g c names e =
 pub returns-in-Run-clause-saved : goal.returns-in-Run-clause-saved
 returns-in-Run-clause-saved g c given holds =
     let texts = c.of_run-texts.ensures in
+    let part = part_of (option_map string_bytes c.in-Run.part) in
     let kept = c.run_printed-outcome.ensures.kept given.source given.deck given.cards given.typewriter
     (rw texts holds.source) (rw texts holds.deck) (rw texts holds.cards) (rw texts holds.typewriter) in
     let drawn = c.run_printed-outcome.ensures.map given.source given.deck given.cards given.typewriter
     (rw texts holds.source) (rw texts holds.deck) (rw texts holds.cards) (rw texts holds.typewriter) in
-    rw c.in-Run.is (saves-run _ _ _ _ _ _ _ _ _ _ _ _ (rw (c.options_of-options.ensures, c.as_bytes.ensures, c.part_of-part.ensures) at kept)
-    (rw (c.options_of-options.ensures, c.as_bytes.ensures, c.part_of-part.ensures) at drawn)
+    rw c.in-Run.is (saves-run _ _ _ _ _ _ (λ o. kept_of (print_output o part given.source given.deck given.cards given.typewriter))
+    (λ o. Draws o part given.source given.deck given.cards given.typewriter) _ _ _ _ _ _ _ _ _ _
+    c.options_of-options.ensures c.new-deck.ensures.items c.new-map.ensures.items (rw (c.as_bytes.ensures.value, c.part_of-part.ensures) at kept)
+    (rw (c.as_bytes.ensures.value, c.part_of-part.ensures) at drawn) c.as_slice-kept.ensures.value c.as_slice-drawn.ensures.value
     c.print_status-status.ensures c.save_files.ensures.status c.save_files.ensures.saved)
 
 pub returns-in-Run-clause-range : goal.returns-in-Run-clause-range
