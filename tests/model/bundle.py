@@ -41,7 +41,7 @@ def run(text, watch=None):
     """Standard output, standard error and the status of a bundle."""
     if len(text) > BUNDLE_BYTES:
         return tool_fault(Fault("T6"))
-    return debug(*cut(text), watch)
+    return execute(*cut(text), watch)
 
 
 def run_list(source):
@@ -50,7 +50,13 @@ def run_list(source):
     return output, b"", status
 
 
-def debug(source, deck, script, watch=None):
+def debug(text, script, named=None, watch=None):
+    """The same of `debug`, of a source or a bundle: its deck is taken where none is named, and its script is left out."""
+    source, deck, _ = cut(text) if len(text) <= BUNDLE_BYTES else (text, b"", b"")
+    return execute(source, deck if named is None else named, script, watch)
+
+
+def execute(source, deck, script, watch=None):
     try:
         words, start, names, program = program_of(source)
     except Fault as fault:

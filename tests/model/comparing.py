@@ -18,14 +18,24 @@ from texts import TEXTS
 WORKERS = int(os.environ.get("WORKERS", "2"))
 CHUNK = 250  # bundles that a worker does at a time
 TRIALS = 1500
+NAMED = b"%UNIT 16 delay 3\nNAMED\n"  # a deck
 TOLD = re.compile(rb"\b([AMKCT][0-9]+) [a-z]")
 
 
-def run_program(program, text, folder, lists=False):
-    """Standard output, standard error and the status of one run on a bundle, or of the listing of a source."""
+def debugged(text):
+    """What `debug` executes on a bundle, which is not the bundle's own script, and the deck that is named, if one is."""
+    return bundle.cut(text)[2] + b"\nshow changes\n", NAMED if len(text) % 2 else None
+
+
+def run_program(program, text, folder, way):
+    """Standard output, standard error and the status of one run on a bundle, of the listing of a source, or of `debug`."""
     runner = Runner(program, folder)
-    if lists:
+    if way == "list":
         return runner.run_on("/dev/null", ["list", runner.write(text)])
+    if way == "debug":
+        script, named = debugged(text)
+        deck = [] if named is None else ["--devices", runner.write(named, "-deck")]
+        return runner.run_on("/dev/null", ["debug", runner.write(text), runner.write(script, "-script"), *deck])
     return runner.run(text)
 
 
@@ -65,16 +75,19 @@ class Seen:
 class Comparison:
     """A program against the model on the texts that `drawn(seed, k)` gives: bundles, or sources where it lists."""
 
-    def __init__(self, drawn, program, seed, lists=False, look=None, wanted=None):
-        self.drawn, self.program, self.seed, self.lists = drawn, program, seed, lists
+    def __init__(self, drawn, program, seed, way, look=None, wanted=None):
+        self.drawn, self.program, self.seed = drawn, program, seed
+        self.way = way  # what the program is to do with a text: `list`, `debug`, or a run
         self.look = look  # what else is counted of a text
         self.wanted = wanted  # the operations and faults that ought to be met; all where it is None
 
-    def model(self, text):
-        return bundle.run_list(text) if self.lists else bundle.run(text)
+    def model(self, text, watch=None):
+        if self.way == "list":
+            return bundle.run_list(text)
+        return bundle.debug(text, *debugged(text), watch) if self.way == "debug" else bundle.run(text, watch)
 
     def other(self, text, folder):
-        return run_program(self.program, text, folder, self.lists)
+        return run_program(self.program, text, folder, self.way)
 
     def chunk(self, numbers, folder):
         """What was seen, and the number of the first text that differs or None."""
@@ -83,7 +96,7 @@ class Comparison:
             text = self.drawn(self.seed, k)
             if self.look:
                 self.look(seen, text)
-            answer = self.model(text) if self.lists else bundle.run(text, seen.step)
+            answer = self.model(text, seen.step)
             seen.answer(answer)
             if answer != self.other(text, folder):
                 return seen, k
@@ -147,7 +160,7 @@ def report(one, k, folder):
         return
     text = cut_down(text, lambda less: one.model(less) != one.other(less, folder))
     model, other = one.model(text), one.other(text, folder)
-    what = "source" if one.lists else "bundle"
+    what = "source" if one.way == "list" else "bundle"
     print("%s %d of seed %s differs. Cut down to %d bytes:" % (what, k, one.seed, len(text)))
     shown(what, text)
     for place, name in enumerate(("standard output", "standard error", "status")):
@@ -162,8 +175,16 @@ def report(one, k, folder):
             at, (first, second) = next((at, pair) for at, pair in enumerate(pairs, 1) if pair[0] != pair[1])
             print("--- first at line %d: model %r, program %r" % (at, first, second))
     if len(text) < 2000:
-        plain = ["%%" if b == 37 else chr(b) if 32 <= b < 127 and b not in b"'\\" else "\\%03o" % b for b in text]
-        print("--- to run it: printf '%s' | '%s'%s" % ("".join(plain), one.program, " list /dev/stdin" if one.lists else ""))
+        words = {"list": " list /dev/stdin"}.get(one.way, "")
+        if one.way == "debug":
+            script, named = debugged(text)
+            words = " debug /dev/stdin <(%s)" % printing(script) + (" --devices <(%s)" % printing(named) if named else "")
+        print("--- to run it: %s | '%s'%s" % (printing(text), one.program, words))
+
+
+def printing(text):
+    """A command that prints this."""
+    return "printf '%s'" % "".join("%%" if b == 37 else chr(b) if 32 <= b < 127 and b not in b"'\\" else "\\%03o" % b for b in text)
 
 
 def listed(counts, names):
@@ -208,5 +229,5 @@ def compare(one, count):
             report(one, first, folder)
             return 1
     tell(seen, one.wanted)
-    print("%d %s, 0 differences (seed %s)" % (count, "listings" if one.lists else "bundles", one.seed))
+    print("%d %s, 0 differences (seed %s)" % (count, "listings" if one.way == "list" else "bundles", one.seed))
     return 0

@@ -21,11 +21,11 @@ class Runner:
         self.program = program
         self.names = [os.path.join(place, "%s-%d" % (name, os.getpid())) for name in ("in", "out", "err")]
 
-    def write(self, text):
-        """The name of a file that holds this."""
-        with open(self.names[0], "wb") as file:
+    def write(self, text, part=""):
+        """The name of a file that holds this: that of standard input, or of one part more."""
+        with open(self.names[0] + part, "wb") as file:
             file.write(text)
-        return self.names[0]
+        return self.names[0] + part
 
     def run(self, text, words=(), environment=None):
         """Standard output, standard error and the status of one run with this on standard input."""

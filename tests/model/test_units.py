@@ -1,6 +1,6 @@
 """Units, deck and times against values known beforehand: the rules of 1.3.1 and of the deck, worked by hand."""
 
-from bundle import run
+from bundle import debug, run
 from commands import Session
 from deck import read_deck
 from kept import kept_by
@@ -175,6 +175,16 @@ for deck, fault in [
         (["%UNIT 1", "+0000000007+0000000007"], "2: K5 bad word"), (["%UNIT 16", "a\r\r"], "2: K4 no MIX character"),
         ([" " * 33554432, "X"], "1: K9 deck too long")]:
     is_so(("deck", str(deck)[:60]), run(bundle(end, [], deck)), (b"", b"mixrev: T5 deck refused at line " + fault.encode() + b"\n", 2))
+READS, CARD, NO_CARD = [" IN 100(16)", " END 0"], b"ran 1 to 0001 clock 1: limit\n", b"ran 0 to 0000 clock 0: fault M11 no block\n"
+for source, own, named, wanted, status in [
+        (READS, ["%UNIT 16", "A"], None, CARD, 0), (READS, [], None, NO_CARD, 3), (READS, ["%UNIT 16", "A"], b"", NO_CARD, 3),
+        (READS, [], b"%UNIT 16\nA\n", CARD, 0), (READS, ["X"], b"%UNIT 16\nA\n", CARD, 0),
+        ([" JUMP"], ["X"], b"X\n", b"line 1: A2 no such operation\n", 1)]:
+    is_so(("debug", source, own, named), debug(bundle(source, ["jump"], own), b"step\n", named), (wanted, b"", status))
+for named, line in [(None, b"1: K1 bad header"), (b"\nX\n", b"2: K1 bad header")]:
+    is_so(("debug", line), debug(bundle(end, [], ["X"]), b"step\n", named), (b"", b"mixrev: T5 deck refused at line " + line + b"\n", 2))
+for size, wanted, status in [(41943024, b"clock 0\n", 0), (41943025, b"line 1: A16 source too long\n", 1)]:
+    is_so(("debug", size), debug(bundle(end, ["*" * size]), b"show clock\n"), (wanted, b"", status))
 card = tuple([word("+ 00 01 02 00 30")] + [word("+0")] * 13)
 for deck, units in [
         ([], {}), (["", "\t"], {}), (["%UNIT 20 ", "\tab\t0"], {20: EMPTY._replace(blocks=(card,))}),
