@@ -3,13 +3,13 @@
 What a command asks for is what a script asks for with it as the last line, beyond what the same script asks for with a remark of as many bytes there.
 
 - A list of std has room for four entries at first, of bytes for eight, and is doubled where it is full.
-- A run of changes takes 16 bytes: steps that follow each other are one run, any other change is one of its own. How many values a change keeps takes one byte, and a
-  list for numbers from 255 on, of 8 bytes, has room for its first four though no change keeps so many. A kept value takes one to three
+- A run of changes takes 16 bytes: steps that follow each other are one run, any other change is one of its own. Of a change that is no step the number of
+  values after it takes 8 bytes; room for it is made at the beginning of each run. A kept value takes one to three
   units of 4, and room is made for three: a `set`, a `break` or a `clear` keeps one value; a step makes room for the 104 that the largest step keeps, since the
   room is made before the step is done. What a step here keeps takes one unit.
 - A reply is a text: it begins with 8 bytes or more and is doubled. So of N bytes it asks for fewer than four times N in all, and 8.
 - `back`, `forth`, a refusal and what `show` writes need nothing but their reply; a blank line and a remark need nothing.
-- A change that is refused needs nothing, and may have made room in the three lists. What stands ahead stays until a new change is accepted.
+- A change that is refused needs nothing, and may have made room in the lists. What stands ahead stays until a new change is accepted.
 - A text that is read whole by one read takes as many bytes as it has, at least 8."""
 
 import os
@@ -21,9 +21,9 @@ FIRST = lines(" ENTA 5", " INCA 7", " STA 100", " HLT", " END 0")
 LOOP = lines(" JMP *", " END 0")
 MOVE = lines(" ENT1 101", " MOVE 100(63)", " END 0")
 CELLS = 4000 * 4
-RUN, COUNT, LARGE = 16, 1, 8
+RUN, PLACE = 16, 8
 UNIT, MOST = 4, 104 * 3  # units of a step at most
-LISTS = [4 * RUN, 8 * COUNT, 4 * LARGE]  # of the first change
+LISTS = [4 * RUN, 4 * PLACE]  # of the first change
 STEP = [*LISTS, MOST * UNIT]  # of the first step
 REFUSED = ([], LISTS)
 
@@ -45,7 +45,7 @@ ROWS = [
     ("the third step, for which there is room", FIRST, b"step 2\n", b"step", [], b"ran 1 to 0003 clock 4: limit\n"),
     ("four steps", FIRST, b"", b"step 4", [*STEP, 2 * MOST * UNIT], b"ran 4 to 0004 clock 14: halt\n"),
     ("the fifth step", LOOP, b"step 4\n", b"step", [], b"ran 1 to 0000 clock 5: limit\n"),
-    ("the ninth step", LOOP, b"step 8\n", b"step", [16 * COUNT], b"ran 1 to 0000 clock 9: limit\n"),
+    ("the ninth step", LOOP, b"step 8\n", b"step", [], b"ran 1 to 0000 clock 9: limit\n"),
     ("a step that is at fault", lines(" STA 4000", " END 0"), b"", b"step", REFUSED, b"ran 0 to 0000 clock 0: fault M5 no such cell\n"),
     ("back", FIRST, b"step 4\n", b"back 2", [], b"back 2 to 0002 clock 2\n"),
     ("back all", FIRST, b"step 4\n", b"back all", [], b"back 4 to 0000 clock 0\n"),
@@ -57,7 +57,7 @@ ROWS = [
     ("set", FIRST, b"", b"set A 5", [*LISTS, 4 * UNIT], b"ok\n"),
     ("the second set", FIRST, b"set A 5\n", b"set X 5", [], b"ok\n"),
     ("the third set, where two units are left", FIRST, b"set A 5\nset X 5\n", b"set A 6", [8 * UNIT], b"ok\n"),
-    ("the fifth set", FIRST, b"set A 5\nset X 5\nset A 6\nset X 6\n", b"set A 7", [8 * RUN], b"ok\n"),
+    ("the fifth set", FIRST, b"set A 5\nset X 5\nset A 6\nset X 6\n", b"set A 7", [8 * RUN, 8 * PLACE], b"ok\n"),
     ("break", FIRST, b"", b"break 3", [*LISTS, 4 * UNIT], b"ok\n"),
     ("set, refused", FIRST, b"", b"set J -1", REFUSED, b"? C5 refused by the machine: M7 index overflow\n"),
     ("show clock", FIRST, b"", b"show clock", [], b"clock 0\n"),
@@ -122,7 +122,7 @@ def rows(program, workers, quick=False):
         # many steps: each list is doubled, nothing else is asked for, and nothing is asked for again where it was asked for before
         (_, _, _), asked = asking.run(LOOP + b"%%SCRIPT\nrun %d\n" % STEPS)
         after = asked[asked.index(CELLS) + 1:]
-        wanted = [4 * RUN, 4 * LARGE] + grown(COUNT, 8, STEPS) + grown(UNIT, MOST, (STEPS - 1) + MOST)
+        wanted = [*LISTS, *grown(UNIT, MOST, (STEPS - 1) + MOST)]
         reply = b"ran %d to 0000 clock %d: limit\n" % (STEPS, STEPS)
         rest = list(after)
         for one in wanted:
