@@ -126,7 +126,7 @@ def state(requests, responses):
     except Untold:
         return "", False
     with open(SOURCE, "rb") as file:
-        wanted = model.debug(file.read(), b"", script.encode())[0].decode("latin-1")
+        wanted = model.debug(file.read(), script.encode())[0].decode("latin-1")
     found = "".join(response["body"]["result"] for response in ends)
     return ("", True) if wanted.endswith(found) else (f"the state is {found!r}, and the model's {wanted[-len(found):]!r} after {script!r}", True)
 
