@@ -80,6 +80,9 @@ pub no-break-at : (words : List ℕ) (now : List Bool) (p : ℕ) → breaks_in w
 no-break-at words now p is none =
     sym (get-false 4000 p) ∙ ap (λ (bs : List Bool). get_or bs p false) (sym no-breaks ∙ ap breaks_in (sym none) ∙ is)
 
+pub no_breaks_at : (words : List ℕ) (now : List Bool) (p : ℕ) → breaks_in words ≡ now → words ≡ replicate 63 0 → get_or now p false ≡ false
+no_breaks_at words now p is none = sym (no-break-at words now p is none)
+
 -- a number of the row altered in one bit
 altered-bit : (words : List ℕ) (p q word : ℕ) → p / 64 < length words → q ≢ p →
     ((i : ℕ) → i < 64 → i ≢ p % 64 → bit_at word i ≡ bit_at (get_or words (p / 64) 0) i) →

@@ -2,6 +2,7 @@ pub mod AccessLemmas
 pub mod AlteredLemmas
 pub mod BlockLemmas
 pub mod BreakLemmas
+pub mod BreaksKept
 pub mod ClockLemmas
 pub mod ConflictLemmas
 pub mod CopyLemmas
@@ -21,6 +22,7 @@ pub mod SameUnit
 pub mod SizeLemmas
 pub mod StageLemmas
 pub mod StepLemmas
+pub mod StepsLemmas
 pub mod StoreLemmas
 pub mod TransferLemmas
 pub mod TransferTimes

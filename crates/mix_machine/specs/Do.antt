@@ -1,5 +1,5 @@
 -- What a change does: the new state, or the first fault, which leaves the state as it was.
-use Rattle.std.specs.Prelude.{true, false, ℕ, Bool, ◌&&◌, ◌==◌, ◌<◌, nat_lt, if◌then◌else◌, List, [], ◌+◌, Result, Ok, Err}
+use Rattle.std.specs.Prelude.{true, false, ℕ, Bool, ◌&&◌, ◌||◌, ◌==◌, ◌<◌, nat_le, nat_lt, not, if◌then◌else◌, List, [], ◌+◌, Result, Ok, Err}
 use Rattle.mix_word.specs.declared.decoding.Decoded.{Decoded}
 use Rattle.mix_word.specs.declared.operation.Operation.{Operation}
 use Rattle.mix_machine.specs.Registers.{fits_register}
@@ -62,6 +62,14 @@ kept_values w c = values_kept w (plan_of w c)
 abbrev pub is_halt_next : WorldState → Bool
 is_halt_next w =
     nat_lt w.loc 4000 && (instruction w).code == 5 && (instruction w).f == 2
+
+-- whether C is that of HLT (with NUM and CHAR), or that of IOC, IN or OUT
+abbrev pub is_looked_at : ℕ → Bool
+is_looked_at code = code == 5 || nat_le 35 code && nat_le code 37
+
+-- whether the next step needs no look at the machine first: the location is a cell, whose C is none of those
+abbrev pub is_plain_next : WorldState → Bool
+is_plain_next w = nat_lt w.loc 4000 && not (is_looked_at (instruction w).code)
 
 -- whether a change is a step, which ends by the clock that it keeps
 abbrev pub is_step : Change → Bool

@@ -9,6 +9,7 @@ pub mod Passed
 pub mod Plans
 pub mod Restored
 pub mod Stages
+pub mod Steps
 pub mod Undone
 pub mod Units
 pub mod Wrote

@@ -61,6 +61,14 @@ impl Breakpoints {
         (word >> (number % 64)) & 1 == 1
     }
 
+    /// Whether a cell may have a breakpoint: where not, none has one.
+    #[tactic(auto, using(crate::proofs::BreakLemmas::no_breaks_at))]
+    pub(crate) fn any(&self) -> bool
+        ensures { result ≡ false → (p : ℕ) → p < 4000 → slice_index_or self.now p false ≡ false }
+    {
+        self.any
+    }
+
     /// Gives a cell a breakpoint, or takes it away.
     pub(crate) fn set(&mut self, p: Place, on: bool)
         ensures { self.new ≡ slice_set self.old p on }

@@ -8,11 +8,12 @@ use crate::world::World;
 use mix_word::{Parts, Word};
 
 /// What an instruction gives to its operation: I, the address M, and F.
+// (in this order, in which the compiler doesn't pack F and M together just to take them apart again)
 #[derive(Clone, Copy)]
 pub(crate) struct Arguments {
-    pub(crate) index: u8,
-    pub(crate) m: Address,
     pub(crate) f: u8,
+    pub(crate) m: Address,
+    pub(crate) index: u8,
 }
 
 impl World {
@@ -24,9 +25,9 @@ impl World {
         ensures plain { result.index ≡ 0 → result.m.magnitude < 4096 }
     {
         Arguments {
-            index: parts.index,
-            m: self.address(parts),
             f: parts.f,
+            m: self.address(parts),
+            index: parts.index,
         }
     }
 

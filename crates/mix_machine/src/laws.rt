@@ -37,6 +37,7 @@ pub fn halt_law()
 pub fn change_law()
     ensures forward { (v w : WorldState) (c : Change) → does v c ≡ Ok w → v.clock ≤ w.clock }
     ensures kept { (v w : WorldState) (c : Change) → c ≢ Step → does v c ≡ Ok w → w.clock ≡ v.clock }
+    ensures breaks { (v w : WorldState) → does v Step ≡ Ok w → w.breaks ≡ v.breaks }
     ensures place { (v w : WorldState) → IsWorld v → does v Step ≡ Ok w → v.loc < 4000 }
     ensures world { (v w : WorldState) (c : Change) → IsWorld v → IsReal c → does v c ≡ Ok w → IsWorld w }
 {}

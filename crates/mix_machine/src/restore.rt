@@ -65,7 +65,7 @@ impl World {
         ensures within { result ≤ most }
     {
         if most < 2 {
-            return self.restore_one(header, units, anchor, most);
+            return self.restore_fewer(header, units, anchor, most);
         }
         *anchor = before_moment(header / 16, *anchor);
         self.go_to(anchor.loc, anchor.clock);
@@ -91,7 +91,7 @@ impl World {
     {
         let payload = header / 16;
         if !takes_three(payload % 2, most) {
-            return self.restore_one(header, units, anchor, most);
+            return self.restore_fewer(header, units, anchor, most);
         }
         *anchor = before_jump(payload, *anchor);
         self.go_to(anchor.loc, anchor.clock);
@@ -118,7 +118,7 @@ impl World {
     {
         let payload = header / 16;
         if !takes_three(payload / 16 % 2, most) {
-            return self.restore_one(header, units, anchor, most);
+            return self.restore_fewer(header, units, anchor, most);
         }
         let reg = short_register(payload);
         *anchor = before_short(payload, *anchor);
@@ -160,7 +160,7 @@ impl World {
                 self.restore_row(header, place, count, units, *anchor);
                 count
             }
-            None => self.restore_one(header, units, anchor, most),
+            None => self.restore_fewer(header, units, anchor, most),
         }
     }
 
@@ -183,6 +183,27 @@ impl World {
         let left = units.len() - count;
         put_words(&mut self.cells, place, &units[left..]);
         units.truncate(left);
+    }
+
+    // The same where fewer values may be taken off than a header says. (Apart, so that what puts back all of them is short, and is inlined.)
+    #[cold]
+    #[inline(never)]
+    fn restore_fewer(
+        &mut self,
+        header: u32,
+        units: &mut Vec<u32>,
+        anchor: &mut Anchor,
+        most: usize,
+    ) -> usize
+        requires room { vec_len units.old < vec_capacity units.old }
+        requires most { 0 < most }
+        requires within { most ≤ length (said anchor.old (units.old.items ++ header ∷ [])) }
+        requires fits { IsSome (put_back put_value (drop (length (said anchor.old (units.old.items ++ header ∷ [])) - most) (said anchor.old (units.old.items ++ header ∷ []))) self.old) }
+        ensures restored { Restored (said anchor.old (units.old.items ++ header ∷ [])) (said anchor.new units.new.items) self.old self.new 1 }
+        ensures one { result ≡ 1 }
+        ensures within { result ≤ most }
+    {
+        self.restore_one(header, units, anchor, most)
     }
 
     // Puts back the last value alone.

@@ -3,7 +3,7 @@ ghost use Rattle.std.specs.Prelude.{◌≡◌, ◌<◌, ◌&&◌, nat_le, nat_lt
 ghost use Rattle.mix_word.specs.Table.{decode_of};
 ghost use Rattle.mix_word.specs.Word.{parts_of};
 ghost use Rattle.mix_machine.specs.Decode.{arguments_of};
-ghost use Rattle.mix_machine.specs.Do.{plan_of, step_or_fault};
+ghost use Rattle.mix_machine.specs.Do.{step_or_fault};
 ghost use Rattle.mix_machine.specs.Fault.{answer_of};
 ghost use Rattle.mix_machine.specs.Order.{applies};
 ghost use Rattle.mix_machine.specs.law.Stages.{of_address, fault_among};
@@ -12,6 +12,7 @@ ghost use Rattle.mix_machine.specs.law.Carried.{Carried};
 mod arithmetic;
 mod finish;
 mod jump;
+mod many;
 mod move_words;
 mod naming;
 mod operand;
@@ -23,53 +24,25 @@ mod unit;
 
 use crate::decode::Arguments;
 use crate::fault::MixFault;
-use crate::old::{Change, Old};
-use crate::step::told::{answer_of, told};
+use crate::old::Old;
+use crate::step::told::told;
 use crate::world::World;
-use mix_word::{Decoded, Place, Word, decode};
+use mix_word::{Decoded, Word, decode};
 use undo_core::{Kept, Refused};
 
 impl World {
-    /// Does a step, or reports its first fault; out of memory is the answer to none that has a fault.
-    // (inlined where a step is done, so that its cell is read once there)
-    #[tactic(auto, unfolding(crate::specs::Do::plan_of))]
+    /// A step of the instruction in a word, at a cell. It is called in one place, where it is inlined with the operations that programs do most.
     #[inline(always)]
-    pub(crate) fn step(&mut self, kept: &mut Kept<Old>) -> Result<(), Refused<MixFault>>
-        ensures { Carried (plan_of self.old Change.Step) self.old self.new kept.old.items kept.new.items result }
-    {
-        match Place::of(self.loc) {
-            None => Err(Refused::Fault(MixFault::NoCellAtLocation)),
-            Some(place) => {
-                let word = self.cell(place);
-                answer_of(self.step_told(word, kept))
-            }
-        }
-    }
-
-    // A step of the instruction in a word, at a cell, and a byte that tells what it comes to.
-    // (one function, in which the operations that programs do most are inlined, each being called there alone. With them it is too long for the
-    // compiler to inline it where a step is done: it would drop the attribute from one of the functions in it, and call that with more arguments)
-    #[inline(never)]
-    fn step_told(&mut self, word: Word, kept: &mut Kept<Old>) -> u8
+    fn step_of_word(&mut self, word: Word, kept: &mut Kept<Old>) -> u8
         requires cell { self.old.loc < 4000 }
         ensures { Carried (step_or_fault (decode_of (parts_of word).code (parts_of word).f) self.old (arguments_of self.old (parts_of word))) self.old self.new kept.old.items kept.new.items (answer_of result) }
-    {
-        let answer = self.step_of_word(word, kept);
-        told(answer)
-    }
-
-    // The same.
-    #[inline(always)]
-    fn step_of_word(&mut self, word: Word, kept: &mut Kept<Old>) -> Result<(), Refused<MixFault>>
-        requires cell { self.old.loc < 4000 }
-        ensures { Carried (step_or_fault (decode_of (parts_of word).code (parts_of word).f) self.old (arguments_of self.old (parts_of word))) self.old self.new kept.old.items kept.new.items result }
     {
         let parts = word.parts();
         let arguments = self.arguments(parts);
         // (a copy, since the checker covers no struct that is passed by value twice)
         let given = arguments;
         match self.fault_of_address(word, given) {
-            Some(fault) => Err(Refused::Fault(fault)),
+            Some(fault) => told(Err(Refused::Fault(fault))),
             None => self.step_of_code(parts.code, word, arguments, kept),
         }
     }

@@ -1,7 +1,8 @@
 //! The machine as a state whose changes can be taken back by the values that they replaced.
+ghost use Rattle.std.specs.Prelude.{◌&&◌};
 ghost use Rattle.mix_machine.specs.World.{IsWorld};
 ghost use Rattle.mix_machine.specs.Write.{put_value};
-ghost use Rattle.mix_machine.specs.Do.{does, kept_values, IsReal, is_step};
+ghost use Rattle.mix_machine.specs.Do.{does, kept_values, IsReal, is_plain_next, is_step};
 ghost use Rattle.mix_machine.specs.law.Parts.{parts-does};
 ghost use Rattle.mix_machine.specs.law.Undone.{undone-does};
 
@@ -28,6 +29,8 @@ impl Undo for World {
 
     ghost ends = { is_step };
 
+    ghost goes = { λ w c. is_step c && is_plain_next w };
+
     /// Whether the change is a step, which ends in its clock. Others keep one value that says no end.
     #[inline(always)]
     fn ends(change: &Change) -> bool {
@@ -48,6 +51,30 @@ impl Undo for World {
         // (the proof knows the ranges of the machine where a field of it is named)
         let _ = &self.loc;
         self.change(*change, kept)
+    }
+
+    /// Whether a step may be done without a look at the machine first. (It reads the cell at the location, and its code alone.)
+    #[inline(always)]
+    fn goes(&self, change: &Change) -> bool {
+        matches!(change, Change::Step) && self.next_is_plain()
+    }
+
+    /// Does a change, and a step again as long as the next needs no look at the machine first, so many times at most.
+    #[inline(always)]
+    fn apply_many(
+        &mut self,
+        change: &Change,
+        most: usize,
+        kept: &mut Kept<Old>,
+    ) -> (usize, Result<(), Refused<MixFault>>) {
+        if matches!(change, Change::Step) {
+            self.steps(most, kept)
+        } else {
+            match self.apply(change, kept) {
+                Ok(()) => (1, Ok(())),
+                Err(refused) => (0, Err(refused)),
+            }
+        }
     }
 
     /// Puts one old value back. It takes no memory.

@@ -1,7 +1,7 @@
 //! The state of the machine, and what can be read of it (1.3.1).
-ghost use Rattle.std.specs.Prelude.{◌≡◌, ◌<◌, ◌≤◌, ◌==◌, ◌&&◌, ◌↔◌, IsTrue, IfOk};
+ghost use Rattle.std.specs.Prelude.{◌≡◌, ◌<◌, ◌≤◌, ◌==◌, ◌&&◌, ◌↔◌, ℕ, true, false, IsTrue, IfOk, MatchOption};
 ghost use Rattle.mix_machine.specs.World.{register_of, cell_of, unit_at, has_break, last_clock};
-ghost use Rattle.mix_machine.specs.Do.{is_halt_next};
+ghost use Rattle.mix_machine.specs.Do.{is_halt_next, is_looked_at, is_plain_next};
 
 use crate::breakpoints::Breakpoints;
 use crate::registers::Registers;
@@ -114,6 +114,13 @@ impl World {
         self.breaks.get(p)
     }
 
+    /// Whether a cell may have a breakpoint: where not, none has one.
+    pub fn has_breaks(&self) -> bool
+        ensures { result ≡ false → (p : ℕ) → p < 4000 → has_break self.now p ≡ false }
+    {
+        self.breaks.any()
+    }
+
     /// Whether the next instruction is HLT: the location is a cell, whose C is 5 and whose F is 2.
     pub fn next_is_halt(&self) -> bool
         ensures { result ≡ is_halt_next self.now }
@@ -126,6 +133,40 @@ impl World {
             }
         }
     }
+
+    /// Whether the next step needs no look at the machine first: the location is a cell, whose C is neither 5, that of HLT, nor that of IOC, IN or OUT.
+    #[inline(always)]
+    pub fn next_is_plain(&self) -> bool
+        ensures { result ≡ is_plain_next self.now }
+    {
+        self.plain_word().is_some()
+    }
+
+    /// The word of the next step, if that needs no look at the machine first.
+    #[inline(always)]
+    pub(crate) fn plain_word(&self) -> Option<Word>
+        ensures { MatchOption result (is_plain_next self.now ≡ false) (λ word. (is_plain_next self.now ≡ true) × (self.now.loc < 4000) × (word ≡ cell_of self.now self.now.loc)) }
+    {
+        match Place::of(self.loc) {
+            None => None,
+            Some(place) => {
+                let word = self.cell(place);
+                if is_looked_at(word.parts().code) {
+                    None
+                } else {
+                    Some(word)
+                }
+            }
+        }
+    }
+}
+
+// Whether C is that of HLT (with NUM and CHAR), or that of IOC, IN or OUT.
+#[inline(always)]
+fn is_looked_at(code: u8) -> bool
+    ensures { result ≡ is_looked_at code }
+{
+    code == 5 || 35 <= code && code <= 37
 }
 
 // Whether C and F name HLT.

@@ -1,9 +1,8 @@
 -- Where changes end in a list of values: as values are added, and as the last change is taken off.
-use Rattle.std.proofs.Common.{◌≡◌, ℕ, zero, suc, ◌+◌, ◌-◌, ◌<◌, ◌≤◌, Bool, true, false, ◌||◌, nat_eq, List, [], ◌∷◌, ◌++◌, length, drop, take, reverse, if◌then◌else◌, refl, sym, ◌∙◌, ap, subst, arith, length-append, append_assoc}
+use Rattle.std.proofs.Common.{◌≡◌, ℕ, zero, suc, ◌+◌, ◌-◌, ◌<◌, ◌≤◌, Bool, true, false, ◌||◌, nat_eq, List, [], ◌∷◌, ◌++◌, length, drop, reverse, if◌then◌else◌, refl, sym, ◌∙◌, ap, subst, arith, length-append, append_assoc}
 use Rattle.std.proofs.lemmas.Bool.Decides.{nat_tests}
-use Rattle.std.proofs.lemmas.List.{reverse-append, length-reverse, take-append-drop, length-take-le, length-drop, drop-drop}
-use Rattle.std.proofs.Math.Seq.{drop-append_seam}
-use Rattle.undo_core.specs.Counts.{is_place, places_below, ArePlaces, open_in, counts_in, run_of, newest_part, is_ended, newest_place, AreOpen, AreClosed, IsPart, places_after}
+use Rattle.std.proofs.lemmas.List.{reverse-append, length-reverse, length-drop, drop-drop}
+use Rattle.undo_core.specs.Counts.{is_place, places_below, ArePlaces, open_in, counts_in, run_of, newest_part, is_ended, newest_place, AreOpen, AreClosed}
 use Rattle.undo_core.proofs.LeadsLemmas.{reverse_cons}
 
 not-same : (p n : ℕ) → p ≤ n → nat_eq p (suc n) ≡ false

@@ -1,6 +1,6 @@
 -- The values of a journal stay parted as a change is done and as the last one is taken off.
 use Rattle.std.proofs.Common.{◌≡◌, ℕ, suc, ◌+◌, ◌-◌, ◌<◌, ◌≤◌, Bool, true, false, List, [], ◌∷◌, ◌++◌, length, drop, take, reverse, refl, sym, ◌∙◌, ap, subst, arith, length-append}
-use Rattle.std.proofs.lemmas.List.{reverse-append, length-reverse, take-append-drop, length-take-le, length-drop, take_all}
+use Rattle.std.proofs.lemmas.List.{reverse-append, length-reverse, take-append-drop, length-take-le, length-drop}
 use Rattle.std.proofs.Math.Seq.{drop-append_seam}
 use Rattle.undo_core.specs.Counts.{places_below, ArePlaces, open_in, counts_in, IsPart, places_after}
 use Rattle.undo_core.specs.Leads.{IsParted}

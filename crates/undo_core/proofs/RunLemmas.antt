@@ -1,6 +1,6 @@
 -- The items of runs, cut at one of them.
 use Rattle.std.proofs.Common.{◌≡◌, ℕ, true, false, nat_lt, zero, suc, ◌+◌, ◌-◌, ◌<◌, ◌≤◌, List, [], ◌∷◌, ◌++◌, length, take, drop, get_or, set, replicate, subst, refl, sym, ◌∙◌, ap, arith, length-append, append_assoc}
-use Rattle.std.proofs.lemmas.List.{append-nil, length-replicate, replicate_more, take-append-drop, take-append-le, take-replicate, get_or-append_right, get_or_append_left, get_or-replicate, drop_more, length-take-le, take_all, take_more, drop_all, set_split, take-take, get_or-take, get_or_default}
+use Rattle.std.proofs.lemmas.List.{append-nil, length-replicate, replicate-append-replicate, take-append-drop, take-append-le, take-replicate, get_or-append_right, get_or_append_left, get_or-replicate, drop_more, length-take-le, take_all, take_more, drop_all, set_split, take-take, get_or-take, get_or_default}
 use Rattle.std.proofs.lemmas.Bool.Decides.{nat_tests}
 use Rattle.undo_core.specs.Runs.{items_of, IsRising, end_of}
 use Rattle.undo_core.specs.declared.runs.Run.{Run}
@@ -65,22 +65,22 @@ module _ {T : Type 0} where
   pub items-last : (front : List (Run T)) (x : Run T) → items_of 0 (front ++ x ∷ []) ≡ items_of 0 front ++ replicate (x.end - end_of 0 front) x.item
   items-last front x = items-join 0 front (x ∷ []) ∙ ap (λ items. items_of 0 front ++ items) (append-nil (replicate (x.end - end_of 0 front) x.item))
 
-  -- one item more at the end of the last run
-  pub items-longer : (front : List (Run T)) (x : Run T) (n : ℕ) → end_of 0 front ≤ x.end → n ≡ x.end + 1 →
-      items_of 0 (front ++ (record { item = x.item; end = n }) ∷ []) ≡ items_of 0 (front ++ x ∷ []) ++ x.item ∷ []
-  items-longer front x n within is =
-      let more : n - end_of 0 front ≡ x.end - end_of 0 front + 1 = omega (arith, within, is) in
+  -- more of the same item at the end of the last run
+  pub items-longer : (front : List (Run T)) (x : Run T) (n many : ℕ) → end_of 0 front ≤ x.end → n ≡ x.end + many →
+      items_of 0 (front ++ (record { item = x.item; end = n }) ∷ []) ≡ items_of 0 (front ++ x ∷ []) ++ replicate many x.item
+  items-longer front x n many within is =
+      let more : n - end_of 0 front ≡ x.end - end_of 0 front + many = omega (arith, within, is) in
       items-last front (record { item = x.item; end = n })
-      ∙ ap (λ items. items_of 0 front ++ items) (ap (λ k. replicate k x.item) more ∙ sym (replicate_more (x.end - end_of 0 front) x.item))
-      ∙ sym (append_assoc (items_of 0 front) (replicate (x.end - end_of 0 front) x.item) (x.item ∷ []))
-      ∙ ap (λ items. items ++ x.item ∷ []) (sym (items-last front x))
+      ∙ ap (λ items. items_of 0 front ++ items) (ap (λ k. replicate k x.item) more ∙ sym (replicate-append-replicate (x.end - end_of 0 front) many x.item))
+      ∙ sym (append_assoc (items_of 0 front) (replicate (x.end - end_of 0 front) x.item) (replicate many x.item))
+      ∙ ap (λ items. items ++ replicate many x.item) (sym (items-last front x))
 
-  -- a run of one item more
-  pub items-more : (front : List (Run T)) (item : T) (n : ℕ) → n ≡ end_of 0 front + 1 →
-      items_of 0 (front ++ (record { item = item; end = n }) ∷ []) ≡ items_of 0 front ++ item ∷ []
-  items-more front item n is =
-      let one : n - end_of 0 front ≡ 1 = omega (arith, is) in
-      items-last front (record { item = item; end = n }) ∙ ap (λ k. items_of 0 front ++ replicate k item) one
+  -- a run of so many items more
+  pub items-more : (front : List (Run T)) (item : T) (n many : ℕ) → n ≡ end_of 0 front + many →
+      items_of 0 (front ++ (record { item = item; end = n }) ∷ []) ≡ items_of 0 front ++ replicate many item
+  items-more front item n many is =
+      let all : n - end_of 0 front ≡ many = omega (arith, is) in
+      items-last front (record { item = item; end = n }) ∙ ap (λ k. items_of 0 front ++ replicate k item) all
 
   -- the item of a number that a run has
   pub item-in : (front rest : List (Run T)) (x : Run T) (number : ℕ) (d : T) → IsRising 0 (front ++ x ∷ rest) → end_of 0 front ≤ number → number < x.end →
@@ -148,25 +148,25 @@ module _ {T : Type 0} where
   ends-above : (front : List (Run T)) (x : Run T) → IsRising 0 (front ++ x ∷ []) → end_of 0 front ≤ x.end
   ends-above front x rising = (rising-right 0 front (x ∷ []) rising).0
 
-  pub longer-rising : (xs : List (Run T)) (x : Run T) (n : ℕ) → IsRising 0 xs → 0 < length xs → x ≡ get_or xs (length xs - 1) x → n ≡ x.end + 1 →
+  pub longer-rising : (xs : List (Run T)) (x : Run T) (n many : ℕ) → IsRising 0 xs → 0 < length xs → x ≡ get_or xs (length xs - 1) x → n ≡ x.end + many →
       IsRising 0 (set xs (length xs - 1) (record { item = x.item; end = n }))
-  longer-rising xs x n rising some is next =
+  longer-rising xs x n many rising some is next =
       let front = take (length xs - 1) xs in
       let split = subst (IsRising 0) (last-run xs x some is) rising in
       let above = ends-above front x split in
       rw (last-set xs (record { item = x.item; end = n }) some)
       (rising-join 0 front _ (rising-left 0 front (x ∷ []) split) (omega (arith, above, next), tt))
 
-  pub longer-items : (xs : List (Run T)) (x : Run T) (n : ℕ) (item : T) → IsRising 0 xs → 0 < length xs → x ≡ get_or xs (length xs - 1) x → n ≡ x.end + 1 →
-      x.item ≡ item → items_of 0 (set xs (length xs - 1) (record { item = x.item; end = n })) ≡ items_of 0 xs ++ item ∷ []
-  longer-items xs x n item rising some is next same =
+  pub longer-items : (xs : List (Run T)) (x : Run T) (n many : ℕ) (item : T) → IsRising 0 xs → 0 < length xs → x ≡ get_or xs (length xs - 1) x → n ≡ x.end + many →
+      x.item ≡ item → items_of 0 (set xs (length xs - 1) (record { item = x.item; end = n })) ≡ items_of 0 xs ++ replicate many item
+  longer-items xs x n many item rising some is next same =
       let front = take (length xs - 1) xs in
       let whole = last-run xs x some is in
       let above = ends-above front x (subst (IsRising 0) whole rising) in
       ap (items_of 0) (last-set xs (record { item = x.item; end = n }) some)
-      ∙ items-longer front x n above next
-      ∙ ap (λ (runs : List (Run T)). items_of 0 runs ++ x.item ∷ []) (sym whole)
-      ∙ ap (λ (y : T). items_of 0 xs ++ y ∷ []) same
+      ∙ items-longer front x n many above next
+      ∙ ap (λ (runs : List (Run T)). items_of 0 runs ++ replicate many x.item) (sym whole)
+      ∙ ap (λ (y : T). items_of 0 xs ++ replicate many y) same
 
   cut-set : (xs : List (Run T)) (at : ℕ) (y : Run T) → at < length xs → set (take (at + 1) xs) at y ≡ take at xs ++ y ∷ []
   cut-set xs at y below =
@@ -197,25 +197,25 @@ module _ {T : Type 0} where
       ∙ items-cut (take at xs) (drop (at + 1) xs) x count split (omega (arith, before)) (omega (arith, some, ends, end))
       ∙ ap (λ (runs : List (Run T)). take count (items_of 0 runs)) (sym whole))
 
-  pub more-rising : (xs list : List (Run T)) (item : T) (n : ℕ) → IsRising 0 xs → list ≡ xs ++ (record { item = item; end = n }) ∷ [] → n ≡ end_of 0 xs + 1 → IsRising 0 list
-  more-rising xs list item n rising is next = rw is (rising-join 0 xs _ rising (omega (arith, next), tt))
+  pub more-rising : (xs list : List (Run T)) (item : T) (n many : ℕ) → IsRising 0 xs → list ≡ xs ++ (record { item = item; end = n }) ∷ [] → n ≡ end_of 0 xs + many → IsRising 0 list
+  more-rising xs list item n many rising is next = rw is (rising-join 0 xs _ rising (omega (arith, next), tt))
 
-  pub more-items : (xs list : List (Run T)) (item : T) (n : ℕ) → list ≡ xs ++ (record { item = item; end = n }) ∷ [] → n ≡ end_of 0 xs + 1 →
-      items_of 0 list ≡ items_of 0 xs ++ item ∷ []
-  more-items xs list item n is next = rw is (items-more xs item n next)
+  pub more-items : (xs list : List (Run T)) (item : T) (n many : ℕ) → list ≡ xs ++ (record { item = item; end = n }) ∷ [] → n ≡ end_of 0 xs + many →
+      items_of 0 list ≡ items_of 0 xs ++ replicate many item
+  more-items xs list item n many is next = rw is (items-more xs item n many next)
 
-  pub lengthened-rising : (xs : List (Run T)) (x : Run T) (last n : ℕ) → IsRising 0 xs → 0 < length xs → last ≡ length xs - 1 → x ≡ get_or xs last x → n ≡ x.end + 1 →
+  pub lengthened-rising : (xs : List (Run T)) (x : Run T) (last n many : ℕ) → IsRising 0 xs → 0 < length xs → last ≡ length xs - 1 → x ≡ get_or xs last x → n ≡ x.end + many →
       IsRising 0 (set xs last (record { item = x.item; end = n }))
-  lengthened-rising xs x last n rising some place is next = rw place (longer-rising xs x n rising some (rw place at is) next)
+  lengthened-rising xs x last n many rising some place is next = rw place (longer-rising xs x n many rising some (rw place at is) next)
 
-  pub lengthened-items : (xs : List (Run T)) (x d : Run T) (last n : ℕ) (item : T) → IsRising 0 xs → 0 < length xs → last ≡ length xs - 1 → x ≡ get_or xs last x →
-      n ≡ x.end + 1 → (get_or xs last d).item ≡ item → items_of 0 (set xs last (record { item = x.item; end = n })) ≡ items_of 0 xs ++ item ∷ []
-  lengthened-items xs x d last n item rising some place is next same =
+  pub lengthened-items : (xs : List (Run T)) (x d : Run T) (last n many : ℕ) (item : T) → IsRising 0 xs → 0 < length xs → last ≡ length xs - 1 → x ≡ get_or xs last x →
+      n ≡ x.end + many → (get_or xs last d).item ≡ item → items_of 0 (set xs last (record { item = x.item; end = n })) ≡ items_of 0 xs ++ replicate many item
+  lengthened-items xs x d last n many item rising some place is next same =
       let there : x.item ≡ item = ap (λ (run : Run T). run.item) (is ∙ get_or_default xs last x d (omega (arith, some, place))) ∙ same in
-      rw place (longer-items xs x n item rising some (rw place at is) next there)
+      rw place (longer-items xs x n many item rising some (rw place at is) next there)
 
   -- the last run ends where the items do, of which there are few
   pub lengthened-fits : (xs : List (Run T)) (x : Run T) (last bound : ℕ) → IsRising 0 xs → 0 < length xs → last ≡ length xs - 1 → x ≡ get_or xs last x →
-      length (items_of 0 xs) < bound → x.end < bound
-  lengthened-fits xs x last bound rising some place is few =
+      (many : ℕ) → length (items_of 0 xs) + many < bound → x.end + many < bound
+  lengthened-fits xs x last bound rising some place is many few =
       omega (arith, few, length-end xs rising, end-is xs x some (rw place at is))

@@ -1,17 +1,31 @@
 -- What a journal stores is sound as a change is done, taken back and done again.
-use Rattle.std.proofs.Common.{◌≡◌, ℕ, ◌+◌, ◌-◌, ◌<◌, ◌≤◌, Bool, List, [], ◌∷◌, ◌++◌, length, reverse, take, drop, get_or, Option, Some, Result, Ok, IsSome, refl, sym, ◌∙◌, ap, subst, is_some, arith, length-append}
-use Rattle.std.proofs.lemmas.List.{length-reverse, length-drop, drop_more}
+use Rattle.std.proofs.Common.{◌≡◌, ℕ, ◌+◌, ◌-◌, ◌<◌, ◌≤◌, Bool, true, false, nat_eq, if◌then◌else◌, List, [], ◌∷◌, ◌++◌, length, reverse, take, drop, get_or, Option, Some, Result, Ok, IsSome, refl, sym, ◌∙◌, ap, subst, is_some, arith, length-append}
+use Rattle.std.proofs.lemmas.Bool.Decides.{nat_tests}
+use Rattle.std.proofs.lemmas.List.{length-reverse, length-drop, length-take-le, drop_more}
 use Rattle.undo_core.specs.Counts.{total, counts_in, open_in, newest_part, newest_place, places_below, ArePlaces, IsPart, places_after}
 use Rattle.undo_core.specs.Runs.{items_of, IsRising}
 use Rattle.undo_core.specs.declared.runs.Run.{Run}
 use Rattle.undo_core.specs.Replay.{replay, count_kept, put_back, unwound}
-use Rattle.undo_core.specs.Leads.{IsStored, IsParted, IsRead}
+use Rattle.undo_core.specs.Leads.{IsStored, IsRead}
 use Rattle.undo_core.proofs.Ending.{fewer, part-open, place-below}
 use Rattle.undo_core.proofs.Parting.{parted_go, parted_some, parted_places, parted_back}
 use Rattle.undo_core.proofs.Reverting.{later-fits}
-use Rattle.undo_core.proofs.Sound.{IsDone, sound_replay, sound_put_back, sound_count, done_first, go_sound, go_given, forth_sound, back_sound}
+use Rattle.undo_core.proofs.Sound.{IsDone, sound_replay, sound_put_back, sound_count, sound_total, done_first, go_sound, go_given, forth_sound, back_sound}
 use Rattle.undo_core.proofs.Redoing.{given_of, first_given}
 use Rattle.undo_core.proofs.Unwinding.{take_back}
+
+some-counts : (counts : List ℕ) → 0 < total counts → 0 < length counts
+some-counts [] some = absurd (omega (arith, some))
+some-counts (count ∷ counts) some = omega arith
+
+above-step : (b : Bool) (n p : ℕ) (ps : List ℕ) → nat_eq p n ≡ b → p < n → p ∷ ps ≡ (if b then ps else p ∷ ps)
+above-step true n p ps e below = absurd (grind (arith, nat_tests, e, below))
+above-step false n p ps e below = refl
+
+-- places below so many values
+above-all : (n : ℕ) (ps : List ℕ) → newest_place ps < n → ps ≡ places_below n ps
+above-all n [] below = refl
+above-all n (p ∷ ps) below = above-step (nat_eq p n) n p ps refl below
 
 module _ {S C O F : Type 0} {gives : S → C → Result S F} {keeps : S → C → List O} {put : S → O → Option S} {last : O → Bool}
     {state : S} {kept : List O} {runs : List (Run C)} {places : List ℕ} {done : ℕ}
@@ -119,6 +133,25 @@ module _ {S C O F : Type 0} {gives : S → C → Result S F} {keeps : S → C �
       let p = parted_back stored.parted kept_now places_now done_now n some is count cut fewer in
       let led = back_sound stored.sound _ n p.1 s kept_now back cut in
       (record { rising = stored.rising; parted = p.0; sound = led.0 }, led.1)
+
+  stored_done : 0 < length kept → 0 < done
+  stored_done some = omega (arith, counted, some-counts counts (omega (arith, sound_total stored.sound, some)))
+
+  -- the same where so many values stand above the newest place, and what is left of them then
+  pub stored_down : (places_now : List ℕ) (left done_now n : ℕ) (s : S) (kept_now : List O) → 0 < left →
+      reverse places_now ≡ places_below (length kept) (reverse places) → left ≡ length kept - newest_place (reverse places_now) →
+      n ≡ newest_part last left (reverse kept) → n ≤ left → done_now ≡ done - 1 →
+      put_back put (drop (length kept - n) kept) state ≡ Some s → kept_now ≡ take (length kept - n) kept →
+      IsStored gives keeps put last s kept_now runs places_now done_now × (unwound put kept_now s ≡ unwound put kept state) × (0 < done)
+      × (left - n ≡ length kept_now - newest_place (reverse places_now))
+      × (0 < left - n → reverse places_now ≡ places_below (length kept_now) (reverse places_now))
+  stored_down places_now left done_now n s kept_now some is above part within fewer back cut =
+      let done_some = stored_done (omega (arith, some, above)) in
+      let count = stored_part places_now (newest_place (reverse places_now)) left n done_some is refl above part in
+      let led = stored_back places_now done_now n s kept_now done_some is count (omega (arith, fewer, done_some)) back cut in
+      let len : length kept_now ≡ length kept - n = ap length cut ∙ length-take-le (length kept - n) kept (omega arith) in
+      let rest : left - n ≡ length kept_now - newest_place (reverse places_now) = omega (arith, above, within, len) in
+      (led.0, led.1, done_some, rest, (λ more. above-all (length kept_now) (reverse places_now) (omega (arith, more, rest))))
 
   pub stored_read : (count : ℕ) → count ≡ length kept →
       IsRead gives put last (unwound put kept state) (take done (items_of 0 runs)) kept count places done

@@ -1,5 +1,5 @@
 -- How many values each change keeps. A change ends in a value that says so, or at a place: the number of the values up to its last one.
-use Rattle.std.specs.Prelude.{◌≡◌, ℕ, zero, suc, ◌+◌, ◌-◌, ◌<◌, ◌≤◌, Bool, true, false, ◌||◌, cond, nat_eq, List, [], ◌∷◌, ◌++◌, length, take, drop, if◌then◌else◌}
+use Rattle.std.specs.Prelude.{◌≡◌, ℕ, zero, suc, ◌+◌, ◌-◌, ◌<◌, ◌≤◌, Bool, true, false, ◌||◌, nat_eq, List, [], ◌∷◌, ◌++◌, length, take, drop, if◌then◌else◌}
 
 -- a list cut into parts of these lengths
 abbrev pub parts_of : {T : Type 0} → List ℕ → List T → List (List T)

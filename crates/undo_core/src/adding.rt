@@ -1,5 +1,5 @@
 //! A change that was done, added to those before it.
-ghost use Rattle.std.specs.Prelude.{◌≡◌, ◌+◌, ◌-◌, ◌<◌, ◌≤◌, ◌^◌, ◌++◌, [], ◌∷◌, length, take, get_or, vec_len, vec_capacity, IsTrue, OnOk, OnErr};
+ghost use Rattle.std.specs.Prelude.{◌≡◌, ◌+◌, ◌-◌, ◌<◌, ◌≤◌, ◌^◌, ◌++◌, [], ◌∷◌, length, take, get_or, replicate, vec_len, vec_capacity, IsTrue, OnOk, OnErr};
 ghost use Rattle.undo_core.specs.Counts.{places_after};
 ghost use Rattle.undo_core.specs.Runs.{items_of, IsRising};
 
@@ -28,7 +28,7 @@ pub(crate) fn add<S: Undo>(
     ensures same_places { OnErr result (places.new.items ≡ places.old.items) }
 {
     if S::ends(&change) && is_next::<S>(changes, done, &change) {
-        lengthen(changes, change);
+        lengthen(changes, change, 1);
         Ok(())
     } else {
         add_apart::<S>(changes, places, done, change, end)
@@ -55,27 +55,50 @@ fn add_apart<S: Undo>(
 {
     changes.reserve(1)?;
     places.reserve(1)?;
-    put_last::<S>(changes, done, change);
+    put_last::<S>(changes, done, change, 1);
     note_end::<S>(places, &change, end);
     Ok(())
 }
 
-// Puts a change in the place of all from this one on. There is room for it.
-fn put_last<S: Undo>(changes: &mut Vec<Run<S::Change>>, done: usize, change: S::Change)
+/// Puts a change, done so many times, in the place of all from the end of those done on. It says its end. Out of memory, nothing is altered.
+pub(crate) fn add_many<S: Undo>(
+    changes: &mut Vec<Run<S::Change>>,
+    done: usize,
+    change: S::Change,
+    many: usize,
+) -> Result<(), AllocError>
     requires rising { IsRising 0 changes.old.items }
     requires within { done ≤ length (items_of 0 changes.old.items) }
-    requires few { done < 2 ^ 64 - 1 }
+    requires few { done + many < 2 ^ 64 }
+    ensures rising { OnOk result (IsRising 0 changes.new.items) }
+    ensures items { OnOk result (items_of 0 changes.new.items ≡ take done (items_of 0 changes.old.items) ++ replicate many change) }
+    ensures same { OnErr result (changes.new.items ≡ changes.old.items) }
+{
+    if is_next::<S>(changes, done, &change) {
+        lengthen(changes, change, many);
+        return Ok(());
+    }
+    changes.reserve(1)?;
+    put_last::<S>(changes, done, change, many);
+    Ok(())
+}
+
+// Puts a change, done so many times, in the place of all from this one on. There is room for it.
+fn put_last<S: Undo>(changes: &mut Vec<Run<S::Change>>, done: usize, change: S::Change, many: usize)
+    requires rising { IsRising 0 changes.old.items }
+    requires within { done ≤ length (items_of 0 changes.old.items) }
+    requires few { done + many < 2 ^ 64 }
     requires room { vec_len changes.old < vec_capacity changes.old }
     ensures rising { IsRising 0 changes.new.items }
-    ensures items { items_of 0 changes.new.items ≡ take done (items_of 0 changes.old.items) ++ change ∷ [] }
+    ensures items { items_of 0 changes.new.items ≡ take done (items_of 0 changes.old.items) ++ replicate many change }
 {
     if done < count_in(changes) {
         cut(changes, done);
     }
     if is_last::<S>(changes, &change) {
-        lengthen(changes, change);
+        lengthen(changes, change, many);
     } else {
-        append(changes, change);
+        append(changes, change, many);
     }
 }
 

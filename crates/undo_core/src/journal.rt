@@ -1,10 +1,11 @@
 //! The changes done on a state, each of which can be taken back and done again.
-ghost use Rattle.std.specs.Prelude.{◌≡◌, ◌+◌, ◌-◌, ◌<◌, ◌≤◌, ◌^◌, ◌↔◌, ◌++◌, [], ◌∷◌, length, take, drop, get_or, vec_len, vec_capacity, Some, Ok, Err, IsSome, IsTrue, OnOk, OnErr, IfOk};
+ghost use Rattle.std.specs.Prelude.{◌≡◌, ◌+◌, ◌-◌, ◌<◌, ◌≤◌, ◌^◌, ◌⊎◌, ◌↔◌, ◌++◌, [], ◌∷◌, List, true, false, length, replicate, take, drop, get_or, vec_len, vec_capacity, Some, Ok, Err, IsOk, IsSome, IsTrue, OnOk, OnErr, IfOk};
 ghost use Rattle.std.specs.Bool.{OnFalse};
-ghost use Rattle.mix_refused.specs.Refused.{IfFault};
+ghost use Rattle.mix_refused.specs.Refused.{IfFault, IfMemory};
+ghost use Rattle.undo_core.specs.Repeat.{Repeats};
 ghost use Rattle.undo_core.specs.Replay.{replay, count_kept};
 
-use crate::adding::add;
+use crate::adding::{add, add_many};
 use crate::changes::Changes;
 use crate::kept::{Kept, revert, revert_part};
 use crate::past::Past;
@@ -89,6 +90,47 @@ impl<S: Undo> Journal<S> {
         }
     }
 
+    /// Does a change, whose values say its end, once, and again as long as the state needs no look, so many times at most, and forgets those ahead. It
+    /// returns how many times it was done, and why not once more, if that was tried and refused. Where memory is out, it may be done no time.
+    #[inline(always)]
+    pub fn go_many(
+        &mut self,
+        change: S::Change,
+        most: usize,
+    ) -> (usize, Result<(), Refused<S::Fault>>)
+        requires some { 0 < most }
+        requires few { most < 2 ^ 63 }
+        requires ends { S.ends change ≡ true }
+        ensures within { result.0 ≤ most }
+        ensures first { self.new.first ≡ self.old.first }
+        ensures changes { self.new.changes ≡ self.old.changes ++ replicate result.0 change }
+        ensures none { result.0 ≡ 0 → self.new ≡ self.old }
+        ensures ahead { 0 < result.0 → self.new.ahead ≡ [] }
+        ensures did { HoldsOfState S.gives self.old (λ s. (t : S) × (os : List S.Old) × Repeats S.is_real S.gives S.keeps S.goes change result.0 s t os
+            × (replay S.gives self.new.first self.new.changes ≡ Some t)) }
+        ensures all { OnOk result.1 ((0 < result.0) × ((result.0 ≡ most) ⊎ HoldsOfState S.gives self.new (λ t. S.goes t change ≡ false))) }
+        ensures going { OnErr result.1 (0 < result.0 → HoldsOfState S.gives self.new (λ t. S.goes t change ≡ true)) }
+        ensures fault { IfFault result.1 (λ f. HoldsOfState S.gives self.new (λ t. S.gives t change ≡ Err f)) }
+        ensures last { IfMemory result.1 (HoldsOfState S.gives self.new (λ t. IsOk (S.gives t change))) }
+    {
+        let from = self.kept.len();
+        let (many, answer) = self.state.apply_many(&change, most, &mut self.kept);
+        if many == 0 {
+            return (0, answer);
+        }
+        match add_many::<S>(&mut self.changes, self.done, change, many) {
+            Ok(()) => {
+                self.done += many;
+                (many, answer)
+            }
+            Err(_) => {
+                let end = self.kept.len();
+                revert(&mut self.state, &mut self.kept, end - from);
+                (0, Err(Refused::Memory))
+            }
+        }
+    }
+
     /// Takes the last change back; it can then be done again. It takes no memory, and returns false
     /// if no change is left.
     // (inlined too: a loop that takes changes back then calls nothing for a step)
@@ -113,6 +155,31 @@ impl<S: Undo> Journal<S> {
         );
         self.done -= 1;
         true
+    }
+
+    /// Takes the last changes back, one or more, if one is left, and at most so many: those whose values say their ends, one after the other, or one alone.
+    /// It returns how many. It takes no memory.
+    pub fn back_many(&mut self, most: usize) -> usize
+        ensures within { result ≤ most }
+        ensures left { result ≤ length self.old.changes }
+        ensures some { 0 < most → 0 < length self.old.changes → 0 < result }
+        ensures first { self.new.first ≡ self.old.first }
+        ensures changes { self.new.changes ≡ take (length self.old.changes - result) self.old.changes }
+        ensures all { self.new.changes ++ self.new.ahead ≡ self.old.changes ++ self.old.ahead }
+    {
+        if most == 0 || self.done == 0 {
+            return 0;
+        }
+        let count = self.kept.len();
+        leave_place(&mut self.places, count);
+        let mut left = count - newest(&self.places);
+        let mut many = 0;
+        while many < most && left > 0 {
+            left -= revert_part(&mut self.state, &mut self.kept, left);
+            many += 1;
+        }
+        self.done -= many;
+        many
     }
 
     /// Does the next change that was taken back again. It returns false if there is none; out of

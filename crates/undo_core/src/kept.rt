@@ -143,6 +143,7 @@ pub(crate) fn revert_part<S: Undo>(state: &mut S, kept: &mut Kept<S::Old>, most:
     requires within { most ≤ length kept.old.items }
     requires fits { IsSome (put_back S.put (drop (length kept.old.items - most) kept.old.items) state.old) }
     ensures is { result ≡ newest_part S.Old.is_last most (reverse kept.old.items) }
+    ensures within { result ≤ most }
     ensures back { put_back S.put (drop (length kept.old.items - result) kept.old.items) state.old ≡ Some state.new }
     ensures cut { kept.new.items ≡ take (length kept.old.items - result) kept.old.items }
 {
@@ -167,12 +168,12 @@ fn restore_part<S: Undo>(
     ensures back { put_back S.put (drop (length (S.Old.said anchor.old units.old.items) - result) (S.Old.said anchor.old units.old.items)) state.old ≡ Some state.new }
     ensures cut { S.Old.said anchor.new units.new.items ≡ take (length (S.Old.said anchor.old units.old.items) - result) (S.Old.said anchor.old units.old.items) }
 {
-    let mut many = state.restore_some(units, anchor, most);
+    let mut many = 0;
     while many < most {
-        if S::Old::is_ended(units, *anchor) {
+        many += state.restore_some(units, anchor, most - many);
+        if many < most && S::Old::is_ended(units, *anchor) {
             return many;
         }
-        many += state.restore_some(units, anchor, most - many);
     }
     many
 }

@@ -1,5 +1,5 @@
 //! A list in which equal items that follow each other are kept once, with their number.
-ghost use Rattle.std.specs.Prelude.{◌≡◌, ◌+◌, ◌-◌, ◌<◌, ◌≤◌, ◌^◌, ◌++◌, [], ◌∷◌, length, take, get_or, vec_len, vec_capacity, IsTrue};
+ghost use Rattle.std.specs.Prelude.{◌≡◌, ◌+◌, ◌-◌, ◌<◌, ◌≤◌, ◌^◌, ◌++◌, length, replicate, take, get_or, vec_len, vec_capacity, IsTrue};
 ghost use Rattle.undo_core.specs.Runs.{items_of, IsRising, end_of};
 
 /// An item that is repeated, and how many items there are up to the end of the repetition.
@@ -68,29 +68,29 @@ pub(crate) fn cut<T: Copy>(runs: &mut Vec<Run<T>>, count: usize)
     runs[last].end = count;
 }
 
-/// Appends an item that is the same as the last one.
+/// Appends an item, which is the same as the last one, so many times.
 #[inline(always)]
-pub(crate) fn lengthen<T: Copy>(runs: &mut Vec<Run<T>>, item: T)
+pub(crate) fn lengthen<T: Copy>(runs: &mut Vec<Run<T>>, item: T, many: usize)
     requires rising { IsRising 0 runs.old.items }
     requires some { 0 < vec_len runs.old }
     requires same { (get_or runs.old.items (vec_len runs.old - 1) (record { item = item; end = 0 })).item ≡ item }
-    requires few { length (items_of 0 runs.old.items) < 2 ^ 64 - 1 }
+    requires few { length (items_of 0 runs.old.items) + many < 2 ^ 64 }
     ensures rising { IsRising 0 runs.new.items }
-    ensures items { items_of 0 runs.new.items ≡ items_of 0 runs.old.items ++ item ∷ [] }
+    ensures items { items_of 0 runs.new.items ≡ items_of 0 runs.old.items ++ replicate many item }
 {
     let last = runs.len() - 1;
-    runs[last].end += 1;
+    runs[last].end += many;
 }
 
-/// Appends an item. There is room for it.
+/// Appends an item so many times. There is room for it.
 #[inline(always)]
-pub(crate) fn append<T: Copy>(runs: &mut Vec<Run<T>>, item: T)
+pub(crate) fn append<T: Copy>(runs: &mut Vec<Run<T>>, item: T, many: usize)
     requires rising { IsRising 0 runs.old.items }
     requires room { vec_len runs.old < vec_capacity runs.old }
-    requires few { length (items_of 0 runs.old.items) < 2 ^ 64 - 1 }
+    requires few { length (items_of 0 runs.old.items) + many < 2 ^ 64 }
     ensures rising { IsRising 0 runs.new.items }
-    ensures items { items_of 0 runs.new.items ≡ items_of 0 runs.old.items ++ item ∷ [] }
+    ensures items { items_of 0 runs.new.items ≡ items_of 0 runs.old.items ++ replicate many item }
 {
-    let end = count_in(runs) + 1;
+    let end = count_in(runs) + many;
     runs.push_reserved(Run { item, end });
 }

@@ -1,7 +1,8 @@
 //! A state whose changes can be taken back by the values that they overwrote.
-ghost use Rattle.std.specs.Prelude.{◌≡◌, ◌<◌, ◌≤◌, ◌-◌, ◌++◌, Bool, List, Option, Result, Some, Ok, Err, IsOk, IsSome, IsTrue, OnOk, OnErr, length, take, drop, reverse};
+ghost use Rattle.std.specs.Prelude.{◌≡◌, ◌<◌, ◌≤◌, ◌-◌, ◌++◌, ◌⊎◌, Bool, List, Option, Result, Some, Ok, Err, true, false, IsOk, IsSome, IsTrue, OnOk, OnErr, length, take, drop, reverse};
 ghost use Rattle.mix_refused.specs.Refused.{IfFault, IfMemory};
 ghost use Rattle.undo_core.specs.Counts.{IsPart, newest_part};
+ghost use Rattle.undo_core.specs.Repeat.{Repeats};
 ghost use Rattle.undo_core.specs.Replay.{put_back};
 
 use crate::kept::Kept;
@@ -60,6 +61,42 @@ pub trait Undo: Drop {
         ensures last { IfMemory result (IsOk (gives self.old change.now)) }
         ensures same { OnErr result (self.new ≡ self.old) }
         ensures same_kept { OnErr result (kept.new.items ≡ kept.old.items) };
+
+    /// Whether a change may be done on a state without a look at it first.
+    ghost goes: { Self → Self.Change → Bool };
+
+    /// Whether a change may be done on this state without a look at it first.
+    fn goes(&self, change: &Self::Change) -> bool
+        ensures { result ≡ goes self.now change.now };
+
+    /// Does the change once, and again as long as the state needs no look, so many times at most, and appends the values that it overwrites. It returns
+    /// how many times it was done, and why not once more, if that was tried and refused.
+    fn apply_many(
+        &mut self,
+        change: &Self::Change,
+        most: usize,
+        kept: &mut Kept<Self::Old>,
+    ) -> (usize, Result<(), Refused<Self::Fault>>)
+        requires { 0 < most }
+        ensures within { result.0 ≤ most }
+        ensures done { (os : List Self.Old) × (kept.new.items ≡ kept.old.items ++ os) × Repeats is_real gives keeps goes change.now result.0 self.old self.new os }
+        ensures all { OnOk result.1 ((0 < result.0) × ((result.0 ≡ most) ⊎ (goes self.new change.now ≡ false))) }
+        ensures going { OnErr result.1 (0 < result.0 → goes self.new change.now ≡ true) }
+        ensures fault { IfFault result.1 (λ f. gives self.new change.now ≡ Err f) }
+        ensures last { IfMemory result.1 (IsOk (gives self.new change.now)) }
+    {
+        let mut done = 0;
+        while done < most {
+            match self.apply(change, kept) {
+                Ok(()) => done += 1,
+                Err(refused) => return (done, Err(refused)),
+            }
+            if !self.goes(change) {
+                return (done, Ok(()));
+            }
+        }
+        (done, Ok(()))
+    }
 
     /// Puts one value back. It takes no memory.
     fn restore(&mut self, old: Self::Old)

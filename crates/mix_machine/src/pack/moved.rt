@@ -132,7 +132,7 @@ fn append_with(
     if is_same(*anchor, from) {
         if let Some(header) = header_with(reg, word, from, to) {
             units.push_reserved(header);
-            *anchor = to;
+            anchor.set(to);
             return;
         }
     }
@@ -155,7 +155,7 @@ pub(crate) fn append_moment(from: Anchor, to: Anchor, units: &mut Vec<u32>, anch
     } else {
         append_whole(from, to, units, *anchor);
     }
-    *anchor = to;
+    anchor.set(to);
 }
 
 // The location and the clock in full, and the anchor before.

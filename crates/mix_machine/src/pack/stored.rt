@@ -86,7 +86,7 @@ fn append_store(
         if let Some(header) = store_header(place, from, to) {
             units.push_reserved(long_bits(word));
             units.push_reserved(header);
-            *anchor = to;
+            anchor.set(to);
             return;
         }
     }

@@ -29,7 +29,7 @@ impl World {
         ensures within { result ≤ most }
     {
         match store_of(header / 16, units.len(), most) {
-            None => self.restore_one(header, units, anchor, most),
+            None => self.restore_fewer(header, units, anchor, most),
             Some(place) => {
                 let bits = match units.pop() {
                     Some(bits) => bits,

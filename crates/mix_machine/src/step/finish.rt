@@ -1,6 +1,8 @@
 //! The end of a step: its time, and its plan carried out.
-ghost use Rattle.std.specs.Prelude.{◌≡◌, ◌<◌, ◌^◌};
+ghost use Rattle.std.specs.Prelude.{◌≡◌, ◌<◌, ◌+◌, ◌^◌, nat_lt};
 ghost use Rattle.mix_word.specs.declared.decoding.Decoded.TheVariants.{Named};
+ghost use Rattle.mix_machine.specs.World.{last_clock};
+ghost use Rattle.mix_machine.specs.Fault.{answer_of};
 ghost use Rattle.mix_machine.specs.Order.{applies};
 ghost use Rattle.mix_machine.specs.UnitAction.{use_of, start_of, transfer_start};
 ghost use Rattle.mix_machine.specs.Do.{step_or_fault};
@@ -11,6 +13,7 @@ use crate::decode::Arguments;
 use crate::fault::MixFault;
 use crate::old::Old;
 use crate::plan::{Effects, Outcome, Plan};
+use crate::step::told::told;
 use crate::units::UnitNo;
 use crate::world::World;
 use mix_word::{Operation, UnitUse, Uses};
@@ -22,9 +25,27 @@ const MAX_CLOCK: u64 = 1_000_000_000_000_000_000;
 const MAX_KEPT: usize = 104;
 
 impl World {
-    /// Ends a step of an operation, by what the operation does, or its first fault.
+    /// Ends a step of an operation, by what the operation does, or its first fault. It returns the byte that tells which.
     #[inline(always)]
     pub(crate) fn finish(
+        &mut self,
+        operation: Operation,
+        outcome: Outcome,
+        a: Arguments,
+        kept: &mut Kept<Old>,
+    ) -> u8
+        requires cell { self.old.loc < 4000 }
+        requires f { a.f < 64 }
+        requires served { fault_among (applies (Named operation) self.old a) of_address ≡ None }
+        requires outcome { outcome ≡ outcome_of operation self.old a }
+        ensures { Carried (step_or_fault (Named operation) self.old a) self.old self.new kept.old.items kept.new.items (answer_of result) }
+    {
+        told(self.finished(operation, outcome, a, kept))
+    }
+
+    // The same, and the answer itself.
+    #[inline(always)]
+    fn finished(
         &mut self,
         operation: Operation,
         outcome: Outcome,
@@ -76,10 +97,12 @@ impl World {
         requires cell { self.now.loc < 4000 }
         ensures { result ≡ timed_or_fault operation self.now a effects }
     {
-        let clock = self.start(operation, a.f) + u64::from(operation.time(a.f));
-        if clock > MAX_CLOCK {
+        let start = self.start(operation, a.f);
+        let time = operation.time(a.f);
+        if is_past_last(start, time) {
             return Err(MixFault::ClockFull);
         }
+        let clock = start + u64::from(time);
         let loc = if effects.jumps {
             a.m.magnitude()
         } else {
@@ -113,4 +136,12 @@ impl World {
             Some(n) => self.start_at(n),
         }
     }
+}
+
+// Whether the clock can't show a time after its start. (So the compiler knows of the start that it is no large number.)
+#[inline(always)]
+fn is_past_last(start: u64, time: u16) -> bool
+    ensures { result ≡ nat_lt last_clock (start + time) }
+{
+    start > MAX_CLOCK - u64::from(time)
 }

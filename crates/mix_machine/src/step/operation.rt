@@ -4,19 +4,19 @@ ghost use Rattle.mix_word.specs.Table.{decode_of};
 ghost use Rattle.mix_word.specs.Word.{parts_of};
 ghost use Rattle.mix_machine.specs.Decode.{arguments_of};
 ghost use Rattle.mix_machine.specs.Do.{step_or_fault};
+ghost use Rattle.mix_machine.specs.Fault.{answer_of};
 ghost use Rattle.mix_machine.specs.Order.{applies};
 ghost use Rattle.mix_machine.specs.law.Stages.{of_address, fault_among};
 ghost use Rattle.mix_machine.specs.law.Carried.{Carried};
 
 use crate::decode::Arguments;
-use crate::fault::MixFault;
 use crate::old::Old;
 use crate::plan::Writes;
 use crate::step::naming::{condition_at, jump_at, names, register_at};
 use crate::step::transfer::goes_on;
 use crate::world::World;
 use mix_word::{Operation, Word};
-use undo_core::{Kept, Refused};
+use undo_core::Kept;
 
 impl World {
     /// A step of what C and F name. The row of eight codes is asked first, then what names the operation in it. Each operation ends its step for
@@ -28,13 +28,13 @@ impl World {
         word: Word,
         a: Arguments,
         kept: &mut Kept<Old>,
-    ) -> Result<(), Refused<MixFault>>
+    ) -> u8
         requires cell { self.old.loc < 4000 }
         requires arguments { a ≡ arguments_of self.old (parts_of word) }
         requires code { code ≡ (parts_of word).code }
         requires f { a.f < 64 }
         requires served { fault_among (applies (decode_of code a.f) self.old a) of_address ≡ None }
-        ensures { Carried (step_or_fault (decode_of code a.f) self.old a) self.old self.new kept.old.items kept.new.items result }
+        ensures { Carried (step_or_fault (decode_of code a.f) self.old a) self.old self.new kept.old.items kept.new.items (answer_of result) }
     {
         // (a copy, since the checker covers no struct that is passed by value twice)
         let given = a;
@@ -80,20 +80,14 @@ impl World {
 
     // The same where C is 0 to 7.
     #[inline(always)]
-    fn step_of_low(
-        &mut self,
-        code: u8,
-        word: Word,
-        a: Arguments,
-        kept: &mut Kept<Old>,
-    ) -> Result<(), Refused<MixFault>>
+    fn step_of_low(&mut self, code: u8, word: Word, a: Arguments, kept: &mut Kept<Old>) -> u8
         requires cell { self.old.loc < 4000 }
         requires arguments { a ≡ arguments_of self.old (parts_of word) }
         requires code { code ≡ (parts_of word).code }
         requires f { a.f < 64 }
         requires served { fault_among (applies (decode_of code a.f) self.old a) of_address ≡ None }
         requires low { code < 8 }
-        ensures { Carried (step_or_fault (decode_of code a.f) self.old a) self.old self.new kept.old.items kept.new.items result }
+        ensures { Carried (step_or_fault (decode_of code a.f) self.old a) self.old self.new kept.old.items kept.new.items (answer_of result) }
     {
         // (a copy, since the checker covers no struct that is passed by value twice)
         let given = a;
@@ -116,13 +110,7 @@ impl World {
 
     // The same where C is 32 to 39.
     #[inline(always)]
-    fn step_of_middle(
-        &mut self,
-        code: u8,
-        word: Word,
-        a: Arguments,
-        kept: &mut Kept<Old>,
-    ) -> Result<(), Refused<MixFault>>
+    fn step_of_middle(&mut self, code: u8, word: Word, a: Arguments, kept: &mut Kept<Old>) -> u8
         requires cell { self.old.loc < 4000 }
         requires arguments { a ≡ arguments_of self.old (parts_of word) }
         requires code { code ≡ (parts_of word).code }
@@ -130,7 +118,7 @@ impl World {
         requires served { fault_among (applies (decode_of code a.f) self.old a) of_address ≡ None }
         requires low { 32 ≤ code }
         requires high { code < 40 }
-        ensures { Carried (step_or_fault (decode_of code a.f) self.old a) self.old self.new kept.old.items kept.new.items result }
+        ensures { Carried (step_or_fault (decode_of code a.f) self.old a) self.old self.new kept.old.items kept.new.items (answer_of result) }
     {
         // (a copy, since the checker covers no struct that is passed by value twice)
         let given = a;
@@ -162,7 +150,7 @@ impl World {
         word: Word,
         a: Arguments,
         kept: &mut Kept<Old>,
-    ) -> Result<(), Refused<MixFault>>
+    ) -> u8
         requires cell { self.old.loc < 4000 }
         requires arguments { a ≡ arguments_of self.old (parts_of word) }
         requires code { code ≡ (parts_of word).code }
@@ -170,7 +158,7 @@ impl World {
         requires served { fault_among (applies (decode_of code a.f) self.old a) of_address ≡ None }
         requires low { 40 ≤ code }
         requires high { code < 48 }
-        ensures { Carried (step_or_fault (decode_of code a.f) self.old a) self.old self.new kept.old.items kept.new.items result }
+        ensures { Carried (step_or_fault (decode_of code a.f) self.old a) self.old self.new kept.old.items kept.new.items (answer_of result) }
     {
         // (a copy, since the checker covers no struct that is passed by value twice)
         let given = a;
@@ -191,13 +179,7 @@ impl World {
 
     // The same where C is 48 to 55.
     #[inline(always)]
-    fn step_of_transfer(
-        &mut self,
-        code: u8,
-        word: Word,
-        a: Arguments,
-        kept: &mut Kept<Old>,
-    ) -> Result<(), Refused<MixFault>>
+    fn step_of_transfer(&mut self, code: u8, word: Word, a: Arguments, kept: &mut Kept<Old>) -> u8
         requires cell { self.old.loc < 4000 }
         requires arguments { a ≡ arguments_of self.old (parts_of word) }
         requires code { code ≡ (parts_of word).code }
@@ -205,7 +187,7 @@ impl World {
         requires served { fault_among (applies (decode_of code a.f) self.old a) of_address ≡ None }
         requires low { 48 ≤ code }
         requires high { code < 56 }
-        ensures { Carried (step_or_fault (decode_of code a.f) self.old a) self.old self.new kept.old.items kept.new.items result }
+        ensures { Carried (step_or_fault (decode_of code a.f) self.old a) self.old self.new kept.old.items kept.new.items (answer_of result) }
     {
         // (a copy, since the checker covers no struct that is passed by value twice)
         let given = a;

@@ -4,6 +4,7 @@ ghost use Rattle.mix_word.specs.Table.{decode_of};
 ghost use Rattle.mix_word.specs.Word.{parts_of};
 ghost use Rattle.mix_machine.specs.Decode.{arguments_of};
 ghost use Rattle.mix_machine.specs.Do.{step_or_fault};
+ghost use Rattle.mix_machine.specs.Fault.{answer_of};
 ghost use Rattle.mix_machine.specs.Order.{applies};
 ghost use Rattle.mix_machine.specs.law.Stages.{of_address, fault_among};
 ghost use Rattle.mix_machine.specs.law.Carried.{Carried};
@@ -12,6 +13,7 @@ ghost use Rattle.mix_machine.specs.law.Apart.{is_apart, IsRare};
 use crate::fault::MixFault;
 use crate::old::Old;
 use crate::plan::Writes;
+use crate::step::told::told;
 use crate::step::transfer::goes_on;
 use crate::world::World;
 use mix_word::{Decoded, Operation, Word, decode};
@@ -20,36 +22,26 @@ use undo_core::{Kept, Refused};
 impl World {
     /// A step of what C and F name where it is rare, or long, or none: one function, so that the others together are short.
     #[inline(never)]
-    pub(crate) fn step_of_rare(
-        &mut self,
-        code: u8,
-        word: Word,
-        kept: &mut Kept<Old>,
-    ) -> Result<(), Refused<MixFault>>
+    pub(crate) fn step_of_rare(&mut self, code: u8, word: Word, kept: &mut Kept<Old>) -> u8
         requires cell { self.old.loc < 4000 }
         requires code { code ≡ (parts_of word).code }
         requires rare { IsRare code (parts_of word).f }
         requires served { fault_among (applies (decode_of code (parts_of word).f) self.old (arguments_of self.old (parts_of word))) of_address ≡ None }
-        ensures { Carried (step_or_fault (decode_of code (parts_of word).f) self.old (arguments_of self.old (parts_of word))) self.old self.new kept.old.items kept.new.items result }
+        ensures { Carried (step_or_fault (decode_of code (parts_of word).f) self.old (arguments_of self.old (parts_of word))) self.old self.new kept.old.items kept.new.items (answer_of result) }
     {
         match decode(code, word.parts().f) {
             Decoded::Named(operation) => self.step_apart(operation, word, kept),
-            Decoded::Floating => Err(Refused::Fault(MixFault::FloatingOperation)),
-            Decoded::Unknown => Err(Refused::Fault(MixFault::NoOperation)),
+            Decoded::Floating => told(Err(Refused::Fault(MixFault::FloatingOperation))),
+            Decoded::Unknown => told(Err(Refused::Fault(MixFault::NoOperation))),
         }
     }
 
     // A step of an operation that is rare, or long.
-    fn step_apart(
-        &mut self,
-        operation: Operation,
-        word: Word,
-        kept: &mut Kept<Old>,
-    ) -> Result<(), Refused<MixFault>>
+    fn step_apart(&mut self, operation: Operation, word: Word, kept: &mut Kept<Old>) -> u8
         requires apart { IsTrue (is_apart operation) }
         requires cell { self.old.loc < 4000 }
         requires served { fault_among (applies (Decoded.Named operation) self.old (arguments_of self.old (parts_of word))) of_address ≡ None }
-        ensures { Carried (step_or_fault (Decoded.Named operation) self.old (arguments_of self.old (parts_of word))) self.old self.new kept.old.items kept.new.items result }
+        ensures { Carried (step_or_fault (Decoded.Named operation) self.old (arguments_of self.old (parts_of word))) self.old self.new kept.old.items kept.new.items (answer_of result) }
     {
         let a = self.arguments(word.parts());
         // (a copy, since the checker covers no struct that is passed by value twice)

@@ -60,8 +60,9 @@ impl World {
                 let over = self.over || overflow;
                 Ok(goes_on(Writes::RegisterAndToggle(register, word, over)))
             }
-            DataReg::I1 | DataReg::I2 | DataReg::I3 => two_bytes_into(register, word),
-            DataReg::I4 | DataReg::I5 | DataReg::I6 => two_bytes_into(register, word),
+            DataReg::I1 | DataReg::I2 | DataReg::I3 | DataReg::I4 | DataReg::I5 | DataReg::I6 => {
+                two_bytes_into(register, word)
+            }
         }
     }
 

@@ -1,5 +1,5 @@
 //! A counter that refuses to pass nine, and what a journal of it answers.
-ghost use Rattle.std.specs.Prelude.{◌≡◌, ◌+◌, [], ◌∷◌, Some, Ok, Err, true, nat_le, refl, if◌then◌else◌};
+ghost use Rattle.std.specs.Prelude.{◌≡◌, ◌+◌, [], ◌∷◌, Some, Ok, Err, true, false, nat_le, refl, if◌then◌else◌};
 ghost use Rattle.mix_machine_tests.specs.declared.tests.counter.CounterFault.TheVariants.{PastNine};
 
 use std::alloc::Global;
@@ -32,6 +32,8 @@ impl Undo for Counter {
 
     ghost ends = { λ _. true };
 
+    ghost goes = { λ _ _. false };
+
     ghost parts = { λ s t c real given. refl };
 
     ghost undoes = { λ s t c real given. refl };
@@ -52,6 +54,10 @@ impl Undo for Counter {
         kept.push(self.number)?;
         self.number = number as u32;
         Ok(())
+    }
+
+    fn goes(&self, _change: &u8) -> bool {
+        false
     }
 
     fn restore(&mut self, old: u32) {

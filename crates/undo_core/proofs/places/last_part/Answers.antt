@@ -1,5 +1,4 @@
 -- The values of the last change are those down to the one before that ends a change, or to the last place.
-use Rattle.std.proofs.Common.{◌≡◌, arith}
 use Rattle.undo_core.proofs.Ending.{part-read}
 use Rattle.undo_core.proofs.places.last_part.Goals as goal
 

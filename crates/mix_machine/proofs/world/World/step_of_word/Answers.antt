@@ -1,9 +1,13 @@
-use Rattle.std.proofs.Common.{◌≡◌, sym, ◌==◌, false, Err, rules, arith}
+use Rattle.std.proofs.Common.{◌≡◌, sym, subst, ◌==◌, false, Result, Err, rules, arith}
 use Rattle.std.proofs.lemmas.Bool.Decides.{nat_tests}
+use Rattle.mix_refused.specs.declared.refused.Refused.{Refused}
 use Rattle.mix_word.specs.Table.{decode_of}
 use Rattle.mix_word.specs.Word.{parts_of}
+use Rattle.mix_machine.specs.Decode.{arguments_of}
 use Rattle.mix_machine.specs.Order.{operation_or_nop}
 use Rattle.mix_machine.specs.Do.{step_or_fault, step_plan}
+use Rattle.mix_machine.specs.law.Carried.{Carried}
+use Rattle.mix_machine.specs.declared.fault.MixFault.{MixFault}
 use Rattle.mix_machine.proofs.StageLemmas.{fault-of-address}
 use Rattle.mix_machine.proofs.world.World.step_of_word.Goals as goal
 
@@ -15,4 +19,6 @@ returns-in-Some c =
     let cell = c.requires.cell in
     let there : (w.loc == 4000) ≡ false = grind (arith, nat_tests) in
     let refused : step_or_fault d w a ≡ Err c.in-Some.fault = fault-of-address d w a (step_plan (operation_or_nop d) w a) c.in-Some.fault there (sym c.in-Some.ensures) in
-    search (rules, refused)
+    let parts = parts_of c.args.word in
+    subst (λ (r : Result (Unit {0}) (Refused MixFault)). Carried (step_or_fault (decode_of parts.code parts.f) w (arguments_of w parts)) w w c.args.kept.now.items c.args.kept.now.items r)
+    (sym c.told.ensures) (search (rules, refused))

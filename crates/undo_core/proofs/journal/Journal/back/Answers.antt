@@ -1,5 +1,5 @@
 -- The last change's values fit, and putting them back leaves a sound journal with the same first state.
-use Rattle.std.proofs.Common.{◌≡◌, ◌+◌, ◌-◌, ◌<◌, ◌∙◌, length, reverse, ap, arith}
+use Rattle.std.proofs.Common.{◌-◌, ◌∙◌, reverse, ap, arith}
 use Rattle.undo_core.specs.Counts.{places_below}
 use Rattle.undo_core.proofs.Sound.{back_ahead, back_changes}
 use Rattle.undo_core.proofs.Stored.{stored_top, stored_fits, stored_part, stored_back, stored_within}

@@ -1,4 +1,4 @@
-use Rattle.std.proofs.Common.{◌≤◌, sym, arith}
+use Rattle.std.proofs.Common.{sym, arith}
 use Rattle.std.proofs.lemmas.List.{length-take-le}
 use Rattle.undo_core.proofs.Stored.{stored_within, stored_few}
 use Rattle.undo_core.proofs.journal.Journal.done.Goals as goal

@@ -1,5 +1,5 @@
 -- The change ahead is done again as it was, so the journal stays sound and its first state stays.
-use Rattle.std.proofs.Common.{◌≡◌, ◌+◌, ◌∙◌, refl, ap, arith, length, length-append, List, ℕ}
+use Rattle.std.proofs.Common.{◌+◌, ◌∙◌, refl, ap, arith, length, length-append, List, ℕ}
 use Rattle.undo_core.specs.Counts.{places_after}
 use Rattle.undo_core.proofs.Sound.{done_by}
 use Rattle.undo_core.proofs.Stored.{stored_few, stored_forth, stored_first, stored_more, stored_gives}

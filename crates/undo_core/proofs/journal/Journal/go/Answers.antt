@@ -1,5 +1,5 @@
 -- A new change leaves a sound journal with the same first state, and the state before it gives what `apply` gave.
-use Rattle.std.proofs.Common.{◌≡◌, ◌+◌, ◌∙◌, refl, ap, arith}
+use Rattle.std.proofs.Common.{◌+◌, ◌∙◌, refl, ap, arith}
 use Rattle.undo_core.specs.Counts.{places_after}
 use Rattle.undo_core.proofs.Sound.{done_by, fault_of}
 use Rattle.undo_core.proofs.Stored.{stored_go, stored_given, stored_first, stored_replay, stored_stands, stored_within, stored_few}

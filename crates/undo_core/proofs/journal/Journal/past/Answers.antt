@@ -1,4 +1,4 @@
-use Rattle.std.proofs.Common.{◌∙◌, ap, sym, length}
+use Rattle.std.proofs.Common.{◌∙◌, sym}
 use Rattle.std.proofs.lemmas.List.{length-take-le}
 use Rattle.undo_core.proofs.Stored.{stored_read, stored_within}
 use Rattle.undo_core.proofs.journal.Journal.past.Goals as goal

@@ -1,5 +1,5 @@
 -- The last part of the values takes the last change back that is left to read.
-use Rattle.std.proofs.Common.{◌≡◌, ◌+◌, ◌-◌, ◌<◌, ◌≤◌, length, take, reverse, refl, ◌∙◌, ap, arith}
+use Rattle.std.proofs.Common.{◌-◌, ◌<◌, length, reverse, refl, ◌∙◌, ap, arith}
 use Rattle.std.proofs.lemmas.List.{length-take-le}
 use Rattle.undo_core.specs.Counts.{places_below}
 use Rattle.undo_core.proofs.Parting.{parted_back}

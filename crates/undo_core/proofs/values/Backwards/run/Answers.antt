@@ -1,6 +1,6 @@
 -- A value in which changes do not end makes the run longer, and another one ends it.
-use Rattle.std.proofs.Common.{◌≡◌, arith}
-use Rattle.undo_core.proofs.Ending.{run-stops, run-on}
+use Rattle.std.proofs.Common.{arith}
+use Rattle.undo_core.proofs.Ending.{run-on}
 use Rattle.undo_core.proofs.values.Backwards.run.Goals as goal
 
 pub loop-left-preserved : goal.loop-left-preserved

@@ -5,7 +5,7 @@ use Rattle.mix_machine.specs.Write.{writes_of}
 use Rattle.mix_machine.specs.KeptCount.{most_kept}
 use Rattle.mix_machine.specs.law.Undone.{step-fits}
 use Rattle.mix_machine.proofs.Counting.{few_in_step}
-use Rattle.mix_machine.proofs.world.World.finish.Goals as goal
+use Rattle.mix_machine.proofs.world.World.finished.Goals as goal
 
 pub perform-requires-clause-fits : goal.perform-requires-clause-fits
 perform-requires-clause-fits c =

@@ -1,0 +1,2 @@
+-- The lemmas that a state above may use.
+pub mod Repeating
