@@ -51,7 +51,7 @@ pub moved-back : (t : Timeline) (k : ℕ) → k ≤ length t.changes → moved B
 moved-back t zero within = back_by-none t
 moved-back t (suc k) within =
     let before = moved-back t k (omega arith) in
-    let one = back_by-next t (back_by t k) (back_by (back_by t k) 1) k (omega arith) refl refl refl (back_by-all (back_by t k) 1) in
+    let one = back_by-next t (back_by t k) (back_by (back_by t k) 1) k 1 (omega arith) refl refl refl (back_by-all (back_by t k) 1) in
     ap (λ s. back_by s 1) before ∙ rw add-one at one
 
 -- how one change more ends a run

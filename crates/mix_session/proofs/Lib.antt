@@ -4,10 +4,12 @@ mod CommandLemmas
 mod CompletionLemmas
 mod ConditionLemmas
 mod ConflictLemmas
+mod GoingLemmas
 mod KnownLemmas
 mod MoveLemmas
 mod PathLemmas
 mod PlacesLemmas
+mod PlainLemmas
 mod ReadingLemmas
 mod RefusalLemmas
 mod RunLemmas

@@ -62,7 +62,7 @@ ok-none_ahead t next (Err memory) none has = tt
 pub HasMoved-back : (t next : Timeline) → 0 < length t.changes → next.first ≡ t.first → next.changes ≡ take (length t.changes - 1) t.changes →
     next.changes ++ next.ahead ≡ t.changes ++ t.ahead → HasMoved Back t next None
 HasMoved-back t next some first changes all =
-    let led : next ≡ back_by t 1 = back_by-next t t next 0 some (back_by-none t) first changes all in
+    let led : next ≡ back_by t 1 = back_by-next t t next 0 1 (omega (arith, some)) (back_by-none t) first changes all in
     let left : eqb (length t.changes) 0 ≡ false = grind (arith, nat_tests) in
     let one : length t.changes - 1 + 1 ≡ length t.changes = omega arith in
     let whole : take (length t.changes - 1 + 1) t.changes ≡ t.changes = rw (one, take-length) refl in (

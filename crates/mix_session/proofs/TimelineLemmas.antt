@@ -43,20 +43,20 @@ back_by-none t =
     timeline-is t t.first (take (length t.changes - 0) t.changes) (drop (length t.changes - 0) t.changes ++ t.ahead) refl
     (rw (all, take-length) refl) (rw (all, drop-length) refl)
 
--- one change more is taken back
-pub back_by-next : (t now next : Timeline) (k : ℕ) → k < length t.changes → now ≡ back_by t k → next.first ≡ now.first →
-    next.changes ≡ take (length now.changes - 1) now.changes → next.changes ++ next.ahead ≡ now.changes ++ now.ahead → next ≡ back_by t (k + 1)
-back_by-next t now next k below same first changes all =
+-- so many changes more are taken back
+pub back_by-next : (t now next : Timeline) (k more : ℕ) → k + more ≤ length t.changes → now ≡ back_by t k → next.first ≡ now.first →
+    next.changes ≡ take (length now.changes - more) now.changes → next.changes ++ next.ahead ≡ now.changes ++ now.ahead → next ≡ back_by t (k + more)
+back_by-next t now next k more within same first changes all =
     let n = length t.changes in
     let m = n - k in
-    let j = n - (k + 1) in
+    let j = n - (k + more) in
     let here : now.changes ≡ take m t.changes = ap (λ (h : Timeline). h.changes) same in
     let rest : now.ahead ≡ drop m t.changes ++ t.ahead = ap (λ (h : Timeline). h.ahead) same in
     let start : now.first ≡ t.first = ap (λ (h : Timeline). h.first) same in
     let long : length now.changes ≡ m = ap length here ∙ length-take-le m t.changes (omega arith) in
-    let one : length now.changes - 1 ≡ j = omega arith in
+    let fewer : length now.changes - more ≡ j = omega (arith, long) in
     let left : next.changes ≡ take j t.changes =
-    changes ∙ ap (λ i. take i now.changes) one ∙ ap (take j) here ∙ take-take j m t.changes (omega arith) in
+    changes ∙ ap (λ i. take i now.changes) fewer ∙ ap (take j) here ∙ take-take j m t.changes (omega arith) in
     let whole : next.changes ++ next.ahead ≡ t.changes ++ t.ahead =
     all ∙ rw (here, rest, ← append_assoc, take-append-drop) refl in
     timeline-is next t.first (take j t.changes) (drop j t.changes ++ t.ahead) (first ∙ start) left

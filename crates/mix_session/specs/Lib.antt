@@ -18,6 +18,7 @@ pub mod Marks
 pub mod Names
 pub mod Operand
 pub mod Path
+pub mod Plain
 pub mod Reply
 pub mod Request
 pub mod Session

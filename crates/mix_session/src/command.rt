@@ -5,6 +5,7 @@ ghost use Rattle.mix_session.specs.Timeline.{back_by, forth_by};
 ghost use Rattle.mix_session.specs.Command.{effect_of, effect_of_back, effect_of_back_within, effect_of_forth, effect_of_forth_within, effect_of_goto, effect_of_change};
 ghost use Rattle.mix_session.specs.Command.{effect_of_show, is_there, HasEffect};
 
+mod plain;
 pub(crate) mod runs;
 pub(crate) mod stops;
 mod until;
@@ -69,13 +70,14 @@ fn take_back(journal: &mut Journal<World>, count: usize) -> Answer
     Answer::Back(count)
 }
 
-/// Takes back the last changes, one at a time.
+/// Takes back the last changes.
 pub(crate) fn go_back(journal: &mut Journal<World>, count: usize)
     requires { count ≤ length journal.old.changes }
     ensures { journal.new ≡ back_by journal.old count }
 {
-    for taken in 0..count {
-        journal.back();
+    let mut taken = 0;
+    while taken < count {
+        taken += journal.back_many(count - taken);
     }
 }
 

@@ -8,12 +8,13 @@ ghost use Rattle.mix_session.specs.Marks.{AreMarks, HasMoved};
 ghost use Rattle.mix_session.specs.Known.{Knows};
 
 use crate::answer::Answer;
+use crate::command::plain::{is_free, plain_steps};
 use crate::command::stops::{Stops, Way, end_of_move, marks_at};
 use crate::condition::Condition;
 use crate::conditions::Conditions;
 use crate::conflicts::{Known, known_of};
 use crate::reply::End;
-use mix_machine::{Change, Mark, World, mark_law};
+use mix_machine::{Change, Mark, World, change_law, mark_law};
 use std::alloc::Global;
 use undo_core::{Journal, Memory, Refused};
 
@@ -128,7 +129,11 @@ pub(crate) fn run_on(
     ensures back { IfErr result (λ _. way ≡ Way.Back → ⊥) }
 {
     mark_law();
-    for done in 0..most {
+    change_law();
+    let free = is_free(way, stops, journal.state());
+    let (mut done, begun) = plain_steps(journal, free, most);
+    begun?;
+    while done < most {
         let conflicts = known.look_on(way, journal);
         // (last, so that the step needs not read its cell again)
         let halts = is_halt_done(way, journal.state());
@@ -139,8 +144,11 @@ pub(crate) fn run_on(
         }
         match end_of_move(halts, conflicts, stops, marks, journal.state()) {
             Some(end) => return Ok((done + 1, end)),
-            None => {}
+            None => done += 1,
         }
+        let (plain, answer) = plain_steps(journal, free, most - done);
+        done += plain;
+        answer?;
     }
     Ok((most, End::Limit))
 }

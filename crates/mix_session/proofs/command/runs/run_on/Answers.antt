@@ -1,13 +1,37 @@
 -- Each change is one more from where the run began, so the ends are those of the world that the journal stands in.
-use Rattle.std.proofs.Common.{◌≡◌, ◌∙◌, ◌+◌, ap, sym, arith}
-use Rattle.mix_session.specs.Timeline.{Timeline}
-use Rattle.mix_session.proofs.CommandLemmas.{moved_once-first, end_at-last, end_at-limit, end_at-more, none_before-next, Begun-run}
+use Rattle.std.proofs.Common.{◌≡◌, ◌∙◌, ◌+◌, sym, arith, zero-add}
+use Rattle.mix_session.proofs.CommandLemmas.{end_at-last, end_at-limit, end_at-more, none_before-next, Begun-run, if_err}
+use Rattle.mix_session.proofs.GoingLemmas.{going-begins, going-many, going-once}
 use Rattle.mix_session.proofs.RunLemmas.{AreMarks-length}
-use Rattle.mix_session.proofs.MoveLemmas.{one_more}
 use Rattle.mix_session.proofs.command.runs.run_on.Goals as goal
 
+pub loop-done-init : goal.loop-done-init
+loop-done-init c =
+    let plain = c.plain_steps-done in
+    rw zero-add at (going-many c.change_law.ensures.breaks c.args.way c.args.stops.now c.args.journal.now c.args.journal.now plain.new.journal c.args.most 0 plain.result.0
+    c.args.marks.now c.args.known.now c.is_free-free.result
+    (going-begins c.args.way c.args.stops.now c.args.journal.now c.args.most c.args.marks.now c.args.known.now c.is_free-free.result _ c.state.ensures c.requires.marks c.requires.known c.is_free-free.ensures)
+    plain.ensures.free plain.ensures.plain (omega (arith, plain.ensures.within)))
+
+pub returns-in_err-begun-clause-first : goal.returns-in_err-begun-clause-first
+returns-in_err-begun-clause-first c =
+    let plain = c.plain_steps-done in
+    (going-many c.change_law.ensures.breaks c.args.way c.args.stops.now c.args.journal.now c.args.journal.now plain.new.journal c.args.most 0 plain.result.0
+    c.args.marks.now c.args.known.now c.is_free-free.result
+    (going-begins c.args.way c.args.stops.now c.args.journal.now c.args.most c.args.marks.now c.args.known.now c.is_free-free.result _ c.state.ensures c.requires.marks c.requires.known c.is_free-free.ensures)
+    plain.ensures.free plain.ensures.plain (omega (arith, plain.ensures.within))).first
+
+pub returns-in_err-begun-clause-memory : goal.returns-in_err-begun-clause-memory
+returns-in_err-begun-clause-memory c =
+    let plain = c.plain_steps-done in
+    let going = going-many c.change_law.ensures.breaks c.args.way c.args.stops.now c.args.journal.now c.args.journal.now plain.new.journal c.args.most 0 plain.result.0
+    c.args.marks.now c.args.known.now c.is_free-free.result
+    (going-begins c.args.way c.args.stops.now c.args.journal.now c.args.most c.args.marks.now c.args.known.now c.is_free-free.result _ c.state.ensures c.requires.marks c.requires.known c.is_free-free.ensures)
+    plain.ensures.free plain.ensures.plain (omega (arith, plain.ensures.within)) in
+    if_err c.from_residual.result _ (Begun-run c.args.way c.args.stops.now c.args.journal.now plain.new.journal c.args.most (0 + plain.result.0) going.moved going.within going.before)
+
 pub end_of_move-requires : goal.end_of_move-requires
-end_of_move-requires c = AreMarks-length _ _ _ c.loop-done.invariant.marks
+end_of_move-requires c = AreMarks-length _ _ _ c.loop-done.invariant.marked
 
 pub returns-in-Ok-Some-clause-end : goal.returns-in-Ok-Some-clause-end
 returns-in-Ok-Some-clause-end c =
@@ -20,13 +44,23 @@ returns-in-Err-clause-memory c =
     Begun-run c.args.way c.args.stops.now c.args.journal.now _ c.args.most c.loop-done.done (c.in-Err.ensures.memory ∙ c.loop-done.invariant.moved)
     (omega (arith, c.loop-done-test.true)) c.loop-done.invariant.before
 
+pub returns-in-Some-clause-moved : goal.returns-in-Some-clause-moved
+returns-in-Some-clause-moved c =
+    let has = rw c.in-Ok-None.field-0-is at c.in-Ok-None.ensures.moved in
+    let more = going-once c.mark_law.ensures.altered c.change_law.ensures.breaks c.args.way c.args.stops.now c.args.journal.now c.loop-done.journal c.move_once.new.journal
+    c.args.most c.loop-done.done _ _ _ _ _ _ _ _ c.is_free-free.result c.loop-done.invariant c.loop-done-test.true c.state-in-loop-done.ensures
+    c.state-in-loop-done-2.ensures has c.end_of_move.ensures.marks c.is_halt_done-halts.ensures c.look_on-conflicts.ensures.waits
+    c.look_on-conflicts.ensures.last c.look_on-conflicts.ensures.looks in
+    more.moved
+
 pub returns-in-Some-clause-end : goal.returns-in-Some-clause-end
 returns-in-Some-clause-end c =
     let has = rw c.in-Ok-None.field-0-is at c.in-Ok-None.ensures.moved in
-    let more = one_more c.mark_law.ensures.altered c.args.way c.args.stops.now c.args.journal.now c.loop-done.journal c.move_once.new.journal c.loop-done.done _ _ _ _ _ _ _ _
-    c.loop-done.invariant.moved c.state.ensures c.state-in-loop-done.ensures has c.loop-done.invariant.marks c.end_of_move.ensures.marks c.is_halt_done-halts.ensures
-    c.loop-done.invariant.knows c.look_on-conflicts.ensures.waits c.look_on-conflicts.ensures.last c.look_on-conflicts.ensures.looks in
-    end_at-last c.args.way c.args.stops.now c.args.journal.now c.args.most (c.loop-done.done + 1) _ (more.1 ∙ sym c.end_of_move.ensures.end ∙ c.in-Some.is)
+    let more = going-once c.mark_law.ensures.altered c.change_law.ensures.breaks c.args.way c.args.stops.now c.args.journal.now c.loop-done.journal c.move_once.new.journal
+    c.args.most c.loop-done.done _ _ _ _ _ _ _ _ c.is_free-free.result c.loop-done.invariant c.loop-done-test.true c.state-in-loop-done.ensures
+    c.state-in-loop-done-2.ensures has c.end_of_move.ensures.marks c.is_halt_done-halts.ensures c.look_on-conflicts.ensures.waits
+    c.look_on-conflicts.ensures.last c.look_on-conflicts.ensures.looks in
+    end_at-last c.args.way c.args.stops.now c.args.journal.now c.args.most (c.loop-done.done + 1) _ (more.last ∙ sym c.end_of_move.ensures.end ∙ c.in-Some.is)
 
 pub returns-in-Some-clause-least : goal.returns-in-Some-clause-least
 returns-in-Some-clause-least c =
@@ -37,18 +71,40 @@ returns-in-Some-clause-least c =
 pub loop-done-preserved : goal.loop-done-preserved
 loop-done-preserved c =
     let has = rw c.in-Ok-None.field-0-is at c.in-Ok-None.ensures.moved in
-    let more = one_more c.mark_law.ensures.altered c.args.way c.args.stops.now c.args.journal.now c.loop-done.journal c.move_once.new.journal c.loop-done.done _ _ _ _ _ _ _ _
-    c.loop-done.invariant.moved c.state.ensures c.state-in-loop-done.ensures has c.loop-done.invariant.marks c.end_of_move.ensures.marks c.is_halt_done-halts.ensures
-    c.loop-done.invariant.knows c.look_on-conflicts.ensures.waits c.look_on-conflicts.ensures.last c.look_on-conflicts.ensures.looks in
-    record {
-      first = ap (λ (t : Timeline). t.first) has.0 ∙ moved_once-first c.args.way c.loop-done.journal ∙ c.loop-done.invariant.first;
-      moved = more.0;
-      going = more.1 ∙ sym c.end_of_move.ensures.end ∙ c.in-None.is;
-      before = none_before-next c.args.way c.args.stops.now c.args.journal.now c.loop-done.journal c.args.most c.loop-done.done c.loop-done.invariant.going c.loop-done-test.true
-          c.loop-done.invariant.moved has.1 c.loop-done.invariant.before;
-      marks = more.2;
-      knows = more.3 (sym c.end_of_move.ensures.end ∙ c.in-None.is);
-    }
+    let more = going-once c.mark_law.ensures.altered c.change_law.ensures.breaks c.args.way c.args.stops.now c.args.journal.now c.loop-done.journal c.move_once.new.journal
+    c.args.most c.loop-done.done _ _ _ _ _ _ _ _ c.is_free-free.result c.loop-done.invariant c.loop-done-test.true c.state-in-loop-done.ensures
+    c.state-in-loop-done-2.ensures has c.end_of_move.ensures.marks c.is_halt_done-halts.ensures c.look_on-conflicts.ensures.waits
+    c.look_on-conflicts.ensures.last c.look_on-conflicts.ensures.looks in
+    let plain = c.plain_steps-plain in
+    going-many c.change_law.ensures.breaks c.args.way c.args.stops.now c.args.journal.now c.move_once.new.journal plain.new.journal c.args.most (c.loop-done.done + 1) plain.result.0
+    _ _ c.is_free-free.result (more.going (sym c.end_of_move.ensures.end ∙ c.in-None.is)) plain.ensures.free plain.ensures.plain
+    (omega (arith, plain.ensures.within, c.loop-done-test.true))
+
+pub returns-in_err-answer-clause-first : goal.returns-in_err-answer-clause-first
+returns-in_err-answer-clause-first c =
+    let has = rw c.in-Ok-None.field-0-is at c.in-Ok-None.ensures.moved in
+    let more = going-once c.mark_law.ensures.altered c.change_law.ensures.breaks c.args.way c.args.stops.now c.args.journal.now c.loop-done.journal c.move_once.new.journal
+    c.args.most c.loop-done.done _ _ _ _ _ _ _ _ c.is_free-free.result c.loop-done.invariant c.loop-done-test.true c.state-in-loop-done.ensures
+    c.state-in-loop-done-2.ensures has c.end_of_move.ensures.marks c.is_halt_done-halts.ensures c.look_on-conflicts.ensures.waits
+    c.look_on-conflicts.ensures.last c.look_on-conflicts.ensures.looks in
+    let plain = c.plain_steps-plain in
+    (going-many c.change_law.ensures.breaks c.args.way c.args.stops.now c.args.journal.now c.move_once.new.journal plain.new.journal c.args.most (c.loop-done.done + 1) plain.result.0
+    _ _ c.is_free-free.result (more.going (sym c.end_of_move.ensures.end ∙ c.in-None.is)) plain.ensures.free plain.ensures.plain
+    (omega (arith, plain.ensures.within, c.loop-done-test.true))).first
+
+pub returns-in_err-answer-clause-memory : goal.returns-in_err-answer-clause-memory
+returns-in_err-answer-clause-memory c =
+    let has = rw c.in-Ok-None.field-0-is at c.in-Ok-None.ensures.moved in
+    let more = going-once c.mark_law.ensures.altered c.change_law.ensures.breaks c.args.way c.args.stops.now c.args.journal.now c.loop-done.journal c.move_once.new.journal
+    c.args.most c.loop-done.done _ _ _ _ _ _ _ _ c.is_free-free.result c.loop-done.invariant c.loop-done-test.true c.state-in-loop-done.ensures
+    c.state-in-loop-done-2.ensures has c.end_of_move.ensures.marks c.is_halt_done-halts.ensures c.look_on-conflicts.ensures.waits
+    c.look_on-conflicts.ensures.last c.look_on-conflicts.ensures.looks in
+    let plain = c.plain_steps-plain in
+    let going = going-many c.change_law.ensures.breaks c.args.way c.args.stops.now c.args.journal.now c.move_once.new.journal plain.new.journal c.args.most (c.loop-done.done + 1) plain.result.0
+    _ _ c.is_free-free.result (more.going (sym c.end_of_move.ensures.end ∙ c.in-None.is)) plain.ensures.free plain.ensures.plain
+    (omega (arith, plain.ensures.within, c.loop-done-test.true)) in
+    if_err c.from_residual-in_err-answer.result _ (Begun-run c.args.way c.args.stops.now c.args.journal.now plain.new.journal c.args.most (c.loop-done.done + 1 + plain.result.0)
+    going.moved going.within going.before)
 
 pub returns-clause-end : goal.returns-clause-end
 returns-clause-end c =

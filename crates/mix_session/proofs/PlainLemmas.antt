@@ -1,0 +1,105 @@
+-- Plain steps, over plain variables: they are new steps, and a free run goes on after each of them.
+use Rattle.std.proofs.Common.{◌≡◌, ◌<◌, ◌==◌, ◌∙◌, ◌++◌, ℕ, zero, suc, Bool, true, false, ◌&&◌, ◌||◌, not, List, [], ◌∷◌, replicate, get_or, Err, None, Some, Ok, refl, ap, sym, arith, append_assoc, nat_le, nat_lt}
+use Rattle.std.proofs.lemmas.Bool.Decides.{nat_tests}
+use Rattle.std.proofs.lemmas.List.{append-nil}
+use Rattle.std.specs.Option.{option_and_then}
+use Rattle.std.specs.Result.{result_ok}
+use Rattle.undo_core.specs.Repeat.{Repeats}
+use Rattle.undo_core.specs.Replay.{replay}
+use Rattle.mix_machine.specs.World.{WorldState, IsWorld, has_break}
+use Rattle.mix_machine.specs.Decode.{instruction}
+use Rattle.mix_machine.specs.Do.{does, kept_values, IsReal, is_step, is_halt_next, is_plain_next}
+use Rattle.mix_machine.specs.declared.old.Change.{Change}
+use Rattle.mix_machine.specs.declared.old.Change.TheVariants.{Step}
+use Rattle.mix_machine.specs.declared.old.Old.{Old}
+use Rattle.mix_machine.specs.declared.part.Mark.{Mark}
+use Rattle.mix_session.specs.Command.{end_of_move}
+use Rattle.mix_session.specs.Marks.{AreMarks}
+use Rattle.mix_session.specs.Plain.{IsFree, ArePlain}
+use Rattle.mix_session.specs.Stops.{StopsState}
+use Rattle.mix_session.specs.Timeline.{Timeline, world_of, with_change, is_at_break}
+use Rattle.mix_session.specs.declared.command.stops.Way.TheVariants.{New}
+use Rattle.mix_session.specs.declared.condition.Condition.{Condition}
+use Rattle.mix_session.proofs.TimelineLemmas.{timeline-is, world_of-is}
+
+-- a step keeps the breakpoints
+abbrev pub BreaksLaw : Type 0
+BreaksLaw = (v w : WorldState) → does v Step ≡ Ok w → w.breaks ≡ v.breaks
+
+-- one change more after others
+replay-more : (s u w : WorldState) (cs : List Change) (c : Change) → replay does s cs ≡ Some u → does u c ≡ Ok w → replay does s (cs ++ c ∷ []) ≡ Some w
+replay-more s u w [] c e given = let same : s ≡ u = cc in rw (same, given) refl
+replay-more s u w (d ∷ cs) c e given =
+    (elim (does s d) as (λ r. option_and_then (λ (t : WorldState). replay does t cs) (result_ok r) ≡ Some u →
+    option_and_then (λ (t : WorldState). replay does t (cs ++ c ∷ [])) (result_ok r) ≡ Some w) [
+      | Ok v ↦ λ h. replay-more v u w cs c h given
+      | Err fault ↦ λ h. absurd (cc)
+    ]) e
+
+-- the machine and a change are those of the program
+abbrev pub IsRealStep : WorldState → Change → Type 0
+IsRealStep w c = IsWorld w × IsReal c
+
+abbrev pub goes_on : WorldState → Change → Bool
+goes_on w c = is_step c && is_plain_next w
+
+-- steps that are done again and again, the first of which is plain too
+pub plain-repeats : (n : ℕ) (t next : Timeline) (s u : WorldState) (os : List Old) → replay does t.first t.changes ≡ Some s → (0 < n → is_plain_next s ≡ true) →
+    Repeats IsRealStep does kept_values goes_on Step n s u os → next.first ≡ t.first → next.changes ≡ t.changes ++ replicate n Step →
+    (n ≡ 0 → next ≡ t) → (0 < n → next.ahead ≡ []) → ArePlain n t next
+plain-repeats zero t next s u os here plain done first changes none ahead = none refl
+plain-repeats (suc n) t next s u os here plain done first changes none ahead =
+    let v = done.1.0 in
+    let led = with_change t Step in
+    let there : replay does led.first led.changes ≡ Some v = replay-more t.first s v t.changes Step here done.1.1 in
+    let more : next.changes ≡ led.changes ++ replicate n Step = changes ∙ sym (append_assoc t.changes (Step ∷ []) (replicate n Step)) in
+    let last : n ≡ 0 → next ≡ led = λ e.
+    timeline-is next led.first led.changes led.ahead first (more ∙ ap (λ k. led.changes ++ replicate k Step) e ∙ append-nil led.changes) (ahead (omega arith)) in
+    let before : world_of t ≡ s = world_of-is t t s refl here in
+    let after : world_of led ≡ v = world_of-is led led v refl there in (
+      rw before (plain (omega arith)),
+      rw (before, after) done.1.1,
+      plain-repeats n led next v u done.1.3.0 there done.1.2 done.1.3.2 first more last (λ some. ahead (omega arith)),
+    )
+
+-- a plain step is no halt
+code-plain : (b five other two : Bool) → (b && not (five || other)) ≡ true → (b && five && two) ≡ false
+code-plain true true other two plain = absurd (cc)
+code-plain true false other two plain = refl
+code-plain false five other two plain = refl
+
+pub plain-no_halt : (w : WorldState) → is_plain_next w ≡ true → is_halt_next w ≡ false
+plain-no_halt w plain =
+    let code = (instruction w).code in
+    code-plain (nat_lt w.loc 4000) (code == 5) (nat_le 35 code && nat_le code 37) ((instruction w).f == 2) plain
+
+-- no breakpoint is met
+break-none : (b met : Bool) → (b ≡ true → met ≡ false) → (b && met) ≡ false
+break-none true met none = none refl
+break-none false met none = refl
+
+no-break : (breaks : Bool) (w : WorldState) → (breaks ≡ true → (p : ℕ) → p < 4000 → has_break w p ≡ false) → (breaks && is_at_break w) ≡ false
+no-break breaks w none =
+    break-none breaks (is_at_break w) (λ stops. break-none (nat_lt w.loc 4000) (has_break w w.loc) (λ below. none stops w.loc (grind (arith, nat_tests))))
+
+-- nothing ends a free run by a plain step
+pub quiet-move : (conflicts : Bool) (stops : StopsState) (old now : WorldState) → is_halt_next old ≡ false → IsFree New stops now → end_of_move conflicts New stops old now ≡ None
+quiet-move conflicts stops old now halts free =
+    let at : (stops.breaks && is_at_break now) ≡ false = no-break stops.breaks now free.breaks in
+    rw (halts, free.watched, free.cells, free.location, at) refl
+
+pub marks-none : (conditions : List Condition) (marks : List Mark) (v w : WorldState) → conditions ≡ [] → AreMarks conditions marks v → AreMarks conditions marks w
+marks-none [] [] v w none are = tt
+marks-none [] (m ∷ marks) v w none are = are
+marks-none (c ∷ cs) marks v w none are = absurd (cc)
+
+-- a free run stays free
+pub free-next : BreaksLaw → (stops : StopsState) (v w : WorldState) → IsFree New stops v → does v Step ≡ Ok w → IsFree New stops w
+free-next law stops v w free given =
+    record {
+      new = refl;
+      watched = free.watched;
+      cells = free.cells;
+      location = free.location;
+      breaks = λ set p below. ap (λ (breaks : List Bool). get_or breaks p false) (law v w given) ∙ free.breaks set p below;
+    }
