@@ -1,5 +1,5 @@
 -- The measures of a map, one column, one count and one digit after the other.
-use Rattle.std.proofs.Common.{◌≡◌, ◌<◌, ◌≤◌, ◌+◌, ◌-◌, ◌/◌, ◌==◌, ◌&&◌, ℕ, zero, suc, Bool, true, false, true≢false, List, ⊎_elim, refl, sym, ap, ◌∙◌, arith, get_or, max}
+use Rattle.std.proofs.Common.{◌≡◌, ◌<◌, ◌+◌, ◌-◌, ◌/◌, ◌==◌, ◌&&◌, ℕ, zero, suc, true, false, true≢false, List, ⊎_elim, refl, sym, arith, get_or, max}
 use Rattle.std.proofs.lemmas.Bool.{and_cases, and_parts, ltb-false, ltb-true}
 use Rattle.std.specs.Prelude.{nat_lt}
 use Rattle.mix_session.specs.Path.{count_in}

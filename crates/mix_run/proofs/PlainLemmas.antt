@@ -1,6 +1,6 @@
--- A step of no unit: it makes nothing of a transfer and alters no unit, so that no row is printed.
-use Rattle.std.specs.Prelude.{◌≡◌, ◌↔◌, ℕ, zero, suc, Bool, true, false, cond, ◌||◌, ◌&&◌, ◌==◌, nat_le, List, [], ◌∷◌, ◌++◌, Option, None, Some, Result, Ok, Err, refl, ◌+◌}
-use Rattle.std.proofs.Common.{append_assoc, ◌∙◌}
+-- Steps of no unit: they make nothing of a transfer and alter no unit, so that no row is printed.
+use Rattle.std.specs.Prelude.{◌≡◌, ◌↔◌, ℕ, zero, suc, Bool, true, false, cond, ◌||◌, ◌&&◌, ◌==◌, ◌<◌, ◌≤◌, nat_le, nat_lt, not, List, [], ◌∷◌, ◌++◌, Option, None, Some, Result, Ok, Err, refl, ◌+◌}
+use Rattle.std.proofs.Common.{append_assoc, ◌∙◌, ap, arith, subst, sym}
 use Rattle.mix_word.specs.Operation.{operation_code}
 use Rattle.mix_word.specs.Table.{decode_of, IsNamedBy}
 use Rattle.mix_word.specs.Word.{WordValue}
@@ -15,20 +15,23 @@ use Rattle.mix_word.specs.declared.operation.JumpKind.{JumpKind}
 use Rattle.mix_word.specs.declared.operation.JumpKind.TheVariants.{Jmp, Jsj, Jov, Jnov, Less, Equal, Greater, GreaterEqual, NotEqual, LessEqual}
 use Rattle.mix_word.specs.declared.operation.Operation.{Operation}
 use Rattle.mix_word.specs.declared.operation.Operation.TheVariants.{Nop, Add, Sub, Mul, Div, Num, Char, Hlt, Shift, Move, Load, LoadNegated, Store, StoreJ, StoreZero, Jbus, Ioc, In, Out, Jred, Jump, RegisterJump, Increase, Decrease, Enter, EnterNegated, Compare}
-use Rattle.mix_machine.specs.World.{WorldState, cell_of, with_cell}
+use Rattle.mix_machine.specs.World.{IsWorld, WorldState, cell_of, with_cell}
 use Rattle.mix_machine.specs.Decode.{instruction, decode_at, arguments_at}
-use Rattle.mix_machine.specs.Do.{does, plan_of, state_after, step_plan}
+use Rattle.mix_machine.specs.Do.{IsReal, does, is_looked_at, is_plain_next, is_step, kept_values, plan_of, state_after, step_plan}
 use Rattle.mix_machine.specs.Jump.{jump_writes}
 use Rattle.mix_machine.specs.Effects.{effects, sum_into, shift_into, quotient_into, copy_of}
 use Rattle.mix_machine.specs.Order.{applies, operation_or_nop}
-use Rattle.mix_machine.specs.Transfers.{TransfersState, conflict_of, made_by, transfer_by}
+use Rattle.mix_machine.specs.Transfers.{TransfersState, conflict_of, last_end, made_by, transfer_by}
 use Rattle.mix_machine.specs.Write.{Write, set, copies, write_all, writes_in, writes_of}
 use Rattle.mix_machine.specs.law.Passed.{passed}
 use Rattle.mix_machine.specs.units.Units.{UnitsState}
 use Rattle.mix_machine.specs.declared.fault.MixFault.{MixFault}
+use Rattle.mix_machine.specs.declared.old.Change.{Change}
 use Rattle.mix_machine.specs.declared.old.Change.TheVariants.{Step}
+use Rattle.mix_machine.specs.declared.old.Old.{Old}
 use Rattle.mix_machine.specs.declared.old.Old.TheVariants as old
 use Rattle.mix_machine.specs.declared.transfers.Pending.{Pending}
+use Rattle.undo_core.specs.Repeat.{Repeats}
 use Rattle.mix_run.specs.Print.{Run, printed, printed_first, stops, written_by}
 use Rattle.mix_run.specs.PrintSteps.{HasCounts, IsPlain}
 use Rattle.mix_run.specs.declared.print.options.PrintOptions.{PrintOptions}
@@ -161,14 +164,19 @@ neither : (a b : Bool) → (a || b) ≡ false → (a ≡ false) × (b ≡ false)
 neither true b h = absurd cc
 neither false b h = (refl, h)
 
-pub plain-of : (w : WorldState) (code : ℕ) → ((c f : ℕ) (op : Operation) → (decode_of c f ≡ Named op) ↔ IsNamedBy op c f) → code ≡ (instruction w).code
-    → (code == 5 || moves code) ≡ false → IsPlain w
+other-code : (a b : Bool) → (a && not b) ≡ true → b ≡ false
+other-code true true h = absurd cc
+other-code true false h = refl
+other-code false b h = absurd cc
+
+pub plain-of : (w : WorldState) → ((c f : ℕ) (op : Operation) → (decode_of c f ≡ Named op) ↔ IsNamedBy op c f) → is_plain_next w ≡ true → IsPlain w
 unfolding transfer_by does plan_of
-plain-of w code law e h =
-    let other = neither (code == 5) (moves code) h in
-    let apart = decoded-apart w (decode_at w) (instruction w).code (instruction w).f (λ op. (law (instruction w).code (instruction w).f op).0) (rw e at other.1) in
+plain-of w law h =
+    let code = (instruction w).code in
+    let other = neither (code == 5) (moves code) (other-code (nat_lt w.loc 4000) (is_looked_at code) h) in
+    let apart = decoded-apart w (decode_at w) code (instruction w).f (λ op. (law code (instruction w).f op).0) other.1 in
     record {
-      goes_on = no-middle _ _ _ (rw e at other.0);
+      goes_on = no-middle _ _ _ other.0;
       still = apart.still;
       units = λ next done. carried (state_after w) (λ p. write_all w (writes_of w p)) (plan_of w Step)
           (step_plan (operation_or_nop (decode_at w)) w (arguments_at w)) next w.units (λ p. refl) (λ fault. refl)
@@ -187,6 +195,39 @@ plain-goes options number steps rest ts w next e unseen apart plain done =
     let free : stops options.strict (conflict_of ts w Step) ≡ None = rw (apart, stops-none options.strict) refl in
     let on = run-on options number steps rest ts w next e free done plain.goes_on in
     on ∙ rw (nothing, apart, plain.still) (same-run _)
+
+-- What is left of a run after some steps is the run of all, the units are as they were, and all transfers are over.
+pub record GoesOn (options : PrintOptions) (number later steps left : ℕ) (ts : TransfersState) (w next : WorldState) : Type 0 where
+  pub same : printed options number steps ts w ≡ printed options later left ts next
+  pub units : next.units ≡ w.units
+  pub over : last_end ts ≤ next.clock
+
+-- so many steps, each of which is plain
+module _ (options : PrintOptions) (ts : TransfersState) (unseen : options.trace ≡ false)
+    (decoded : (c f : ℕ) (op : Operation) → (decode_of c f ≡ Named op) ↔ IsNamedBy op c f)
+    (forward : (v w : WorldState) (c : Change) → does v c ≡ Ok w → v.clock ≤ w.clock)
+    (apart : (w : WorldState) (c : Change) → last_end ts ≤ w.clock → conflict_of ts w c ≡ None) where
+  pub many-go : (n number later steps left : ℕ) (w next : WorldState) (olds : List Old) → later ≡ number + n → steps ≡ left + n → last_end ts ≤ w.clock
+      → (0 < n → is_plain_next w ≡ true)
+      → Repeats (λ v c. IsWorld v × IsReal c) does kept_values (λ v c. is_step c && is_plain_next v) Step n w next olds
+      → GoesOn options number later steps left ts w next
+  many-go zero number later steps left w next olds number_is steps_are over plain did = record {
+    same = ap (λ n. printed options n steps ts w) (omega (arith, number_is)) ∙ ap (λ n. printed options later n ts w) (omega (arith, steps_are))
+        ∙ ap (λ v. printed options later left ts v) (sym did.0);
+    units = ap (λ v. v.units) did.0;
+    over = subst (λ v. last_end ts ≤ v.clock) (sym did.0) over;
+  }
+  many-go (suc n) number later steps left w next olds number_is steps_are over plain did =
+      let then = did.1.0 in
+      let done = did.1.1 in
+      let is = plain-of w decoded (plain (omega arith)) in
+      let on = many-go n (number + 1) later (left + n) left then next did.1.3.0 (omega (arith, number_is)) refl (omega (arith, over, forward w then Step done))
+      did.1.2 did.1.3.2 in
+      record {
+        same = plain-goes options number steps (left + n) ts w then (omega (arith, steps_are)) unseen (apart w Step over) is done ∙ on.same;
+        units = on.units ∙ is.units then done;
+        over = on.over;
+      }
 
 -- the units are the same, and so are the numbers of their rows
 pub same-counts : (w next : WorldState) (counts : RowCounts) → next.units ≡ w.units → HasCounts w counts → HasCounts next counts

@@ -1,6 +1,5 @@
 -- One place more.
-use Rattle.std.proofs.Common.{◌≡◌, ◌<◌, ◌-◌, ◌++◌, [], arith, flat_map, refl}
-use Rattle.std.specs.List.{range_with_len}
+use Rattle.std.proofs.Common.{◌≡◌, ◌<◌, ◌-◌, arith, refl}
 use Rattle.mix_run.specs.Map.{executed_below, place_if}
 use Rattle.mix_run.proofs.KeepLemmas.{added-all, added-more, numbers-next, numbers-none}
 use Rattle.mix_run.proofs.map.executed_below.Goals as goal

@@ -1,7 +1,5 @@
 -- One column more.
-use Rattle.std.proofs.Common.{◌≡◌, ◌∙◌, ap, arith, refl, sym}
-use Rattle.std.proofs.Common.{◌+◌}
-use Rattle.mix_session.specs.Path.{count_in}
+use Rattle.std.proofs.Common.{arith, refl}
 use Rattle.mix_run.proofs.MapLemmas.{times-next}
 use Rattle.mix_run.proofs.map.times_below.Goals as goal
 

@@ -1,6 +1,6 @@
 -- One digit more.
-use Rattle.std.proofs.Common.{◌≡◌, ◌<◌, ◌∙◌, arith, refl, sym}
-use Rattle.mix_run.proofs.MapLemmas.{digits-next, digits-none}
+use Rattle.std.proofs.Common.{◌≡◌, arith}
+use Rattle.mix_run.proofs.MapLemmas.{digits-none}
 use Rattle.mix_run.proofs.map.shade.digits_within.Goals as goal
 
 pub returns-clause-is : goal.returns-clause-is

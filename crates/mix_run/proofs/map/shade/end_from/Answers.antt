@@ -1,5 +1,5 @@
 -- One column more.
-use Rattle.std.proofs.Common.{◌≡◌, ◌∙◌, arith, sym}
+use Rattle.std.proofs.Common.{◌∙◌, arith, sym}
 use Rattle.mix_run.proofs.MapLemmas.{end-here, end-next}
 use Rattle.mix_run.proofs.map.shade.end_from.Goals as goal
 

@@ -1,5 +1,5 @@
 -- One column less.
-use Rattle.std.proofs.Common.{◌≡◌, ◌∙◌, arith, sym}
+use Rattle.std.proofs.Common.{◌∙◌, arith, sym}
 use Rattle.mix_run.proofs.MapLemmas.{last-here, last-next}
 use Rattle.mix_run.proofs.map.shade.last_end.Goals as goal
 

@@ -1,5 +1,5 @@
 -- One cell more.
-use Rattle.std.proofs.Common.{◌≡◌, ◌<◌, ◌≤◌, ◌-◌, ◌++◌, ◌∙◌, Bool, sym, ap, arith}
+use Rattle.std.proofs.Common.{◌-◌, ◌++◌, ◌∙◌, Bool, sym, ap, arith}
 use Rattle.mix_session.specs.Tally.{tally_in}
 use Rattle.mix_run.specs.Counted.{count_rows, count_rows_at}
 use Rattle.mix_run.specs.Table.{rows_text}

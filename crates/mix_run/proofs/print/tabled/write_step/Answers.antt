@@ -1,10 +1,8 @@
 -- The rows of the step are all that is written.
-use Rattle.std.proofs.Common.{◌∙◌, ap, sym}
-use Rattle.mix_run.specs.StepTable.{still_first}
-use Rattle.mix_run.specs.Table.{rows_text}
+use Rattle.std.proofs.Common.{◌∙◌}
 use Rattle.mix_run.proofs.PrintLemmas.{on-error}
-use Rattle.mix_run.proofs.TabledLemmas.{made-rows, rows-alone}
-use Rattle.mix_run.proofs.Written.{Appends-nothing, Appends-same}
+use Rattle.mix_run.proofs.TabledLemmas.{rows-alone}
+use Rattle.mix_run.proofs.Written.{Appends-nothing}
 use Rattle.mix_run.proofs.print.tabled.write_step.Goals as goal
 
 pub returns-in-Some-clause-told : goal.returns-in-Some-clause-told

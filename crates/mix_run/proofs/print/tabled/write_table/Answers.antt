@@ -1,6 +1,6 @@
 -- The columns are those of the table that is asked for.
 use Rattle.std.proofs.Common.{◌≡◌, ◌∷◌, [], List, refl}
-use Rattle.mix_run.specs.StepTable.{columns_of, names_of}
+use Rattle.mix_run.specs.StepTable.{names_of}
 use Rattle.mix_run.specs.Table.{FieldValue}
 use Rattle.mix_run.proofs.TabledLemmas.{table-begun, table-run}
 use Rattle.mix_run.proofs.print.tabled.write_table.Goals as goal

@@ -1,5 +1,5 @@
 -- The units of the deck and the cards, and then the lines for the typewriter.
-use Rattle.std.proofs.Common.{◌∙◌, inl, inr}
+use Rattle.std.proofs.Common.{inr}
 use Rattle.std.proofs.lemmas.Result.{err_from_is_err_and}
 use Rattle.mix_machine.specs.units.deck.Deck.{deck_of}
 use Rattle.mix_run.specs.UnitsRead.{deck_given}
