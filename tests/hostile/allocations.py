@@ -4,11 +4,12 @@ What a command asks for is what a script asks for with it as the last line, beyo
 
 - A list of std has room for four entries at first, of bytes for eight, and is doubled where it is full.
 - A run of changes takes 16 bytes: steps that follow each other are one run, any other change is one of its own. Of a change that is no step the number of
-  values after it takes 8 bytes; room for it is made at the beginning of each run. A kept value takes one to three
+  values after it takes 8 bytes; room for it is made where a change begins a run, but not where plain steps do, which are done many at a time. A kept value takes one to three
   units of 4, and room is made for three: a `set`, a `break` or a `clear` keeps one value; a step makes room for the 104 that the largest step keeps, since the
   room is made before the step is done. What a step here keeps takes one unit.
 - A reply is a text: it begins with 8 bytes or more and is doubled. So of N bytes it asks for fewer than four times N in all, and 8.
-- `back`, `forth`, a refusal and what `show` writes need nothing but their reply; a blank line and a remark need nothing.
+- `back`, a refusal and what `show` writes need nothing but their reply; a blank line and a remark need nothing. `forth` makes room for the place of a
+  change before it knows whether that is a step, and only once.
 - A change that is refused needs nothing, and may have made room in the lists. What stands ahead stays until a new change is accepted.
 - A text that is read whole by one read takes as many bytes as it has, at least 8."""
 
@@ -24,7 +25,7 @@ CELLS = 4000 * 4
 RUN, PLACE = 16, 8
 UNIT, MOST = 4, 104 * 3  # units of a step at most
 LISTS = [4 * RUN, 4 * PLACE]  # of the first change
-STEP = [*LISTS, MOST * UNIT]  # of the first step
+STEP = [4 * RUN, MOST * UNIT]  # of the first step, which is plain
 REFUSED = ([], LISTS)
 
 
@@ -50,8 +51,8 @@ ROWS = [
     ("back", FIRST, b"step 4\n", b"back 2", [], b"back 2 to 0002 clock 2\n"),
     ("back all", FIRST, b"step 4\n", b"back all", [], b"back 4 to 0000 clock 0\n"),
     ("back break", FIRST, b"step 4\n", b"back break", [], b"back 4 to 0000 clock 0\n"),
-    ("forth", FIRST, b"step 4\nback 2\n", b"forth 2", [], b"forth 2 to 0004 clock 14\n"),
-    ("forth all", FIRST, b"step 4\nback 2\n", b"forth all", [], b"forth 2 to 0004 clock 14\n"),
+    ("forth", FIRST, b"step 4\nback 2\n", b"forth 2", [4 * PLACE], b"forth 2 to 0004 clock 14\n"),
+    ("forth all", FIRST, b"step 4\nback 2\n", b"forth all", [4 * PLACE], b"forth 2 to 0004 clock 14\n"),
     ("goto", FIRST, b"step 4\n", b"goto 1", [], b"back 3 to 0001 clock 1\n"),
     ("a step again, where changes stand ahead", FIRST, b"step 4\nback 4\n", b"step", [], b"ran 1 to 0001 clock 1: limit\n"),
     ("set", FIRST, b"", b"set A 5", [*LISTS, 4 * UNIT], b"ok\n"),
@@ -122,7 +123,7 @@ def rows(program, workers, quick=False):
         # many steps: each list is doubled, nothing else is asked for, and nothing is asked for again where it was asked for before
         (_, _, _), asked = asking.run(LOOP + b"%%SCRIPT\nrun %d\n" % STEPS)
         after = asked[asked.index(CELLS) + 1:]
-        wanted = [*LISTS, *grown(UNIT, MOST, (STEPS - 1) + MOST)]
+        wanted = [4 * RUN, *grown(UNIT, MOST, (STEPS - 1) + MOST)]
         reply = b"ran %d to 0000 clock %d: limit\n" % (STEPS, STEPS)
         rest = list(after)
         for one in wanted:
