@@ -59,4 +59,4 @@ def loader(run):
         yield f"{size} words, punched", (ran.end, ran.rows(17)), ("halt", [card.rstrip() for card in cards_of(first, numbers)])
 
 
-LESSONS = [Lesson("32_loader", loader, ("JBUS *(16)", "JRED *(16)"))]
+LESSONS = [Lesson("06_loader", loader, ("JBUS *(16)", "JRED *(16)"))]

@@ -51,10 +51,11 @@ def measured(outcome, letters):
     return {letter: next(counts[number][0] for number, line in enumerate(outcome.source, 1) if times_of(line) == letter) for letter in letters}
 
 
-def times(outcome, waiting=False, **quantities):
+def times(outcome, waiting=False, overwritten=(), **quantities):
     """Compares the end of the run with a halt, each count with the column "times", each time with the count, and their sums with the last line.
 
-    `waiting` is for programs whose transfers wait: then the time of IN, OUT and IOC is not compared."""
+    `waiting` is for programs whose transfers wait: then the time of IN, OUT and IOC is not compared; nor is that of the operations `overwritten`, whose
+    lines the program replaces by others."""
     yield "how the run ends", outcome.end, "halt"
     steps = time = 0
     for number, (count, took) in outcome.counts().items():
@@ -63,7 +64,7 @@ def times(outcome, waiting=False, **quantities):
         told = times_of(line)
         wanted = value_of(told, quantities) if told is not None else "no times in its line"
         yield f"how often line {number} is done, {' '.join(line.split())}", count, wanted
-        if not (waiting and name in TRANSFERS):
+        if not (waiting and name in TRANSFERS or name in overwritten):
             yield f"time of line {number}, {name}", took, count * time_of(name, address, quantities)
             time += count * time_of(name, address, quantities)
         else:

@@ -39,7 +39,8 @@ class Draw:
 class Case(typing.NamedTuple):
     """What a program is given, and what it must leave: numbers in the cells that are named, or rows on a unit, the printer if no other is named.
 
-    `given` has a number for a symbol that EQU defines, a string for a cell that CON fills, and a list for the lines of a block of data."""
+    `given` has a number for a symbol that EQU defines, a string for a cell that CON fills, and a list for the lines of a block of data. With `strict`
+    there is one case more, which ends before a step that uses cells of a transfer under way."""
 
     given: dict
     wanted: list
@@ -49,6 +50,8 @@ class Case(typing.NamedTuple):
     deck: list = None
     told: str = ""
     unit: str = "18"
+    steps: int = 20000
+    strict: bool = False
 
     def lines(self):
         """The lines that take the place of those in a source."""
@@ -58,18 +61,21 @@ class Case(typing.NamedTuple):
             else:
                 yield f"{name:<7} {'EQU ' if isinstance(value, int) else 'CON '} {value}"
 
-    def files(self, put, limited):
-        """The files of the case, as grade/README.md describes them."""
-        found = {"wanted": self.wanted, "data": self.lines() if put and self.given else (), "cells": self.cells, "deck": self.deck, "cards": self.cards}
+    def files(self, put, kind, weight):
+        """The files of the case, as grade/README.md describes them. A case of the kind `strict` has nothing in cells, so what is printed is compared."""
+        found = {"data": self.lines() if put and self.given else (), "cells": self.cells, "deck": self.deck, "cards": self.cards}
         found["unit"] = () if self.cells else (self.unit,)
-        found["limits"], found["steps"] = self.limits if limited else (), (20000,)
-        return {name: "".join(f"{line}\n" for line in lines) for name, lines in found.items() if lines}
+        found["limits"], found["steps"], found["weight"] = self.limits if kind == "limits" else (), (self.steps,), (weight,)
+        if kind == "strict":
+            found["cells"], found["strict"] = (), ("a program waits for its units",)
+        files = {name: "".join(f"{line}\n" for line in lines) for name, lines in found.items() if lines}
+        return {"wanted": "".join(f"{line}\n" for line in (self.wanted if kind != "strict" or not self.cells else ())), **files}
 
 
 class Exercise(typing.NamedTuple):
     """The folder of its lesson; what a program must keep and leave; the case that is made of a draw and a size; the sizes of the cases, of which the
-    student sees the last but one; an instruction of its answer with a wrong one. With `put` false the data are what the student has to find, and are
-    wrong if the first two are exchanged."""
+    student sees the last but one; instructions of its answer, each with a wrong one. With `put` false the data are what the student has to find, and
+    are wrong if the first two are exchanged."""
 
     name: str
     contract: str

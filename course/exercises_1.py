@@ -1,10 +1,32 @@
 """The exercises of chapter 1: what their programs must leave, by Python's own numbers, lists, texts and divisions."""
 import re
-from math import comb, factorial
+from fractions import Fraction
+from math import comb, factorial, lcm
 
 from cards import cards_of
 from exercise import Case, Exercise
 from machine import CHARACTERS
+from matrices import saddle_points
+from subroutines import traced
+
+
+def second_numbers(draw, n):
+    return Case({"N": n}, [sum(range(n, 0, -2))], ("SUM",))
+
+
+def multiple(draw, size):
+    """Numbers with a large common divisor, so that their product need not fit into a word while their least multiple does."""
+    one, other = sorted(draw.numbers(2, 1, 12 * size + 1))
+    factor = draw.number(1, 64**5 // (one * other) - 1) if size else 1
+    return Case({"M": str(factor * other), "N": str(factor * one)}, [lcm(factor * other, factor * one)], ("LCM",))
+
+
+def recursive_fibonacci(draw, n):
+    n += draw.number(0, 2)
+    one, two = 1, 1
+    for _ in range(n - 1):
+        one, two = two, one + two
+    return Case({"N": n}, [one, 2 * one - 1], ("RESULT", "CALLS"))
 
 
 def degrees(draw, size):
@@ -41,11 +63,30 @@ def smallest_factors(draw, n):
 
 
 def last_man(draw, n):
-    m, men, at = draw.number(2, 12), list(range(1, n + 1)), 0
+    """A division for each man takes some 25u in any way; a circle takes 4u for each step along it, so more than 5 of these for each man."""
+    m, men, at = draw.number(2 if n < 11 else 7, 12), list(range(1, n + 1)), 0
     while len(men) > 1:
         at = (at + m - 1) % len(men)
         del men[at]
-    return Case({"N": n, "M": m}, men, ("LAST",), (f"clock <= {20 * n + 10}",))
+    return Case({"N": n, "M": m}, men, ("LAST",), (f"clock <= {26 * n + 20}",))
+
+
+def all_saddle_points(draw, n):
+    """Small numbers, and a row and a column of which one element is the smallest and the largest, and one more as large."""
+    m, at, j = draw.number(2, n + 1), 0, draw.number(0, n - 1)
+    rows = [draw.numbers(n, 2, 9) for _ in range(m)]
+    rows[at] = [max(one, 5) for one in rows[at]]
+    for row in rows:
+        row[j] = min(row[j], 5)
+    rows[at][j] = rows[-1][j] = 5
+    points = saddle_points(rows)
+    return Case({"M": m, "N": n, "data": sum(rows, [])}, [len(points), *points], ("COUNT", *(f"POINTS+{k}" for k in range(1, len(points) + 1))))
+
+
+def farey_lines(draw, n):
+    n += draw.number(0, 3)
+    series = sorted({Fraction(x, y) for y in range(1, n + 1) for x in range(y + 1)})
+    return Case({"N": n}, ["%05d  /  %05d" % (one.numerator, one.denominator) for one in series], steps=200000)
 
 
 def fixed_points(draw, n):
@@ -75,22 +116,48 @@ def swapped_text(draw, n):
 
 
 def squares(draw, n):
-    n += draw.number(0, 5)
-    return Case({"N": n}, ["%010d" % (k * k) for k in range(n, 0, -1)])
+    """The squares down from n; or, if n is 0, another program for the small machine, with a copy of a product on top of its stack."""
+    if n:
+        n += draw.number(0, 5)
+        return Case({"N": n}, ["%010d" % (k * k) for k in range(n, 0, -1)])
+    first, second, third = draw.numbers(3, 2, 40)
+    small = f"{first}(PUSH) {second}(PUSH) 0(TIMES) 0(COPY) 0(COPY) 0(PLUS) 0(PRINT) {third}(PUSH) 0(COPY) 0(PRINT) 0(PLUS) 0(PRINT) 0(STOP)".split()
+    code = [f"{'CODE' if at == 0 else '':<7} NOP  {address}" for at, address in enumerate(small)]
+    return Case({"code": code}, ["%010d" % number for number in (2 * first * second, third, first * second + third)])
+
+
+def traced_values(draw, n):
+    """The program of the lesson; or, if n is 0, one that counts rA down, in steps that a traced jump repeats."""
+    if n:
+        n += draw.number(0, 4)
+        path, given = traced(n), {"N": n}
+    else:
+        first, less = draw.number(5, 60), draw.number(1, 9)
+        path = [(1000, 0)]
+        for held in range(first, 0, -less):
+            path += [(1001, held), (1002, held - less)]
+        path += [(1003, path[-1][1]), (1005, path[-1][1])]
+        given = {"program": [f"PROG    ENTA {first}", f"        DECA {less}", "        JAP  *-1", "        JMP  *+2", "        NOP", "        HLT"]}
+    count = len(path)
+    return Case(given, [number for column in zip(*path) for number in column], (f"TABLE+1 TABLE+{count}", f"VALUES+1 VALUES+{count}"))
 
 
 def two_buffers(draw, n):
+    """With the most cards the reader is slower than the work on a card, so each card is waited for."""
     work = draw.number(20, 120)
-    numbers, delay = draw.numbers(n, 0, 99999), 20 + 2 * work - draw.number(0, 20)
-    return Case({"N": n, "WORK": work}, [sum(numbers)], ("SUM",), (f"clock <= {delay + n * (26 + 2 * work) + 12}",),
-                deck=[f"%UNIT 16 delay {delay}", *("%010d" % number for number in numbers)])
+    numbers, delay = draw.numbers(n, 0, 99999), 20 + 2 * work + (draw.number(-20, 0) if n < 12 else draw.number(5, 60))
+    waited = (n - 1) * max(0, delay - 20 - 2 * work)
+    return Case({"N": n, "WORK": work}, [sum(numbers)], ("SUM",), (f"clock <= {delay + waited + n * (26 + 2 * work) + 12}",),
+                deck=[f"%UNIT 16 delay {delay}", *("%010d" % number for number in numbers)], strict=True)
 
 
 def fibonacci(draw, size):
-    before, number, index = 1, 1, 2
+    """A sequence in which each number is the sum of the two before; the first two are not the largest that fit, at any size."""
+    first, second = (1, 1) if size == 0 else sorted(draw.numbers(2, 1, 10 ** (2 * size)))
+    before, number, index = first, second, 2
     while before + number < 64**5:
         before, number, index = number, before + number, index + 1
-    return Case({}, [number, index], ("RESULT", "INDEX"))
+    return Case({"FIRST": str(first), "SECOND": str(second)}, [number, index], ("RESULT", "INDEX"))
 
 
 def checked_sum(draw, n):
@@ -105,32 +172,48 @@ def punched(draw, n):
 
 
 EXERCISES = [
-    Exercise("01_degrees", "The cell FAHREN has the degrees. RESULT gets the nearest whole number of degrees Celsius.",
-             degrees, (0, 1, 2, 3, 4, 5, 6), ("JLE  1F", "JL   1F")),
-    Exercise("02_fields", "The word at DATE keeps its year; its day and its month are exchanged.", fields, (0, 1, 2), ("LDX  DATE(2:2)", "LDX  DATE(1:1)")),
-    Exercise("03_reversal", "The table of N entries from TABLE+1 on is reversed.", reversal, (1, 2, 3, 8, 31), ("J1P  SWAP", "J1NN SWAP")),
-    Exercise("04_rotation", "The table of N entries from TABLE+1 on is rotated K positions to the right.",
-             rotation, (2, 3, 7, 20), ("ENT2 K", "ENT2 K-1")),
-    Exercise("05_maximum", "At the halt rA has the largest of the N entries from TABLE+1 on, and rX the smallest.",
-             extremes, (1, 2, 12, 40), ("JLE  NEXT", "JGE  NEXT")),
-    Exercise("06_sieve", "For each k from 2 to N, TABLE+k gets the smallest prime factor of k, or 0 if k is prime.",
-             smallest_factors, (2, 20, 90, 150), ("JANZ 1F", "JAZ  1F")),
-    Exercise("07_josephus", "LAST gets the number of the last of N men, of whom every M-th leaves the circle.", last_man, (1, 2, 11, 24), ("INCX M", "INCX M-1")),
-    Exercise("08_cycles_counted", "TALLY+k gets the number of permutations of N things that leave k of them fixed, for k from 0 to N.",
-             fixed_points, (1, 2, 3, 4, 5), ("JNE  1F", "JE   1F")),
-    Exercise("09_inverse", "The program of the lesson is kept. Its N and its data are the permutation of N numbers that takes it the longest.",
-             longest_inverse, (0,), None, put=False),
-    Exercise("10_entrances_exits", "For k from 1 to N, REMS+k gets the remainder of ABOVE+k divided by BELOW+k, or 0 if BELOW+k is 0. At the halt rI4 "
-             "says how many divisors are 0, and rI5 how many divisions leave no remainder.", three_exits, (1, 5, 20), ("JXZ  1,3", "JXZ  2,3")),
-    Exercise("11_coroutines", "The text of one card is printed as the lesson says, but each two of its characters are exchanged.",
-             swapped_text, (0, 1, 2, 9, 22), ("STA  LINE,2(2:2)", "STA  LINE,2(3:3)")),
-    Exercise("12_interpreter", "The squares of N, N-1 and so on to 1 are printed, ten digits on a line.", squares, (1, 4), ("NOP  0(TIMES)", "NOP  0(PLUS)")),
-    Exercise("13_buffers", "SUM gets the sum of the numbers in columns 1 to 10 of N cards. Each card needs WORK rounds of 2u of other work.",
-             two_buffers, (1, 2, 6, 12), ("ENN3 -16,3", "ENN3 0,3")),
-    Exercise("30_overflow", "RESULT gets the largest Fibonacci number below 64^5, and INDEX its index; F(1) and F(2) are 1.",
-             fibonacci, (0,), ("JOV  DONE", "JNOV DONE")),
-    Exercise("31_hunt", "SUM gets the sum of the N numbers from TABLE+1 on, or -1 if it does not fit into a word.",
-             checked_sum, (1, 4, 4, 10, 10), ("JOV  *+1", "NOP  *+1")),
-    Exercise("32_loader", "The N words from WORDS+1 on, none of which is 0 or negative, are punched as cards for the loader, which puts them into the cells "
-             "from TO on and begins there.", punched, (1, 7, 8, 20), ("CMP3 =14=", "CMP3 =12=")),
+    Exercise("00_first_hour", "SUM gets the sum of N, N-2, N-4 and so on, as long as these numbers are positive.",
+             second_numbers, (1, 2, 9, 40, 77), (("DEC1 2", "DEC1 1"), ("J1P  LOOP", "J1NZ LOOP"), ("HLT", "NOP"))),
+    Exercise("01_euclid", "The cells M and N hold positive numbers. LCM gets their least common multiple, which fits into a word.",
+             multiple, (0, 1, 2, 3, 4, 5), (("MUL  N", "MUL  M"), ("SRAX 5", "SLAX 5"))),
+    Exercise("02_degrees", "The cell FAHREN has the degrees. RESULT gets the nearest whole number of degrees Celsius.",
+             degrees, (0, 1, 2, 3, 4, 5, 6), (("JLE  1F", "JL   1F"), ("JGE  2F", "JMP  2F"), ("JLE  1F", "JMP  1F"))),
+    Exercise("03_fields", "The word at DATE keeps its year; its day and its month are exchanged.", fields, (0, 1, 2), (("LDX  DATE(2:2)", "LDX  DATE(1:1)"),)),
+    Exercise("04_reversal", "The table of N entries from TABLE+1 on is reversed.", reversal, (1, 2, 3, 8, 31), (("J1P  SWAP", "J1NN SWAP"),)),
+    Exercise("10_rotation", "The table of N entries from TABLE+1 on is rotated K positions to the right.",
+             rotation, (2, 3, 7, 20), (("ENT2 K", "ENT2 K-1"),)),
+    Exercise("11_maximum", "At the halt rA has the largest of the N entries from TABLE+1 on, and rX the smallest.",
+             extremes, (1, 2, 12, 40), (("JLE  NEXT", "JGE  NEXT"),)),
+    Exercise("12_sieve", "For each k from 2 to N, TABLE+k gets the smallest prime factor of k, or 0 if k is prime.",
+             smallest_factors, (2, 20, 90, 150), (("JANZ 1F", "JAZ  1F"),)),
+    Exercise("13_josephus", "LAST gets the number of the last of N men, of whom every M-th leaves the circle.", last_man, (1, 2, 11, 24), (("INCX M", "INCX M-1"),)),
+    Exercise("14_saddle_point", "The matrix has M rows of N elements each, from A+1 on, row by row. COUNT gets the number of its saddle points, and POINTS+1, POINTS+2 "
+             "and so on get their numbers, the last one first: the element in row i and column j has the number N(i-1)+j.", all_saddle_points, (2, 3, 5, 9),
+             (("CMPA MAX,1", "CMPA A,3"), ("JLE  1B", "JGE  1B"))),
+    Exercise("15_farey", "The Farey series of order N, which is at least 2, is printed: on each line five digits, then two blanks, a slash and two blanks, and five "
+             "digits.", farey_lines, (2, 5, 9, 20), (("INC1 2", "INC1 1"), ("INCX N", "INCX N-1"))),
+    Exercise("17_cycles_counted", "TALLY+k gets the number of permutations of N things that leave k of them fixed, for k from 0 to N.",
+             fixed_points, (1, 2, 3, 4, 5), (("JNE  1F", "JE   1F"),)),
+    Exercise("18_inverse", "The program of the lesson is kept. Its N and its data are the permutation of N numbers that takes it the longest.",
+             longest_inverse, (0,), (), put=False),
+    Exercise("20_entrances_exits", "For k from 1 to N, REMS+k gets the remainder of ABOVE+k divided by BELOW+k, or 0 if BELOW+k is 0. At the halt rI4 "
+             "says how many divisors are 0, and rI5 how many divisions leave no remainder.", three_exits, (1, 5, 20), (("JXZ  1,3", "JXZ  2,3"),)),
+    Exercise("21_recursion", "RESULT gets the Fibonacci number F(N), by a subroutine that calls itself for N-1 and for N-2 if N is larger than 2. CALLS gets how "
+             "often it is called.", recursive_fibonacci, (1, 3, 6, 11), (("LD1  STACK,6(4:5)", "NOP  STACK,6(4:5)"), ("ADD  STACK-1,6", "LDA  STACK-1,6"))),
+    Exercise("22_coroutines", "The text of one card is printed as the lesson says, but each two of its characters are exchanged.",
+             swapped_text, (0, 1, 2, 9, 22), (("STA  LINE,2(2:2)", "STA  LINE,2(3:3)"),)),
+    Exercise("23_interpreter", "Your program for the small machine begins with the label CODE and prints the squares of N, N-1 and so on to 1, ten digits on a "
+             "line. It is between the comments * code and * end of code, and uses the names PUSH, TIMES and so on of the lesson, and COPY. Other programs "
+             "for the small machine are put there too, and have to print what they should.", squares, (0, 1, 0, 4, 0), (("JMP  DOCOPY", "JMP  DOPUSH"),)),
+    Exercise("24_trace", "The traced program is in the cells from 1000 on, between the comments * program and * end of program, and begins at PROG. TABLE+k gets "
+             "the location of its instruction k, and VALUES+k what rA holds before it. Other programs are put there too.", traced_values, (0, 1, 3, 0, 2, 0),
+             (("JMP  DO", "JMP  INSTR"), ("J6NN DO", "J6P  DO"))),
+    Exercise("25_buffers", "SUM gets the sum of the numbers in columns 1 to 10 of N cards. Each card needs WORK rounds of 2u of other work.",
+             two_buffers, (1, 2, 6, 12), (("ENN3 -16,3", "ENN3 0,3"), ("JBUS *(READER)", "NOP  *(READER)"))),
+    Exercise("05_overflow", "The cells FIRST and SECOND hold the first two numbers of a sequence; each later number is the sum of the two before it. RESULT "
+             "gets the largest one below 64^5, and INDEX its index.", fibonacci, (0, 1, 4, 2, 3), (("JOV  DONE", "JNOV DONE"),)),
+    Exercise("16_hunt", "SUM gets the sum of the N numbers from TABLE+1 on, or -1 if it does not fit into a word.",
+             checked_sum, (1, 4, 4, 10, 10), (("JOV  *+1", "NOP  *+1"),)),
+    Exercise("06_loader", "The N words from WORDS+1 on, none of which is 0 or negative, are punched as cards for the loader, which puts them into the cells "
+             "from TO on and begins there.", punched, (1, 7, 8, 20), (("CMP3 =14=", "CMP3 =12="),)),
 ]

@@ -1,5 +1,7 @@
 """The exercises of chapter 2: what their programs must leave, by Python's lists, dictionaries and recursion."""
 from exercise import Case, Exercise
+from linked_lists import moved_to_the_left
+from stacks import coded, taken
 
 
 def full_queue(draw, n):
@@ -119,18 +121,43 @@ def free_nodes(draw, n):
     return Case({"N": n, "ROOT": root, "data": lines}, [free[0], *words], ("AVAIL", "NODE+1 NODE+N"))
 
 
+def removed_tops(draw, n):
+    """Each stack gets a number, then one of them all the room that is left: first the lowest, later the highest, and then any."""
+    stacks = 3 + draw.number(0, 2)
+    room, orders = 2 * stacks + n, []
+    for one in (0, stacks - 1, draw.number(0, stacks - 1)):
+        filled = [*draw.shuffled(range(stacks)), *[one] * (room - stacks)]
+        orders += [(stack, draw.number(1, 4000)) for stack in filled] + [(stack, 0) for stack in draw.shuffled([*filled, *range(stacks)])]
+    bases = [1000 + k * room // stacks for k in range(stacks)] + [1000 + room]
+    gone = taken(orders, stacks)
+    return Case({"N": stacks, "ROOM": room, "bases": bases, "data": coded(orders)}, gone, (f"TAKEN+1 TAKEN+{len(gone)}",), steps=100000)
+
+
+def rows_in_both_directions(draw, n):
+    names = draw.distinct(n, 1, 999)
+    orders = [*names[: n // 2 + 1], *(-draw.one_of(names) for _ in range(n // 2)), *names[n // 2 + 1 :], -names[0], -names[n // 2], -1000]
+    row = moved_to_the_left(orders)
+    return Case({"M": n + 1, "data": [*orders, 0]}, [*row, *row[::-1]], (f"ROW+1 ROW+{n}", f"BACK+1 BACK+{n}"))
+
+
 EXERCISES = [
-    Exercise("14_queue", "The queue has room for M numbers. A number from OPS+1 on is inserted; 0 removes one, into TAKEN+1 and so on; -1 is the end. "
-             "At the halt rI6 is the number of overflows and underflows.", full_queue, (0, 9, 25), ("JE   AMISS", "JG   AMISS")),
-    Exercise("15_topological_sort", "The things that can be sorted are in ROW+1 and so on, in their order; those that are left over are in LEFT+1 and so "
-             "on, the largest number first. The other cells of both tables are 0.", circle_left, (3, 9, 18), ("JAZ  2F", "JANZ 2F")),
-    Exercise("16_polynomials", "P is added to Q as in the lesson. Then all nodes of P are free: rI6 has the first of them, and the head of P leads to what "
-             "was free before. The time of this does not depend on P.", given_back, (1, 3, 6), ("ST6  P+1(4:5)", "ST5  P+1(4:5)")),
-    Exercise("17_counter", "BEGINS+k gets the time at which person k of N is served, if there are two clerks.",
-             two_clerks, (1, 2, 6, 20), ("JGE  READY", "JG   READY")),
-    Exercise("18_tree_stack", "The letters of the N nodes are in ORDER+1 and so on, in preorder.", preorder, (1, 2, 8, 20), ("LD1  TREE,1(1:2)", "LD1  TREE,1(3:4)")),
-    Exercise("19_tree_threads", "Each of the N nodes without a right subtree gets its thread, with the sign -; the last one in inorder leads to 0.",
-             threads, (1, 2, 8, 20), ("J4Z  3F", "J4NZ 3F")),
-    Exercise("34_marking", "AVAIL gets the number of the first node that ROOT does not reach, or 0. In ascending order these nodes are linked by their bytes "
-             "1 and 2, and are 0 otherwise. All other nodes are as they were given.", free_nodes, (1, 2, 9, 25), ("JAP  4F", "JANP 4F")),
+    Exercise("30_queue", "The queue has room for M numbers. A number from OPS+1 on is inserted; 0 removes one, into TAKEN+1 and so on; -1 is the end. "
+             "At the halt rI6 is the number of overflows and underflows.", full_queue, (0, 9, 25), (("JE   AMISS", "JG   AMISS"),)),
+    Exercise("31_repacking", "N stacks share the ROOM cells behind the first base, BASE+1; the next bases follow, and BASE+N+1 is the end of the room. An order from "
+             "OPS+1 on has a stack in byte 1 and a number in bytes 4 and 5, which is pushed; 0 removes the top of the stack, if it has one, and TAKEN+1 and "
+             "so on get what is removed. The word 0 is the end.", removed_tops, (1, 3, 9, 20), (("JE   NEXT", "NOP  NEXT"), ("STA  1,4", "STA  0,4"), ("CMP3 =N=", "CMP3 =N-1="))),
+    Exercise("32_topological_sort", "The things that can be sorted are in ROW+1 and so on, in their order; those that are left over are in LEFT+1 and so "
+             "on, the largest number first. The other cells of both tables are 0.", circle_left, (3, 9, 18), (("JAZ  2F", "JANZ 2F"),)),
+    Exercise("33_polynomials", "P is added to Q as in the lesson. Then all nodes of P are free: rI6 has the first of them, and the head of P leads to what "
+             "was free before. The time of this does not depend on P.", given_back, (1, 3, 6), (("ST6  P+1(4:5)", "ST5  P+1(4:5)"),)),
+    Exercise("34_double_links", "M nodes are free at first. A number from OPS+1 on is inserted at the right end; -k moves the node of k to the left end, if there is "
+             "one; 0 is the end. Then ROW+1 and so on get the numbers from left to right, and BACK+1 and so on from right to left.", rows_in_both_directions,
+             (3, 8, 20), (("ST1  1,2(4:5)", "NOP  1,2(4:5)"), ("ST2  1,3(1:2)", "NOP  1,3(1:2)"), ("ST3  1,2(4:5)", "NOP  1,2(4:5)"))),
+    Exercise("35_counter", "BEGINS+k gets the time at which person k of N is served, if there are two clerks.",
+             two_clerks, (1, 2, 6, 20), (("JGE  READY", "JG   READY"),)),
+    Exercise("40_tree_stack", "The letters of the N nodes are in ORDER+1 and so on, in preorder.", preorder, (1, 2, 8, 20), (("LD1  TREE,1(1:2)", "LD1  TREE,1(3:4)"),)),
+    Exercise("41_tree_threads", "Each of the N nodes without a right subtree gets its thread, with the sign -; the last one in inorder leads to 0.",
+             threads, (1, 2, 8, 20), (("J4Z  3F", "J4NZ 3F"),)),
+    Exercise("42_marking", "AVAIL gets the number of the first node that ROOT does not reach, or 0. In ascending order these nodes are linked by their bytes "
+             "1 and 2, and are 0 otherwise. All other nodes are as they were given.", free_nodes, (1, 2, 9, 25), (("JAP  4F", "JANP 4F"),)),
 ]

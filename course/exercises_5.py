@@ -1,6 +1,10 @@
 """The exercises of chapters 5 and 6: what their programs must leave, by Python's sort, pairs of keys, and places in a list."""
+from deleting import columns_of, deleted, grown
 from exercise import Case, Exercise
 from machine import CHARACTERS
+from probing import lazily
+from searching import doubly_hashed
+from sorting import rightmost
 
 
 def stable_words(draw, n):
@@ -41,6 +45,19 @@ def three_largest(draw, n):
     return Case({"N": n, "data": keys}, sorted(keys)[-3:], ("KEY+N-2 KEY+N",), (f"clock <= {levels + 3 * (20 * n.bit_length() + 25) + 20}",))
 
 
+def selected(draw, n):
+    """A comparison takes 5u, and 3u more if it finds a larger key; each of the other N-1 rounds takes some 13u."""
+    keys = draw.distinct(n, 1, 999)
+    larger = sum(one > max(others) for last in range(n, 1, -1) for others, one in rightmost(keys, last))
+    return Case({"N": n, "data": keys}, sorted(keys), ("KEY+1 KEY+N",), (f"clock <= {5 * n * (n - 1) // 2 + 3 * larger + 16 * n + 20}",))
+
+
+def keys_of_two_words(draw, n):
+    high, low = [draw.number(1, 1 + n // 3) for _ in range(n)], draw.distinct(n, 1, 999)
+    order = sorted(range(n), key=lambda at: (high[at], low[at]))
+    return Case({"N": n, "high": high, "low": low}, [at + 1 for at in order], ("ORDER+1 ORDER+N",), (f"clock <= {60 * n * n.bit_length()}",))
+
+
 def keys_in_table(draw, n):
     keys = draw.distinct(n, 1, 999)
     return Case({"N": n, "data": keys}, sorted(keys), ("TABLE+1 TABLE+N",))
@@ -62,7 +79,7 @@ def two_at_once(draw, n):
 
 def by_halves(draw, n):
     keys = sorted(draw.distinct(n, 1, 999))
-    wanted = draw.one_of([keys[0], keys[-1], draw.one_of(keys), draw.number(1, 999)])
+    wanted = {7: keys[0], 16: keys[-1], 17: keys[0]}.get(n, draw.one_of([*keys, draw.number(1, 999)]))
     halves = [(n + 2 ** (j - 1)) // 2**j for j in range(1, n.bit_length() + 3)]
     place = keys.index(wanted) + 1 if wanted in keys else 0
     return Case({"N": n, "WANTED": wanted, "data": keys, "halves": halves[: halves.index(0) + 1]}, [place], ("I1",),
@@ -104,29 +121,74 @@ def opposite_order(draw, n):
                 told=f"Your M is {m}, your N is {n}. Your keys come in this order: {', '.join(map(str, keys))}.")
 
 
+def without_some(draw, n):
+    keys = draw.shuffled(draw.distinct(n, 1, 998))
+    gone = [*draw.shuffled(keys)[: (n + 1) // 2], 999]
+    root, links = columns_of(grown(keys), keys)
+    tree = grown(keys)
+    for key in gone:
+        tree = deleted(tree, key, mirrored=True)
+    new_root, new_links = columns_of(tree, keys)
+    kept = {at: new_links[key] for at, key in enumerate(keys, 1) if key in new_links}
+    cells = [(f"{part}+{at}", sides[side]) for at, sides in kept.items() for side, part in enumerate(("LEFT", "RIGHT"))]
+    given = {"N": n, "keys": keys, "left": [links[key][0] for key in keys], "right": [links[key][1] for key in keys], "gone": [*gone, 0], "ROOT": str(root)}
+    return Case(given, [new_root, *(number for _, number in cells)], ("ROOT", *(cell for cell, _ in cells)))
+
+
+def by_two_remainders(draw, n):
+    m = next(prime for prime in (5, 7, 11, 17, 37, 61) if prime > n)
+    keys = draw.numbers(n, 1, 4000)
+    keys[-1] = keys[0] + m * draw.number(1, 9) if n > 1 else keys[0]
+    return Case({"N": n, "M": m, "data": keys}, doubly_hashed(keys, m), ("TABLE TABLE+M-1",))
+
+
+def lazy_orders(draw, n):
+    """So many cells that one stays empty; no cell gets empty again, so it is empty at the end."""
+    keys, m = draw.distinct(n, 1, 200), n + 2
+    orders = [*keys, *(draw.one_of((1, -1)) * draw.one_of(keys) for _ in range(3 * n)), -keys[0], *keys]
+    while 0 not in lazily(orders, m):
+        m += 1
+    return Case({"M": m, "data": [*orders, 0]}, lazily(orders, m), ("TABLE TABLE+M-1",), steps=100000)
+
+
 def sorted_cards(draw, n):
+    """Cards that are full of characters: 260 of them have more words than the memory has cells."""
     letters = CHARACTERS[1:39]
-    cards = ["".join(draw.one_of(letters) for _ in range(4)) + letters[at % 38] + f" CARD {at}" for at in range(n)]
-    return Case({}, sorted(cards, key=lambda card: [CHARACTERS.index(one) for one in card[:5]]), cards=[*draw.shuffled(cards), "99999"])
+    keys = ["".join(draw.one_of(letters) for _ in range(3)) + letters[at // 38] + letters[at % 38] for at in range(n)]
+    cards = [key + "".join(draw.one_of(letters) for _ in range(71)) + "%04d" % at for at, key in enumerate(keys)]
+    return Case({}, sorted(cards, key=lambda card: [CHARACTERS.index(one) for one in card[:5]]), cards=[*draw.shuffled(cards), "99999"], steps=400000)
 
 
 EXERCISES = [
-    Exercise("20_insertion", "The N words from KEY+1 on are sorted by bytes 4 and 5 alone; words that agree in them keep their order.",
-             stable_words, (2, 3, 8, 30), ("JLE  PLACE", "JL   PLACE")),
-    Exercise("21_shell", "The N keys from KEY+1 on are sorted by the increments 7, 3 and 1.", three_increments, (16, 25, 40), ("CON  3", "CON  9")),
-    Exercise("22_quicksort", "The program of the lesson is kept. Its N and its data are your keys, in increasing order.", keys_in_order, (8,), None, put=False),
-    Exercise("23_heapsort", "KEY+N-2 to KEY+N get the three largest of the N keys from KEY+1 on.", three_largest, (4, 10, 40), ("CMP2 =N-3=", "CMP2 =N-2=")),
-    Exercise("24_list_merge", "TABLE+1 to TABLE+N get the N keys from KEY+1 on, in their order.", keys_in_table, (2, 4, 8, 16), ("STA  TABLE,2", "STA  TABLE-1,2")),
-    Exercise("25_radix", "LINK leads to the smallest of the N keys by bytes 4 and 5 alone, LINK+k from key k to the next, the last to 0; keys that agree keep "
-             "their order.", last_two_digits, (1, 2, 8, 30), ("CMP6 =P=", "CMP6 =P+1=")),
-    Exercise("26_sequential_search", "At the halt rI1 has the position of WANTED among the N keys from KEY+1 on, or 0 if it is not there.",
-             two_at_once, (1, 2, 9, 40), ("DEC1 2", "DEC1 1")),
-    Exercise("27_binary_search", "At the halt rI1 has the position of WANTED among the N keys from KEY+1 on, or 0 if it is not there. The table of halves from "
-             "HALVES+1 on is given.", by_halves, (1, 2, 7, 16, 16, 31, 31), ("DEC1 0,3", "DEC1 1,3")),
-    Exercise("28_search_tree", "The program of the lesson is kept. Its N and its data are your keys, in an order with the fewest comparisons; at the halt rI4 "
-             "has N.", fewest_comparisons, (0,), None, put=False),
-    Exercise("29_hashing", "The program of the lesson is kept. Its M, its N and its data are your keys, in the opposite order.",
-             opposite_order, (7,), None, put=False),
-    Exercise("33_tapes", "The cards have different first words. They are printed in the order of these words; a card that begins with 99999 is the last and is "
-             "not printed. Tapes 0 to 3 are blank.", sorted_cards, (1, 2, 3, 12), ("CMPX LAST", "CMPA LAST")),
+    Exercise("50_insertion", "The N words from KEY+1 on are sorted by bytes 4 and 5 alone; words that agree in them keep their order.",
+             stable_words, (2, 3, 8, 30), (("JLE  PLACE", "JL   PLACE"),)),
+    Exercise("51_shell", "The N keys from KEY+1 on are sorted by the increments 7, 3 and 1.", three_increments, (16, 25, 40), (("CON  3", "CON  9"),)),
+    Exercise("52_bubble", "The N keys from KEY+1 on, at least two, are sorted by selection, with at most N-1 exchanges.", selected, (2, 3, 9, 40),
+             (("JGE  2F", "JLE  2F"), ("ENT3 0,2", "ENT3 0,1"))),
+    Exercise("53_quicksort", "The program of the lesson is kept. Its N and its data are your keys, in increasing order.", keys_in_order, (8,), (), put=False),
+    Exercise("55_heapsort", "KEY+N-2 to KEY+N get the three largest of the N keys from KEY+1 on.", three_largest, (4, 10, 40), (("CMP2 =N-3=", "CMP2 =N-2="),)),
+    Exercise("56_list_merge", "TABLE+1 to TABLE+N get the N keys from KEY+1 on, in their order.", keys_in_table, (2, 4, 8, 16), (("STA  TABLE,2", "STA  TABLE-1,2"),)),
+    Exercise("57_list_merge_sort", "ORDER+1 to ORDER+N get the numbers of the keys in ascending order. Key k is the word at HIGH+k, and if these agree that at "
+             "LOW+k. No two keys are equal.", keys_of_two_words, (3, 5, 16, 60), (("CMPX LOW,2", "CMPA LOW,2"), ("JL   FIRST", "NOP  FIRST"))),
+    Exercise("58_radix", "LINK leads to the smallest of the N keys by bytes 4 and 5 alone, LINK+k from key k to the next, the last to 0; keys that agree keep "
+             "their order.", last_two_digits, (1, 2, 8, 30), (("CMP6 =P=", "CMP6 =P+1="),)),
+    Exercise("60_sequential_search", "At the halt rI1 has the position of WANTED among the N keys from KEY+1 on, or 0 if it is not there.",
+             two_at_once, (1, 2, 9, 40), (("DEC1 2", "DEC1 1"),)),
+    Exercise("61_binary_search", "At the halt rI1 has the position of WANTED among the N keys from KEY+1 on, or 0 if it is not there. The table of halves from "
+             "HALVES+1 on is given.", by_halves, (1, 2, 7, 16, 17, 31, 31), (("DEC1 0,3", "DEC1 1,3"),)),
+    Exercise("62_search_tree", "The program of the lesson is kept. Its N and its data are your keys, in an order with the fewest comparisons; at the halt rI4 "
+             "has N.", fewest_comparisons, (0,), (), put=False),
+    Exercise("65_hashing", "The program of the lesson is kept. Its M, its N and its data are your keys, in the opposite order.",
+             opposite_order, (7,), (), put=False),
+    Exercise("63_tree_deletion", "Node k of a search tree is KEY+k with the links LEFT+k and RIGHT+k, and ROOT has the number of the root, or 0. The keys from GONE+1 "
+             "on, up to a 0, are deleted one after another: a node without a left subtree is replaced by its right one, otherwise the node before it in "
+             "order takes its place.", without_some, (1, 5, 9, 25), (("ST3  0,5", "ST2  0,5"), ("ST4  RIGHT,3", "NOP  RIGHT,3"), ("J4Z  2F", "JMP  2F"))),
+    Exercise("66_chaining", "The cells TABLE to TABLE+M-1 get the N keys from KEYS+1 on by double hashing; an empty cell is 0, and a key that comes twice is "
+             "stored once. M is a prime, at least 5 and larger than N.", by_two_remainders, (1, 4, 10, 16, 34, 55), (("DIV  =M-2=", "DIV  =M-1="), ("INC2 M", "INC2 M-1"))),
+    Exercise("67_hash_deletion", "The table of M cells from TABLE on is empty at first. An order k from OPS+1 on inserts k, unless it is there, into the first cell of "
+             "its search that is 0 or -1; -k puts -1 into the cell of k, if it is there; 0 is the end.", lazy_orders, (1, 3, 9, 30),
+             (("J4NN BELOW", "NOP  BELOW"), ("JXN  FREED", "JXN  ABSENT"), ("ENNX 1", "ENTX 0"))),
+    Exercise("59_tapes", "The cards have different first words. They are printed in the order of these words; a card that begins with 99999 is the last and is "
+             "not printed. Tapes 0 to 3 are blank. There may be more words on the cards than the memory has cells.",
+             sorted_cards, (1, 2, 3, 12, 260), (("CMPX LAST", "CMPA LAST"),)),
 ]

@@ -1,4 +1,5 @@
-"""Facts of the lessons of 1.3.1 and 1.3.2, by Python's own numbers, lists and divisions."""
+"""Facts of the lessons of 1.1 and 1.3.1 to 1.3.2, by Python's own numbers, lists and divisions."""
+import fractions
 import itertools
 import math
 import random
@@ -130,20 +131,80 @@ def overflow(run):
         yield "the table moved down", ran.numbers(shows[1]), [*plain, plain[-1]]
         yield "the table moved up", ran.numbers(shows[2]), [plain[0]] * (n + 1)
         yield from times(ran, N=n, C=sum(table) // 64**5)
-    before, number, index = 1, 1, 2
-    while before + number < 64**5:
-        before, number, index = number, before + number, index + 1
-    ran = run("answer.mixal", script=["run 1000", "show values RESULT INDEX"])
-    yield "the largest Fibonacci number in a word, and its index", ran.numbers("show values RESULT INDEX"), [number, index]
+    for first, second in ((1, 1), (2, 1), (0, 7), (64**5 - 1, 1), (5000, 64**4)):
+        before, number, index = first, second, 2
+        while before + number < 64**5:
+            before, number, index = number, before + number, index + 1
+        put = [f"set cell FIRST {first}", f"set cell SECOND {second}"]
+        ran = run("answer.mixal", script=[*put, "run 1000", "show values RESULT INDEX"])
+        yield f"the largest number in a word after {first} and {second}, and its index", ran.numbers("show values RESULT INDEX"), [number, index]
+
+
+def quotients(m, n):
+    """The quotients of m and n in turn: those of the continued fraction of m over n."""
+    left, found = fractions.Fraction(m, n), []
+    while True:
+        found.append(math.floor(left))
+        if left == found[-1]:
+            return found
+        left = 1 / (left - found[-1])
+
+
+def euclid(run):
+    draw = random.Random(11)
+    pairs = [(1071, 462), (462, 1071), (34, 21), (21, 34), (7, 7), (1, 9), (9, 1), (64**5 - 1, 64**4)]
+    pairs += [(draw.randrange(1, 5000), draw.randrange(1, 5000)) for _ in range(6)]
+    for m, n in pairs:
+        put = [f"set cell M {m}", f"set cell N {n}"]
+        ran = run(script=[*put, *RUN, "show values GCD GCD"])
+        divisors = [d for d in range(1, min(m, n, 5000) + 1) if m % d == n % d == 0]
+        yield f"the divisor of {m} and {n}", ran.numbers("show values GCD GCD"), divisors[-1:]
+        yield from times(ran, T=len(quotients(m, n)))
+        if m * n // divisors[-1] < 64**5:
+            ran = run("answer.mixal", script=[*put, "run 1000", "show values LCM LCM"])
+            yield f"the multiple of {m} and {n}", ran.numbers("show values LCM LCM"), [m * n // divisors[-1]]
+
+
+def farey(run):
+    for n in (2, 3, 7, 12, 20, 40):
+        series = sorted({fractions.Fraction(x, y) for y in range(1, n + 1) for x in range(y + 1)})
+        coprime = sum(math.gcd(x, y) == 1 for y in range(1, n + 1) for x in range(1, y + 1))
+        shows = ["show values LAST LAST", f"show values X X+{coprime}", f"show values Y Y+{coprime}"]
+        ran = run(N=n, script=[*RUN, *shows])
+        yield f"the number of the last fraction of order {n}", ran.numbers(shows[0]), [coprime]
+        yield f"the fractions of order {n}", [fractions.Fraction(*one) for one in zip(*(ran.numbers(show) for show in shows[1:]))], series
+        yield f"in lowest terms, for {n}", ran.numbers(shows[2]), [one.denominator for one in series]
+        yield from times(ran, F=coprime)
+        ran = run("answer.mixal", N=n, script=["run 100000", "show unit 18"])
+        yield f"the fractions of order {n}, printed", ran.rows(18), ["%05d  /  %05d" % (one.numerator, one.denominator) for one in series]
+
+
+def first_hour(run):
+    for dinner, tip in ((100, 15), (0, 0), (1000, -1), (3, 4)):
+        put = [f"set cell DINNER {dinner}", f"set cell TIP {tip}"]
+        ran = run(script=[*put, "run 100", "show values TOTAL TOTAL"])
+        yield f"a dinner of {dinner} with a tip of {tip}", ran.numbers("show values TOTAL TOTAL"), [dinner + tip - 10]
+    for n in (1, 2, 9, 10, 44):
+        for name in ("sum.mixal", "mended.mixal", "printed.mixal", "answer.mixal"):
+            after = "halt" if name != "sum.mixal" else f"fault {'M15 no cell at the location' if n < 44 else 'M6 no such field'}"
+            wanted = sum(range(n, 0, -2 if name == "answer.mixal" else -1))
+            ran = run(name, N=n, script=["run 10000", "show values SUM SUM", "show unit 18"])
+            yield f"{name}: how the run ends for {n}", ran.end, after
+            yield f"{name}: the sum for {n}", ran.numbers("show values SUM SUM"), [wanted]
+            yield f"{name}: what is printed for {n}", ran.rows(18), ["%05d" % wanted] * (name == "printed.mixal")
+    yield "the steps without a HLT: those to the sum, and a cell after the other", run("sum.mixal", script=["run 10000"]).steps, 2 + 3 * 10 + 1 + 4000 - 3006
 
 
 LESSONS = [
-    Lesson("01_degrees", degrees, ("DIV  =5=", "DIV  =4=")),
-    Lesson("02_fields", fields, ("STA  DATE(2:2)", "STA  DATE(1:2)")),
-    Lesson("03_reversal", reversal, ("JL   SWAP", "JLE  SWAP")),
-    Lesson("04_rotation", rotation, ("ENT1 K+1", "ENT1 K")),
-    Lesson("05_maximum", maximum, ("JGE  NEXT", "JG   NEXT")),
-    Lesson("06_sieve", sieve, ("JG   COLLECT", "JGE  COLLECT")),
-    Lesson("07_josephus", josephus, ("ENT4 M-1", "ENT4 M")),
-    Lesson("30_overflow", overflow, ("JNOV 2F", "JOV  2F")),
+    Lesson("00_first_hour", first_hour, ("DECA 10", "INCA 10")),
+    Lesson("01_euclid", euclid, ("SRAX 5", "SRAX 4")),
+    Lesson("02_degrees", degrees, ("DIV  =5=", "DIV  =4=")),
+    Lesson("03_fields", fields, ("STA  DATE(2:2)", "STA  DATE(1:2)")),
+    Lesson("04_reversal", reversal, ("JL   SWAP", "JLE  SWAP")),
+    Lesson("10_rotation", rotation, ("ENT1 K+1", "ENT1 K")),
+    Lesson("11_maximum", maximum, ("JGE  NEXT", "JG   NEXT")),
+    Lesson("12_sieve", sieve, ("JG   COLLECT", "JGE  COLLECT")),
+    Lesson("13_josephus", josephus, ("ENT4 M-1", "ENT4 M")),
+    Lesson("15_farey", farey, ("SUB  X,1", "SUB  Y,1")),
+    Lesson("05_overflow", overflow, ("JNOV 2F", "JOV  2F")),
 ]

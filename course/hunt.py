@@ -3,7 +3,7 @@ import math
 
 from lesson import Lesson
 
-RUN = "run 3000"
+RUN = "run 20000"
 # Of each program the command that shows its result, what is wrong, how it is mended, and what is right.
 HUNTS = {
     "lesson.mixal": ("show values SUM SUM", ("halt", [120]),
@@ -15,7 +15,7 @@ HUNTS = {
     "fourth.mixal": ("show values RESULT RESULT", ("halt", [12]),
                    [("        CMPA TABLE,1\n        CMP1 =N=\n        JG   DONE\n", "        CMP1 =N=\n        JG   DONE\n        CMPA TABLE,1\n")],
                    [max(59, 31, 97, 88, 12, 23)]),
-    "fifth.mixal": ("show values LENGTH LENGTH", ("limit", [0]),
+    "fifth.mixal": ("show values LENGTH LENGTH", ("fault M7 index overflow", [0]),
                   [("        ST2  LIST,1(4:5)\n        LD3  LIST,1(4:5)\n        ST3  LIST,2(4:5)\n",
                     "        LD3  LIST,1(4:5)\n        ST3  LIST,2(4:5)\n        ST2  LIST,1(4:5)\n")], [len([1, 3, 7, 9])]),
     "sixth.mixal": ("show values SUM SUM", ("halt", [-1]), [("        ENT1 N\n        ENTA 0\n2H", "        JOV  *+1\n        ENT1 N\n        ENTA 0\n2H")],
@@ -51,4 +51,4 @@ def hunt(run):
         yield f"the sum of {table}", (ran.end, ran.numbers(show)), ("halt", [sum(table) if sum(table) < 64**5 else -1])
 
 
-LESSONS = [Lesson("31_hunt", hunt, ("ENTA 1", "ENTA 2"))]
+LESSONS = [Lesson("16_hunt", hunt, ("ENTA 1", "ENTA 2"))]

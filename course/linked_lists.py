@@ -161,9 +161,56 @@ def counter(run):
         yield "when each is served by two clerks", ran.numbers(show), begins
 
 
+def removed(orders):
+    """What is removed in turn, how often a node is compared, how many orders find none, and the row that is left, from left to right."""
+    row, gone, compared, missed = [], [], 0, 0
+    for order in orders:
+        if order > 0:
+            row.append(order)
+        elif -order in row:
+            compared += row.index(-order) + 1
+            row.remove(-order)
+            gone.append(-order)
+        else:
+            compared, missed = compared + len(row) + 1, missed + 1
+    return gone, compared, missed, row
+
+
+def moved_to_the_left(orders):
+    """The row from left to right, if an order -k moves k to its left end."""
+    row = []
+    for order in orders:
+        if order > 0:
+            row.append(order)
+        elif -order in row:
+            row.remove(-order)
+            row.insert(0, -order)
+    return row
+
+
+def double_links(run):
+    draw = random.Random(225)
+    lists = [[11, 22, 33, -22, 44, -11, 55, -99], [5, -5, 6, -6], [-1], [1, 2, 3, -3, -2, -1, 4]]
+    for size in (10, 30):
+        names = draw.sample(range(1, 4000), size)
+        lists.append([*names[: size // 2], *(draw.choice([-draw.choice(names), -names[at]]) for at in range(size // 2)), *names[size // 2 :]])
+    for orders in lists:
+        gone, compared, missed, row = removed(orders)
+        inserted = sum(order > 0 for order in orders)
+        show = f"show values GONE GONE+{max(len(gone), 1)}"
+        ran = run(M=inserted + 2, data=[*orders, 0], script=[*RUN, show])
+        yield "what is removed, in its order", ran.numbers(show)[1 : len(gone) + 1], gone
+        yield from times(ran, M=inserted + 2, I=inserted, D=len(orders) - inserted, E=missed, C=compared)
+        left = moved_to_the_left(orders)
+        shows = [f"show values ROW+1 ROW+{max(len(left), 1)}", f"show values BACK+1 BACK+{max(len(left), 1)}"]
+        ran = run("answer.mixal", M=inserted + 2, data=[*orders, 0], script=["run 100000", *shows])
+        yield "the row in both directions", [ran.numbers(show)[: len(left)] for show in shows], [left, left[::-1]]
+
+
 LESSONS = [
-    Lesson("14_queue", queue, ("CMP1 =M=", "CMP2 =M=")),
-    Lesson("15_topological_sort", topological_sort, ("JANZ 5F", "JAZ  5F")),
-    Lesson("16_polynomials", polynomials, ("JAZ  DELETE", "JAN  DELETE")),
-    Lesson("17_counter", counter, ("JL   2F", "JG   2F")),
+    Lesson("30_queue", queue, ("CMP1 =M=", "CMP2 =M=")),
+    Lesson("32_topological_sort", topological_sort, ("JANZ 5F", "JAZ  5F")),
+    Lesson("33_polynomials", polynomials, ("JAZ  DELETE", "JAN  DELETE")),
+    Lesson("34_double_links", double_links, ("ST2  1,3(1:2)", "ST2  1,3(4:5)")),
+    Lesson("35_counter", counter, ("JL   2F", "JG   2F")),
 ]

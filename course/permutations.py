@@ -80,6 +80,6 @@ def inverse(run):
 
 
 LESSONS = [
-    Lesson("08_cycles_counted", cycles_counted, ("JG   WALK", "JGE  WALK")),
-    Lesson("09_inverse", inverse, ("ST1  X,4", "ST2  X,4")),
+    Lesson("17_cycles_counted", cycles_counted, ("JG   WALK", "JGE  WALK")),
+    Lesson("18_inverse", inverse, ("ST1  X,4", "ST2  X,4")),
 ]

@@ -124,9 +124,60 @@ def hashing(run):
     yield "the cells that are taken in both orders", *([bool(key) for key in table] for table in both)
 
 
+def chained(keys, m):
+    """Each chain as the list of its nodes, and the letters: a key is compared with those behind its own node on its chain."""
+    held, chains, last = {}, [], m + 1
+    counts = dict.fromkeys("CSI", 0)
+    for key in keys:
+        node = key % m + 1
+        if node in held:
+            chain = next(one for one in chains if node in one)
+            nodes = chain[chain.index(node) :]
+            found = [held[at] for at in nodes]
+            if key in found:
+                counts["C"], counts["S"] = counts["C"] + found.index(key) + 1, counts["S"] + 1
+                continue
+            counts["C"], counts["I"] = counts["C"] + len(nodes), counts["I"] + 1
+            node = last = max(at for at in range(1, last) if at not in held)
+            chain.append(node)
+        else:
+            chains.append([node])
+        held[node] = key
+    return held, chains, {**counts, "D": m + 1 - last}
+
+
+def doubly_hashed(keys, m):
+    """The table of double hashing: each key in the first cell of its own row of cells that is empty."""
+    table = [0] * m
+    for key in keys:
+        row = [(key % m - at * (1 + key % (m - 2))) % m for at in range(m)]
+        if key not in table:
+            table[next(cell for cell in row if not table[cell])] = key
+    return table
+
+
+def chaining(run):
+    draw = random.Random(643)
+    cases = [(11, [31, 415, 926, 535, 891, 932, 385, 626]), (3, [5, 8, 11]), (7, [14, 7, 21, 7, 3]), (5, [1])]
+    cases += [(m, draw.sample(range(1, 5000), n)) for m, n in ((13, 12), (31, 30), (53, 40))]
+    for m, keys in cases:
+        held, chains, counts = chained(keys, m)
+        links = {one: other for chain in chains for one, other in zip(chain, chain[1:])}
+        ran = run(N=len(keys), M=m, data=keys, script=[*RUN, "show values KEY+1 KEY+M", "show values LINK+1 LINK+M"])
+        yield "the nodes of the keys", ran.numbers("show values KEY+1 KEY+M"), [held.get(node, 0) for node in range(1, m + 1)]
+        yield "the links of the chains", ran.numbers("show values LINK+1 LINK+M"), [links.get(node, 0) for node in range(1, m + 1)]
+        yield from times(ran, N=len(keys), **counts)
+        if len(set(keys)) < m and m > 4:
+            ran = run("answer.mixal", N=len(keys), M=m, data=keys, script=["run 100000", "show values TABLE TABLE+M-1"])
+            yield "the table of double hashing", ran.numbers("show values TABLE TABLE+M-1"), doubly_hashed(keys, m)
+    ran = run(N=4, M=3, data=[1, 2, 3, 4], script=["run 10000", "show values"])
+    yield "no free node", (ran.end, ran.register("I6")), ("halt", 1)
+
+
 LESSONS = [
-    Lesson("26_sequential_search", sequential_search, ("J1P  LOOK", "J1NN LOOK")),
-    Lesson("27_binary_search", binary_search, ("ENT1 1,3", "ENT1 0,3")),
-    Lesson("28_search_tree", search_tree, ("LD3  LEFT,2", "LD3  RIGHT,2")),
-    Lesson("29_hashing", hashing, ("ENT2 M-1", "ENT2 M")),
+    Lesson("60_sequential_search", sequential_search, ("J1P  LOOK", "J1NN LOOK")),
+    Lesson("61_binary_search", binary_search, ("ENT1 1,3", "ENT1 0,3")),
+    Lesson("62_search_tree", search_tree, ("LD3  LEFT,2", "LD3  RIGHT,2")),
+    Lesson("65_hashing", hashing, ("ENT2 M-1", "ENT2 M")),
+    Lesson("66_chaining", chaining, ("INC2 1", "INC2 2")),
 ]

@@ -178,11 +178,42 @@ def radix(run):
             yield from times(ran, N=len(table), M=10, P=digits, E=empty)
 
 
+def passes_of(keys):
+    """The letters of bubble sort. A key that has b larger ones before it moves to the left in b passes; Knuth's formula for the comparisons of a pass."""
+    larger = [sum(other > key for other in keys[:at]) for at, key in enumerate(keys)]
+    ranks = [sorted(keys).index(key) + 1 for key in keys]
+    passes = 1 + max(larger)
+    compared = sum(max(b + rank for b, rank in zip(larger, ranks) if b >= one - 1) - one for one in range(1, passes + 1))
+    return {"A": passes, "B": sum(larger), "C": compared}
+
+
+def bubble(run):
+    draw = random.Random(522)
+    tables = [[40, 70, 10, 50, 20, 80, 60, 30], [1, 2], [2, 1], list(range(12, 0, -1)), list(range(9)), *(draw.sample(range(1, 999), n) for n in (3, 7, 20, 31))]
+    for table in tables:
+        for name in ("lesson.mixal", "answer.mixal"):
+            show = "show values KEY+1 KEY+N"
+            ran = run(name, N=len(table), data=table, script=[*RUN, show])
+            yield f"{name}: {table} sorted", ran.numbers(show), sorted(table)
+            larger = sum(one > max(table_at) for n in range(len(table), 1, -1) for table_at, one in rightmost(table, n))
+            yield from times(ran, N=len(table), L=larger, **passes_of(table))
+
+
+def rightmost(table, n):
+    """Of the first n keys when selection comes to them: each key with those on its right. What is behind them is in order, by exchanges with the largest."""
+    keys = list(table)
+    for last in range(len(keys), n, -1):
+        at = keys.index(max(keys[:last]))
+        keys[at], keys[last - 1] = keys[last - 1], keys[at]
+    return [(keys[at + 1 : n], keys[at]) for at in range(n - 1)]
+
+
 LESSONS = [
-    Lesson("20_insertion", insertion, ("JLE  PLACE", "JL   PLACE")),
-    Lesson("21_shell", shell, ("ENT1 1,3", "ENT1 2,3")),
-    Lesson("22_quicksort", quicksort, ("JL   2B", "JLE  2B")),
-    Lesson("23_heapsort", heapsort, ("CMPX KEY+1,3", "CMPX KEY-1,3")),
-    Lesson("24_list_merge", list_merge, ("JG   3F", "JL   3F")),
-    Lesson("25_radix", radix, ("LD5  TOP,3", "LD4  TOP,3")),
+    Lesson("50_insertion", insertion, ("JLE  PLACE", "JL   PLACE")),
+    Lesson("51_shell", shell, ("ENT1 1,3", "ENT1 2,3")),
+    Lesson("52_bubble", bubble, ("ENT4 -1,2", "ENT4 -2,2")),
+    Lesson("53_quicksort", quicksort, ("JL   2B", "JLE  2B")),
+    Lesson("55_heapsort", heapsort, ("CMPX KEY+1,3", "CMPX KEY-1,3")),
+    Lesson("56_list_merge", list_merge, ("JG   3F", "JL   3F")),
+    Lesson("58_radix", radix, ("LD5  TOP,3", "LD4  TOP,3")),
 ]

@@ -33,6 +33,31 @@ def entrances_exits(run):
         yield from times(ran, N=len(pairs), Z=none, V=whole)
 
 
+def moved(towers, move):
+    """The towers after a move, a word of a disk, from and to; it has to be the top disk, and smaller than what it comes onto."""
+    disk, source, target = move
+    if towers.get(source, [])[-1:] != [disk] or any(other < disk for other in towers.get(target, [])):
+        return {"a wrong move": move}
+    return {**towers, source: towers[source][:-1], target: [*towers[target], disk]}
+
+
+def recursion(run):
+    for n in (1, 2, 3, 5, 7):
+        moves, show = 2**n - 1, "show cells MOVES+1 MOVES+%d" % (2**n - 1)
+        ran = run(N=n, script=[*RUN, show])
+        towers = {1: list(range(n, 0, -1)), 2: [], 3: []}
+        for _, (_, word) in sorted(ran.words(show).items()):
+            towers = moved(towers, word[2:])
+        yield f"the towers of {n} disks at the end", towers, {1: [], 2: [], 3: list(range(n, 0, -1))}
+        yield from times(ran, M=moves)
+    one, two = 1, 1
+    for n in range(1, 16):
+        ran = run("answer.mixal", N=n, script=["run 100000", "show values RESULT CALLS"])
+        yield f"Fibonacci number {n}, and the calls: of these F(n) end at once, and each of the others joins two", ran.numbers("show values RESULT CALLS"), [
+            one, 2 * one - 1]
+        one, two = two, one + two
+
+
 def in_groups(text):
     return " ".join(text[at : at + 4] for at in range(0, len(text), 4))
 
@@ -79,6 +104,27 @@ def interpreter(run):
         yield f"the squares down from {n}", ran.rows(18), ["%010d" % (k * k) for k in range(n, 0, -1)]
 
 
+def traced(n):
+    """Where each instruction of the traced program is, and what rA holds before it: it adds each number from n to 1 twice, by a subroutine."""
+    path, total = [(1000, 0), (1001, 0)], 0
+    for k in range(n, 0, -1):
+        path += [(1002, total), (1007, total), (1008, total), (1009, total + k), (1010, total + 2 * k), (1003, total + 2 * k), (1004, total + 2 * k)]
+        total += 2 * k
+    return [*path, (1005, total), (1006, total)]
+
+
+def trace(run):
+    for n in (1, 2, 3, 10, 40):
+        size = 7 * n + 4
+        shows = ["show values SUM SUM", f"show values TABLE+1 TABLE+{size}", f"show values VALUES+1 VALUES+{size}"]
+        ran = run(N=n, script=[*RUN, *shows[:2]])
+        yield f"what the traced program leaves for {n}", ran.numbers(shows[0]), [2 * sum(range(n + 1))]
+        yield f"where its instructions are for {n}", ran.numbers(shows[1]), [location for location, _ in traced(n)]
+        yield from times(ran, overwritten=("NOP",), S=size, T=n, J=3 * n - 1, U=1, R=3 * n + 2)
+        ran = run("answer.mixal", N=n, script=["run 100000", *shows])
+        yield f"rA before each instruction for {n}", ran.numbers(shows[2]), [held for _, held in traced(n)]
+
+
 def buffers(run):
     shown = [*RUN, "show unit 18"]
     for n, m, delay in ((5, 10, 300), (5, 10, 177), (5, 10, 178), (1, 1, 0), (2, 24, 1000), (9, 3, 40), (4, 7, 4), (3, 20, 0)):
@@ -105,8 +151,10 @@ def buffers(run):
 
 
 LESSONS = [
-    Lesson("10_entrances_exits", entrances_exits, ("JXZ  0,3", "JXZ  1,3")),
-    Lesson("11_coroutines", coroutines, ("STA  LINE,2(2:2)", "STA  LINE,2(3:3)")),
-    Lesson("12_interpreter", interpreter, ("JANZ STEP", "JAZ  STEP")),
-    Lesson("13_buffers", buffers, ("INC5 0,1", "INC5 1,1")),
+    Lesson("20_entrances_exits", entrances_exits, ("JXZ  0,3", "JXZ  1,3")),
+    Lesson("21_recursion", recursion, ("LD4  STACK,6(4:4)", "LD4  STACK,6(5:5)")),
+    Lesson("22_coroutines", coroutines, ("STA  LINE,2(2:2)", "STA  LINE,2(3:3)")),
+    Lesson("23_interpreter", interpreter, ("JANZ STEP", "JAZ  STEP")),
+    Lesson("24_trace", trace, ("DEC6 32", "DEC6 31")),
+    Lesson("25_buffers", buffers, ("INC5 0,1", "INC5 1,1")),
 ]

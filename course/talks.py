@@ -4,15 +4,20 @@ A session is a block that begins with "```text NAME.mixal". Its lines that begin
 of them and in their order. Below each command is its reply, in which a line `..` stands for lines that are left out, and ` ..` at the end of a
 line for what follows there. A block that begins with "```text after NAME.mixal" has commands that follow those of the bundle. A block that begins
 with "```text times NAME.mixal N=4 N=7" is what `course/times` writes of these values. A block whose first line is `$ mixrev run ..` has what
-this command writes in the folder of the lesson, on standard error last; a program that cannot `run` a source is not asked."""
+this command writes in the folder of the lesson, on standard error last; a program that cannot `run` a source is not asked. A block that begins with
+"```text terminal NAME.mixal" is a session at a terminal, and "```text terminal after NAME.mixal" goes on with it; with ", then OTHER.mixal" the source is
+edited so before its `reload`. One that begins with "```mixal NAME.mixal" is that source, or some lines of it that follow one another."""
 import re
 import subprocess
 
 from columns import columns
 from running import Bundle, replies_of
+from terminal import at_a_terminal
 
 BLOCK = re.compile(r"^```text (after )?(\S+\.mixal)\n(.*?)^```$", re.S | re.M)
 COLUMNS = re.compile(r"^```text times (\S+\.mixal) (.*?)\n(.*?)^```$", re.S | re.M)
+TERMINALS = re.compile(r"^```text terminal (after )?(\S+\.mixal)(?:, then (\S+\.mixal))?\n(.*?)^```$", re.S | re.M)
+SOURCES = re.compile(r"^```mixal (\S+\.mixal)\n(.*?)^```$", re.S | re.M)
 RUNS = re.compile(r"^```text\n\$ mixrev (run .*?)\n(.*?)^```$", re.S | re.M)
 PROMPT = "(mixrev) "
 LEFT_OUT = ".."
@@ -50,9 +55,34 @@ def is_shown(shown, written):
     return any(is_shown(shown[1:], written[at:]) for at in range(1, len(written) + 1))
 
 
+def can(program, command):
+    """Whether a program has this command; one that only reads a bundle has not."""
+    return subprocess.run([program, command, "--help"], stdin=subprocess.DEVNULL, capture_output=True).returncode == 0
+
+
+def terminals(program, folder, text):
+    """Compares each session at a terminal with what is seen there, the greeting first."""
+    before = []
+    for found in TERMINALS.finditer(text) if can(program, "debug") else ():
+        shown = shown_in(found[4])
+        before = before if found[1] else []
+        files = [Bundle((folder / name).read_text()).source for name in found.groups()[1:3] if name]
+        replies = at_a_terminal(program, files, [command for command, _ in [*before, *shown] if command], PROMPT)
+        before += shown
+        for (command, lines), reply in zip(reversed(shown), reversed(replies)):
+            yield f"a terminal's reply to {command or 'nothing'} of {found[2]}", lines, reply
+
+
+def sources(folder, text):
+    """Compares each source that is shown with its file."""
+    for found in SOURCES.finditer(text):
+        source = "".join(f"{line}\n" for line in Bundle((folder / found[1]).read_text()).source)
+        yield f"whether {found[1]} is shown as it is", found[2] in source, True
+
+
 def runs(program, folder, text):
     """Compares what `mixrev run` writes with each block that shows it."""
-    if subprocess.run([program, "run", "--help"], stdin=subprocess.DEVNULL, capture_output=True).returncode == 0:
+    if can(program, "run"):
         for found in RUNS.finditer(text):
             ran = subprocess.run([program, *found[1].split()], cwd=folder, stdin=subprocess.DEVNULL, capture_output=True, text=True)
             yield f"what {found[1]} writes", found[2].splitlines(), [line.rstrip() for line in (ran.stdout + ran.stderr).splitlines()]
@@ -78,5 +108,8 @@ def talks(program, folder):
         said = columns(program, (folder / found[1]).read_text(), found[2].split())
         yield f"the counts of {found[1]} for {found[2]}", found[3].splitlines(), said
     yield from runs(program, folder, text)
+    yield from sources(folder, text)
+    yield from terminals(program, folder, text)
+    seen |= {found[2] for found in TERMINALS.finditer(text)}
     for name in ("answer.mixal", "lesson.mixal"):
         yield f"README.md shows {name}", name in seen, True

@@ -38,4 +38,4 @@ def tapes(run):
             yield f"{size} records, sorted", (ran.end, ran.rows(18)), ("halt", sorted(cards, key=key_of))
 
 
-LESSONS = [Lesson("33_tapes", tapes, ("JG   2F", "JL   2F"))]
+LESSONS = [Lesson("59_tapes", tapes, ("JG   2F", "JL   2F"))]

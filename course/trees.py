@@ -103,7 +103,7 @@ def marking(run):
 
 
 LESSONS = [
-    Lesson("18_tree_stack", tree_stack, ("INC3 1", "INC3 2")),
-    Lesson("19_tree_threads", tree_threads, ("JANN LEFT", "JAN  LEFT")),
-    Lesson("34_marking", marking, ("ENTA 2", "ENTA 3")),
+    Lesson("40_tree_stack", tree_stack, ("INC3 1", "INC3 2")),
+    Lesson("41_tree_threads", tree_threads, ("JANN LEFT", "JAN  LEFT")),
+    Lesson("42_marking", marking, ("ENTA 2", "ENTA 3")),
 ]

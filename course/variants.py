@@ -11,22 +11,40 @@ from running import COURSE, Bundle
 ALL = [*exercises_1.EXERCISES, *exercises_2.EXERCISES, *exercises_5.EXERCISES]
 
 
+SMALL, LARGE, MORE = 3, 8, 3  # up to SMALL entries a case counts one point, if others have LARGE or more; any other case counts MORE
+
+
 def cases_of(exercise, student, secret):
-    """The cases by their names; the first is the one that the student sees, the last asks for the limits too."""
+    """The cases by their names, each with its kind and its weight: a program that does no more than the smallest cases gets little for it. The first is
+    the one that the student sees; one asks for the limits too, and one that no step uses cells of a transfer under way."""
     own = exercise.make(Draw(exercise.name, student), exercise.sizes[-2] if len(exercise.sizes) > 1 else exercise.sizes[0])
-    cases = {"1_own": (own, False)}
+    cases = {"1_own": (own, "", MORE)}
     if exercise.put:
         hidden = [exercise.make(Draw(exercise.name, student, secret, str(at)), size) for at, size in enumerate(exercise.sizes)]
-        cases.update({f"{at}_hidden": (case, False) for at, case in enumerate(hidden, 2)})
+        weights = [1 if size <= SMALL and max(exercise.sizes) >= LARGE else MORE for size in exercise.sizes]
+        cases.update({f"{at}_hidden": (case, "", weight) for at, (case, weight) in enumerate(zip(hidden, weights), 2)})
     else:
         hidden = [own]
-    if hidden[-1].limits:
-        cases[f"{len(cases) + 1}_limits"] = (hidden[-1], True)
+    for kind in ("limits", "strict"):
+        if getattr(hidden[-1], kind):
+            cases[f"{len(cases) + 1}_{kind}"] = (hidden[-1], kind, MORE)
     return cases
 
 
 def wrapped(text):
     return textwrap.fill(" ".join(text.split()), 100, break_on_hyphens=False)
+
+
+def kept_lines(exercise, case):
+    """The lines that a program has to keep: those of the case, and before a block of data the lines of the answer that give it its place."""
+    source = answer(exercise, case).source
+    for line in case.lines():
+        if line.startswith("* ") and not line.startswith("* end of"):
+            first = last = source.index(line)
+            while source[first - 1].split()[:1] in (["ORIG"], ["CON"]):
+                first -= 1
+            yield from source[first:last]
+        yield line
 
 
 def handout(exercise, student, case):
@@ -38,10 +56,12 @@ def handout(exercise, student, case):
         parts.append(wrapped(case.told))
     elif case.given:
         parts.append("Keep these lines, labels and comments. Your program is also run with other values in them.")
-        parts.append("```text\n" + "".join(f"{line}\n" for line in case.lines()) + "```")
+        parts.append("```text\n" + "".join(f"{line}\n" for line in kept_lines(exercise, case)) + "```")
     for name, lines in (("cards", case.cards), ("units", case.deck)):
         if lines:
             parts.append(f"Your {name}:\n\n```text\n" + "".join(f"{line}\n" for line in lines) + "```")
+    if case.strict:
+        parts.append("For full marks, no step may use or alter a cell while a unit still reads into it or writes from it.")
     if case.limits:
         parts.append("For full marks, with these data: " + ", ".join(case.limits).replace("<=", "at most").replace("clock =", "clock") + ".")
     return "\n\n".join(part for part in parts if part) + "\n"
@@ -62,8 +82,8 @@ def write(folder, exercise, student, secret):
     cases = cases_of(exercise, student, secret)
     own = cases["1_own"][0]
     files = {f"handouts/{student}.md": handout(exercise, student, own), f"keys/{student}.mixal": "".join(f"{line}\n" for line in answer(exercise, own).source)}
-    for name, (case, limited) in cases.items():
-        files.update({f"cases/{student}/{name}/{file}": text for file, text in case.files(exercise.put, limited).items()})
+    for name, (case, kind, weight) in cases.items():
+        files.update({f"cases/{student}/{name}/{file}": text for file, text in case.files(exercise.put, kind, weight).items()})
     for name, text in files.items():
         path = folder / name
         path.parent.mkdir(parents=True, exist_ok=True)

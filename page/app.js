@@ -1,41 +1,141 @@
-// The page: what a person asks for, by buttons, keys, commands and the slider.
+// The page: what a person asks for, by buttons, keys, commands and the slider, and the parts that show what the store holds.
 
-import { cardsApart, isBundle, openedOf, scriptOf } from "./bundle.js";
-import { Desk } from "./desk.js";
-import { $, counted, fourDigits, on } from "./dom.js";
-import { conflictOf } from "./sentence.js";
+import { Bars } from "./bars.js";
+import { cardsApart, isBundle, linesIn, openedOf, scriptOf, withCards } from "./bundle.js";
+import { Compare } from "./compare.js";
+import { $, copied, counted, on, onResize, put } from "./dom.js";
+import { missing, showFound, toldRefusal } from "./faults.js";
+import { Heat } from "./heat.js";
+import { Listing } from "./listing.js";
+import { Broken, STOPPED } from "./machine.js";
+import { Memory, showRegisters, showSymbols } from "./memory.js";
+import { TimeMap } from "./pictures.js";
+import { conflictOf, toldOf } from "./sentence.js";
 import { commandsOf } from "./session.js";
+import { Store } from "./store.js";
 import { Talk } from "./talk.js";
 import { Time } from "./time.js";
+import { Output, Units } from "./units.js";
 import { Who } from "./who.js";
 
-const PAUSE = 200; // milliseconds without a key before a text is assembled
+const WIDEST = window.matchMedia("(min-width: 100rem) and (min-height: 34rem)"); // the pictures are in the third column
 
-export class App extends Desk {
+export class App {
   constructor(machine, grammar) {
-    super(machine, grammar);
-    this.agreed = ""; // what was asked for once, and is done when it is asked for again
+    const store = new Store(machine, () => this.texts, () => this.units.requests);
+    this.store = store;
+    this.isEdited = false;
+    this.isOpening = false; // a program, whose script stays as it came
+    this.agreed = ""; // a command that was given once, and is done when it is given again
     this.wanted = undefined; // the moment that the slider asks for
-    this.talk = new Talk(this);
+    store.on("texts", (begun) => this.showTexts(begun));
+    this.listing = new Listing(store, grammar);
+    store.on("view", (view) => showRegisters(store, view));
+    this.memory = new Memory(store);
+    this.bars = new Bars(store);
+    this.map = new TimeMap(store, this.listing);
+    this.output = new Output(store);
+    this.units = new Units(store);
+    this.heat = new Heat(store, this.listing, this.memory);
+    this.compare = new Compare(store);
     this.time = new Time(this);
+    this.talk = new Talk(this);
     this.who = new Who(this);
+    store.on("view", (...shown) => this.told(...shown));
+    store.on("status", (...said) => this.tell(...said));
+    store.on("busy", (isBusy) => document.querySelector("main").setAttribute("aria-busy", String(isBusy)));
+    store.on("slow", (isSlow) => this.slow(isSlow));
+    store.on("failed", (fault) => this.failed(fault));
+    store.on("ask", (part, name) => store.enqueue(() => this.who.open(part, name)).then(() => this.map.watch(part)));
+    store.on("slide", (moment) => this.slide(moment));
+    store.on("toggle", (line) => this.toggle(line));
+    store.on("edited", (changes) => this.edited(changes));
+    store.on("copy", (text, name) => this.copy(text, name));
     for (const id of ["cards", "deck"]) on(id, "input", () => this.edited());
-    on("anew", "click", () => this.add(() => this.begin()));
+    on("anew", "click", () => store.add(() => store.begin()));
+    this.place();
   }
 
-  // The texts were changed: they are assembled when no key is pressed for a moment, or before the next thing is done.
-  edited() {
-    this.isEdited = true;
-    if (isBundle(this.listing.text)) {
-      this.open(openedOf(this.listing.text, true));
-      return;
+  // Tabs, of a window that is too narrow for all parts; the pictures, below the listing or in a column of their own; and what is scrolled to comes below
+  // the bar of time.
+  place() {
+    for (const tab of document.querySelectorAll("#tabs button")) tab.addEventListener("click", () => this.choose(tab.dataset.tab));
+    this.choose("program");
+    const setPicture = () => (WIDEST.matches ? document.querySelector(".more") : $("shelf")).insertBefore($("picture"), WIDEST.matches ? $("talk") : null);
+    WIDEST.addEventListener("change", setPicture);
+    setPicture();
+    for (const [name, element] of [["--bar", $("time")], ["--head", document.querySelector("header")]]) {
+      onResize(element, () => document.documentElement.style.setProperty(name, `${element.offsetHeight}px`));
     }
-    clearTimeout(this.timer);
-    this.timer = setTimeout(() => {
-      this.timer = 0;
-      this.enqueue(() => undefined, () => undefined);
-    }, PAUSE);
-    this.busy();
+  }
+
+  // What is to be assembled and loaded. Cards of which one looks like a header go apart, so that they are refused as cards.
+  get texts() {
+    const [source, deck, cards] = [this.listing.text, $("deck").value, $("cards").value];
+    return /^%/m.test(cards) ? { source, deck, cards, apart: 0 } : { source, deck: withCards(deck, cards), apart: linesIn(cards).length };
+  }
+
+  // Shows what was found in the texts, and the program or why they are refused.
+  showTexts({ found, refusal, program, view, texts }) {
+    const { store, listing } = this;
+    listing.setProgram(program);
+    showFound([...found, ...(program ? missing(listing, program, view) : [])], listing);
+    store.refusal = toldRefusal(refusal, found, texts, listing);
+    document.querySelector("main").classList.toggle("stale", Boolean(refusal)); // what is seen is that of an older program
+    if (refusal) this.time.hide();
+    else store.warning = showSymbols(program, found, this.memory);
+  }
+
+  // Tells what a moment is, and how one came there.
+  told(view, answer, before) {
+    const { did, next, isFault, last } = toldOf({ answer, before, view, listing: this.listing });
+    view.did = last;
+    this.tell(did, isFault, next);
+  }
+
+  tell(did, isFault = false, next = "") {
+    $("status").classList.toggle("fault", isFault);
+    put($("did"), did);
+    put($("next"), next);
+  }
+
+  // Whether what is done takes long, so that it may be stopped.
+  slow(isSlow) {
+    $("stop").hidden = !isSlow;
+    if (isSlow) this.tell("Working …");
+  }
+
+  // Tells what went wrong. The text, the breakpoints and the commands are as they were, and the last view is shown again.
+  failed(fault) {
+    const { session, view } = this.store;
+    this.time.isDragged = false;
+    const isEngine = fault instanceof Broken;
+    if (!isEngine) console.error(fault);
+    if (session && view) this.time.show(session, view.state);
+    this.talk.show(session ? session.log : []);
+    const rest = "The text, the breakpoints and the commands are as they were.";
+    if (isEngine && fault.message === STOPPED) this.tell(`Stopped. ${rest}`);
+    else this.tell(isEngine ? `Not done: ${fault.message}. ${rest}` : `The page itself has a fault: ${fault}`, true);
+  }
+
+  // Copies a text, and says so.
+  async copy(text, name) {
+    const isDone = await copied(text);
+    this.tell(isDone ? `${name} is copied.` : "This browser does not let the page copy.", !isDone);
+  }
+
+  // Shows one of the tabs.
+  choose(name) {
+    document.querySelector("main").dataset.tab = name;
+    for (const tab of document.querySelectorAll("#tabs button")) tab.setAttribute("aria-pressed", String(tab.dataset.tab === name));
+  }
+
+  // The texts were changed. A bundle that was pasted is opened.
+  edited(changes = []) {
+    this.isEdited = true;
+    const isMore = changes.some(({ text }) => text.some((line) => line.startsWith("%")));
+    if (isMore && isBundle(this.listing.text)) this.open(openedOf(this.listing.text, true));
+    else this.store.assembleSoon();
   }
 
   // Whether something is asked for the second time, so that it is done.
@@ -46,65 +146,60 @@ export class App extends Desk {
   }
 
   // Shows what something did with the session, perhaps when it is done.
-  async did(found, before = this.view) {
+  async did(found, before = this.store.view) {
     const { answer, view } = await found;
     this.isEdited = true;
     this.time.isDragged = false;
     this.agreed = "";
-    this.show(view, answer, before);
+    this.store.show(view, answer, before);
   }
 
   // Does a command; `conflict` is the text of the conflict at which it ends, if there is one.
   async act(command, before, conflict) {
-    const found = await this.session.act([command]);
+    const found = await this.store.session.act([command]);
     if (conflict) found.view.conflict = conflictOf(conflict);
     this.did(found, before);
   }
 
   // Does a command, after all that was asked for before.
   go(command) {
-    this.enqueue(() => this.act(command));
+    this.store.enqueue(() => this.act(command));
   }
 
   // Goes to a moment by the slider or by a picture.
   slide(moment) {
-    this.enqueue(() => this.did(this.session.slide(moment)));
-  }
-
-  // Asks who wrote a part: what comes after `until` in a command, and its name.
-  ask(part, name) {
-    this.enqueue(() => this.who.open(part, name)).then(() => this.map.watch(part));
+    this.store.enqueue(() => this.did(this.store.session.slide(moment)));
   }
 
   // A command that was typed. A `set` that would drop what is ahead is done when it is given twice.
   given(command) {
+    const { store } = this;
     const work = () => {
-      const { ahead } = this.session;
+      const { ahead } = store.session;
       if (!/^\s*set\s/i.test(command) || ahead === 0 || this.isAgreed(command)) return this.act(command);
       this.talk.answer(command, `This drops ${counted(ahead, "change")} ahead. Press Enter again to do it.`);
       return undefined;
     };
-    this.enqueue(work, () => this.talk.answer(command, `Not done, since the text is refused. ${this.refusal}.`));
+    store.enqueue(work, () => this.talk.answer(command, `Not done, since the text is refused. ${store.refusal}.`));
   }
 
   // Does the first lines of the script; where that fails, they are still to be done.
   async actScript(lines) {
-    const found = await this.session.act(lines);
+    const found = await this.store.session.act(lines);
     this.talk.setScript(this.talk.lines.slice(lines.length));
     return this.did(found);
   }
 
-  // What a button asks for. A key that is held down does not pile up what it asks for, and behind a halt it goes on when it is asked twice.
+  // What a button asks for. A key that is held down does not pile up what it asks for; after a halt only the button for that goes on.
   press(name) {
-    if (this.left > 2) return;
-    this.enqueue(async () => {
-      const { session, listing, view } = this;
-      const button = { run: "Run", step: "Step" }[name];
-      if (button && session.isHalted && !this.isAgreed(`${name} ${session.done}`)) {
-        this.tell(`The program has halted. ${button} once more goes on after the HLT, at location ${fourDigits(view.state.location)}.`);
-        return;
-      }
-      const points = { cells: listing.breakCells, filters: $("conflicts").checked ? ["conflict"] : [] };
+    const { store, listing } = this;
+    if (store.left > 2) return;
+    store.enqueue(async () => {
+      const { session, view } = store;
+      if (session.isHalted && ["step", "over", "out", "run"].includes(name)) return;
+      const { location, registers } = view.state;
+      const out = Number(registers.find(({ name: each }) => each === "J").number);
+      const points = { cells: listing.breakCells, filters: $("conflicts").checked ? ["conflict"] : [], over: location + 1, out };
       for await (const [command, conflict] of commandsOf(name, session, points)) await this.act(command, view, conflict);
     });
   }
@@ -112,17 +207,18 @@ export class App extends Desk {
   // Shows a moment while the slider is dragged; where more come than can be shown, the last. A key on the slider ends at once what it begins, so nothing
   // is looked at before the events that come together are done.
   async preview(moment) {
+    const { store } = this;
     const isUnderWay = this.wanted !== undefined;
     this.wanted = moment;
     if (isUnderWay) return;
-    await this.enqueue(async () => {
-      const { session } = this;
+    await store.enqueue(async () => {
+      const { session } = store;
       await new Promise((resolve) => setTimeout(resolve));
       for (let seen; seen !== this.wanted && this.time.isDragged; ) {
         seen = this.wanted;
         const { view } = await session.look(seen, true);
-        if (session !== this.session) break;
-        this.show(view);
+        if (session !== store.session) break;
+        store.show(view);
       }
     });
     this.wanted = undefined;
@@ -135,31 +231,35 @@ export class App extends Desk {
       this.tell(`No line from ${asked} on gives a word, so there is no breakpoint.`, true);
       return;
     }
-    const isSet = !listing.breaks.delete(line);
-    if (isSet) listing.breaks.add(line);
-    listing.draw();
+    const isSet = listing.toggle(line);
     const why = line === asked ? "" : `, the first from line ${asked} on that gives a word`;
     this.tell(`${isSet ? "Breakpoint at" : "No breakpoint at"} line ${line}${why}.`);
   }
 
   // Puts a program in, with its deck; does the lines of the script that are done, and shows those that are left.
-  open({ source, deck, done, left, breaks, bars }) {
-    this.drop();
-    return this.add(async () => {
+  open({ source, deck, done, left, breaks, bars, shown }) {
+    const { store, listing } = this;
+    store.drop();
+    return store.add(async () => {
       const { deck: others, cards } = cardsApart(deck);
       this.time.isDragged = false;
-      this.listing.text = source;
+      listing.text = source;
       $("cards").value = cards;
       $("deck").value = others;
       $("given").open = deck !== "";
-      for (const part of this.parts) part.forget();
+      store.emit("forget");
       this.choose("program");
-      for (const line of breaks) this.listing.breaks.add(line);
+      for (const line of new Set(breaks)) listing.toggle(line);
+      listing.shut(shown.includes("no-words"));
+      $("map-box").open = shown.includes("map");
       this.talk.setScript([...done, ...left]);
       this.talk.show([]);
-      await this.begin();
-      if (this.session) this.bars.open(bars, [...done, ...left]);
-      if (this.session && done.length > 0) await this.actScript(done);
+      this.isOpening = true;
+      await store.begin().finally(() => {
+        this.isOpening = false;
+      });
+      if (store.session) this.bars.open(bars, [...done, ...left]);
+      if (store.session && done.length > 0) await this.actScript(done);
       this.isEdited = false;
     });
   }
@@ -167,8 +267,10 @@ export class App extends Desk {
   // The parts of the bundle of what is here: the commands that were done, and what the page keeps beside them.
   partsFor(lesson) {
     const { source, deck } = this.texts;
-    const done = this.session ? this.session.log.map(({ command }) => command) : [];
-    const breaks = [...this.listing.breaks].sort((a, b) => a - b);
-    return { source, deck, script: scriptOf({ done, left: this.talk.lines, breaks, bars: this.bars.kept, lesson }) };
+    const { session } = this.store;
+    const done = session ? session.log.map(({ command }) => command) : [];
+    const { breaks, isShut } = this.listing;
+    const shown = [...(this.map.isOpen ? ["map"] : []), ...(isShut ? ["no-words"] : [])].join(" ");
+    return { source, deck, script: scriptOf({ done, left: this.talk.lines, breaks, bars: this.bars.kept, shown, lesson }) };
   }
 }

@@ -12,11 +12,11 @@ const SHOWS = /^\s*show\s+(?:cells|values)\s+(\S+)\s+(\S+)\s*$/i;
 const FIELD = /^\s*([0-5]):([0-5])\s*$/;
 
 export class Bars {
-  constructor(app) {
-    this.app = app;
-    this.strip = new Strip(app);
+  constructor(store) {
+    this.store = store;
+    this.strip = new Strip(store);
     this.code = new Set(); // the cells of instructions
-    this.range = new CellRange(app, "bars", () => this.isOpen, () => this.show());
+    this.range = new CellRange(store, "bars", () => this.isOpen, () => this.show());
     on("bars-box", "toggle", () => {
       this.show();
       this.range.ask();
@@ -25,9 +25,12 @@ export class Bars {
     on("bars-field", "input", () => this.show());
     on("bars", "click", ({ target }) => {
       const bar = target.closest("[data-cell]");
-      if (bar) app.ask(`cell ${bar.dataset.cell}`, `cell ${bar.dataset.cell}`);
+      if (bar) store.emit("ask", `cell ${bar.dataset.cell}`, `cell ${bar.dataset.cell}`);
     });
-    keepsPictures(app, "bars", "picture", "#bars svg, #strip:not([hidden]) svg");
+    store.on("view", () => this.show());
+    store.on("program", (program) => this.setProgram(program));
+    store.on("forget", () => this.forget());
+    keepsPictures(store, "bars", "picture", "#bars svg, #strip:not([hidden]) svg");
   }
 
   get isOpen() { return $("bars-box").open; }
@@ -47,7 +50,7 @@ export class Bars {
   async open(kept, script) {
     const [from, to, by, strip] = kept.split(" ");
     const named = script.map((line) => SHOWS.exec(line)).filter(Boolean).map(([, first, last]) => [first, last]);
-    const numbers = kept || named.length === 0 ? [] : await this.app.enqueue(() => this.app.session.values(named.flat()));
+    const numbers = kept || named.length === 0 ? [] : await this.store.enqueue(() => this.store.session.values(named.flat()));
     if (!numbers) return; // another program was opened meanwhile
     const widths = named.map((_, index) => numbers[2 * index + 1] - numbers[2 * index] + 1 || 0);
     const best = Math.max(0, ...widths.filter((width) => width <= MAX_BARS));
@@ -75,7 +78,7 @@ export class Bars {
     const isByField = this.by === "field";
     $("bars-field").hidden = !isByField;
     document.querySelector("main").classList.toggle("bars", this.isOpen);
-    const { cells, app: { view } } = this;
+    const { cells, store: { view } } = this;
     if (!view || cells.length === 0) return;
     const field = FIELD.exec($("bars-field").value);
     const isField = !isByField || (field && field[1] <= field[2]);

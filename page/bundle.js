@@ -6,6 +6,7 @@ const KEPT = "* Kept by the page, and no commands:";
 const LESSON = "* lesson: ";
 const BREAKS = "* breakpoints at lines: ";
 const BARS = "* bars: ";
+const SHOWN = "* shown too: "; // what else is open
 const LEFT = "* still to do: ";
 
 const linesOf = (text) => text.replace(/\r\n?/g, "\n").split("\n");
@@ -33,8 +34,8 @@ export function bundleOf({ source, deck, script }) {
 export const isBundle = (text) => linesOf(text).some((line) => line === "%DEVICES" || line === "%SCRIPT");
 
 // A script of the commands that were done, and behind them, as remarks, what else the page holds.
-export function scriptOf({ done, left, breaks, bars, lesson }) {
-  const named = [[LESSON, lesson], [BREAKS, breaks.join(" ")], [BARS, bars]].filter(([, text]) => text).map((pair) => pair.join(""));
+export function scriptOf({ done, left, breaks, bars, shown, lesson }) {
+  const named = [[LESSON, lesson], [BREAKS, breaks.join(" ")], [BARS, bars], [SHOWN, shown]].filter(([, text]) => text).map((pair) => pair.join(""));
   const kept = [...named, ...left.map((line) => LEFT + line)];
   return textOfLines(kept.length > 0 ? [...done, KEPT, ...kept] : done);
 }
@@ -49,6 +50,7 @@ function keptIn(script) {
     left: after(LEFT),
     breaks: after(BREAKS).join(" ").split(" ").map(Number).filter((line) => line > 0),
     bars: after(BARS)[0] || "",
+    shown: (after(SHOWN)[0] || "").split(" "),
     lesson: after(LESSON)[0] || "",
   };
 }

@@ -77,13 +77,5 @@ export class Grammar {
   }
 }
 
-// The pieces of a line that have a colour each: a text and a class.
-export function piecesOf(line, names) {
-  const pieces = [];
-  for (let from = 0, to = 0; from < line.length; from = to) {
-    while (to < line.length && names[to] === names[from]) to += 1;
-    const kind = KINDS.exec(names[from]);
-    pieces.push([line.slice(from, to), kind ? kind[1].replace(".", "-") : ""]);
-  }
-  return pieces;
-}
+// The class of what has a name in the grammar; "" where it has no colour.
+export const kindOf = (name) => (KINDS.exec(name) || ["", ""])[1].replace(".", "-");

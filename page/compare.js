@@ -17,11 +17,13 @@ const valueIn = ({ number, characters }) => `${number} “${characters}”`;
 const comparedIn = ({ state }) => [...state.registers.map((register) => [`r${register.name}`, valueIn(register)]), ...flagsOf(state).map(({ name, text }) => [name, text])];
 
 export class Compare extends Picture {
-  constructor(app) {
-    super(app);
-    this.machine = new Machine(app.machine.program, app.machine.module);
+  constructor(store) {
+    super(store);
+    this.machine = new Machine(store.machine.program, store.machine.module);
+    store.on("view", (view) => this.show(view));
+    store.on("forget", () => this.forget());
     this.papers = new Papers("other-papers", "the other run’s ");
-    on("compare-open", "click", () => app.enqueue(() => this.keep()));
+    on("compare-open", "click", () => store.enqueue(() => this.keep()));
     on("compare-close", "click", () => this.close());
     on("stop", "click", () => this.machine.stop());
   }
@@ -30,10 +32,10 @@ export class Compare extends Picture {
 
   // Keeps the run that is shown as the other one.
   keep() {
-    const { texts, log, state } = this.app.session;
+    const { texts, log, state } = this.store.session;
     this.session = Object.assign(new Session(this.machine, texts, () => []), { log: [...log], state });
     this.forget();
-    this.show(this.app.view);
+    this.show(this.store.view);
   }
 
   close() {
@@ -60,7 +62,7 @@ export class Compare extends Picture {
   // Nothing while another moment is shown already.
   draw() {
     const { found: other, of: view, session } = this;
-    if (!other || !session || view !== this.app.view) return;
+    if (!other || !session || view !== this.store.view) return;
     const cells = differingCells(view, other);
     const others = new Map(comparedIn(other));
     const parts = comparedIn(view).map(([name, here]) => ({ name, here, there: others.get(name) }));

@@ -1,49 +1,78 @@
-// A text that is refused: the fault is told at its line, of the source, of the deck or of the cards, with what is mostly the cause. Each fault and each
-// warning of a source is shown at its line.
+// What is wrong with a text: each fault and each warning of the source in a list below it, with what is mostly the cause; and why a text is refused.
 
-import { $, counted, note } from "./dom.js";
+import { $, counted, keepRows, make, note, put } from "./dom.js";
 import { placeOf } from "./bundle.js";
-import { OPERATIONS, PSEUDO } from "./operations.js";
+import { CHARACTERS, OPERATIONS, PSEUDO } from "./operations.js";
 
-const isFault = ({ severity }) => severity === "error";
+const isError = ({ severity }) => severity === "error";
+const textOfFound = (each) => (isError(each) ? `${each.code} ${each.text}` : each.text);
 
-// Shows a refusal, or that there is none, and what was found in the source; the sentence that tells of the refusal.
-export function showRefusal(refusal, found, texts, listing) {
-  listing.setFound(byLine(found));
+// Shows all that was found in a source, at its lines and in the list, each with a way to it.
+export function showFound(found, listing) {
+  const all = found.map((each) => ({ ...each, isFault: isError(each), text: textOfFound(each) }));
+  listing.setFound(all);
+  $("faults").hidden = all.length === 0;
+  const go = ({ target }) => listing.source.goTo(Number(target.closest("li").dataset.line));
+  const row = () => make("li", {}, make("button", { type: "button", click: go }));
+  keepRows($("fault-rows"), all, ({ line, text }) => `${line} ${text}`, row, (element, { line, isFault, text }) => {
+    const remedy = causeOf(text, listing.lineText(line));
+    element.dataset.line = line;
+    element.className = isFault ? "wrong" : "warned";
+    element.id = element === $("fault-rows").firstChild ? "wrong-text" : "";
+    put(element.firstChild, `Line ${line}: ${text}${remedy ? `. ${remedy}` : ""}`);
+  });
+}
+
+// The sentence that tells why the texts are refused; "" where they are not.
+export function toldRefusal(refusal, found, texts, listing) {
   note("deck-fault", "");
   if (!refusal) return "";
   const { text, line } = refusal.variables;
   const number = Number(line);
   const what = refusal.format.split(/line \d+: /).pop();
   if (text === "source") {
-    const [cause, more] = [causeOf(what, listing.lines[number - 1] || ""), found.filter(isFault).length - 1];
-    listing.reveal(number);
+    const [cause, more] = [causeOf(what, listing.lineText(number)), found.filter(isError).length - 1];
+    listing.source.reveal(number);
     return [`Line ${line}: ${what}`, cause, more > 0 ? counted(more, "more fault") : ""].filter(Boolean).join(". ");
   }
-  const told = `${text === "cards" ? `Card ${line}` : placeOf(texts.deck, number, texts.apart)}: ${what}`;
+  const row = (text === "cards" ? texts.cards : texts.deck).split("\n")[number - 1] || "";
+  const at = what.startsWith("K4") ? [...row.toUpperCase()].findIndex((letter) => !CHARACTERS.includes(letter)) : -1;
+  const letter = at < 0 ? "" : `: “${[...row][at]}” at column ${at + 1}`;
+  const told = `${text === "cards" ? `Card ${line}` : placeOf(texts.deck, number, texts.apart)}: ${what}${letter}`;
   note("deck-fault", told);
   $("given").open = true;
   return told;
 }
 
-// What was found in each line that has a fault or a warning.
-function byLine(found) {
-  const lines = [...new Set(found.map(({ line }) => line))];
-  return lines.map((line) => {
-    const said = found.filter((each) => each.line === line);
-    return { line, isFault: said.some(isFault), text: said.map((each) => (isFault(each) ? `${each.code} ${each.text}` : each.text)).join("; ") };
-  });
+// Warnings of a program that is accepted: it has no HLT, or there is a text behind its END.
+export function missing(listing, { rows }, { wordIn }) {
+  const lines = listing.text.split("\n");
+  const end = lines.findIndex((line) => /^[^*\s]*[ \t]+END(\s|$)/i.test(line)) + 1;
+  const behind = lines.findIndex((line, at) => at >= end && line.trim() !== "") + 1;
+  const hasHalt = rows.some(({ cell, instruction }) => instruction && wordIn(cell).text.startsWith("HLT"));
+  return [
+    ...(hasHalt || rows.length === 0 ? [] : [{ line: end, text: "there is no HLT, so a run goes on into whatever stands behind the program" }]),
+    ...(behind > end ? [{ line: behind, text: "this stands behind END and is not read" }] : []),
+  ];
 }
 
-const isOperation = (word) => OPERATIONS.has(word.toUpperCase()) || PSEUDO.has(word.toUpperCase());
+const NAMES = [...OPERATIONS.keys(), ...PSEUDO.keys()];
+const isOperation = (word) => NAMES.includes(word.toUpperCase());
 
-// An operation that differs from a word in one letter, or has two of them exchanged.
+// Whether one word is the other without one of its letters.
+const isShorter = (one, other) => [...other].some((_, at) => one === other.slice(0, at) + other.slice(at + 1));
+
+// Whether two words of a length differ in one letter, or have two neighbours exchanged.
+function isAlike(one, other) {
+  if (one.length !== other.length) return false;
+  const [a, b, ...more] = [...one].flatMap((letter, at) => (letter === other[at] ? [] : [at]));
+  return b === undefined || (more.length === 0 && one[a] === other[b] && one[b] === other[a]);
+}
+
+// An operation that is nearly a word.
 function nearTo(word) {
   const given = word.toUpperCase();
-  return [...OPERATIONS.keys(), ...PSEUDO.keys()].filter(({ length }) => length === given.length).find((name) => {
-    const [a, b, ...more] = [...name].flatMap((letter, index) => (letter === given[index] ? [] : [index]));
-    return b === undefined || (more.length === 0 && name[a] === given[b] && name[b] === given[a]);
-  });
+  return NAMES.find((name) => isShorter(given, name) || isShorter(name, given)) || NAMES.find((name) => isAlike(name, given));
 }
 
 // What is mostly the cause of a fault on a line; "" where the page has no guess.

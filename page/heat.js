@@ -7,26 +7,31 @@ import { Picture } from "./pictures.js";
 const MOST_CHANGES = 50000; // changes after which cells are not asked for
 
 export class Heat extends Picture {
-  constructor(app) {
-    super(app);
+  constructor(store, listing, memory) {
+    super(store);
+    Object.assign(this, { listing, memory });
+    store.on("view", (view) => this.show(view));
+    store.on("forget", () => this.forget());
     on("heat", "click", () => {
       mark($("heat"), "aria-pressed", !this.isOpen);
       document.querySelector("main").classList.toggle("heat", this.isOpen);
-      if (app.view) app.show(app.view);
+      if (store.view) store.show(store.view);
     });
   }
 
   get isOpen() { return isPressed("heat"); }
 
   show({ times }) {
-    const { listing, memory, session } = this.app;
-    if (this.isOpen) tint(listing.rows.map(({ row }) => row), [...times].map(([cell, count]) => [listing.lineOf.get(cell) - 1, count]));
+    const { listing, memory, store: { session } } = this;
+    const most = Math.log(1 + Math.max(1, ...times.values()));
+    listing.heat = this.isOpen ? (line) => (Math.log(1 + (times.get(listing.cellOf.get(line)) || 0)) / most).toFixed(2) : null;
+    listing.draw();
     if (this.isOpen && session && session.total <= MOST_CHANGES) this.look(memory.shownCells.join());
     else if (this.found) this.forget();
   }
 
   find(session) {
-    return session.altersOf(this.app.memory.shownCells);
+    return session.altersOf(this.memory.shownCells);
   }
 
   draw() {

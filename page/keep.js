@@ -7,6 +7,9 @@ import { tooLarge } from "./source.js";
 import { momentOf } from "./memory.js";
 import { fillMenu, showNotes } from "./notes.js";
 
+const FRAMED = ["bars", "registers", "output", "memory"]; // what a frame may show beside the program
+const HELD_EVERY = 1000; // milliseconds
+const LONGEST_HELD = 100000; // letters of an address
 const LONG_LINK = 2000; // letters; mail and chats may cut what is longer
 const FRESH = "* What the program does\n        ORIG 1000\nSTART   ENTA 5            put 5 into rA\n        HLT\n        END  START\n";
 export const IN_FRAME = new URLSearchParams(window.location.search).has("embed"); // the page shows the program, the buttons and one picture
@@ -14,18 +17,28 @@ export const IN_FRAME = new URLSearchParams(window.location.search).has("embed")
 // The address of the page with a fragment; `search` is what is between both.
 const addressOf = (fragment, search = "") => window.location.href.split(/[?#]/)[0] + search + fragment;
 
+const sourceOf = (bundle) => openedOf(bundle, true).source;
+
+// How many lines of words two texts have in common.
+function sharedLines(text, other) {
+  const lines = new Set(other.split("\n").filter((line) => line.trim() !== ""));
+  return text.split("\n").filter((line) => lines.has(line)).length;
+}
+
 export class Keep {
   constructor(app, lessons) {
     this.app = app;
     this.lessons = lessons;
     this.lesson = null;
+    app.store.on("texts", () => this.recognize());
     fillMenu(lessons);
     on("lessons", "change", () => this.choose());
     on("open", "click", () => $("file").click());
     on("file", "change", () => this.openFile());
     on("save", "click", () => this.save());
     on("share", "click", () => this.share());
-    on("new", "click", () => this.openLesson(null, FRESH));
+    on("new", "click", () => this.openLesson(null, FRESH).then(() => app.listing.cm.focus()));
+    for (const name of FRAMED) on(`frame-${name}`, "change", () => this.putFrame());
     for (const name of ["link", "frame"]) on(`${name}-copy`, "click", () => this.copy(`${name}-text`));
     on("moment-copy", "click", () => this.copyMoment());
     on("answer-open", "click", () => this.openLesson(this.lesson, this.lesson.solution));
@@ -33,11 +46,13 @@ export class Keep {
     window.addEventListener("beforeprint", () => put($("on-paper"), this.heading));
     window.addEventListener("hashchange", () => this.openLink());
     window.addEventListener("beforeunload", (event) => {
-      if (app.isEdited && !IN_FRAME) event.preventDefault();
+      if (app.isEdited && !IN_FRAME && this.held !== this.bundle) event.preventDefault();
     });
+    if (!IN_FRAME) setInterval(() => this.hold(), HELD_EVERY);
     document.body.classList.toggle("embed", IN_FRAME);
+    if (IN_FRAME) this.frame();
     $("whole").hidden = !IN_FRAME;
-    if (IN_FRAME) app.onShown = () => this.linkWhole();
+    if (IN_FRAME) app.store.on("view", () => this.linkWhole());
   }
 
   // Whether what is here may be left: the page asks, if something was done.
@@ -51,28 +66,49 @@ export class Keep {
     });
   }
 
-  // The lesson that is here, or none, is the one that the menu shows.
+  // The lesson that is here, or none, with its notes.
   setLesson(lesson) {
     this.lesson = lesson;
-    this.showLesson();
     showNotes(lesson || undefined);
   }
 
-  showLesson() {
-    $("lessons").value = this.lesson ? String(this.lessons.indexOf(this.lesson)) : "";
+  // Whether a text is that of a lesson or of its answer.
+  isOf(lesson, text) {
+    return Boolean(lesson) && [lesson.bundle, lesson.solution || ""].some((bundle) => bundle !== "" && sourceOf(bundle) === text);
+  }
+
+  // Names the text that is here: a lesson, which it becomes again by undo; an edited one; or one's own, which has no line of it.
+  recognize() {
+    const { talk, listing: { text } } = this.app;
+    const other = this.isOf(this.lesson, text) ? null : this.lessons.find((lesson) => this.isOf(lesson, text));
+    const isOwn = this.lesson && !other && sharedLines(text, sourceOf(this.lesson.bundle)) === 0;
+    if (other || isOwn) {
+      this.setLesson(other || null);
+      if (!this.app.isOpening) talk.setScript(other ? openedOf(other.bundle, true).left : []);
+    }
+    this.isOther = Boolean(this.lesson) && !this.isOf(this.lesson, text);
+    put($("lessons").options[0], this.isOther ? this.title : "your own program");
+    $("lessons").value = this.lesson && !this.isOther ? String(this.lessons.indexOf(this.lesson)) : "";
+    if (this.lesson) put($("notes-title"), this.title);
   }
 
   async choose() {
     const lesson = this.lessons[$("lessons").value];
     if (lesson) await this.openLesson(lesson);
-    this.showLesson();
+    this.recognize();
+  }
+
+  // Opens what a bundle holds, under the name of a lesson or of none.
+  async put(lesson, opened) {
+    this.setLesson(lesson);
+    await this.app.open(opened);
+    this.held ??= this.bundle; // what is opened first is what this address says
   }
 
   // Opens a lesson, or its solution, or a program of none; the script waits.
   async openLesson(lesson, bundle = lesson.bundle) {
     if (!(await this.isFree())) return;
-    this.setLesson(lesson);
-    await this.app.open(openedOf(bundle, true));
+    await this.put(lesson, openedOf(bundle, true));
   }
 
   // Opens a bundle that was saved or shared: what was done is done, the rest waits.
@@ -80,8 +116,7 @@ export class Keep {
     const opened = openedOf(bundle, false);
     const reason = tooLarge(opened.source);
     if (reason) throw new RangeError(reason);
-    this.setLesson(this.lessons.find(({ name }) => name === opened.lesson) || null);
-    await this.app.open(opened);
+    await this.put(this.lessons.find(({ name }) => name === opened.lesson) || null, opened);
   }
 
   async openFile() {
@@ -112,19 +147,48 @@ export class Keep {
     return true;
   }
 
-  get title() { return this.lesson ? this.lesson.title : "A program"; }
+  get title() { return this.lesson ? `${this.lesson.title}${this.isOther ? ", edited" : ""}` : "A program"; }
 
   // What is printed above the listing: the lesson, the moment, the day.
   get heading() {
-    const { session } = this.app;
+    const { session } = this.app.store;
     return `${this.title}${session ? `, change ${session.done} of ${session.total}` : ""}, ${new Date().toISOString().slice(0, 10)}`;
   }
 
   get bundle() { return bundleOf(this.app.partsFor(this.lesson ? this.lesson.name : "")); }
 
   save() {
-    saved(this.bundle, "text/plain", `${this.lesson ? this.lesson.name.replace("/", "_") : "program"}.mixal`);
+    saved(this.bundle, "text/plain", `${this.lesson ? `${this.lesson.name.replace("/", "_")}${this.isOther ? "-edited" : ""}` : "program"}.mixal`);
     this.app.isEdited = false;
+  }
+
+  // Holds all that is here in the address, so that nothing is lost by a reload, and each address is a link. What is too long is not held.
+  async hold() {
+    const { app } = this;
+    if (app.store.isBusy || app.time.isDragged) return;
+    const { bundle } = this;
+    if (this.held === undefined || bundle === this.held) return;
+    const fragment = await fragmentOf(bundle);
+    if (bundle !== this.bundle) return;
+    this.held = fragment.length <= LONGEST_HELD ? bundle : "";
+    window.history.replaceState(null, "", this.held ? fragment : addressOf("#no-tour", window.location.search));
+  }
+
+  // In a frame the parts that its author chose stand beside the program; without a choice the bars, the registers, and what is printed.
+  frame() {
+    const asked = new URLSearchParams(window.location.search).get("embed").split(",").filter((name) => FRAMED.includes(name));
+    for (const name of asked.length > 0 ? asked : FRAMED.slice(0, 3)) {
+      const part = $({ bars: "picture" }[name] || name);
+      part.classList.add("chosen");
+      document.querySelector(".side").append(part);
+    }
+  }
+
+  // The frame that Share gives, with the parts that are ticked.
+  putFrame() {
+    const parts = FRAMED.filter((name) => $(`frame-${name}`).checked).join(",");
+    const title = this.lesson ? this.title : "A program of MIX";
+    $("frame-text").value = make("iframe", { src: addressOf(this.fragment, `?embed=${parts}`), title, width: 800, height: 500 }).outerHTML;
   }
 
   // In a frame a link leads to the whole page, with the same program, commands and moment.
@@ -138,7 +202,8 @@ export class Keep {
     const fragment = await fragmentOf(this.bundle);
     const link = addressOf(fragment);
     $("link-text").value = link;
-    $("frame-text").value = make("iframe", { src: addressOf(fragment, "?embed"), title: this.lesson ? this.title : "A program of MIX", width: 800, height: 500 }).outerHTML;
+    this.fragment = fragment;
+    this.putFrame();
     const notes = [];
     if (window.location.protocol === "file:") notes.push("This page is a file, so the link leads to this file. Behind another address of the page the # and what follows do the same.");
     if (link.length > LONG_LINK) notes.push(`The link has ${link.length.toLocaleString("en")} letters: mail and chats may cut it, so try it or send the file.`);
@@ -149,7 +214,7 @@ export class Keep {
 
   // The moment as a text, with what it is of, as on paper.
   copyMoment() {
-    const { session, view, memory, bars, listing, refusal } = this.app;
+    const { memory, bars, listing, store: { session, view, refusal } } = this.app;
     const cells = [...new Set([...memory.shownCells, ...bars.cells])].sort((a, b) => a - b);
     if (!session) this.app.tell(`${refusal}. Nothing was copied.`, true);
     else this.app.copy(`${this.heading}\n${momentOf(view, cells, listing.lineOf)}`, "The moment, as a text,");

@@ -1,79 +1,84 @@
-// Beside each line of the source its location, its word and how often it was executed; a band over the line that is next, and one at a fault.
+// Beside each line of the source its location, its word and how often it was executed. The lines of the last step and of the next one are marked, with
+// a bow where a jump lies between, and so are those with a fault.
 
-import { $, fourDigits, make, mark, on, onResize, put, setStop, stopIn, walks } from "./dom.js";
+import { $, fourDigits, isPressed, make, mark, on, onResize, put } from "./dom.js";
 import { ZERO } from "./sentence.js";
-import { Source, sameIn } from "./source.js";
+import { Source } from "./source.js";
+
+const LINES_WALKED = { ArrowUp: -1, ArrowDown: 1, PageUp: -15, PageDown: 15, Home: -Infinity, End: Infinity };
+
+// The letter of a line at a column, which counts tab stops at each eighth.
+function letterAt(text, column) {
+  let [at, place] = [0, 1];
+  for (; at < text.length && place < column; at += 1) place += text[at] === "\t" ? 8 - ((place - 1) % 8) : 1;
+  return at;
+}
 
 export class Listing {
-  constructor(app, grammar) {
-    this.app = app;
-    this.rows = []; // of each line its element, its button, and the parts that it has
-    this.boxes = []; // of each line where it begins, and its height
-    this.breaks = new Set();
-    this.found = []; // lines with a fault or a warning, each with its band
+  constructor(store, grammar) {
+    this.store = store;
+    this.rows = new WeakMap(); // of each line that was drawn its parts
+    this.points = new Set(); // the lines with a breakpoint
+    this.classed = []; // lines with a class
+    this.marks = []; // of what is wrong
+    this.bad = new Set(); // lines with a fault
+    this.said = new Map(); // the texts of faults and warnings, by their lines
     this.times = new Map(); // how often cells were executed
     this.wordIn = () => ZERO;
-    this.setProgram(null);
-    this.source = new Source(app, grammar, this);
-    on("gutter", "click", ({ target }) => {
-      const index = this.rows.findIndex(({ row }) => row.contains(target));
-      if (index < 0) return;
-      setStop($("gutter"), this.rows[index].button);
-      app.toggle(index + 1);
+    this.bow = make("div", { class: "bow", "aria-hidden": "true" });
+    this.source = new Source(grammar, {
+      edited: (changes) => this.edited(changes),
+      refused: (reason) => store.tell(`The text was not taken: ${reason}.`, true),
+      drawn: () => this.draw(),
+      said: (line) => this.said.get(line),
+      symbols: () => (this.program ? this.program.symbols.map(({ name }) => name) : []),
     });
-    walks("gutter", 15);
-    onResize($("listing"), () => this.reveal(this.marked));
-    window.addEventListener("beforeprint", () => this.rows.forEach((parts, index) => putPart(parts, "source", this.lines[index])));
-    this.fit();
+    this.cm = this.source.cm;
+    this.setProgram(null);
+    store.on("view", (view) => this.show(view));
+    on("listing", "click", ({ target }) => {
+      const row = target.closest(".line");
+      if (row) store.emit("toggle", Number(row.firstChild.textContent));
+    });
+    on("listing", "keydown", (event) => this.walk(event));
+    on("columns", "click", () => this.shut(!this.isShut));
+    onResize($("listing"), () => {
+      this.cm.refresh();
+      this.source.reveal(this.marked);
+    });
+    window.addEventListener("beforeprint", () => this.print());
   }
 
   get text() { return this.source.text; }
-  get lines() { return this.source.lines; }
 
   // Another text, with no breakpoints.
   set text(text) {
-    this.breaks.clear();
+    this.points.clear();
     this.setProgram(null);
     this.source.text = text;
-    this.fit();
-  }
-
-  // The text was edited; each breakpoint goes with its line.
-  edited(old, now) {
-    this.breaks = moved(this.breaks, old, now);
-    this.fit();
-    this.app.edited();
-  }
-
-  // As many rows as lines, each as high as its line.
-  fit() {
-    while (this.rows.length > this.lines.length) this.rows.pop().row.remove();
-    const fresh = this.lines.slice(this.rows.length).map((_, at) => {
-      const line = this.rows.length + at + 1;
-      const button = make("button", { type: "button", tabindex: line === 1 ? "0" : "-1" }, String(line));
-      return { button, row: make("div", { class: "line" }, button), height: "", label: "" };
-    });
-    this.rows.push(...fresh);
-    $("gutter").append(...fresh.map(({ row }) => row));
-    if (!stopIn($("gutter"))) setStop($("gutter"), this.rows[this.rows.length - 1].button);
     this.draw();
-    this.place();
   }
 
-  // Gives the rows of lines that are wrapped the height of their lines, and the bands their places.
-  place() {
-    const one = parseFloat(getComputedStyle($("colours")).lineHeight);
-    const { top: begin } = $("colours").getBoundingClientRect();
-    this.boxes = this.source.shades.map(({ element }) => element.getBoundingClientRect()).map(({ top, height }) => ({ top: top - begin, height }));
-    this.boxes.forEach(({ height }, index) => {
-      const parts = this.rows[index];
-      const wanted = Math.abs(height - one) < 0.1 || height === 0 ? "" : `${height}px`;
-      if (!parts || parts.height === wanted) return;
-      parts.height = wanted;
-      parts.row.style.height = wanted;
-    });
-    this.band($("here"), this.marked);
-    this.found.forEach(({ line, band }) => this.band(band, line));
+  lineText(line) { return this.cm.getLine(line - 1) || ""; }
+
+  edited(changes) {
+    if (changes.some(({ text, removed }) => text.length !== removed.length)) this.draw();
+    this.store.emit("edited", changes);
+  }
+
+  // The lines with a breakpoint, which goes with its line.
+  get breaks() {
+    const lines = [...this.points].map((handle) => this.cm.getLineNumber(handle));
+    return lines.filter((line) => line !== null).map((line) => line + 1).sort((a, b) => a - b);
+  }
+
+  // Sets a breakpoint, or takes it away; whether it is set now.
+  toggle(line) {
+    const handle = this.cm.getLineHandle(line - 1);
+    const isSet = Boolean(handle) && !this.points.delete(handle);
+    if (isSet) this.points.add(handle);
+    this.draw();
+    return isSet;
   }
 
   // Where the words of the program are; none while the text is refused.
@@ -83,8 +88,18 @@ export class Listing {
     this.lineOf = new Map(rows.map(({ line, cell }) => [cell, line]));
     this.cellOf = new Map(rows.filter(({ line }) => line).map(({ line, cell }) => [line, cell]));
     if (program) return;
-    this.marked = 0;
+    Object.assign(this, { marked: 0, left: 0 });
+    this.mark();
     this.draw();
+  }
+
+  // Whether the columns beside the lines are shut.
+  get isShut() { return !isPressed("columns"); }
+
+  shut(isShut) {
+    mark($("columns"), "aria-pressed", !isShut);
+    $("source").classList.toggle("shut", isShut);
+    this.cm.refresh();
   }
 
   // The line that gives the word of a breakpoint asked for at a line; 0 where none does.
@@ -96,64 +111,114 @@ export class Listing {
 
   // The cells of the breakpoints.
   get breakCells() {
-    const cells = [...this.breaks].map((line) => this.cellOf.get(this.lineFrom(line)));
+    const cells = this.breaks.map((line) => this.cellOf.get(this.lineFrom(line)));
     return [...new Set(cells)].filter((cell) => cell !== undefined).sort((a, b) => a - b);
   }
 
-  // Shows a moment of the machine; a band is over the line at the location, or over that of a HLT which was the last change.
+  // Shows a moment of the machine: marked are the line at the location, or that of a HLT which was the last change, and the line that was left.
   show({ state, times, change, wordIn }) {
     Object.assign(this, { times, wordIn });
     this.marked = this.lineOf.get(state.halted ? change.location : state.location) || 0;
+    this.left = (change && !state.halted && this.lineOf.get(change.location)) || 0;
     $("listing").classList.toggle("halted", state.halted);
+    this.mark();
+    this.draw();
+    this.source.reveal(this.marked);
+  }
+
+  // Marks lines by classes.
+  mark() {
+    const { cm, marked, left } = this;
+    const wanted = [[marked, "at"], [left === marked ? 0 : left, "left"], ...[...this.said.keys()].map((line) => [line, this.bad.has(line) ? "wrong" : "warned"])];
+    cm.operation(() => {
+      for (const [handle, name] of this.classed) cm.removeLineClass(handle, "wrap", name);
+      this.classed = wanted.flatMap(([line, name]) => (cm.getLineHandle(line - 1) ? [[cm.addLineClass(line - 1, "wrap", name), name]] : []));
+    });
+    this.bow.remove();
+    if (!marked || !left || Math.abs(marked - left) < 2) return;
+    const [top, bottom] = [Math.min(left, marked), Math.max(left, marked)].map((line) => cm.heightAtLine(line - 1, "local") + cm.defaultTextHeight() / 2);
+    this.bow.className = `bow ${marked < left ? "up" : "down"}`;
+    cm.addWidget({ line: 0, ch: 0 }, this.bow);
+    Object.assign(this.bow.style, { top: `${top}px`, height: `${bottom - top}px`, left: "" });
+  }
+
+  // Shows each row in view in which something is another.
+  draw() {
+    const { cm } = this;
+    const { from, to } = cm.getViewport();
+    let stop = [this.stop, cm.getLineHandle(this.marked - 1)].find((handle) => handle && cm.getLineNumber(handle) >= from && cm.getLineNumber(handle) < to);
+    cm.operation(() => cm.eachLine(from, to, (handle) => {
+      stop ??= handle;
+      this.drawRow(handle, cm.getLineNumber(handle) + 1, handle === stop);
+    }));
+  }
+
+  drawRow(handle, line, isStop) {
+    let parts = this.rows.get(handle);
+    if (!parts) {
+      const button = make("button", { type: "button" });
+      parts = { button, row: make("div", { class: "line", "cm-ignore-events": "true" }, button), label: "" };
+      this.rows.set(handle, parts);
+      this.cm.setGutterMarker(handle, "beside", parts.row);
+    }
+    const known = this.knownOf(line);
+    const isSet = this.points.has(handle);
+    const heat = this.heat ? this.heat(line) : 0;
+    const title = this.said.get(line) || "";
+    const label = [line, ...Object.values(known), isSet, isStop, heat, title].join(" ");
+    if (parts.label === label) return;
+    parts.label = label;
+    put(parts.button, String(line));
+    for (const [name, text] of Object.entries(known)) putPart(parts, name, text);
+    parts.row.style.setProperty("--heat", heat);
+    Object.assign(parts.button, { tabIndex: isStop ? 0 : -1, title });
+    const said = known.loc ? `, location ${known.loc}, ${known.word}, ${known.times || "0"} times` : "";
+    mark(parts.button, "aria-label", `Line ${line}${said}: breakpoint`);
+    mark(parts.button, "aria-pressed", isSet);
+  }
+
+  // Location, word and times of a line; nothing where it has no cell.
+  knownOf(line) {
+    const cell = this.cellOf.get(line);
+    if (cell === undefined) return { loc: "", word: "", times: "" };
+    return { loc: fourDigits(cell), word: this.wordIn(cell).word, times: String(this.times.get(cell) || "") };
+  }
+
+  // The arrow keys walk from line to line at the left.
+  walk(event) {
+    const row = event.target.closest(".line");
+    const step = LINES_WALKED[event.key];
+    if (!row || !step) return;
+    event.preventDefault();
+    const line = Math.max(1, Math.min(this.cm.lineCount(), Number(row.firstChild.textContent) + step));
+    this.stop = this.cm.getLineHandle(line - 1);
+    this.source.reveal(line);
+    this.draw();
+    this.rows.get(this.stop).button.focus();
+  }
+
+  // Marks what has a fault or a warning: the line, and the letters that it is about.
+  setFound(found) {
+    const { cm } = this;
+    for (const each of this.marks) each.clear();
+    this.marks = found.filter(({ column }) => column).map(({ line, column, endColumn, isFault }) => {
+      const [from, to] = [column, endColumn].map((at) => letterAt(this.lineText(line), at));
+      return cm.markText({ line: line - 1, ch: from }, { line: line - 1, ch: to }, { className: isFault ? "fault-text" : "warned-text" });
+    });
+    this.bad = new Set(found.filter(({ isFault }) => isFault).map(({ line }) => line));
+    this.said = new Map(found.map(({ line }) => [line, found.filter((each) => each.line === line).map(({ text }) => text).join("; ")]));
+    mark($("text"), "aria-invalid", this.bad.size > 0);
+    this.mark();
     this.draw();
   }
 
-  // Shows each row in which something is another.
-  draw() {
-    this.rows.forEach((parts, index) => {
-      const cell = this.cellOf.get(index + 1);
-      const known = cell === undefined ? { loc: "", word: "", times: "" } : { loc: fourDigits(cell), word: this.wordIn(cell).word, times: String(this.times.get(cell) || "") };
-      const [isAt, isSet] = [index + 1 === this.marked, this.breaks.has(index + 1)];
-      const label = [...Object.values(known), isAt, isSet].join(" ");
-      if (parts.label === label) return;
-      parts.label = label;
-      for (const [name, text] of Object.entries(known)) putPart(parts, name, text);
-      parts.row.classList.toggle("at", isAt);
-      const said = known.loc ? `, location ${known.loc}, ${known.word}, ${known.times || "0"} times` : "";
-      mark(parts.button, "aria-label", `Line ${index + 1}${said}: breakpoint`);
-      mark(parts.button, "aria-pressed", isSet);
+  // All lines as they are printed.
+  print() {
+    const rows = this.text.split("\n").map((text, index) => {
+      const { loc, word, times } = this.knownOf(index + 1);
+      return make("tr", {}, ...[String(index + 1), loc, word, times, text].map((each, at) => make("td", { class: at === 4 && "source" }, each)));
     });
-    this.band($("here"), this.marked);
-  }
-
-  // Puts a band over a line.
-  band(band, line) {
-    const box = this.boxes[line - 1];
-    band.hidden = !box;
-    if (box) Object.assign(band.style, { top: `${box.top}px`, height: `${box.height}px` });
-  }
-
-  // Marks each line that has a fault or a warning, with its text; the text of the first is read out with the source, each with the button of its line.
-  setFound(found) {
-    const lines = new Map(found.map((each) => [each.line, each]));
-    this.source.found = new Map(found.map(({ line, text }) => [line, text]));
-    this.rows.forEach(({ row, button }, index) => {
-      const { isFault = false, text = "" } = lines.get(index + 1) || {};
-      row.classList.toggle("wrong", isFault);
-      if (button.title !== text) button.title = text;
-    });
-    this.found = found.map(({ line, isFault, text }, index) => {
-      const said = make("span", { id: index === 0 && "wrong-text" }, text);
-      return { line, band: make("div", { class: isFault ? "band wrong" : "band warned" }, said) };
-    });
-    $("found").replaceChildren(...this.found.map(({ band }) => band));
-    this.found.forEach(({ line, band }) => this.band(band, line));
-    mark($("text"), "aria-invalid", found.some(({ isFault }) => isFault));
-  }
-
-  // Scrolls so that a line is seen, in its box and in the window.
-  reveal(line) {
-    if (line > 0 && line <= this.rows.length) this.rows[line - 1].row.scrollIntoView({ block: "nearest", inline: "nearest" });
+    $("printed").replaceChildren(...rows);
   }
 }
 
@@ -161,16 +226,4 @@ export class Listing {
 function putPart(parts, name, text) {
   if (!parts[name] && text !== "") parts.row.append((parts[name] = make("span", { class: name })));
   if (parts[name]) put(parts[name], text);
-}
-
-// The breakpoints after an edit: each goes with its line.
-function moved(breaks, old, now) {
-  const same = sameIn(old, now);
-  const more = now.length - old.length;
-  const isPushed = more > 0 && now[same] === "";
-  const place = (line) => {
-    if (line <= same || (line === same + 1 && !isPushed)) return line;
-    return more < 0 && line <= same - more ? 0 : line + more;
-  };
-  return new Set([...breaks].map(place).filter((line) => line > 0));
 }

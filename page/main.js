@@ -2,6 +2,7 @@
 
 import { App } from "./app.js";
 import { Grammar } from "./colours.js";
+import { make } from "./dom.js";
 import { IN_FRAME, Keep } from "./keep.js";
 import { Machine } from "./machine.js";
 import { fillCard } from "./operations.js";
@@ -9,7 +10,9 @@ import { bytesOfBlock, textOfBlock } from "./share.js";
 import { NO_TOUR, Tour } from "./tour.js";
 
 async function begin() {
-  const [worker, module, lessons, grammar] = await Promise.all([textOfBlock("worker-block"), bytesOfBlock("engine-block"), textOfBlock("lessons-block"), textOfBlock("grammar-block")]);
+  const texts = ["worker", "lessons", "grammar", "library"].map((name) => textOfBlock(`${name}-block`));
+  const [module, worker, lessons, grammar, library] = await Promise.all([bytesOfBlock("engine-block"), ...texts]);
+  document.head.append(make("script", {}, library)); // the policy of the page names it by its sum
   const app = new App(new Machine(worker, module), new Grammar(JSON.parse(grammar)));
   const told = (reason) => app.tell(`The page itself has a fault: ${reason}`, true);
   window.addEventListener("unhandledrejection", ({ reason }) => told(reason));
@@ -23,5 +26,5 @@ async function begin() {
 }
 
 begin().catch((reason) => {
-  document.getElementById("did").textContent = `This browser can't show the page (${reason}). It has to be one of 2023 or later.`;
+  document.getElementById("did").textContent = `This browser can't show the page (${reason}). It has to be one of 2024 or later.`;
 });

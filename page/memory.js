@@ -10,8 +10,11 @@ const CELLS_SHOWN = 500; // rows
 // A row of a word: a button that asks who wrote it; sign and bytes, number, characters, what it was before.
 function wordRow(name, label, asked) {
   const button = make("button", { type: "button", "aria-label": `${name}: who wrote it?` }, label);
-  const head = make("th", { scope: "row" }, button, make("span", { class: "unseen" }), make("span", { class: "unseen" }));
-  return make("tr", { click: asked }, head, ...["word", "number", "chars", "was"].map((kind) => make("td", { class: kind })));
+  const head = make("th", { scope: "row", role: "rowheader" }, button, make("span", { class: "unseen" }), make("span", { class: "unseen" }));
+  const clicked = () => {
+    if (window.getSelection().isCollapsed) asked(); // otherwise somebody marks a number to copy it
+  };
+  return make("tr", { click: clicked, role: "row" }, head, ...["word", "number", "chars", "was"].map((kind) => make("td", { class: kind, role: "cell" })));
 }
 
 // Shows the word of a part in such a row, with what it was if it was altered, and perhaps its use by a unit.
@@ -33,11 +36,16 @@ export const flagsOf = (state) => [
 ];
 
 // Shows the registers and the flags of a moment.
-export function showRegisters(app, view) {
-  const asks = (part, name) => make("button", { type: "button", "aria-label": `${name}: who wrote it?`, click: () => app.ask(part, name) }, name);
-  const row = ({ name }) => wordRow(`r${name}`, `r${name}`, () => app.ask(name, `r${name}`));
+export function showRegisters(store, view) {
+  const asks = (part, name) => make("button", { type: "button", "aria-label": `${name}: who wrote it?`, click: () => store.emit("ask", part, name) }, name);
+  const row = ({ name }) => wordRow(`r${name}`, `r${name}`, () => store.emit("ask", name, `r${name}`));
   const flag = ({ name, part }) => make("div", {}, make("dt", {}, part ? asks(part, name) : name), make("dd"));
-  keepRows($("register-rows"), view.state.registers, ({ name }) => name, row, (element, register) => showWord(element, register.name, register, view));
+  const stop = stopIn($("register-rows"));
+  const current = stop ? stop.closest("tr").dataset.key : "A";
+  keepRows($("register-rows"), view.state.registers, ({ name }) => name, row, (element, register) => {
+    showWord(element, register.name, register, view);
+    mark(element.querySelector("button"), "tabindex", register.name === current ? "0" : "-1");
+  });
   keepRows($("flags"), flagsOf(view.state), ({ name }) => name, flag, (element, { part, text }) => {
     put(element.lastChild, text);
     element.classList.toggle("altered", view.altered.has(part));
@@ -56,13 +64,17 @@ export function momentOf({ state, wordIn }, shown, lineOf) {
 
 // Cells of the memory: those around M, the cell that the next step uses; those that are not zero; or a range.
 export class Memory {
-  constructor(app) {
-    this.app = app;
+  constructor(store) {
+    this.store = store;
     this.middle = 0; // the cell around which cells are shown
     this.shownCells = [];
-    this.range = new CellRange(app, "cells", () => this.which === "range", () => this.show());
+    this.range = new CellRange(store, "cells", () => this.which === "range", () => this.show());
     on("cells-which", "change", () => this.chosen());
+    store.on("view", () => this.show());
+    store.on("program", () => this.range.ask());
+    store.on("forget", () => this.forget());
     walks("cell-rows", 10);
+    walks("register-rows", 9);
   }
 
   get which() { return $("cells-which").value; }
@@ -85,10 +97,10 @@ export class Memory {
   }
 
   show() {
-    const { view } = this.app;
+    const { view } = this.store;
     if (!view) return;
     const { row, m } = instructionAt(view);
-    const used = row && row.uses === "cell" && m >= 0 && m < CELLS ? m : null;
+    const used = !view.state.halted && row && row.uses === "cell" && m >= 0 && m < CELLS ? m : null;
     const { cell: met, use } = view.conflict || {};
     if (met !== undefined || used !== null) this.middle = met ?? used;
     else if (this.middle < 0) this.middle = Math.min(view.state.location, CELLS - 1);
@@ -98,7 +110,7 @@ export class Memory {
     this.shownCells = shown;
     const stop = stopIn($("cell-rows"));
     const current = [stop && Number(stop.closest("tr").dataset.cell), this.middle].find((cell) => shown.includes(cell)) ?? shown[0];
-    const fresh = (cell) => wordRow(`cell ${cell}`, fourDigits(cell), () => this.app.ask(`cell ${cell}`, `cell ${cell}`));
+    const fresh = (cell) => wordRow(`cell ${cell}`, fourDigits(cell), () => this.store.emit("ask", `cell ${cell}`, `cell ${cell}`));
     keepRows($("cell-rows"), shown, (cell) => cell, fresh, (element, cell) => {
       const isMet = cell === met;
       showWord(element, `cell ${cell}`, view.wordIn(cell), view, [cell === used && "M", isMet && "conflict"], isMet && use);

@@ -11,8 +11,8 @@ export function upTo(from, to) {
 
 export class CellRange {
   // The ids of its fields begin with `name`. It is asked for while `isWanted` says so, and `taken` is called when it is another range.
-  constructor(app, name, isWanted, taken) {
-    Object.assign(this, { app, isWanted, taken, fault: `${name}-fault`, fields: [$(`${name}-from`), $(`${name}-to`)] });
+  constructor(store, name, isWanted, taken) {
+    Object.assign(this, { store, isWanted, taken, fault: `${name}-fault`, fields: [$(`${name}-from`), $(`${name}-to`)] });
     this.cells = [];
     for (const end of ["from", "to"]) on(`${name}-${end}`, "input", () => this.ask());
   }
@@ -28,8 +28,8 @@ export class CellRange {
   // Asks the engine which cells the ends are.
   async ask() {
     if (!this.isWanted()) return;
-    const { app, ends } = this;
-    const numbers = await app.enqueue(() => app.session.values(ends));
+    const { store, ends } = this;
+    const numbers = await store.enqueue(() => store.session.values(ends));
     if (numbers) this.take(ends, numbers);
   }
 

@@ -45,9 +45,9 @@ const fieldName = (f) => (f === 5 ? "" : `(${f >> 3}:${f & 7})`);
 const whereIs = (location, { lineOf }) => (lineOf.get(location) ? `line ${lineOf.get(location)}` : `location ${fourDigits(location)}`);
 
 // An instruction at a location: its line, and operation and address as they are in the source, if they come from there.
-function named(location, text, { lineOf, lines }) {
-  const line = lineOf.get(location);
-  const [, operation, address = ""] = (lines[line - 1] || "").split(/[ \t]+/);
+function named(location, text, listing) {
+  const line = listing.lineOf.get(location);
+  const [, operation, address = ""] = (line ? listing.lineText(line) : "").split(/[ \t]+/);
   const isBare = ["HLT", "NUM", "CHAR", "NOP"].includes(text.split(" ")[0]);
   const isThere = operation && operation.toUpperCase() === text.split(" ")[0];
   return `${line || fourDigits(location)} ${isThere ? `${operation} ${isBare ? "" : address}`.trimEnd() : text}`;
@@ -72,23 +72,28 @@ function nextOf(view, listing) {
   return `${name}: ${filled(row.sentence, given)}`;
 }
 
-// What a change altered in one part of the machine.
-function alterationOf({ part, what, before, after, block }) {
+// What a change altered in one part of the machine, as the units are after it; a printer's new page is an output of it too.
+function alterationOf({ part, what, before, after, block }, units, isControl) {
   if (part === "over") return `overflow goes ${after}`;
   if (part === "cmp") return `the comparison goes from ${COMPARED[before]} to ${COMPARED[after]}`;
   if (part.startsWith("unit ")) {
     if (block !== undefined) return `${part}: block ${block} is written`;
-    return { output: `${part} writes row ${after}`, place: `${part} goes to block ${after}` }[what] || "";
+    const { rows = [] } = units.find(({ unit }) => `unit ${unit}` === part) || {};
+    const output = isControl ? `${part} begins a new page` : `${part} writes row ${rows.length}`;
+    return { output, place: `${part} goes to block ${after}` }[what] || "";
   }
   if (part.startsWith("break ")) return `breakpoint ${part.slice(6)} ${after}`;
   return `${/^(A|X|J|I\d)$/.test(part) ? `r${part}` : part} from ${told(before)} to ${told(after)}`;
 }
 
 // What the last change did, after which the machine is at a location; its line is that of where it was done.
-function didOf(change, { location, cmp }, listing) {
-  const parts = change.items.map(alterationOf).filter(Boolean);
+function didOf(change, { state: { location, cmp }, units }, listing) {
   const row = isCommand(change) ? undefined : OPERATIONS.get(change.text.split(" ")[0]);
-  if (row && row.uses === "jump") parts.unshift(location === change.location + 1 && parts.length === 0 ? "does not jump" : `jumps to ${whereIs(location, listing)}`);
+  const parts = change.items.map((item) => alterationOf(item, units, row && row.name === "IOC")).filter(Boolean);
+  if (row && row.uses === "jump") {
+    const isTaken = row.name === "JMP" || row.name === "JSJ" || location !== change.location + 1 || parts.length > 0;
+    parts.unshift(isTaken ? `jumps to ${whereIs(location, listing)}` : "does not jump");
+  }
   if (row && row.name.startsWith("CMP") && parts.length === 0) parts.push(`the comparison stays ${COMPARED[cmp]}`);
   if (row && row.name === "HLT") parts.push("halts");
   const did = parts.join(", ") || "nothing is altered";
@@ -116,7 +121,7 @@ export function toldOf({ answer, before, view, listing }) {
   const { state, change } = view;
   const was = before ? before.state.done : state.done;
   const at = whereIs(state.location, listing);
-  const last = change ? didOf(change, state, listing) : "";
+  const last = change ? didOf(change, view, listing) : "";
   const next = state.halted ? "" : `Next: ${nextOf(view, listing)}.`;
   const refusal = answer ? refusalOf(answer) : "";
   const fault = answer && !refusal ? faultOf(answer) : "";
@@ -128,7 +133,7 @@ export function toldOf({ answer, before, view, listing }) {
   if (refusal) return { last, did: `Refused: ${refusal}${MEANINGS[refusal] || ""}.`, next, isFault: true };
   const rows = printed(before, view);
   const conflict = view.conflict ? `Conflict: ${view.conflict.text}. ` : "";
-  if (state.halted) return { last, did: conflict + haltedAt(state, was) + rows, next: "Step or Run, pressed twice, goes on after the HLT. Back goes back." };
+  if (state.halted) return { last, did: conflict + haltedAt(state, was) + rows, next: "Back goes back." };
   const begin = listing.breakCells.includes(state.location) ? `Breakpoint at ${at}. ` : "";
   return { last, did: conflict + begin + wayOf(before, was, state, last, rows), next };
 }
@@ -152,7 +157,7 @@ function printed(before, view) {
 function wayOf(before, was, { done, ahead }, last, rows) {
   if (done === was) return (done === 0 ? "At the start." : `Did ${last}.`) + rows;
   if (done === was - 1) return `Taken back: ${before.did}.${rows}`;
-  if (done < was) return `${counted(was - done, "change")} taken back.${rows}`;
+  if (done < was) return `${counted(was - done, "change")} taken back.${rows} ${done === 0 ? "At the start." : `The last: ${last}.`}`;
   if (done === was + 1) return `Did ${last}.${rows}`;
   if (done === was + STEPS && ahead === 0 && before.state.ahead === 0) return `A million steps were done without a halt. Press Run to go on.${rows}`;
   return `${counted(done - was, "change")} done.${rows} The last: ${last}.`;

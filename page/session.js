@@ -4,6 +4,7 @@
 import { replyOf } from "./machine.js";
 import { STEPS, ZERO } from "./sentence.js";
 
+const MOST_WRITES = 1000; // that the engine tells at once
 const LONG = 200000; // changes after which the counts are left out while the slider is dragged
 const WHERE = ["mix/state", { cells: [], nonzero: false }]; // how many changes are done
 
@@ -27,6 +28,7 @@ export class Session {
     this.at = 0; // so many changes are done in the engine
     this.known = { at: 0, times: new Map() }; // how often each cell was executed up to the last command
     this.changes = {}; // another object whenever the list of changes may be another one
+    this.same = 0; // so many changes at its beginning are those that the map has seen
   }
 
   get done() { return this.state.done; }
@@ -103,7 +105,10 @@ export class Session {
     const { done, ahead } = view.state;
     const answer = answers[commands.length - 1];
     if (isTried && !answer.success) return { view, answer };
-    if (commands.length > 1 || done + ahead !== this.total || (done > this.done && ahead === 0)) this.changes = {};
+    if (commands.length > 1 || done + ahead !== this.total || (done > this.done && ahead === 0)) {
+      this.changes = {};
+      this.same = commands.length > 1 ? 0 : Math.min(this.same, this.done);
+    }
     this.log.push(...commands.map((command, index) => ({ command, reply: replyOf(answers[index]) })));
     this.state = view.state;
     this.known = { at: done, times: view.times };
@@ -156,11 +161,20 @@ export class Session {
     return moments.map((_, index) => answers[2 * index + 1].body.cells);
   }
 
-  // The columns of all changes, with what was executed in each, and of each of some parts the changes that wrote it, the first one first.
-  async mapOf(columns, parts) {
-    const asked = [["mix/path", { columns }], ...parts.map((part) => ["mix/writes", { part }])];
-    const [found, ...writes] = await this.ask(asked, this.total);
-    return { columns: found.body.columns, writes: writes.map(({ body }) => body.writes.reverse()) };
+  // What was executed in each stretch of `width` changes from number `from` on; and of each unit that has written a row, and of a part, the last changes
+  // that wrote it, the first one first.
+  async mapOf(from, width, part) {
+    const { total } = this;
+    const [{ body: { units } }] = await this.ask([["mix/units", {}]], total);
+    const written = units.filter(({ rows }) => rows && rows.length > 0).map(({ unit }) => `unit ${unit}`);
+    const parts = [...written, ...(part ? [part] : [])];
+    const count = Math.floor((total - from) / width);
+    const until = from + count * width;
+    const path = [...(count > 0 ? [{ columns: count, from, until }] : []), ...(until < total ? [{ columns: 1, from: until, until: total }] : [])];
+    const answers = await this.ask([...path.map((given) => ["mix/path", given]), ...parts.map((part) => ["mix/writes", { part }])], total);
+    const bodies = answers.map(({ body }) => body);
+    const writes = bodies.slice(path.length).map((body, at) => ({ part: parts[at], writes: body.writes.reverse() }));
+    return { columns: bodies.slice(0, path.length).flatMap(({ columns }) => columns), writes };
   }
 
   // How many of all changes altered each of some cells, a thousand at most.
@@ -169,20 +183,35 @@ export class Session {
     return new Map(cells.map((cell, index) => [cell, answers[index].body.writes.length]));
   }
 
-  // Of a part: the last changes of all that wrote it, the first one first; the last one that is done, with its line; the first one that is ahead.
+  // Of a part: the changes around this moment that wrote it, the first one first, and whether there may be more before or behind them; the last one that
+  // is done, with its line; the first one that is ahead.
   async writesOf(part) {
-    const asked = [["mix/writes", { part }], ["mix/writes", { part, count: 1, until: this.done }]];
-    const [all, { body: { writes: [last] } }] = await this.ask(asked, this.total);
+    const { done, total } = this;
+    const writesUpTo = async (ends) => {
+      const answers = await this.ask(ends.map((until) => ["mix/writes", { part, until }]), total);
+      return answers.map(({ body }) => body.writes.reverse());
+    };
+    const [before, all] = await writesUpTo([done, total]);
+    // Of those ahead the last are known, and if these do not reach back to this moment, those of the next changes are asked for.
+    const reaches = (writes) => writes.length < MOST_WRITES || writes[0].number <= done;
+    const near = reaches(all) ? [] : await writesUpTo([done + MOST_WRITES, done + 32 * MOST_WRITES]);
+    const ahead = [...near, all].filter(reaches).pop().filter(({ number }) => number > done);
+    const last = before[before.length - 1];
     const [change, line] = last ? await this.ask([["mix/change", { number: last.number }], repl("show last 1")], last.number) : [{}, {}];
-    return { writes: all.body.writes.reverse(), last: change.body, line: last ? line.body.result.trim() : "", next: await this.next([part]) };
+    return {
+      writes: [...before, ...ahead], isCut: [before.length === MOST_WRITES, !reaches(all)],
+      last: change.body, line: last ? line.body.result.trim() : "", next: ahead.length > 0 ? ahead[0].number : await this.next([part]),
+    };
   }
 }
 
 // The commands that a button asks for, one after another, each perhaps with the text of the conflict at which it ends. The page has breakpoints at some
-// cells, and filters of exceptions, none or `conflict`: the engine says where one is met, and what is kept are the steps.
+// cells, and filters of exceptions, none or `conflict`: the engine says where one is met, and what is kept are the steps. `over` is the cell behind the
+// instruction that is next, and `out` the one to which rJ leads.
 export async function* commandsOf(name, session, points) {
   const { done, ahead } = session;
-  if (name === "step") yield [ahead > 0 ? "forth 1" : "step 1"];
+  if (name === "step" || name === "beyond") yield [ahead > 0 ? "forth 1" : "step 1"];
+  if (name === "over" || name === "out") yield* runOf(session, { ...points, cells: [...points.cells, points[name]] });
   if (name === "to-end" && ahead > 0) yield ["forth all"];
   if (name === "back" && done > 0) yield ["back 1"];
   if (name === "to-start" && done > 0) yield ["back all"];

@@ -1,100 +1,182 @@
-// The text of the source: a box for typing, and behind it the same text in colours. Long lines are wrapped, so that all of a line is seen.
+// The text of the source in CodeMirror: the colours of the editors' grammar, the keys of a text in columns, finding, folding, completion.
 
-import { $, make, on, onResize } from "./dom.js";
-import { piecesOf } from "./colours.js";
-import { explained } from "./operations.js";
+import { kindOf } from "./colours.js";
+import { $, on } from "./dom.js";
+import { OPERATIONS, PSEUDO, explained } from "./operations.js";
 
 const LIMITS = { lines: 20000, bytes: 1048576 }; // of a source
+const PASTED = 100; // letters; what is typed at once is less
+const FIELD_COLUMNS = [0, 8, 13, 26]; // where label, operation, address and remark begin
+const SHOWN_AROUND = 25; // lines beside those in view that are drawn too
 
 // Why a text can't be a source, before anything is made of it; "" where it may be one.
 export function tooLarge(text) {
-  let lines = text.endsWith("\n") ? 0 : 1;
-  for (let at = text.indexOf("\n"); at >= 0; at = text.indexOf("\n", at + 1)) lines += 1;
+  const lines = text.split("\n").length - (text.endsWith("\n") ? 1 : 0);
   const bytes = text.length * 3 < LIMITS.bytes ? 0 : new TextEncoder().encode(text).length;
   const over = Object.entries({ lines, bytes }).find(([name, count]) => count > LIMITS[name]);
-  return over ? `it has ${over[1].toLocaleString("en")} ${over[0]}, and a source has at most ${LIMITS[over[0]].toLocaleString("en")}` : "";
+  if (!over) return "";
+  return `it has ${over[1].toLocaleString("en")} ${over[0]}, and a source has at most ${LIMITS[over[0]].toLocaleString("en")}`;
 }
 
-// How many elements two lists have in common at the beginning.
-export function sameIn(one, other, most = Infinity) {
-  let same = 0;
-  while (same < Math.min(one.length, other.length, most) && one[same] === other[same]) same += 1;
-  return same;
+// The grammar as a mode of the editor.
+function modeOf(grammar) {
+  const begin = (text, state) => {
+    Object.assign(state, grammar.line(text, state.open));
+  };
+  return () => ({
+    startState: () => ({ open: null, names: [] }),
+    copyState: (state) => ({ ...state }),
+    blankLine: (state) => begin("", state),
+    token(stream, state) {
+      if (stream.sol()) begin(stream.string, state);
+      const { names } = state;
+      const name = names[stream.pos];
+      while (!stream.eol() && names[stream.pos] === name) stream.next();
+      return kindOf(name) || null;
+    },
+  });
+}
+
+const isRemark = (text) => text.startsWith("*");
+
+// What is folded at the first of some remark lines: all up to the next of such lines.
+function foldAt(cm, { line }) {
+  if (!isRemark(cm.getLine(line)) || (line > 0 && isRemark(cm.getLine(line - 1)))) return undefined;
+  let last = line;
+  while (last < cm.lastLine() && isRemark(cm.getLine(last + 1))) last += 1;
+  while (last < cm.lastLine() && !isRemark(cm.getLine(last + 1))) last += 1;
+  while (last > line && cm.getLine(last).trim() === "") last -= 1;
+  const end = (at) => window.CodeMirror.Pos(at, cm.getLine(at).length);
+  return { from: end(line), to: end(last) };
+}
+
+// Where the operation of a line begins; nothing where it has none.
+const operationAt = (text) => (isRemark(text) ? undefined : (/^\S*[ \t]+(?=\S)/.exec(text) || [""])[0].length || undefined);
+
+// Begins a line at the column of the operation; what stands behind a label or before the operation is only broken.
+function newLine(cm) {
+  const { line, ch } = cm.getCursor("from");
+  const text = cm.getLine(line);
+  const isBlank = text.trim() === "";
+  let above = line;
+  while (above > 0 && operationAt(cm.getLine(above)) === undefined) above -= 1;
+  const column = operationAt(cm.getLine(above)) ?? FIELD_COLUMNS[1];
+  const isBroken = text.slice(ch).trim() !== "" && (isRemark(text.slice(ch).trim()) || ch <= (operationAt(text) ?? text.length));
+  if (isBlank) cm.replaceRange("", { line, ch: 0 }, { line, ch: text.length }, "+input");
+  cm.replaceSelection(isBroken || (isRemark(text) && ch > 0) ? "\n" : `\n${" ".repeat(column)}`, "end", "+input");
+  cm.scrollIntoView(null);
+}
+
+// Goes to the next column, over blanks or over the rest of a word; behind the text it makes blanks.
+function nextColumn(cm) {
+  const { line, ch } = cm.getCursor();
+  const text = cm.getLine(line);
+  const next = /\S*[ \t]+(?=\S)/g;
+  next.lastIndex = ch;
+  const found = next.exec(text);
+  if (found && found.index === ch) return cm.setCursor({ line, ch: ch + found[0].length });
+  const column = FIELD_COLUMNS.find((at) => at > text.length) ?? text.length + 1;
+  cm.setCursor({ line, ch: text.length });
+  return cm.replaceSelection(" ".repeat(column - text.length), "end", "+input");
+}
+
+// Goes to the column before; from blanks that nothing follows it takes them away.
+function columnBefore(cm) {
+  const { line, ch } = cm.getCursor();
+  const text = cm.getLine(line);
+  const column = FIELD_COLUMNS.findLast((at) => at < ch) ?? 0;
+  if (text.slice(column).trim() === "") cm.replaceRange("", { line, ch: column }, { line, ch: text.length }, "+input");
+  cm.setCursor({ line, ch: column });
 }
 
 export class Source {
-  constructor(app, grammar, listing) {
-    Object.assign(this, { app, grammar, listing });
-    this.box = $("text");
-    this.lines = [""];
-    this.found = new Map(); // the texts of faults and warnings, by their lines
-    this.shades = []; // of each line its element, its text, and the rules that are open before and behind it
-    on("text", "input", () => this.typed());
-    on("text", "mousemove", (event) => this.pointed(event));
-    onResize($("colours"), () => listing.place());
-    this.draw();
+  // `edited` is called after each edit with the changes, `refused` with the reason why a text was not taken, `drawn` when other lines are drawn,
+  // `said` gives what is said of a line, and `symbols` those of the program.
+  constructor(grammar, { edited, refused, drawn, said, symbols }) {
+    const { CodeMirror } = window;
+    CodeMirror.defineMode("mixal", modeOf(grammar));
+    const hints = (cm) => this.hints(cm, symbols());
+    const keys = { Enter: newLine, Tab: nextColumn, "Shift-Tab": columnBefore, "Ctrl-Space": (cm) => cm.showHint({ hint: hints, completeSingle: false }) };
+    this.cm = CodeMirror($("listing"), {
+      mode: "mixal", theme: "mix", lineWrapping: true, gutters: ["beside", "CodeMirror-foldgutter"], foldGutter: { rangeFinder: foldAt }, extraKeys: keys, tabSize: 8,
+      viewportMargin: SHOWN_AROUND, screenReaderLabel: "Source", indentWithTabs: false, smartIndent: false, electricChars: false, undoDepth: 1000, dragDrop: false,
+      scrollbarStyle: "native", maxHighlightLength: 2000,
+    });
+    const { cm } = this;
+    const input = cm.getInputField();
+    Object.assign(input, { id: "text", title: "Tab goes to the next column. After Escape it leaves the source." });
+    for (const [name, value] of [["keyshortcuts", "F9"], ["describedby", "wrong-text"]]) input.setAttribute(`aria-${name}`, value);
+    let leaves = false; // Escape was pressed last
+    cm.on("keydown", (_, event) => {
+      if (event.key === "Tab" && leaves) event.codemirrorIgnore = true;
+      if (event.key !== "Shift") leaves = event.key === "Escape";
+    });
+    cm.on("beforeChange", (_, change) => {
+      const reason = change.origin === "setValue" ? "" : this.tooMuch(change);
+      if (!reason) return;
+      change.cancel();
+      refused(reason);
+    });
+    cm.on("changes", (_, changes) => {
+      if (changes[0].origin !== "setValue") edited(changes);
+    });
+    cm.on("viewportChange", drawn);
+    cm.on("update", () => {
+      for (const row of cm.getWrapperElement().querySelectorAll(".CodeMirror-gutter-wrapper[aria-hidden]")) row.removeAttribute("aria-hidden");
+    });
+    on("listing", "mousemove", ({ clientX, clientY, target }) => {
+      const { line, ch } = cm.coordsChar({ left: clientX, top: clientY }, "window");
+      const told = target.closest(".CodeMirror-line") ? said(line + 1) || explained(cm.getTokenAt({ line, ch: ch + 1 }).string) : "";
+      if ($("listing").title !== told) $("listing").title = told;
+    });
   }
 
-  get text() { return this.box.value; }
+  get text() { return this.cm.getValue(); }
 
+  // Another text; the edit that brings the one before back is kept.
   set text(text) {
-    this.box.value = text;
-    $("listing").scrollTop = 0;
-    this.lines = text.split("\n");
-    this.draw();
+    const isFirst = this.cm.historySize().undo === 0 && this.text === "";
+    this.cm.setValue(text);
+    if (isFirst) this.cm.clearHistory();
   }
 
-  typed() {
-    const reason = tooLarge(this.text);
-    if (reason) {
-      this.box.value = this.lines.join("\n");
-      this.app.tell(`The text was not taken: ${reason}.`, true);
-      return;
-    }
-    const old = this.lines;
-    this.lines = this.text.split("\n");
-    this.draw();
-    this.listing.edited(old, this.lines);
-  }
-
-  // Shows the lines; those at the beginning and at the end that are the same keep their elements.
-  draw() {
-    const { shades, lines } = this;
-    const shown = shades.map(({ text }) => text);
-    const head = sameIn(shown, lines);
-    const tail = sameIn(shown.reverse(), [...lines].reverse(), Math.min(shown.length, lines.length) - head);
-    for (const { element } of shades.splice(head, shades.length - head - tail)) element.remove();
-    const fresh = lines.slice(head, lines.length - tail).map((text) => ({ element: make("div"), text, before: undefined, after: undefined }));
-    const next = head < shades.length ? shades[head].element : null;
-    for (const { element } of fresh) $("colours").insertBefore(element, next);
-    shades.splice(head, 0, ...fresh);
-    let open = head > 0 ? shades[head - 1].after : null;
-    for (const shade of shades.slice(head)) {
-      if (shade.before === open) break; // from here on nothing is another
-      this.paint(shade, open);
-      open = shade.after;
-    }
-  }
-
-  paint(shade, open) {
-    const { names, open: after } = this.grammar.line(shade.text, open);
-    Object.assign(shade, { before: open, after });
-    shade.element.replaceChildren(...piecesOf(shade.text, names).map(([text, kind]) => (kind ? make("span", { class: kind }, text) : text)));
-  }
-
-  // As a title the text of the fault or the warning at the pointer, or what the operation there does.
-  pointed(event) {
-    const under = document.elementsFromPoint(event.clientX, event.clientY);
-    const line = this.shades.findIndex(({ element }) => under.includes(element)) + 1;
-    const word = under.find((element) => element.parentNode && element.parentNode.parentNode === $("colours"));
-    const told = this.found.get(line) || (word ? explained(word.textContent) : "");
-    if (this.box.title !== told) this.box.title = told;
+  // Why a change would make too large a text.
+  tooMuch({ from, to, text }) {
+    const { cm } = this;
+    if (cm.lineCount() + text.length - 1 - (to.line - from.line) <= LIMITS.lines && text.every(({ length }) => length < PASTED) && text.length < PASTED) return "";
+    const end = { line: cm.lineCount(), ch: 0 };
+    return tooLarge(cm.getRange({ line: 0, ch: 0 }, from) + text.join("\n") + cm.getRange(to, end));
   }
 
   // The line of the cursor, and what its operation does.
-  get caretLine() { return this.text.slice(0, this.box.selectionStart).split("\n").length; }
+  get caretLine() { return this.cm.getCursor().line + 1; }
 
   get caretExplained() {
-    return this.lines[this.caretLine - 1].split(/[ \t]+/).slice(0, 2).reverse().map(explained).find(Boolean) || "";
+    return this.cm.getLine(this.caretLine - 1).split(/[ \t]+/).slice(0, 2).reverse().map(explained).find(Boolean) || "";
+  }
+
+  // What the word before the cursor may become: an operation, or a symbol of the program.
+  hints(cm, symbols) {
+    const { line, ch } = cm.getCursor();
+    const before = cm.getLine(line).slice(0, ch);
+    const [word] = /[A-Za-z0-9]*$/.exec(before);
+    const isOperation = /^\S*[ \t]+[A-Za-z0-9]*$/.test(before);
+    const names = isOperation ? [...OPERATIONS.keys(), ...PSEUDO.keys()] : symbols;
+    const list = names.filter((name) => name.startsWith(word.toUpperCase())).sort();
+    const shown = isOperation ? list.map((name) => ({ text: name, displayText: explained(name) })) : list;
+    return { list: shown, from: { line, ch: ch - word.length }, to: { line, ch } };
+  }
+
+  // Scrolls so that a line is seen, with some lines around it.
+  reveal(line) {
+    const { cm } = this;
+    if (line > 0 && line <= cm.lineCount()) cm.scrollIntoView({ line: line - 1, ch: 0 }, Math.min(60, cm.getScrollInfo().clientHeight / 4));
+  }
+
+  // Goes to a line, and to the first letter of what is wrong there.
+  goTo(line, ch = 0) {
+    this.cm.focus();
+    this.cm.setCursor({ line: line - 1, ch });
+    this.reveal(line);
   }
 }

@@ -29,11 +29,11 @@ function scaled(numbers, top, high) {
 }
 
 // A box for each run of the same number in a row, as dark as `shade` says of it; none where that is 0.
-function boxesOf(numbers, { x = 0, y, wide, high }, shade) {
+function boxesOf(numbers, { x = 0, y, wide, high, end = Infinity }, shade) {
   const begins = numbers.flatMap((number, at) => (at === 0 || number !== numbers[at - 1] ? [at] : []));
   return begins.flatMap((from, index) => {
     const opacity = shade(numbers[from]);
-    const width = ((begins[index + 1] ?? numbers.length) - from) * wide;
+    const width = Math.min(((begins[index + 1] ?? numbers.length) - from) * wide, end - from * wide);
     return opacity > 0 ? [shape("rect", { x: x + from * wide, y, width, height: high, "fill-opacity": String(opacity), ...solid(numbers[from] < 0 ? "mark" : "bar") })] : [];
   });
 }
@@ -91,9 +91,9 @@ export function stripOf({ title, cells, columns, done }) {
   return picture({ id: "strip", title: `${title}, at ${columns.length} moments`, text, width: columns.length * wide, height }, shapes);
 }
 
-// The map of time: `rows` have a `cell`, the `line` it comes from, and whether it `isBreak`; `columns` the `cells` that were executed in each, with how
-// often; `marks` the `number` of a change that wrote a `part`, each part on a row of its own; `done` of `total` changes are done.
-export function mapOf({ title, text, rows, columns, marks, total, done }) {
+// The map of time: `rows` have a `cell`, the `line` it comes from, and whether it `isBreak`; `columns` the `cells` that were executed in each
+// stretch of `width` changes, with how often; `marks` the `number` of a change that wrote a `part`, each part on a row of its own; `done` of `total` changes are done.
+export function mapOf({ title, text, rows, width, columns, marks, total, done }) {
   const parts = [...new Set(marks.map(({ part }) => part))];
   const high = Math.max(3, Math.min(12, 300 / rows.length));
   const left = LETTER * Math.max(4, ...parts.map((part) => part.length)) + 8;
@@ -106,7 +106,7 @@ export function mapOf({ title, text, rows, columns, marks, total, done }) {
     const y = 4 + row * high;
     const tint = isBreak ? [shape("rect", { x: left, y, width: WIDE, height: high, ...solid("mark"), "fill-opacity": ".15" })] : [];
     const name = row % every === 0 ? [named(y + Math.min(high, 10), line ? String(line) : fourDigits(cell), isBreak ? "mark" : "soft")] : [];
-    return [...tint, ...boxesOf(counts.map((times) => shade(times.get(cell) || 0)), { x: left, y, wide: WIDE / columns.length, high }, (dark) => dark), ...name];
+    return [...tint, ...boxesOf(counts.map((times) => shade(times.get(cell) || 0)), { x: left, y, wide: (WIDE * width) / total, high, end: WIDE }, (dark) => dark), ...name];
   });
   const foot = 4 + rows.length * high;
   parts.forEach((part, row) => {
@@ -121,14 +121,15 @@ export function mapOf({ title, text, rows, columns, marks, total, done }) {
   return picture({ id: "map", title, text, width: left + WIDE + 4, height }, shapes);
 }
 
-// The values of a part over time: `writes` have the `number` of a change and the value `before` and `after` it; `done` of `total` changes are done.
-export function valuesOf({ title, text, writes, total, done }) {
+// The values of a part over time: `writes` have the `number` of a change and the value `before` and `after` it; `done` of `total` changes are done. What is
+// before the first of them, or behind the last, is drawn unless `isCut` says that there are more.
+export function valuesOf({ title, text, writes, isCut, total, done }) {
   const { most, least, y } = scaled(writes.flatMap(({ before, after }) => [before, after]), 6, 70);
   const x = (number) => 4 + (number / Math.max(1, total)) * 480;
   const line = writes.map(({ number, after }) => `H ${Math.round(x(number))} V ${Math.round(y(after))}`).join(" ");
   const shapes = [
     shape("line", { x1: 4, x2: 484, y1: y(0), y2: y(0), ...lined("axis", "soft", { "stroke-dasharray": "3 3" }) }),
-    shape("path", { d: `M 4 ${Math.round(y(writes[0].before))} ${line} H 484`, ...lined("line", "bar", { "stroke-width": 1.5 }) }),
+    shape("path", { d: `M ${isCut[0] ? Math.round(x(writes[0].number)) : 4} ${Math.round(y(writes[0].before))} ${line}${isCut[1] ? "" : " H 484"}`, ...lined("line", "bar", { "stroke-width": 1.5 }) }),
     shape("line", { x1: x(done), x2: x(done), y1: 0, y2: 82, ...lined("present", "mark", { "stroke-width": 2 }) }),
     ...(least < 0 ? [[most, 6], [least, 3]] : [[most, 6]]).map(([value, down]) => label(488, y(value) + down, String(value), "soft", { "text-anchor": "start" })),
   ];

@@ -21,7 +21,8 @@ export class Talk {
       app.given(command);
     });
     on("command", "keydown", (event) => this.recall(event));
-    for (const [id, count] of [["script-next", 1], ["script-all", Infinity]]) on(id, "click", () => app.enqueue(() => app.actScript(this.first(count))));
+    app.store.on("view", () => this.show(app.store.session.log));
+    for (const [id, count] of [["script-next", 1], ["script-all", Infinity]]) on(id, "click", () => app.store.enqueue(() => app.actScript(this.first(count))));
   }
 
   recall(event) {

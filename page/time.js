@@ -2,7 +2,9 @@
 
 import { $, on, put } from "./dom.js";
 
-const KEYS = { F7: "back", F8: "step", "Shift+F7": "to-break", "Shift+F8": "run", "Control+F7": "to-start", "Control+F8": "to-end" };
+const KEYS = {
+  F7: "back", F8: "step", F10: "over", "Control+F10": "out", "Shift+F7": "to-break", "Shift+F8": "run", "Control+F7": "to-start", "Control+F8": "to-end",
+};
 
 export class Time {
   constructor(app) {
@@ -12,11 +14,12 @@ export class Time {
       "Control+Enter": () => {
         const isCommand = document.activeElement === $("command");
         app.choose(isCommand ? "program" : "talk");
-        $(isCommand ? "text" : "command").focus();
+        if (isCommand) app.listing.cm.focus();
+        else $("command").focus();
       },
     };
     this.isDragged = false;
-    for (const id of Object.values(KEYS)) on(id, "click", () => app.press(id));
+    for (const id of [...Object.values(KEYS), "beyond"]) on(id, "click", () => app.press(id));
     on("slider", "input", () => {
       this.isDragged = true;
       $("moment").value = $("slider").value;
@@ -31,8 +34,9 @@ export class Time {
       if (/^\d{1,10}$/.test(n)) app.go(`goto ${Number(n)}`);
       else $("moment").value = $("slider").value;
     });
-    on("stop", "click", () => app.machine.stop());
+    on("stop", "click", () => app.store.machine.stop());
     document.addEventListener("keydown", (event) => this.pressed(event));
+    app.store.on("view", (view) => this.show(app.store.session, view.state));
   }
 
   pressed(event) {
@@ -42,7 +46,7 @@ export class Time {
     if (!other && !KEYS[key]) return;
     event.preventDefault();
     if (other) other();
-    else if (!$(KEYS[key]).disabled) $(KEYS[key]).click();
+    else if (!$(KEYS[key]).disabled && !$(KEYS[key]).hasAttribute("aria-disabled")) $(KEYS[key]).click();
   }
 
   // Where one is in a session: so many changes done, of so many; what can't be done is disabled.
@@ -56,7 +60,9 @@ export class Time {
     $("slider").setAttribute("aria-valuetext", `change ${state.done} of ${total}, location ${state.location}, clock ${state.clock}`);
     for (const id of ["back", "to-break", "to-start"]) this.enable(id, done > 0);
     this.enable("to-end", ahead > 0);
-    for (const id of ["step", "run"]) this.enable(id, true);
+    const isHalted = state.halted && ahead === 0;
+    for (const id of ["step", "over", "out", "run"]) this.enable(id, !isHalted);
+    $("beyond").hidden = !isHalted;
     for (const id of ["slider", "moment"]) $(id).disabled = total === 0;
   }
 
@@ -71,5 +77,6 @@ export class Time {
   // No program is loaded, so nothing can be done.
   hide() {
     for (const id of [...Object.values(KEYS), "slider", "moment"]) $(id).disabled = true;
+    $("beyond").hidden = true;
   }
 }

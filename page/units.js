@@ -8,9 +8,11 @@ const capital = (text) => text[0].toUpperCase() + text.slice(1);
 
 // Which units are busy, what is still to be read, and the blocks of tapes and disks.
 export class Units {
-  constructor(app) {
-    this.app = app;
+  constructor(store) {
+    this.store = store;
     this.open = new Set(); // the blocks that are shown, as "8 0"
+    store.on("view", (view) => this.show(view));
+    store.on("forget", () => this.forget());
   }
 
   forget() {
@@ -66,12 +68,12 @@ export class Units {
   }
 
   toggled(key, isOpen) {
-    const { app, open } = this;
+    const { store, open } = this;
     if (isOpen === open.has(key)) return;
     if (!isOpen) open.delete(key);
     else {
       open.add(key);
-      app.enqueue(async () => app.show((await app.session.look()).view));
+      store.enqueue(async () => store.show((await store.session.look()).view));
     }
   }
 }
@@ -114,12 +116,18 @@ export class Papers {
     box.classList.toggle("altered", isAltered);
     put(box.querySelector(".about"), ` unit ${unit}, ${counted(rows.length, "row")}${isBusy ? `, busy until ${until} u` : ""}`);
     this.drawn.set(unit, lines);
-    if (lines.length > old.length) paper.scrollTop = paper.children[same].offsetTop - paper.offsetTop - paper.clientTop;
+    if (lines.length > old.length) paper.scrollTop += paper.children[same].getBoundingClientRect().top - paper.getBoundingClientRect().top - paper.clientTop;
   }
 }
 
 // What the program has written, beside it as soon as there is some.
 export class Output extends Papers {
+  constructor(store) {
+    super("papers");
+    store.on("view", (view) => this.show(view));
+    store.on("forget", () => this.forget());
+  }
+
   // Another program was opened: its paper begins at its first row.
   forget() {
     this.show({ units: [] });

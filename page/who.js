@@ -2,10 +2,9 @@
 
 import { $, counted, fourDigits, make, note, on, put } from "./dom.js";
 import { refusalOf } from "./machine.js";
+import { CHARACTERS } from "./operations.js";
 import { COMPARED, isCommand, numberOf } from "./sentence.js";
 import { valuesOf } from "./svg.js";
-
-const CHARACTERS = " ABCDEFGHI~JKLMNOPQR[#STUVWXYZ0123456789.,()+-*/=$<>@;:'";
 
 // What was typed as a W-value: also a word byte by byte and five characters in quotes, as the page shows them.
 function valueOf(typed) {
@@ -42,7 +41,7 @@ export class Who {
     on("who-value", "input", () => this.refuse(""));
     on("who-form", "submit", (event) => {
       event.preventDefault();
-      if ($("who-value").value.trim() !== "") app.enqueue(() => this.set(valueOf($("who-value").value)));
+      if ($("who-value").value.trim() !== "") app.store.enqueue(() => this.set(valueOf($("who-value").value)));
     });
   }
 
@@ -53,11 +52,11 @@ export class Who {
 
   // Opens the box for a part: what comes after `until` in a command, and its name.
   async open(part, name) {
-    const { session, view } = this.app;
+    const { session, view } = this.app.store;
     const { done, ahead } = session;
-    const { writes, last, line, next } = await session.writesOf(part);
+    const { writes, isCut, last, line, next } = await session.writesOf(part);
     Object.assign(this, { part, last, next });
-    this.showWrites(name, writes, session);
+    this.showWrites(name, writes, isCut, session);
     put($("who-title"), `Who wrote ${name}?`);
     put($("who-word"), heldBy(part, view));
     put($("who-text"), this.told(last));
@@ -71,21 +70,26 @@ export class Who {
     put($("who-ahead"), ahead > 0 ? `To change it here drops the ${counted(ahead, "change")} ahead.` : "");
     put($("who-set"), ahead > 0 ? "Set and drop" : "Set");
     if (!$("who").open) $("who").showModal();
+    const here = $("who-writes").querySelector("[aria-current]");
+    if (here) here.scrollIntoView({ block: "center" });
     $(!last ? "who-value" : last.number === done ? "who-before" : "who-back").focus();
   }
 
-  // All changes that wrote it, the last thousand where there are more, each to click on; and of a word its number over time.
-  showWrites(name, writes, { done, total }) {
+  // The changes around this moment that wrote it, each to click on, and how many there are of them; and of a word its number as far as they tell it.
+  showWrites(name, writes, isCut, { done, total }) {
     const of = (value) => value.number ?? String(value);
     const here = writes.filter(({ number }) => number <= done).length - 1;
     const items = writes.map(({ number, before, after }, at) => make("li", {}, make("button", { type: "button", "aria-current": at === here && "step", click: () => this.leave(number) }, `change ${number}: ${of(before)} → ${of(after)}`)));
     $("who-writes").hidden = items.length < 2;
     $("who-writes").replaceChildren(...items);
+    const ahead = writes.length - 1 - here;
+    const counts = [[here + 1, isCut[0], "up to here"], [ahead, isCut[1], "after it"]].map(([count, isSome, where]) => `${isSome ? (where === "after it" ? "the next " : "the last ") : ""}${counted(count, "change")} ${where}`);
+    note("who-many", items.length < 2 ? "" : isCut.includes(true) ? `There are more: these are ${counts.join(", and ")}.` : `All ${counted(writes.length, "change")} that wrote it.`);
     $("who-values").replaceChildren();
     if (items.length < 2 || writes[0].before.number === undefined) return;
     const numbers = writes.map(({ number, before, after }) => ({ number, before: Number(before.number), after: Number(after.number) }));
-    const text = `At first ${numbers[0].before}; ${numbers.map(({ number, after }) => `by change ${number}: ${after}`).join(", ")}.`;
-    $("who-values").append(valuesOf({ title: `${name} over ${counted(total, "change")}`, text, writes: numbers, total, done }));
+    const text = `${isCut[0] ? `Before change ${numbers[0].number}` : "At first"} ${numbers[0].before}; ${numbers.map(({ number, after }) => `by change ${number}: ${after}`).join(", ")}.`;
+    $("who-values").append(valuesOf({ title: `${name} over ${counted(total, "change")}`, text, writes: numbers, isCut, total, done }));
   }
 
   told(change) {
@@ -99,7 +103,7 @@ export class Who {
   // Sets the part, if the command is accepted; else the box says why not.
   async set(value) {
     const { app, part } = this;
-    const found = await app.session.act([`set ${part} ${value}`], { isTried: true });
+    const found = await app.store.session.act([`set ${part} ${value}`], { isTried: true });
     const refusal = refusalOf(found.answer);
     if (refusal) {
       this.refuse(`Refused: ${refusal}. ${allowedIn(part)}`);

@@ -9,8 +9,10 @@ import subprocess
 import sys
 
 sys.dont_write_bytecode = True
-sys.path.insert(0, os.path.dirname(os.path.abspath(__file__)))
+HERE = os.path.dirname(os.path.abspath(__file__))
+sys.path[:0] = [HERE, os.path.join(HERE, os.pardir, "runs")]
 
+from bundles import bundles
 from client import Count
 from frames import bodies, frame, request
 
@@ -52,9 +54,9 @@ STEPS = [("stepBack", {}, 0, 0, (0, 0)), ("next", {}, 1, 5, (1, 0)), ("next", {}
 # What is told of the last four of them: a refusal by the machine, a reply, and the name of a part that can be watched.
 TOLD = ['"message":"C5 refused by the machine: M7 index overflow"', '"result":"changes 2\\n"', '"dataId":"A"']
 
-# How many changes stand ahead after each command of tests/runs/back_and_forth.mixal.
+# How many changes stand ahead after each command of the longest bundle of tests/runs/back_and_forth.t.
 AHEAD = [0, 3, 1, 1, 1, 1, 0, 1, 0, 0, 4, 0, 0, 299999, 0, 300001, 0, 0, 0, 0, 1]
-FORTH = os.path.join(os.path.dirname(os.path.dirname(os.path.abspath(__file__))), "runs", "back_and_forth.mixal")
+FORTH = next(text for _, text, _ in bundles() if "forth 299999" in text)
 
 VIEWED = "A EQU 100\n ENTA 5\n INCA 7\n STA A\n HLT\n END 0\n"
 CARDS = "FIRST\n SECOND\n"
@@ -261,8 +263,7 @@ def steps(command, count):
 
 
 def ahead(command, count):
-    with open(FORTH) as file:
-        source, script = file.read().split("%SCRIPT\n")
+    source, script = FORTH.split("%SCRIPT\n")
     found = states(command, [launch(source), DONE], [("evaluate", {"expression": line, "context": "repl"}) for line in script.splitlines()])
     count.same("what stands ahead", [state["ahead"] for state in found], AHEAD)
 

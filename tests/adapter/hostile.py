@@ -21,7 +21,7 @@ import schema
 from client import Count
 from frames import Untold, commands, frame, heard, request
 
-from parts import from_words  # of tests/model/
+import parts  # of tests/model/
 import bundle as model
 
 SOURCE = os.path.join(HERE, "programs", "calls.mixal")
@@ -137,7 +137,7 @@ def main():
     words.add_argument("--seed", default="0")
     words.add_argument("command", nargs="+")
     given = words.parse_args()
-    from_words(["--parts", "all"])
+    parts.only("all")
     count, compared = Count(), 0
     whole = b"".join(map(frame, BODIES + ENDING))
     cuts = range(len(whole) + 1)

@@ -177,6 +177,10 @@ def memory(talk, count):
     count.row("a byte over 63 is refused", text, "it is not")
     text = talk.refused("writeMemory", memoryReference=last, data=base64.b64encode(bytes([2, 0, 0, 0, 0, 0])).decode())
     count.row("a sign that is neither 0 nor 1 is refused", text, "it is not")
+    # an offset that is no whole number of 64 bits is refused, and nothing is written
+    for offset in ("6", 1e30, 10**19, 2.5, [], True):
+        text = talk.refused("writeMemory", memoryReference=last, offset=offset, data=base64.b64encode(changed).decode())
+        count.same(f"an offset {offset!r}", text, "Q2 bad argument")
     text = talk.refused("writeMemory", memoryReference=last, data="?")
     count.row("what is no base64 is refused", text, "it is not")
     count.same("what is refused changes nothing", talk.repl("show changes"), "changes 1")

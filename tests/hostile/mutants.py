@@ -1,10 +1,9 @@
-"""Bundles that are the examples and the bundles of tests/runs/ with mistakes in them: bits flipped, lines doubled, cut, and spliced. The program against
+"""Bundles that are the examples and those of tests/runs/ with mistakes in them: bits flipped, lines doubled, cut, and spliced. The program against
 the model."""
 
 import concurrent.futures
-import glob
 import multiprocessing
-import os
+import pathlib
 import random
 import signal
 
@@ -12,6 +11,7 @@ from cuts import DECK, GREETED, HELLO, READ, READS
 from running import TOP, Count, Endless, Runner, bundle, folder, lines, ring
 
 import bundle as model
+from bundles import bundles
 
 MODEL_SECONDS = 10  # after which a bundle is not compared: the model is slow, and a mutant may ask for a million steps
 EDGES = [b"0", b"1", b"-1", b"63", b"64", b"999", b"1000", b"3999", b"4000", b"4095", b"4096", b"1000000", b"1000001", b"1073741823",
@@ -21,11 +21,7 @@ EDGES = [b"0", b"1", b"-1", b"63", b"64", b"999", b"1000", b"3999", b"4000", b"4
 
 
 def originals():
-    names = sorted(glob.glob(os.path.join(TOP, "examples", "*.mixal")) + glob.glob(os.path.join(TOP, "tests", "runs", "*.mixal")))
-    texts = []
-    for name in names:
-        with open(name, "rb") as file:
-            texts.append(file.read())
+    texts = [file.read_bytes() for file in sorted(pathlib.Path(TOP, "examples").glob("*.mixal"))] + [text.encode() for _, text, _ in bundles()]
     # and every kind of unit
     units = lines(*("show unit %d" % unit for unit in (0, 8, 16, 17, 18, 19, 20)))
     writes = lines(" IN 200(16)", " OUT 200(17)", " OUT 200(18)", " IOC 0(18)", " OUT 0(9)", " IN 0(0)", " JBUS *(19)", " OUT 0(19)", " IOC -1(0)", " HLT", " END 0")

@@ -1,4 +1,4 @@
-"""Runs of the built program, and rows that are counted: what the parts of `tests/hostile/run` have in common."""
+"""Runs of the built program: what the parts of `tests/hostile/run` have in common."""
 
 import os
 import subprocess
@@ -9,9 +9,11 @@ sys.dont_write_bytecode = True
 
 HERE = os.path.dirname(os.path.abspath(__file__))
 TOP = os.path.dirname(os.path.dirname(HERE))
-sys.path.insert(0, os.path.join(TOP, "tests", "model"))
+sys.path[:0] = [os.path.join(TOP, "tests"), os.path.join(TOP, "tests", "model"), os.path.join(TOP, "tests", "runs")]
 
-from program import SECONDS, Endless, Runner, ring  # (handed on)
+# (handed on)
+from counting import Count
+from program import SECONDS, Endless, Runner, ring
 
 FOLDER = "/dev/shm" if os.path.isdir("/dev/shm") else None
 
@@ -19,24 +21,6 @@ FOLDER = "/dev/shm" if os.path.isdir("/dev/shm") else None
 def folder():
     """A folder for the files of runs, in memory where there is one."""
     return tempfile.TemporaryDirectory(dir=FOLDER, prefix="mixrev_hostile_")
-
-
-class Count:
-    """Rows that passed and rows that failed; each failure is printed, the first twenty of them."""
-
-    def __init__(self):
-        self.passed, self.failed = 0, 0
-
-    def row(self, name, good, more=""):
-        if good:
-            self.passed += 1
-            return
-        self.failed += 1
-        if self.failed <= 20:
-            print("FAILED %s%s" % (name, ": " + more if more else ""), flush=True)
-
-    def same(self, name, found, wanted):
-        self.row(name, found == wanted, "found %s, and not %s" % (shown(found), shown(wanted)))
 
 
 def shown(answer):

@@ -1,7 +1,6 @@
-"""Random bundles, small ones, towards edges and faults: `python3 tests/model/draw.py SEED K` prints bundle K of a seed."""
+"""Random bundles, small ones, towards edges and faults."""
 
 import random
-import sys
 
 from draw_machine import Scene, one, several
 from draw_text import BLANKS, ENDS, dressed, right_command, source, source_line, wrong_command
@@ -119,7 +118,3 @@ def numbered(seed, k):
     if k % 1000 == 999:
         return colossal(k // 20000) if k % 20000 == 19999 else huge(r, k // 1000)
     return bundle(r, pair)
-
-
-if __name__ == "__main__":
-    sys.stdout.buffer.write(numbered(sys.argv[1], int(sys.argv[2])))

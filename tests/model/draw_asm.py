@@ -1,7 +1,6 @@
-"""Random sources for the whole assembler, towards its edges and faults: `python3 tests/model/draw_asm.py SEED K` prints bundle K of a seed."""
+"""Random sources for the whole assembler, towards its edges and faults."""
 
 import random
-import sys
 
 import draw_request as texts
 from lines import OPERATIONS
@@ -291,7 +290,3 @@ def numbered(seed, k):
     if r.randrange(100) == 0 or k % 500 == 499:
         shows.append(b"show cells 0 3999")
     return text + b"%SCRIPT\n" + b"".join(line + b"\n" for line in shows)
-
-
-if __name__ == "__main__":
-    sys.stdout.buffer.write(numbered(sys.argv[1], int(sys.argv[2])))

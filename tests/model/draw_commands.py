@@ -3,14 +3,13 @@
 What is drawn depends on the parts that the program has: names and expressions come where it knows them, decks where it has units."""
 
 import random
-import sys
 
 import draw_asm
 import draw_request as texts
 import draw_units
 from draw_machine import Scene, one, several, text, any_word, short, REGISTERS
 from draw_text import BAD_WORDS, RANGES, UNKNOWN, dressed, wrong_command
-from parts import from_words, has
+from parts import has
 
 PROGRAMS = [program.split("/") for program in (
     "START ENT1 5/2H DEC1 1/LOOP INCA 3/ J1P 2B/X HLT/Y CON 7/ JMP START/ END START",
@@ -181,8 +180,3 @@ def numbered(seed, k):
             deck = r.choice(DECKS) if r.randrange(8) else draw_units.deck(r, False)[0]
     return draw_asm.joined(r, lines).rstrip(b"\r\n") + b"\n" + (b"%DEVICES\n" + draw_units.joined(r, deck) if deck else b"") + \
         b"%SCRIPT\n" + draw_asm.joined(r, commands)
-
-
-if __name__ == "__main__":
-    words = from_words(sys.argv[1:])
-    sys.stdout.buffer.write(numbered(words[0], int(words[1])))

@@ -1,12 +1,10 @@
-"""Random scripts of the commands of the part `history`, among all the others: `python3 tests/model/draw_history.py SEED K` prints bundle K of a seed."""
+"""Random scripts of the commands of the part `history`, among all the others."""
 
 import random
-import sys
 
 import draw_commands as others
 import draw_sources as sources
 from draw_sources import number
-from parts import from_words
 
 REGISTERS = b"A X I1 I2 I3 I4 I5 I6 J".split()
 UNITS = b"0 0 1 8 8 16 16 18 18 19 19 20 17 21 x 1+1".split()
@@ -84,8 +82,3 @@ def numbered(seed, k):
     if k % 100 == 99:
         return long(random.Random("%s/%d" % (seed, k)))
     return sources.numbered(seed, k, command, last)
-
-
-if __name__ == "__main__":
-    words = from_words(sys.argv[1:])
-    sys.stdout.buffer.write(numbered(words[0], int(words[1])))

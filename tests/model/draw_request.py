@@ -1,11 +1,10 @@
-"""Random texts, towards edges and faults: `python3 tests/model/draw_request.py SEED K` prints request K of a seed."""
+"""Random texts, towards edges and faults."""
 
 import random
-import sys
 
-from answers import Request, written_request
+from answers import Request
 from lines import OPERATIONS
-from words import FIELDS, FULL
+from words import CHARACTERS, FIELDS, FULL
 
 TOP = FULL - 1
 HALF = FULL // 2
@@ -17,7 +16,6 @@ NUMBERS = b"""0 0 0 1 1 2 3 5 6 7 8 9 10 19 20 63 64 65 100 1000 2000 3999 4000 
 SYMBOLS = b"X Y A Q START MSG B F H 2X X2 22B B2 0BB 12H HF ABCDEFGHIJ 123456789A A123456789 0000000000X".split()
 STRANGE_SYMBOLS = b"ABCDEFGHIJK 1234567890A A1234567890 2HH 2H 2H 0H 9h 2BX ABCDEFGHIJKLMNOPQRSTUVWXYZ ~ [ # 1E5 0x10".split() + [b"A" * 261]
 OPERATORS = [b"+", b"-", b"*", b"/", b"//", b":"]
-CHARACTERS = b' ABCDEFGHI~JKLMNOPQR[#STUVWXYZ0123456789.,()+-*/=$<>@;:\''
 NO_CHARACTERS = [b'"', b"?", b"!", b"%", b"&", b"\\", b"]", b"^", b"_", b"`", b"{", b"|", b"}", b"\x00", b"\r", b"\x0b", b"\x0c",
                  b"\n", b"\x7f", b"\x80", b"\xc3\xa9", b"\xff", b"\xa0"]
 REMARKABLE = b' \t\t""?=,()+-*/:.$\'~[#0129AXxzZHBFhbf@`{'
@@ -235,7 +233,3 @@ def numbered(seed, k):
     here = ("+", r.choice((7, 0, 1, 3999, 4000, r.randrange(4001)))) if r.randrange(5) else word(r)
     op = r.choice([op[1:] for op in OPERATIONS.values() if op[0] == "machine"]) if kind == "A" else None
     return Request(kind, here, op, names(r), text)
-
-
-if __name__ == "__main__":
-    print(written_request(numbered(sys.argv[1], int(sys.argv[2]))))

@@ -1,13 +1,11 @@
-"""Random scripts of the commands of the part `sources`, among all the others: `python3 tests/model/draw_sources.py SEED K` prints bundle K of a seed."""
+"""Random scripts of the commands of the part `sources`, among all the others."""
 
 import random
-import sys
 
 import draw_asm
 import draw_commands as others
 import draw_units
 from draw_text import dressed
-from parts import from_words
 
 COUNTS = b"0 1 1 2 2 3 4 5 7 10 20 100 0000000002 00000000002 9999999999 -1 X".split()
 WRONG = b"""forth all 1/goto/goto -1/goto 1 2/goto all/goto 99999999999/break line/break line 0/break line 99999/break line X/clear line 0/clear all
@@ -62,8 +60,3 @@ def numbered(seed, k, drawn=command, last=lambda r: []):
     deck = r.choice(DECKS if r.randrange(2) else others.DECKS)
     return draw_asm.joined(r, source).rstrip(b"\r\n") + b"\n" + (b"%DEVICES\n" + draw_units.joined(r, deck) if deck else b"") + \
         b"%SCRIPT\n" + draw_asm.joined(r, script(r, drawn) + last(r))
-
-
-if __name__ == "__main__":
-    words = from_words(sys.argv[1:])
-    sys.stdout.buffer.write(numbered(words[0], int(words[1])))

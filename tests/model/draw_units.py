@@ -3,7 +3,6 @@
 The source is END alone and every instruction is put by `set cell`, so a program without the whole assembler can be compared too."""
 
 import random
-import sys
 
 from draw_machine import Scene, any_word
 from parts import has
@@ -295,7 +294,3 @@ def numbered(seed, k):
     if text and not text.endswith(b"\n"):
         text += b"\n"
     return b" END 0\n" + (b"%DEVICES\n" + text if text or r.randrange(2) else b"") + b"%SCRIPT\n" + joined(r, script(r, units))
-
-
-if __name__ == "__main__":
-    sys.stdout.buffer.write(numbered(sys.argv[1], int(sys.argv[2])))

@@ -13,18 +13,12 @@ def take(*names):
     taken.update(names)
 
 
-def from_words(words):
-    """The words of a command line without `--parts LIST`, whose parts are taken: names with commas, `all` or `none`."""
-    words = list(words)
-    if "--parts" in words:
-        at = words.index("--parts")
-        named = words[at + 1] if at + 1 < len(words) else ""
-        names = set()
-        for name in named.split(","):
-            names.update({"all": WHOLE, "none": ()}.get(name, (name,)))
-        if not names <= set(WHOLE):
-            raise SystemExit("--parts takes all, none, or some of %s with commas between" % ", ".join(WHOLE))
-        del words[at:at + 2]
-        taken.clear()
-        taken.update(names)
-    return words
+def only(named):
+    """Takes these parts alone: names with commas, `all` or `none`."""
+    names = set()
+    for name in named.split(","):
+        names.update({"all": WHOLE, "none": ()}.get(name, (name,)))
+    if not names <= set(WHOLE):
+        raise SystemExit("--parts takes all, none, or some of %s with commas between" % ", ".join(WHOLE))
+    taken.clear()
+    taken.update(names)

@@ -1,18 +1,18 @@
 """What the tests against known values have in common: rows are counted, and each that is not as it should be is printed."""
 
+import os
+import sys
+
+sys.path.append(os.path.join(os.path.dirname(os.path.abspath(__file__)), os.pardir))
+
 import parts
 import words as w
 from bundle import run
+from counting import Count
 
-DONE = [0, 0]  # tests, failures
+COUNT = Count()
+is_so = COUNT.same
 I_AND_J = ["I%d + 00 00" % i for i in range(1, 7)] + ["J  + 00 00"]
-
-
-def is_so(name, found, wanted):
-    DONE[0] += 1
-    if found != wanted:
-        DONE[1] += 1
-        print("%s\n  found  %r\n  wanted %r" % (name, found, wanted))
 
 
 def word(text):

@@ -1,11 +1,13 @@
 """MIX words, their fields and their arithmetic, with bytes of 0 to 63 (1.3.1)."""
 
+from tables import rows
+
 # A word is a pair (sign, magnitude): the sign "+" or "-", the magnitude below 64^5. So +0 and -0 are two words.
 FULL = 64**5
 ZERO = ("+", 0)
 
 # The characters of the codes 0 to 55; ~ [ # stand for the Greek delta, sigma and pi.
-CHARACTERS = b" ABCDEFGHI~JKLMNOPQR[#STUVWXYZ0123456789.,()+-*/=$<>@;:'"
+CHARACTERS = "".join(character for _, character, *_ in rows("characters.tsv")).encode()
 
 # The fields: the code 8L+R stands for (L:R). Every other code is no field.
 FIELDS = {8 * left + right: (left, right) for right in range(6) for left in range(right + 1)}

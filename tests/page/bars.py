@@ -17,7 +17,7 @@ SAVED = """const { createObjectURL } = URL; URL.createObjectURL = (blob) => { bl
     const { click } = HTMLAnchorElement.prototype; HTMLAnchorElement.prototype.click = function () { window.savedName = this.download; click.call(this); };"""
 CALLS = """window.calls = 0; const post = Worker.prototype.postMessage;
     Worker.prototype.postMessage = function (...given) { window.calls += 1; return post.apply(this, given); }"""
-SORT = next((TOP / "course").glob("20_*/lesson.mixal")).read_text()
+SORT = next((TOP / "course").glob("*_insertion/lesson.mixal")).read_text()
 KEYS = [int(number) for number in re.findall(r"^ +CON +(\d+)$", SORT, re.M)]
 FIELDS = """TABLE CON 1(1:1),2(2:3),65(4:5)
  CON -7
@@ -63,7 +63,7 @@ def insertions(keys):
 
 
 def open_sort(page):
-    page.lesson(next(at for at, title in enumerate(page.lessons()) if title.startswith("20. ")))
+    page.lesson("50_insertion")
 
 
 def index_numbers(page):

@@ -19,6 +19,12 @@ SLIDE = """const s = document.getElementById('slider'); s.value = arguments[0];
 s.dispatchEvent(new Event('input', {bubbles: true})); if (arguments[1]) s.dispatchEvent(new Event('change', {bubbles: true}));"""
 READ = """window.isRead = false; const { text } = Blob.prototype;
 Blob.prototype.text = async function () { Blob.prototype.text = text; const read = await text.call(this); setTimeout(() => { window.isRead = true; }); return read; };"""
+EDITOR = "const cm = document.querySelector('#listing .CodeMirror').CodeMirror; "
+PASTE = EDITOR + """const [text, old] = [arguments[0], cm.getValue()]; const least = Math.min(text.length, old.length);
+let [head, tail] = [0, 0]; while (head < least && text[head] === old[head]) head += 1;
+while (tail < least - head && text[text.length - 1 - tail] === old[old.length - 1 - tail]) tail += 1;
+cm.focus(); cm.replaceRange(text.slice(head, text.length - tail), cm.posFromIndex(head), cm.posFromIndex(old.length - tail), 'paste');"""
+EXAMPLES = sorted(path.stem for path in (pathlib.Path(__file__).resolve().parents[2] / "examples").glob("*.mixal"))
 PUT = """const e = document.getElementById(arguments[0]); e.focus(); e.value = arguments[1]; e.dispatchEvent(new Event('input', {bubbles: true}));"""
 
 
@@ -95,7 +101,22 @@ class Page:
         return self.one(name).get_attribute("textContent")
 
     def value(self, name):
+        if name == "text":
+            return self.script(EDITOR + "return cm.getValue()")
         return self.one(name).get_attribute("value")
+
+    def caret(self, line, letter=0):
+        """Puts the cursor of the source somewhere; lines are counted from 1."""
+        self.script(EDITOR + "cm.focus(); cm.setCursor(arguments[0] - 1, arguments[1])", line, letter)
+
+    def spans(self, line):
+        """The words of a line of the source that have a colour, each with its kind."""
+        shown = "cm.scrollIntoView(arguments[0] - 1); const at = arguments[0] - 1 - cm.getViewport().from; const row = document.querySelectorAll('#listing .CodeMirror-line')[at]; "
+        return self.script(EDITOR + shown + "return [...row.querySelectorAll('span > span')].map(s => [s.textContent, s.className.replace('cm-', '')])", line)
+
+    def points(self):
+        """The lines with a breakpoint, of those that are drawn."""
+        return [int(row.text) for row in self.all("#listing .line button[aria-pressed='true']")]
 
     def click(self, name):
         self.one(name).click()
@@ -134,18 +155,26 @@ class Page:
         self.idle()
 
     def put(self, name, text):
-        """Puts a text into a field, as if it were pasted."""
-        self.script(PUT, name, text)
+        """Puts a text into a field, as if it were pasted; what is the same in the source stays."""
+        self.script(*((PASTE, text) if name == "text" else (PUT, name, text)))
         self.idle()
 
-    def lesson(self, number):
-        Select(self.one("lessons")).select_by_value(str(number))
+    def lesson(self, which):
+        """Chooses a lesson: by the name of its folder, or an example by its place among them, or another by its number in the menu."""
+        if isinstance(which, str) or which < len(EXAMPLES):
+            name = which if isinstance(which, str) else EXAMPLES[which]
+            which = self.script("return [...document.querySelectorAll('#lessons option')].find(o => o.dataset.name === arguments[0]).value", name)
+        Select(self.one("lessons")).select_by_value(str(which))
         self.leave()
         self.idle()
 
     def choose(self, name, value):
         Select(self.one(name)).select_by_value(value)
         self.idle()
+
+    def chosen(self):
+        """The name of the lesson that the menu shows."""
+        return self.script("return document.getElementById('lessons').selectedOptions[0].dataset.name")
 
     def lessons(self):
         """Their titles, in the order of their numbers; the menu has them in groups."""
@@ -178,8 +207,8 @@ class Page:
 
     def state(self):
         """All that is shown of the machine."""
-        return self.script("""return ['register-rows', 'flags', 'papers', 'unit-list', 'moment'].map(id => document.getElementById(id).innerText ||
-            document.getElementById(id).value).concat([...document.querySelectorAll('.line')].map(line => (line.querySelector('.times') || { textContent: '' }).textContent))""")
+        return self.script("""window.dispatchEvent(new Event('beforeprint')); return ['register-rows', 'flags', 'papers', 'unit-list', 'moment'].map(id => document.getElementById(id).innerText ||
+            document.getElementById(id).value).concat([...document.querySelectorAll('#printed tr')].map(line => line.children[3].textContent))""")
 
     def save(self):
         """The file that is saved."""

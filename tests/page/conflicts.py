@@ -55,7 +55,7 @@ def conflicts(page, native, count):
     page.click("conflicts")
     went("conflicts", page, count, WAYS)
     natively("conflicts", page, native, count)
-    count.same("conflicts: the box is not in the file", kept(page.save().decode(), ".*"), ["01_first"])
+    count.same("conflicts: the box is not in the file", kept(page.save().decode(), ".*"), [])
     page.click("conflicts")
     went("conflicts: without the box", page, count, [("to-break", "back all", "54 changes taken back. 2 rows taken back.", None), ("run", "forth all", "Halted after 54 changes", None)])
     page.click("anew")
@@ -67,7 +67,7 @@ def conflict_breaks(page, native, count):
     page.lesson(0)
     page.put("text", LINE + DELAY)
     page.click("conflicts")
-    rows = page.all("#gutter .line button")
+    rows = page.all("#listing .line button")
     for line in (5, 6, 8):
         page.press_button(rows[line - 1])
     both = FIRST + "Breakpoint at line 5. "

@@ -3,6 +3,7 @@ import pathlib
 import re
 
 from bars import SAID, SHOWN, open_sort
+from layout import REACHED
 
 PARTS = ("lessons", "tabs", "notes", "talk", "registers", "memory", "units", "symbols", "output", "bars-form", "bars", "source", "steps", "slider", "status", "whole")
 
@@ -17,12 +18,20 @@ def frame(page, native, count):
     page.click("share")
     given = page.value("frame-text")
     page.script("document.getElementById('link').close()")
-    count.row("frame: as HTML", re.fullmatch(r'<iframe src="[^"]*\?embed#mix=[\w-]+" title="20\. [^"]*" width="800" height="500"></iframe>', given), given)
+    count.row("frame: as HTML", re.fullmatch(r'<iframe src="[^"]*\?embed=bars,registers,output#mix=[\w-]+" title="50\. [^"]*" width="800" height="500"></iframe>', given), given)
     page.lesson(0)
     page.click("share")
     bare = page.value("frame-text")
+    page.script("document.getElementById('link').close()")
+    page.lesson(4)
+    page.click("run")
+    page.click("share")
+    for name in ("frame-registers", "frame-memory"):
+        page.click(name)
+    printed = page.value("frame-text")
     wanted = ["source", "steps", "slider", "status", "whole"]
-    frames = {"wide": given, "narrow": given.replace("800", "360"), "without rights": given.replace("<iframe", '<iframe sandbox="allow-scripts allow-popups"'), "without bars": bare}
+    frames = {"wide": given, "narrow": given.replace("800", "360"), "without rights": given.replace("<iframe", '<iframe sandbox="allow-scripts allow-popups"'), "without bars": bare, "printed": printed}
+    parts = {"without bars": ["registers"], "printed": ["memory", "output"]}
     for name, text in frames.items():
         path = pathlib.Path(page.folder.name) / "notes.html"
         path.write_text(f"<!doctype html><title>Notes</title><p>Notes</p>{text}")
@@ -30,8 +39,13 @@ def frame(page, native, count):
         page.driver.switch_to.frame(0)
         page.idle()
         shown = [part for part in PARTS if page.one(part).is_displayed()]
-        picked = "registers" if name == "without bars" else "bars"
-        count.same(f"frame: {name}: what is shown", shown, [part for part in PARTS if part in (*wanted, picked)])
+        picked = parts.get(name, ["registers", "bars"])
+        count.same(f"frame: {name}: what is shown", shown, [part for part in PARTS if part in (*wanted, *picked)])
+        if name == "printed":
+            last = page.all("#papers .paper > div")[-1]
+            count.same("frame: printed: all 51 rows, the last in reach", (len(page.all("#papers .paper > div:not(.page)")), page.script(REACHED, last)), (51, ""))
+            page.driver.switch_to.default_content()
+            continue
         apart = page.script("const e = document.documentElement; return [e.scrollWidth - e.clientWidth, e.scrollHeight - e.clientHeight]")
         count.same(f"frame: {name}: all is in the frame", apart, [0, 0])
         if name != "without bars":

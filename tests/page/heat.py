@@ -10,10 +10,10 @@ LOOP ST1 100
  HLT
  END START
 """
-LINES = """return [...document.querySelectorAll('#gutter .line')].map(row => [row.style.getPropertyValue('--heat'),
+LINES = """return [...document.querySelectorAll('#listing .line')].map(row => [row.style.getPropertyValue('--heat'),
     (/, (\\d+) times/.exec(row.firstChild.getAttribute('aria-label')) || [])[1]])"""
 CELLS = "return [...document.querySelectorAll('#cell-rows tr')].map(row => [row.style.getPropertyValue('--heat'), row.title, row.querySelector('th').textContent.slice(4)])"
-TINTS = """return ['.line:nth-child(4) > .times', '#cell-rows tr:first-child .number'].map(name => getComputedStyle(document.querySelector(name), '::after'))
+TINTS = """return ['#listing .CodeMirror-code > div:nth-child(4) .times', '#cell-rows tr:first-child .number'].map(name => getComputedStyle(document.querySelector(name), '::after'))
     .map(style => style.content === 'none' ? null : Number(style.opacity).toFixed(2))"""
 
 

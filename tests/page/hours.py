@@ -63,7 +63,7 @@ class User:
         self.page.slide(self.chance.randint(0, total))
 
     def breakpoint(self):
-        self.page.press_button(self.chance.choice(self.page.all("#gutter .line button")))
+        self.page.press_button(self.chance.choice(self.page.all("#listing .line button")))
 
     def edit(self):
         text = self.page.value("text")

@@ -93,19 +93,19 @@ def far(page, native, count):
     page.put("text", LOOP)
     for _ in range(3):
         page.click("run")
-    page.press_button(page.all("#gutter .line button")[0])
+    page.press_button(page.all("#listing .line button")[0])
     page.click("to-break")
     count.same("far: back to the first line", commands(page), [*["run 1000000"] * 3, "back 3000000"])
     count.row("far: told", page.told().startswith("Breakpoint at line 1. 3,000,000 changes taken back."), page.told())
     natively("far", page, native, count)
-    page.press_button(page.all("#gutter .line button")[0])
+    page.press_button(page.all("#listing .line button")[0])
     page.put("text", " ENTA 1\n HLT\n ENTA 2\n HLT\n INCA 1\n INCA 2\n HLT\n END 0\n")
-    for name in ("run", "run", "run", "run", "run"):
+    for name in ("run", "beyond", "run", "beyond", "run"):
         page.click(name)
-    page.press_button(page.all("#gutter .line button")[5])
+    page.press_button(page.all("#listing .line button")[5])
     for name in ("to-start", "run", "run"):
         page.click(name)
-    count.same("far: to a breakpoint ahead, over two HLT", commands(page), ["run 1000000", "run 1000000", "run 1000000", "back all", "forth 5", "forth all"])
+    count.same("far: to a breakpoint ahead, over two HLT", commands(page), ["run 1000000", "step 1", "run 1000000", "step 1", "run 1000000", "back all", "forth 5", "forth all"])
     page.click("to-break")
     page.click("to-break")
     count.same("far: back to it, and to the start", commands(page)[-2:], ["back 2", "back all"])

@@ -60,15 +60,16 @@ def keys(page, native, count):
     page.script("document.body.focus(); document.activeElement.blur()")
     seen = []
     for _ in range(90):
-        page.press(Keys.TAB)
+        page.press(Keys.ESCAPE, Keys.TAB)  # Escape lets the tab key leave the source
         name = page.script("const e = document.activeElement; return e.id || e.getAttribute('aria-label') || e.textContent.trim().slice(0, 30)")
         if name in seen:
             break
         seen.append(name)
     for need in ("lessons", "open", "save", "share", "help", "step", "run", "text", "cells-which", "command", "anew"):
         count.row(f"keys: the tab key comes to {need}", need in seen, seen)
-    for wanted in ("rA: who wrote it?", "Line 1: breakpoint", "overflow: who wrote it?"):
-        count.row(f"keys: the tab key comes to {wanted}", wanted in seen, seen)
+    for wanted in ("rA: who wrote it?", "Line 4, ", "overflow: who wrote it?"):
+        count.row(f"keys: the tab key comes to {wanted}", any(name.startswith(wanted) for name in seen), seen)
+    count.row("keys: the registers are one stop", "rX: who wrote it?" not in seen and len(seen) < 42, (len(seen), seen))
     page.script("document.activeElement.blur()")
     page.press(Keys.F8)
     page.press(Keys.F8)
@@ -80,14 +81,12 @@ def keys(page, native, count):
     done = [command for command, _ in page.log()]
     count.same("keys: steps", done, ["step 1", "step 1", "back 1", "forth all", "run 1000000", "back all", "forth all", "back all"])
     natively("keys: steps", page, native, count)
-    page.script("const t = document.getElementById('text'); t.focus(); const at = t.value.split('\\n').slice(0, 5).join('\\n').length + 1; t.setSelectionRange(at, at)")
+    page.caret(6)
     page.press(Keys.F9)
-    pressed = [line for line, row in enumerate(page.all("#gutter .line button"), 1) if row.get_attribute("aria-pressed") == "true"]
-    count.same("keys: a breakpoint at the cursor", pressed, [6])
-    page.script("document.querySelector('#gutter button').focus()")
+    count.same("keys: a breakpoint at the cursor", page.points(), [6])
+    page.script("document.querySelector('#listing .line button').focus()")
     page.press(Keys.ARROW_DOWN, Keys.ARROW_DOWN, Keys.ARROW_DOWN, Keys.ARROW_DOWN, Keys.ENTER)
-    pressed = [line for line, row in enumerate(page.all("#gutter .line button"), 1) if row.get_attribute("aria-pressed") == "true"]
-    count.same("keys: a breakpoint by the line's button", pressed, [5, 6])
+    count.same("keys: a breakpoint by the line's button", page.points(), [5, 6])
     page.chord(Keys.CONTROL, Keys.ENTER)
     page.press("show clock", Keys.ENTER)
     count.same("keys: a command", page.log()[-1], ("show clock", "clock 0\n"))
@@ -98,6 +97,7 @@ def keys(page, native, count):
     page.press(Keys.ARROW_LEFT)
     count.same("keys: the slider, as one command", [command for command, _ in page.log()][-2:], ["show clock", "goto 3"])
     page.script("document.querySelector('#register-rows button').focus()")
+    page.press(Keys.ARROW_DOWN, Keys.ARROW_UP)
     page.press(Keys.ENTER)
     page.press(Keys.ENTER)
     count.same("keys: who wrote rA, and back there", page.log()[-1][0], "goto 2")
@@ -134,6 +134,25 @@ def alone(page, native, count):
     count.row("alone: no request", not other and asked, other or "nothing was seen")
 
 
+def shown(page, count):
+    """A sort at the moment after one of its keys was moved, as docs/PAGE.md shows it: what is seen in one place is what is seen in the others."""
+    page.lesson("50_insertion")
+    page.click("run")
+    page.click("to-start")
+    page.slide(60)
+    page.say("forth until cell KEY+4 or cell KEY+5 or cell KEY+6")
+    page.script("document.getElementById('log').scrollTop = 0; document.activeElement.blur(); document.querySelector('.side').scrollTop = 0")
+    done, state = page.value("moment"), page.state()
+    cell, value = re.search(r"cell (\d+) from \d+ to (\d+)", page.told()).groups()
+    count.same("shown: the slider", page.value("slider"), done)
+    count.row("shown: the bars are of this moment", page.script("return document.querySelector('#bars title').textContent").endswith(f"after {done} changes"), done)
+    bar = page.script("return document.querySelector(`#bars [data-cell='${arguments[0]}'] .ink`).textContent", cell)
+    row = page.script("return document.querySelector(`#cell-rows [data-cell='${arguments[0]}'] .number`).textContent", cell)
+    count.same("shown: the bar and the cell hold what the step wrote", (bar, row), (value, value))
+    marked = page.script("return document.querySelector('.at .loc').textContent")
+    count.row("shown: the line at the location is marked", f"location\n{marked}" in state[1] or f"location {marked}" in state[1].replace("\n", " "), state[1])
+
+
 def pictures(open_page, count):
     """The pictures, to be looked at: wide and narrow, light and dark, and as printed."""
     OUT.mkdir(exist_ok=True)
@@ -154,11 +173,14 @@ def pictures(open_page, count):
                 ink, ground = page.script("const s = getComputedStyle(document.documentElement); return [s.color, s.backgroundColor]")
                 light = [sum(int(part) for part in colour.split("(")[1].split(")")[0].split(",")[:3]) for colour in (ink, ground)]
                 count.row(f"pictures: {width} {shade}", (light[0] > light[1]) == dark, (ink, ground))
+    with open_page(width=1280, height=800) as page:
+        shown(page, count)
+        page.shot(OUT / "page.png")  # that of docs/PAGE.md
     with open_page(width=720) as page:
         page.command("Emulation.setEmulatedMedia", media="print")
         page.shot(OUT / "on-paper.png")
-        tops = page.script("return [...document.querySelectorAll('.heads span')].map(e => Math.round(e.getBoundingClientRect().top))")
-        count.row("pictures: on paper the heads of the listing are in one row", len(tops) == 4 and len(set(tops)) == 1, tops)
+        shown = page.script("return ['printed', 'listing'].map(id => document.getElementById(id).getClientRects().length > 0)")
+        count.same("pictures: on paper the listing is a table", shown, [True, False])
 
 
 def bounds(page, native, count):
@@ -185,11 +207,11 @@ def memory(page, native, count):
     source = "LOOP INCA 1\n STA 1063\n ENT1 1000\n MOVE 1001(63)\n JMP LOOP\n END LOOP\n"  # each MOVE alters 63 cells
     page.put("text", source + "%SCRIPT\n" + "run 1000000\n" * 100)
     page.click("step")
-    page.press_button(page.all("#gutter .line button")[1])
+    page.press_button(page.all("#listing .line button")[1])
 
     def stands(name):
         count.same(f"{name}: the text", page.value("text"), source)
-        count.same(f"{name}: the breakpoint", page.all("#gutter .line button")[1].get_attribute("aria-pressed"), "true")
+        count.same(f"{name}: the breakpoint", page.all("#listing .line button")[1].get_attribute("aria-pressed"), "true")
         count.same(f"{name}: the commands", page.log(), [("step 1", "ran 1 to 0001 clock 1: limit\n")])
         count.same(f"{name}: the script", len(page.all("#script-lines li")), 100)
 

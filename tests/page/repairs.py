@@ -5,7 +5,7 @@ from uses import EXAMPLES, FIRST, kept, natively
 
 ENDLESS = "LOOP INCA 1\n STA 100\n JMP LOOP\n END LOOP\n"
 ACTIVE = "const e = document.activeElement; return e.id || e.getAttribute('aria-label') || e.tagName"
-MARKED = "return [...document.querySelectorAll('.line.at button')].map(b => Number(b.textContent))"
+MARKED = "return [...document.querySelectorAll('.at .line button')].map(b => Number(b.textContent))"
 
 
 def commands(page):
@@ -13,25 +13,69 @@ def commands(page):
 
 
 def halts(page, native, count):
-    """After a HLT, Step and Run say so, and go on when they are asked again."""
-    for name, command in (("run", "run 1000000"), ("step", "step 1")):
+    """After a HLT neither Step nor Run goes on, however often they are asked, and a key that is held down is no asking; a button of its own does."""
+    for name, keys in (("run", (Keys.SHIFT, Keys.F8)), ("step", (Keys.F8,))):
         page.lesson(1)
         page.lesson(0)
-        page.click("run")
+        for _ in range(12 if name == "step" else 4):
+            page.chord(*keys)
+        done = ["step 1"] * 4 if name == "step" else ["run 1000000"]
+        count.same(f"halts: {name}: nothing more is done", commands(page), done)
         count.same(f"halts: {name}: the HLT is marked, not what is behind it", page.script(MARKED), [7])
-        page.click(name)
-        count.same(f"halts: {name}: nothing is done", commands(page), ["run 1000000"])
-        count.row(f"halts: {name}: told", page.told().startswith("The program has halted.") and "0004" in page.told(), page.told())
-        page.click("back")
-        page.click("run")
-        page.click(name)
-        page.click(name)
-        count.same(f"halts: {name}: asked again, it goes on", commands(page), ["run 1000000", "back 1", "forth all", command])
+        count.same(f"halts: {name}: the buttons", [page.one(each).is_enabled() and page.one(each).get_attribute("aria-disabled") is None for each in ("step", "over", "out", "run", "back")], [False] * 4 + [True])
+        page.click("beyond")
+        count.same(f"halts: {name}: the button goes on", (commands(page), page.one("beyond").is_displayed()), ([*done, "step 1"], False))
         natively(f"halts: {name}", page, native, count)
     page.lesson(4)
     page.click("run")
-    page.click("run")
-    count.row("halts: data is no next line", page.told().startswith("The program has halted."), page.told())
+    count.same("halts: no cell is M", len(page.all("#cell-rows .here")), 0)
+
+
+CALLS = """START   ENTA 1
+        JMP  TWICE
+        JMP  TWICE
+        HLT
+TWICE   STJ  DONE
+        ADD  ONE
+DONE    JMP  *
+ONE     CON  1
+        END  START
+"""
+
+
+def calls(page, native, count):
+    """Over a subroutine, also among what was taken back, to a breakpoint in it, and out of it."""
+    page.lesson(0)
+    page.put("text", CALLS)
+    for name in ("step", "over", "step", "step", "out"):
+        page.click(name)
+    wanted = ["step 1", "run 4", "step 1", "step 1", "run 2"]
+    count.same("calls: over and out", (commands(page), page.script(MARKED)), (wanted, [4]))
+    for name in ("to-start", "step", "over"):
+        page.click(name)
+    count.same("calls: over what was taken back", commands(page)[-3:], ["back all", "forth 1", "forth 4"])
+    page.press_button(page.all("#listing .line button")[5])
+    page.click("over")
+    count.same("calls: to a breakpoint in it", (commands(page)[-1], page.script(MARKED)), ("forth 2", [6]))
+    natively("calls", page, native, count)
+
+
+def left(page, native, count):
+    """The line that was just done is marked too, with a bow to the next one where a jump lies between."""
+    page.lesson(0)
+    page.put("text", CALLS)
+    marks = "return [[...document.querySelectorAll('.left .line button')].map(b => Number(b.textContent)), [...document.querySelectorAll('.bow')].map(b => b.className)]"
+    seen = []
+    for _ in range(5):
+        page.click("step")
+        seen.append((page.script(MARKED), *page.script(marks)))
+    count.same("left: the lines and the bows", seen, [([2], [1], []), ([5], [2], ["bow down"]), ([6], [5], []), ([7], [6], []), ([3], [7], ["bow up"])])
+    ends = page.script("const at = (s) => document.querySelector(s).getBoundingClientRect(); const [bow, from, to] = [at('.bow'), at('.left .line'), at('.at .line')]; return [bow.top - (to.top + to.bottom) / 2, bow.bottom - (from.top + from.bottom) / 2, bow.left >= to.left - 2 && bow.right < to.left + 20]")
+    count.row("left: the bow leads from one to the other", abs(ends[0]) < 3 and abs(ends[1]) < 3 and ends[2], ends)
+    page.slide(4)
+    count.row("left: a jump back says what the moment is", page.told().startswith("1 change taken back") or "Taken back" in page.told(), page.told())
+    page.slide(1)
+    count.row("left: and how it came to be", page.told().endswith("The last: 1 ENTA 1: rA from 0 to 1 (1 u)."), page.told())
 
 
 def kept_apart(page, native, count):
@@ -41,7 +85,7 @@ def kept_apart(page, native, count):
     page.lesson(8)
     for _ in range(3):
         page.click("script-next")
-    page.press_button(page.all("#gutter .line button")[9])
+    page.press_button(page.all("#listing .line button")[9])
     state, log, left = page.state(), page.log(), page.text("script-lines")
     page.script("const { click } = HTMLAnchorElement.prototype; HTMLAnchorElement.prototype.click = function () { window.named = this.download; click.call(this); }")
     saved = page.save()
@@ -53,8 +97,8 @@ def kept_apart(page, native, count):
     page.open_file(saved)
     count.same("kept: opened, the moment", (page.state(), page.log()), (state, log))
     count.same("kept: opened, what is left", page.text("script-lines"), left)
-    count.same("kept: opened, the breakpoint", page.all("#gutter .line button")[9].get_attribute("aria-pressed"), "true")
-    count.same("kept: opened, the lesson", page.value("lessons"), "8")
+    count.same("kept: opened, the breakpoint", page.all("#listing .line button")[9].get_attribute("aria-pressed"), "true")
+    count.same("kept: opened, the lesson", page.chosen(), EXAMPLES[8].stem)
     page.click("script-all")
     count.same("kept: opened, and done to the end", page.replies(), native.bundle(bundle))
 
@@ -91,7 +135,7 @@ def chosen_meanwhile(page, native, count):
     page.lesson(0)
     page.put("text", ENDLESS)
     page.one("run").click()
-    page.script("const l = document.getElementById('lessons'); l.value = '0'; l.dispatchEvent(new Event('change', {bubbles: true}));")
+    page.script("const l = document.getElementById('lessons'); l.value = [...l.options].find(o => o.dataset.name === arguments[0]).value; l.dispatchEvent(new Event('change', {bubbles: true}));", EXAMPLES[0].stem)
     page.leave()
     page.idle()
     count.same("chosen: during a run", [page.value("text"), page.text("total"), page.log()], [FIRST.split("%SCRIPT")[0], "0", []])
@@ -118,7 +162,7 @@ def focus(page, native, count):
     page.lesson(8)
     page.click("run")
     page.click("to-start")
-    places = {"a register": "#register-rows button", "a flag": "#flags button", "a cell": "#cell-rows button[tabindex='0']", "a line": "#gutter button", "the log": "#log"}
+    places = {"a register": "#register-rows button", "a flag": "#flags button", "a cell": "#cell-rows button[tabindex='0']", "a line": "#listing .CodeMirror-code > :first-child .line button", "the log": "#log"}
     for name, selector in places.items():
         page.script("document.querySelector(arguments[0]).focus()", selector)
         before = page.script(ACTIVE)
@@ -196,8 +240,7 @@ def refused_text(page, native, count):
 
 def ranges(page, native, count):
     """A range of cells: expressions of the program, and why it is refused."""
-    number = next(at for at, title in enumerate(page.lessons()) if title.startswith("20. "))
-    page.lesson(number)
+    page.lesson("50_insertion")
     page.choose("cells-which", "range")
     for start, end, said in (("KEY+1", "KEY+N", ""), ("NOSUCH", "10", "“NOSUCH” has no value"), ("NOSUCH", "4000", "“NOSUCH” has no value"), ("0", "4000", "“4000” is 4000, and cells are 0 to 3999"), ("20", "10", "the range ends at 10")):
         page.put("cells-from", start)
@@ -218,4 +261,4 @@ def sizes(page, native, count):
         count.same(f"sizes: {width} x {height}", page.script("const noticed = window.noticed; window.noticed = []; return noticed"), [])
 
 
-REPAIRS = (halts, kept_apart, own_faults, chosen_meanwhile, edit_undone, focus, setting, refused_text, ranges, sizes)
+REPAIRS = (halts, calls, left, kept_apart, own_faults, chosen_meanwhile, edit_undone, focus, setting, refused_text, ranges, sizes)

@@ -1,46 +1,69 @@
 """Where things are said: a fault at its line, a step once, on paper the lesson and the moment."""
 import re
 
+from browser import EDITOR
+from seen import IN_VIEW
+from selenium.webdriver.common.by import By
+from selenium.webdriver.common.keys import Keys
 from uses import FIRST
 
 
 def fault_seen(page, native, count):
-    """A fault stands in the box of the listing, which goes to its line, and is told to screen readers at the source."""
+    """A fault is in the list below the listing, whole, and the listing goes to its line, which a click or a key does too; it is told to screen readers at
+    the source."""
     page.size(1280, 720)
     texts = {"a long remark": (f" JUMP 0{'':20}{'a remark over all columns, ' * 9}\n END 0\n", 1), "out of sight": (" NOP\n" * 80 + " JUMP 0\n" + " NOP\n" * 80 + " END 0\n", 81)}
     for name, (text, line) in texts.items():
         page.put("text", text)
         count.row(f"fault seen: {name}: told", page.told().startswith(f"Line {line}: A2"), page.told())
-        inside = page.script("const [a, b] = ['wrong-text', 'listing'].map((id) => document.getElementById(id).getBoundingClientRect()); return [a.left >= b.left, a.right <= b.right, a.top >= b.top, a.bottom <= b.bottom, a.height > 10]")
-        count.same(f"fault seen: {name}: in the box", inside, [True] * 5)
+        row = page.driver.find_element(By.CSS_SELECTOR, ".wrong .line")
+        count.row(f"fault seen: {name}: the line is in view", page.script(IN_VIEW, row, "#listing"))
+        found = page.one("wrong-text")
+        whole = page.script("const b = arguments[0].firstChild; return [b.scrollWidth <= b.clientWidth + 1, b.textContent]", found)
+        count.same(f"fault seen: {name}: in the list, whole", (page.script(IN_VIEW, found, "#faults"), whole), (True, [True, f"Line {line}: A2 no such operation: JUMP. Perhaps JMP is meant, not JUMP"]))
         count.same(f"fault seen: {name}: at the source", [page.one("text").get_attribute(f"aria-{what}") for what in ("invalid", "describedby")], ["true", "wrong-text"])
+        page.script("document.querySelector('#listing .CodeMirror').CodeMirror.scrollTo(0, 0); arguments[0].firstChild.focus()", found)
+        page.press(Keys.ENTER)
+        row = page.driver.find_element(By.CSS_SELECTOR, ".wrong .line")
+        where = page.script(EDITOR + "return [document.activeElement.id, cm.getCursor().line + 1]")
+        count.same(f"fault seen: {name}: a key goes there", (where, page.script(IN_VIEW, row, "#listing")), (["text", line], True))
     page.put("text", FIRST.split("%SCRIPT")[0])
-    count.same("fault seen: mended", [page.one("text").get_attribute("aria-invalid"), len(page.all("#found *"))], ["false", 0])
+    count.same("fault seen: mended", [page.one("text").get_attribute("aria-invalid"), page.one("faults").is_displayed()], ["false", False])
 
 
 FOUND = {"many": "X    EQU  1\n     JUMP 0\nX    EQU  2\nENTA 10\n     LDA  Y\n     HLT\n     END  0\n", "warnings": "     LDA  Y\n     HLT\n     END  0\n",
          "no END": "     NOP\n     DEK1 1\n", "none": FIRST.split("%SCRIPT")[0]}
 
 
+NEAR = {"MOV": "MOVE", "HALT": "HLT", "LDI1": "LD1", "ADDI": "ADD", "DEK1": "DEC1", "JPM": "JMP"}  # what is meant by what is written
+
+
 def each_found(page, native, count):
-    """Each line with a fault or a warning is marked as one types, with what `mixrev check` says of it."""
+    """Each line with a fault or a warning is marked as one types, and the list has what `mixrev check` says of it."""
     for name, text in FOUND.items():
         page.put("text", text)
         wanted = native.found(text)
-        count.same(f"found: {name}: the texts", page.script("return [...document.querySelectorAll('#found span')].map((e) => e.textContent)"), ["; ".join(texts) for _, texts in wanted.values()])
-        titles = page.script("return [...document.querySelectorAll('#gutter button')].map((e) => e.title).filter(Boolean)")
+        every = [(line, said) for line, (_, texts) in wanted.items() for said in texts]
+        rows = page.script("return [...document.querySelectorAll('#fault-rows button')].map((e) => e.textContent)")
+        count.row(f"found: {name}: the list", len(rows) == len(every) and all(row.startswith(f"Line {line}: {said}") for row, (line, said) in zip(rows, every)), (rows, every))
+        titles = page.script("return [...document.querySelectorAll('#listing .line button')].map((e) => e.title).filter(Boolean)")
         count.same(f"found: {name}: at the buttons", titles, ["; ".join(texts) for _, texts in wanted.values()])
         bad = [line for line, (is_fault, _) in wanted.items() if is_fault]
-        marked = page.script("return [...document.querySelectorAll('#gutter .line')].flatMap((row, i) => (row.classList.contains('wrong') ? [i + 1] : []))")
+        marked = page.script("return [...document.querySelectorAll('.wrong .line')].map((row) => Number(row.firstChild.textContent))")
         count.same(f"found: {name}: the lines", marked, bad)
-        apart = page.script("const tops = (all) => [...all].map((e) => e.getBoundingClientRect().top); const rows = tops(document.querySelectorAll('#gutter .line')); return tops(document.querySelectorAll('#found .band')).map((top, i) => top - rows[arguments[0][i] - 1])", list(wanted))
-        count.row(f"found: {name}: each at its line", all(abs(each) < 2 for each in apart), apart)
         if wanted:
             line, (_, texts) = next(iter(wanted.items()))
-            page.script("const at = document.querySelectorAll('#colours > div')[arguments[0] - 1].getBoundingClientRect(); document.getElementById('text').dispatchEvent(new MouseEvent('mousemove', { clientX: at.left + 20, clientY: at.top + 8 }))", line)
-            count.same(f"found: {name}: at the pointer", page.one("text").get_attribute("title"), "; ".join(texts))
+            page.script("const row = document.querySelectorAll('#listing .CodeMirror-line')[arguments[0] - 1], at = row.getBoundingClientRect(); row.dispatchEvent(new MouseEvent('mousemove', { clientX: at.left + 20, clientY: at.top + 8, bubbles: true }))", line)
+            count.same(f"found: {name}: at the pointer", page.one("listing").get_attribute("title"), "; ".join(texts))
         more = len(bad) - 1
         count.same(f"found: {name}: how many more", page.told().partition(" more fault")[0][-1:], str(more) if more > 0 else page.told()[-1:])
+    for written, meant in NEAR.items():
+        page.put("text", f" {written} 1\n HLT\n END 0\n")
+        count.row(f"found: {written}", f"Perhaps {meant} is meant, not {written}" in page.text("wrong-text"), page.text("wrong-text"))
+    warnings = {" NOP\n END 0\n": "Line 2: there is no HLT", " HLT\n END 0\n INCA 1\n": "Line 3: this stands behind END and is not read"}
+    for text, said in warnings.items():
+        page.put("text", text)
+        count.row(f"found: {said}", page.text("fault-rows").startswith(said) and page.one("step").is_enabled(), page.text("fault-rows"))
 
 
 def said_once(page, native, count):
@@ -60,9 +83,9 @@ def on_paper(page, native, count):
     page.click("back")
     page.script("window.dispatchEvent(new Event('beforeprint'))")
     found = re.fullmatch(r"(.*), change 84 of 85, (\d{4}-\d\d-\d\d)", page.text("on-paper"))
-    count.row("on paper: lesson, moment, day", found and found[1] == page.lessons()[8], page.text("on-paper"))
-    sources = page.script("return [...document.querySelectorAll('#gutter .source')].map(e => e.textContent)")
-    count.same("on paper: the listing", sources, [line for line in page.value("text").split("\n") if line])
+    count.row("on paper: lesson, moment, day", found and found[1] == page.script("return document.getElementById('lessons').selectedOptions[0].textContent"), page.text("on-paper"))
+    sources = page.script("return [...document.querySelectorAll('#printed .source')].map(e => e.textContent)")
+    count.same("on paper: the listing", sources, page.value("text").split("\n"))
 
 
 SAYS = (fault_seen, each_found, said_once, on_paper)

@@ -25,7 +25,7 @@ OUT     JOV  BACK
         END  START
 """
 APART = """const tops = (selector) => [...document.querySelectorAll(selector)].map(e => e.getBoundingClientRect().top);
-const [rows, lines] = [tops('.line'), tops('#colours > div')]; return Math.max(...rows.map((top, at) => Math.abs(top - lines[at])))"""
+const [rows, lines] = [tops('.line'), tops('#listing .CodeMirror-line')]; return Math.max(...rows.map((top, at) => Math.abs(top - lines[at])))"""
 # Each step of it: what it did, and what the next one will do, by the rules of the book.
 SENTENCES = [
     ("At the start.", "Next: 8 LDX KEY+1: rX becomes 50 (cell 1000)."),
@@ -62,15 +62,23 @@ def sentences(page, native, count):
     count.same("sentences: at a moment", status(page)[1], SENTENCES[3][1])
     page.click("run")
     count.same("sentences: a run to the end", page.told(), "Halted after 10 changes, clock 23 u, the last 7 now.")
+    page.put("text", " JSJ *+1\n JMP *+1\n ENT1 4\n JMP *+1\n IOC 0(18)\n OUT 100(18)\n HLT\n END 0\n")
+    said = ["Did 1 JSJ *+1: jumps to line 2 (1 u).", "Did 2 JMP *+1: jumps to line 3, rJ from 0 to 2 (1 u).", "Did 3 ENT1 4: rI1 from 0 to 4 (1 u).", "Did 4 JMP *+1: jumps to line 5, rJ from 2 to 4 (1 u).",
+            "Did 5 IOC 0(18): unit 18 begins a new page (1 u).", "Did 6 OUT 100(18): unit 18 writes row 1 (1 u). 1 row printed."]
+    found = []
+    for _ in said:
+        page.click("step")
+        found.append(page.told())
+    count.same("sentences: a jump to the next line, a new page and a row", found, said)
     page.lesson(1)
     page.lesson(0)
     page.click("step")
     row = page.driver.find_element(By.CSS_SELECTOR, "#register-rows tr.altered")
     count.row("sentences: what a register was", row.text.endswith("was 0"), row.text)
-    page.script("const t = document.getElementById('text'); t.focus(); const at = t.value.indexOf('INCA'); t.setSelectionRange(at, at)")
+    page.caret(5, 9)
     page.press("\ue031")  # F1
-    title = page.script("""const at = document.querySelector('#colours > div:nth-child(6) .support').getBoundingClientRect(); const text = document.getElementById('text');
-        text.dispatchEvent(new MouseEvent('mousemove', { clientX: at.left + 3, clientY: at.top + 5, bubbles: true })); return text.title""")
+    title = page.script("""const word = document.querySelectorAll('#listing .CodeMirror-line')[5].querySelector('.cm-support'), at = word.getBoundingClientRect();
+        word.dispatchEvent(new MouseEvent('mousemove', { clientX: at.left + 3, clientY: at.top + 5, bubbles: true })); return document.getElementById('listing').title""")
     count.same("sentences: at the pointer", title, "STA: field F of cell M becomes rA. C = 24, 2 u.")
     count.row("sentences: F1 at an operation", page.told().startswith("INCA: rA becomes rA + M."), page.told())
 
@@ -86,7 +94,7 @@ def output(page, native, count):
     for row in rows:
         count.row(f"output: in view: {row.text}", page.script(IN_VIEW, row, ".paper"))
     count.row("output: told", "4 rows printed." in page.told(), page.told())
-    count.row("output: the listing is in view too", page.script(IN_VIEW, page.driver.find_element(By.CSS_SELECTOR, ".line.at"), "#listing"))
+    count.row("output: the listing is in view too", page.script(IN_VIEW, page.driver.find_element(By.CSS_SELECTOR, ".at .line"), "#listing"))
     page.click("back")
     page.click("back")
     count.row("output: taken back", "1 row taken back." in page.told(), page.told())
@@ -103,35 +111,31 @@ def lesson(page, native, count):
     """Notes beside the listing, in groups with numbers; the answer only when it is asked for; symbols; colours; all of a line is seen."""
     titles = page.lessons()
     groups = [group.get_attribute("label") for group in page.all("#lessons optgroup")]
-    count.row("lesson: groups", groups[0] == "Examples" and len(groups) > 3 and all(re.match(r"Course: \d", group) for group in groups[1:]), groups)
+    count.row("lesson: groups", groups[:2] == ["Begin here", "Examples"] and len(groups) > 3 and all(re.match(r"Course: \d", group) for group in groups[2:]), groups)
     count.row("lesson: each has its number", all(re.match(r"\d+\. ", title) for title in titles), titles)
     count.row("lesson: no answers among them", not any("answer" in title for title in titles), titles)
     page.size(1280, 720)
-    page.lesson(next(at for at, title in enumerate(titles) if title.startswith("20. ")))
-    count.row("lesson: notes and listing in view", page.script(IN_VIEW, page.one("notes-box"), None) and page.script(IN_VIEW, page.driver.find_element(By.CSS_SELECTOR, ".line.at"), "#listing"))
+    page.lesson("50_insertion")
+    count.row("lesson: notes and listing in view", page.script(IN_VIEW, page.one("notes-box"), None) and page.script(IN_VIEW, page.driver.find_element(By.CSS_SELECTOR, ".at .line"), "#listing"))
     count.same("lesson: its answer is not shown", page.one("answer-text").is_displayed(), False)
     page.script("document.querySelector('#answer summary').click()")
     count.row("lesson: its answer, asked for", page.one("answer-text").is_displayed() and len(page.text("answer-text")) > 40, page.text("answer-text"))
     page.press_button(page.one("answer-open"))
-    answer = next((TOP / "course").glob("20_*/answer.mixal")).read_text()
+    answer = next((TOP / "course").glob("*_insertion/answer.mixal")).read_text()
     count.same("lesson: the program of the answer", page.value("text"), answer.split("%DEVICES\n")[0].split("%SCRIPT\n")[0])
-    wide = page.script("return [...document.querySelectorAll('#colours > div')].map(d => d.scrollWidth > d.clientWidth + 1).filter(Boolean).length")
+    wide = page.script("return [...document.querySelectorAll('#listing .CodeMirror-line')].map(d => d.scrollWidth > d.clientWidth + 1).filter(Boolean).length")
     count.same("lesson: no line is cut", wide, 0)
-    count.same("lesson: the colours say what the text says", page.script("return [...document.querySelectorAll('#colours > div')].map(d => d.textContent).join('\\n')"), page.value("text"))
     for width in (1280, 375, 641):
         page.size(width, 720)
         page.wait(lambda: page.script(APART) < 1)
         count.row(f"lesson: rows beside their lines, {width} wide", page.script(APART) < 1, page.script(APART))
-        heights = page.script("return [document.getElementById('text').scrollHeight, document.getElementById('colours').offsetHeight]")
-        count.row(f"lesson: the text wraps as its colours do, {width} wide", abs(heights[0] - heights[1]) <= 40, heights)
     page.size(1280, 720)
     page.lesson(0)
     page.put("text", SORT)
     page.script("document.querySelector('#symbols details').open = true")
     symbols = [[cell.text for cell in row.find_elements(By.CSS_SELECTOR, "th, td")][:3] for row in page.all("#symbol-rows tr")]
     count.same("lesson: symbols, in decimal too", symbols[:3], [["N", "3", "+ 00 00 00 00 03"], ["KEY", "999", "+ 00 00 00 15 39"], ["START", "3000", "+ 00 00 00 46 56"]])
-    kinds = page.script("return [...document.querySelectorAll('#colours > div:nth-child(8) span')].map(s => [s.textContent, s.className])")
-    count.same("lesson: colours", kinds, [["START", "entity"], ["LDX", "support"], ["KEY", "variable"], ["+", "keyword-operator"], ["1", "constant"]])
+    count.same("lesson: colours", page.spans(8), [["START", "entity"], ["LDX", "support"], ["KEY", "variable"], ["+", "keyword-operator"], ["1", "constant"]])
 
 
 def memory_shown(page, native, count):
@@ -160,7 +164,7 @@ def small(page, native, count):
         seen = []
         for _ in range(20):
             page.click("step")
-            seen.append(page.script(IN_VIEW, page.driver.find_element(By.CSS_SELECTOR, ".line.at"), "#listing"))
+            seen.append(page.script(IN_VIEW, page.driver.find_element(By.CSS_SELECTOR, ".at .line"), "#listing"))
         count.same(f"{width} x {height}: the line that is next is in view", seen.count(True), 20)
         bar = page.script("return document.getElementById('time').offsetHeight / innerHeight")
         count.row(f"{width} x {height}: the bar leaves room", bar < 0.34, bar)

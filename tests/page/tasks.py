@@ -84,7 +84,7 @@ def who(page, me, native, count):
 
 def own(page, me, native, count):
     me.click(page.one("new"))
-    me.click(page.one("text"))
+    me.click(page.driver.find_element(By.CSS_SELECTOR, "#listing .CodeMirror-line"))
     page.put("text", OWN)
     me.keys += len(OWN)
     for wrong, told, right in (("DEK1", "Perhaps DEC1 is meant, not DEK1", "DEC1"), ("SUM+LOP", "A symbol here must be defined in a line above", "SUM"), ("HLT\n", "The last line of a program is END", "HLT\nSUM     CON  0\n        END  START\n")):
@@ -98,7 +98,7 @@ def own(page, me, native, count):
 def breakpoint_and_back(page, me, native, count):
     page.lesson(4)
     line = next(number for number, text in enumerate(EXAMPLES[4].read_text().split("\n"), 1) if re.match(r"\S*\s+OUT\s", text))
-    row = page.all("#gutter .line button")[line - 1]
+    row = page.all("#listing .line button")[line - 1]
     page.script("arguments[0].scrollIntoView({ block: 'center' })", row)
     me.click(row)
     me.click(page.one("run"))
@@ -138,7 +138,7 @@ def link(page, me, native, count):
     page.press(Keys.ESCAPE)
     page.go(address)
     count.same("tasks: link: the same moment", page.state(), state)
-    count.same("tasks: link: the lesson", page.value("lessons"), "8")
+    count.same("tasks: link: the lesson", page.chosen(), EXAMPLES[8].stem)
 
 
 def saved(page, me, native, count):
@@ -156,7 +156,7 @@ def saved(page, me, native, count):
 
 def sort(page, me, native, count):
     page.script("document.querySelector('#symbols details').open = false")
-    me.menu(next(at for at, title in enumerate(page.lessons()) if title.startswith("20. ")))
+    me.menu("50_insertion")
     page.choose("cells-which", "range")
     me.clicks += 2
     page.put("cells-from", "KEY+1")

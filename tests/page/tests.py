@@ -10,8 +10,10 @@ import frame
 import guards
 import heat
 import kept
+import layout
 import looks
 import moment
+import nothing_lost
 import repairs
 import says
 import seen
@@ -19,6 +21,7 @@ import tasks
 import timemap
 import tour
 import two
+import typing_
 import uses
 import walks
 from browser import Page
@@ -26,8 +29,8 @@ from firefox import Firefox
 from native import Count, Native
 from webkit import WebKit
 
-USES = (uses.examples, uses.breakpoints, uses.slider, uses.who, uses.faults, uses.cards, uses.share, looks.narrow, looks.keys, looks.names, looks.bounds, *repairs.REPAIRS, *says.SAYS, *guards.GUARDS, *seen.SEEN, *bars.BARS, *conflicts.CONFLICTS, *timemap.MAP, *heat.HEAT, *kept.KEPT, *frame.FRAME, *moment.MOMENT, *tour.TOUR, *two.TWO, seen.contrast, tasks.tasks)
-IN_CHROMIUM = (looks.names, seen.contrast, *frame.FRAME)  # what asks Chromium itself
+USES = (uses.examples, uses.breakpoints, uses.slider, uses.who, uses.faults, uses.cards, uses.share, looks.narrow, looks.keys, looks.names, looks.bounds, *repairs.REPAIRS, *says.SAYS, *guards.GUARDS, *layout.LAYOUT, *seen.SEEN, *typing_.TYPING, *bars.BARS, *conflicts.CONFLICTS, *timemap.MAP, *heat.HEAT, *kept.KEPT, *nothing_lost.LOST, *frame.FRAME, *moment.MOMENT, *tour.TOUR, *two.TWO, seen.contrast, typing_.key_times, tasks.tasks)
+IN_CHROMIUM = (looks.names, typing_.key_times, seen.contrast, *frame.FRAME)  # what asks Chromium itself
 OTHERS = {"--webkit": WebKit, "--firefox": Firefox}
 WALKS = range(1, 13)
 
@@ -78,7 +81,7 @@ def main(words):
         print("not run: memory, names, requests and pictures, which ask Chromium itself")
     else:
         row("memory", lambda: one(looks.memory))
-    row("lessons", lambda: one(uses.lessons, ["01_degrees", "06_sieve", "20_insertion"]))
+    row("lessons", lambda: one(uses.lessons, ["02_degrees", "12_sieve", "50_insertion"]))
     row("walks", lambda: one(walks.walks, WALKS))
     if browser is Page:
         row("pictures", lambda: looks.pictures(open_page, count))

@@ -2,7 +2,9 @@
 import xml.etree.ElementTree as tree
 
 from bars import COPIED
+from kept import SENT
 from selenium.webdriver.common.by import By
+from selenium.webdriver.common.keys import Keys
 
 # Three times through a loop of two lines; a row is printed each time. Each line that is executed is a change: ENT1, then OUT, DEC1, J1P three times, HLT.
 SOURCE = """LINE EQU 100
@@ -94,4 +96,67 @@ def writes(page, native, count):
     count.same("writes: on the map", sorted(page.script(TICKS)), sorted([*PRINTED, 1, 3, 6, 9]))
 
 
-MAP = (time_map, writes)
+LONG = """        ORIG 3000
+START   ENT3 3000
+        ENT1 1
+LOOP    INC1 1
+        DEC3 1
+        J3P  LOOP
+        HLT
+        END  START
+"""
+
+
+def many_writes(page, native, count):
+    """Of a register that was written by some thousands of changes: those around this moment, and the curve says nothing of what is not known. The course
+    follows from the rules: ENT3, ENT1, and then INC1, DEC3, J3P for each N from 1 to 3000, so change 3N writes rI1, which is N + 1 then."""
+    page.lesson(0)
+    page.put("text", LONG)
+    page.click("run")
+    total = 9003
+    for moment, number in ((6000, 6000), (100, 99), (total, 9000)):
+        page.slide(moment)
+        page.tap(page.driver.find_element(By.CSS_SELECTOR, "#register-rows tr[data-key='I1'] button"))
+        page.wait(lambda: page.all("#who-writes button"))
+        rows = page.script("return [...document.querySelectorAll('#who-writes button')].map(b => [b.textContent, b.getAttribute('aria-current')])")
+        every = [2, *range(3, 9001, 3)]
+        value = {2: (0, 1), **{n: (n // 3, n // 3 + 1) for n in every[1:]}}
+        here = every.index(number)
+        first = max(0, here - 999)
+        last = min(len(every), here + 1 + (len(rows) - (here + 1 - first)))
+        count.same(f"writes: at {moment}: each as it was", rows, [[f"change {n}: {value[n][0]} → {value[n][1]}", "step" if n == number else None] for n in every[first:last]])
+        count.row(f"writes: at {moment}: some that are ahead", last - here - 1 >= min(300, len(every) - here - 1), (here, last))
+        inside = page.script("const [a, b] = [document.querySelector('#who-writes [aria-current]'), document.getElementById('who-writes')].map((e) => e.getBoundingClientRect()); return a.top >= b.top && a.bottom <= b.bottom")
+        count.same(f"writes: at {moment}: the marked one is in view", inside, True)
+        said = page.text("who-many")
+        count.row(f"writes: at {moment}: of how many", said.startswith(f"There are more: these are {'the last 1,000 changes' if first > 0 else f'{here + 1} changes'} up to here, and "), said)
+        shape = page.script("const path = document.querySelector('#who-values .line').getAttribute('d'); return [Number(/^M (\\d+)/.exec(path)[1]), path.endsWith('H 484')]")
+        begin = 4 if first == 0 else round(4 + every[first] / total * 480)
+        count.same(f"writes: at {moment}: the curve begins where it is known", (abs(shape[0] - begin) <= 1, shape[1]), (True, last == len(every)))
+        page.press(Keys.ESCAPE)
+
+
+def map_grows(page, native, count):
+    """A map of many changes has columns of the same width; what is done later is added to it, and another way drops what it was made of."""
+    page.lesson(0)
+    page.put("text", LONG)
+    open_map(page)
+    page.script(SENT)
+    wide = "const f = document.querySelector('#map .field'), [x0, w] = ['x', 'width'].map(n => Number(f.getAttribute(n))); return [...document.querySelectorAll('#map rect.bar')].every(r => Number(r.getAttribute('x')) >= x0 - 0.1 && Number(r.getAttribute('x')) + Number(r.getAttribute('width')) <= x0 + w + 0.2)"
+    for command in ("run 1000", "run 1500", "run 100000"):
+        page.say(command)
+        page.wait(lambda: page.all("#map svg"))
+        page.idle()
+        count.same(f"map: after {command}: nothing is beside the field", page.script(wide), True)
+    text = page.script(SAID)[1]
+    count.row("map: the sums", all(f"Line {line}: {times:,} time" in text for line, times in ((2, 1), (3, 1), (4, 3000), (5, 3000), (6, 3000), (7, 1))), text)
+    page.slide(500)
+    page.say("set I3 5")
+    page.click("run")
+    page.wait(lambda: "Map of 517 changes" in page.script(SAID)[0])
+    times = (500 - 2) // 3 + 5
+    text = page.script(SAID)[1]
+    count.row("map: after another way", f"Line 4: {times} times" in text and "Line 7: 1 time," in text, text)
+
+
+MAP = (time_map, writes, many_writes, map_grows)

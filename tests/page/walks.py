@@ -36,10 +36,10 @@ def walk(page, native, count, seed, steps=25):
         elif kind == 8 and page.one("slider").is_enabled():
             page.slide(chance.randint(0, int(page.one("slider").get_attribute("max"))))
         else:
-            page.press_button(chance.choice(page.all("#gutter .line button")))
+            page.press_button(chance.choice(page.all("#listing .line button")))
     page.say("show all")
     page.say("show counts")
-    shown = dict(page.script("return [...document.querySelectorAll('.line')].map(row => ['loc', 'times'].map(name => (row.querySelector(`.${name}`) || { textContent: '' }).textContent))"))
+    shown = dict(page.script("window.dispatchEvent(new Event('beforeprint')); return [...document.querySelectorAll('#printed tr')].map(row => [1, 3].map(at => row.children[at].textContent))"))
     rows = (row.split() for row in page.log()[-1][1].splitlines())
     wanted = {place: "" if times == "0" else times for times, _, place, *_ in rows if place in shown}
     count.same(f"walk {seed}: how often each line was executed", {place: shown[place] for place in wanted}, wanted)

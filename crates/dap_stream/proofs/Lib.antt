@@ -2,5 +2,4 @@ pub mod BrokenLemmas
 mod HearLemmas
 mod SendLemmas
 mod ServingLemmas
-mod TurnLemmas
 pub mod Talking

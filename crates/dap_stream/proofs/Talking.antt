@@ -1,11 +1,9 @@
 -- Parts of a talk, one after the other.
-use Rattle.std.proofs.Common.{◌≡◌, ℕ, ◌+◌, true, Option, None, Some, List, [], ◌∷◌, ◌++◌, length, refl, sym, ap, subst, ◌∙◌, append_assoc, append-nil}
+use Rattle.std.proofs.Common.{◌≡◌, ℕ, ◌+◌, Option, None, Some, List, [], ◌∷◌, ◌++◌, length, refl, sym, ap, subst, ◌∙◌, append_assoc, append-nil}
 use Rattle.std.proofs.lemmas.List.{length-append}
 use Rattle.serde_json.specs.Data.{Data}
-use Rattle.dap_message.specs.Told.{Events, are_events}
-use Rattle.dap_message.proofs.Telling.{events-none, events-then}
 use Rattle.dap_stream.specs.Heard.{Hears, Holds}
-use Rattle.dap_stream.specs.Sent.{SendsAll, SendsWithEvents}
+use Rattle.dap_stream.specs.Sent.{SendsAll}
 use Rattle.dap_stream.specs.Talk.{Exchange, Leads, Talks, Trades, frames, messages}
 use Rattle.dap_stream.proofs.SendLemmas.{sends-none, sends-then}
 
@@ -24,19 +22,6 @@ hears-then (Some text) (Some mid) (Some left) xs ys p q = holds-then text mid le
 hears-none : (a : Option (List ℕ)) → Hears a [] a
 hears-none None = tt
 hears-none (Some text) = refl
-
--- ---- what was sent
-
--- what waits is sent
-pub sends-waiting : (waits : List Data) (told now : Option (List ℕ)) → SendsAll waits told now → SendsWithEvents waits told now
-sends-waiting waits told now sends = (waits, events-none waits, sends)
-
--- and then events that wait
-pub sends-events : (waits more : List Data) (told mid now : Option (List ℕ)) → SendsWithEvents waits told mid → Events [] more → SendsAll more mid now
-    → SendsWithEvents waits told now
-sends-events waits more told mid now first events then =
-    let after : Events first.0 (first.0 ++ more) = record { more = more; told = refl; events = subst (λ ms. are_events ms ≡ true) (sym events.told) events.events } in
-    (first.0 ++ more, events-then waits first.0 (first.0 ++ more) first.1 after, sends-then first.0 more told mid now first.2 then)
 
 -- ---- parts of a talk
 

@@ -4,7 +4,6 @@ use Rattle.std.specs.Io.KnownBytes.{Appends}
 use Rattle.serde_json.specs.Data.{Data}
 use Rattle.dap_frame.specs.Frame.{frame_of}
 use Rattle.dap_message.specs.Message.{IsTextOf}
-use Rattle.dap_message.specs.Told.{Events}
 
 -- a text of the message, in its frame
 abbrev pub Sends : Data → Option (List ℕ) → Option (List ℕ) → Type 0
@@ -25,7 +24,3 @@ frames_of (text ∷ texts) = frame_of text ++ frames_of texts
 -- a text of each message, in its frame, one after the other, and nothing else
 abbrev pub SendsAll : List Data → Option (List ℕ) → Option (List ℕ) → Type 0
 SendsAll messages old new = (texts : List (List ℕ)) × AreTextsOf texts messages × Appends old new (frames_of texts)
-
--- these messages and then events, and nothing else
-abbrev pub SendsWithEvents : List Data → Option (List ℕ) → Option (List ℕ) → Type 0
-SendsWithEvents messages old new = (all : List Data) × Events messages all × SendsAll all old new

@@ -1,10 +1,11 @@
 -- How a talk came to its end.
-use Rattle.std.specs.Prelude.{◌≡◌, ◌⊎◌, ◌≤◌, ◌-◌, ◌^◌, ℕ, List, Bool, Option, Result, Ok, Err}
+use Rattle.std.specs.Prelude.{◌≡◌, ◌⊎◌, ◌≤◌, ◌-◌, ◌^◌, ℕ, List, [], ◌∷◌, Option, None, Some, Result, Ok, Err}
 use Rattle.serde_json.specs.Data.{Data}
 use Rattle.dap_message.specs.declared.request.Request.{Request}
 use Rattle.dap_stream.specs.BrokenOff.{BrokenOff}
+use Rattle.dap_stream.specs.Heard.{Hears}
 use Rattle.dap_stream.specs.Hearing.{HearsAs}
-use Rattle.dap_stream.specs.Serving.{Phase, going, over, Steps}
+use Rattle.dap_stream.specs.Serving.{Phase, going, over, Steps, Takes}
 use Rattle.dap_stream.specs.Talk.{Talks}
 use Rattle.dap_stream.specs.declared.broken.Broken.{Broken}
 use Rattle.dap_stream.specs.declared.broken.Broken.TheVariants as broken
@@ -41,19 +42,26 @@ pub record Stuck {S : Type 0} (step : Phase S → Option Data → List Data → 
 
 -- How it came to this result. Where a read fails, all frames that were heard are answered; where a write fails, all but the last one, and of what is told
 -- for that one a beginning is sent; where memory is refused, it is the one or the other.
-abbrev pub TalkedAs : {S : Type 0} → (S → Request → List Data → Turn → S → Type 0) → (S → Bool) → (S → List Data → S → Type 0) → (S → List Data → S → Type 0)
+abbrev pub TalkedAs : {S : Type 0} → (S → Request → List Data → Turn → S → Type 0)
     → Result Unit Broken → S → S → Option (List ℕ) → Option (List ℕ) → Option (List ℕ) → Option (List ℕ) → Type 0
-TalkedAs serves busy works rests (Ok done) s t old new told now = Ended (Steps serves busy works rests) s t old new told now
-TalkedAs serves busy works rests (Err broken.Cut) s t old new told now = Stuck (Steps serves busy works rests) broken.Cut s old new told now
-TalkedAs serves busy works rests (Err broken.TooLong) s t old new told now = Stuck (Steps serves busy works rests) broken.TooLong s old new told now
-TalkedAs serves busy works rests (Err broken.Read) s t old new told now = Stuck (Steps serves busy works rests) broken.Read s old new told now
-TalkedAs serves busy works rests (Err broken.Write) s t old new told now = BrokenOff serves busy works rests s old new told now
-TalkedAs serves busy works rests (Err broken.Memory) s t old new told now =
-    Stuck (Steps serves busy works rests) broken.Memory s old new told now ⊎ BrokenOff serves busy works rests s old new told now
+TalkedAs serves (Ok done) s t old new told now = Ended (Steps serves) s t old new told now
+TalkedAs serves (Err broken.Cut) s t old new told now = Stuck (Steps serves) broken.Cut s old new told now
+TalkedAs serves (Err broken.TooLong) s t old new told now = Stuck (Steps serves) broken.TooLong s old new told now
+TalkedAs serves (Err broken.Read) s t old new told now = Stuck (Steps serves) broken.Read s old new told now
+TalkedAs serves (Err broken.Write) s t old new told now = BrokenOff (Steps serves) s old new told now
+TalkedAs serves (Err broken.Memory) s t old new told now =
+    Stuck (Steps serves) broken.Memory s old new told now ⊎ BrokenOff (Steps serves) s old new told now
 
 -- the same of one frame: it is one exchange, after which the talk goes on, or the end
-abbrev pub TurnAs : {S : Type 0} → (S → Request → List Data → Turn → S → Type 0) → (S → Bool) → (S → List Data → S → Type 0) → (S → List Data → S → Type 0)
+abbrev pub TurnAs : {S : Type 0} → (S → Request → List Data → Turn → S → Type 0)
     → Result Turn Broken → S → S → Option (List ℕ) → Option (List ℕ) → Option (List ℕ) → Option (List ℕ) → Type 0
-TurnAs serves busy works rests (Ok turn.On) s t old new told now = Talks (Steps serves busy works rests) (going s) (going t) 1 old new told now
-TurnAs serves busy works rests (Ok turn.Over) s t old new told now = TalkedAs serves busy works rests (Ok tt) s t old new told now
-TurnAs serves busy works rests (Err why) s t old new told now = TalkedAs serves busy works rests (Err why) s t old new told now
+TurnAs serves (Ok turn.On) s t old new told now = Talks (Steps serves) (going s) (going t) 1 old new told now
+TurnAs serves (Ok turn.Over) s t old new told now = TalkedAs serves (Ok tt) s t old new told now
+TurnAs serves (Err why) s t old new told now = TalkedAs serves (Err why) s t old new told now
+
+-- What waits to be sent for the next frame: its answer. At the end there is no frame; what breaks it off is not heard, or memory is refused for its answer.
+abbrev pub TakenAs : {S : Type 0} → (S → Request → List Data → Turn → S → Type 0)
+    → Result (Option Turn) Broken → S → S → Option (List ℕ) → Option (List ℕ) → List Data → Type 0
+TakenAs serves (Ok None) s t old new waits = HearsAs (Ok heard.End) old new × (t ≡ s)
+TakenAs serves (Ok (Some next)) s t old new waits = (frame : Option Data) × Hears old (frame ∷ []) new × Takes serves s frame waits next t
+TakenAs serves (Err why) s t old new waits = HearsAs (Err why) old new ⊎ ((why ≡ broken.Memory) × (frame : Option Data) × Hears old (frame ∷ []) new)

@@ -11,4 +11,4 @@ pub use broken::Broken;
 pub use hear::{Ear, Heard};
 pub use sending::send;
 pub use serves::{Serves, Turn};
-pub use talk::{MAX_PIECES, Talk};
+pub use talk::Talk;

@@ -1,14 +1,12 @@
 //! A talk with a client: frame by frame it is heard, and what answers it is sent.
 
-ghost use Rattle.std.specs.Prelude.{◌≡◌, ◌<◌, ◌-◌, ◌^◌, [], Ok, Err, IfErr, OnErr, OnOk};
+ghost use Rattle.std.specs.Prelude.{◌≡◌, ◌<◌, ◌-◌, ◌^◌, [], Ok, Err, OnOk};
 ghost use Rattle.mix_stream.specs.Stream.{CountsFailure};
 ghost use Rattle.dap_message.specs.Message.{waits};
 ghost use Rattle.dap_frame.specs.Frame.{first_frame, partial};
-ghost use Rattle.dap_stream.specs.Broken.{IsMemoryOrWrite};
-ghost use Rattle.dap_stream.specs.BrokenOff.{SendsFirst};
 ghost use Rattle.dap_stream.specs.Hearing.{kept, unheard};
-ghost use Rattle.dap_stream.specs.Serving.{IsUnclear, SendsMore, SendsPieces, max_pieces};
-ghost use Rattle.dap_stream.specs.Talked.{TalkedAs, TurnAs};
+ghost use Rattle.dap_stream.specs.Serving.{IsUnclear};
+ghost use Rattle.dap_stream.specs.Talked.{TakenAs, TalkedAs, TurnAs};
 ghost use Rattle.dap_stream.specs.declared.broken.Broken.TheVariants as broken;
 ghost use Rattle.dap_stream.specs.declared.serves.Turn.TheVariants as turn;
 
@@ -20,9 +18,6 @@ use dap_message::{MessageFault, Outbox};
 use mix_refused::Memory;
 use mix_stream::{In, Out};
 use std::alloc::Global;
-
-/// After so many pieces the work of a request is broken off.
-pub const MAX_PIECES: u32 = 10;
 
 /// A talk with a client.
 #[derive(Drop)]
@@ -58,7 +53,7 @@ impl Talk {
         requires none { waits self.old.outbox ≡ [] }
         requires read { R.failed input.old < 2 ^ 64 - 1 }
         requires written { W.failed out.old < 2 ^ 64 - 1 }
-        ensures talked { TalkedAs S.serves S.busy S.works S.rests result served.old served.new
+        ensures talked { TalkedAs S.serves result served.old served.new
             (unheard self.old.ear (R.rest input.old)) (unheard self.new.ear (R.rest input.new)) (W.told out.old) (W.told out.new) }
         ensures read { CountsFailure (result ≡ Err broken.Read) (R.failed input.old) (R.failed input.new) }
         ensures written { CountsFailure (result ≡ Err broken.Write) (W.failed out.old) (W.failed out.new) }
@@ -74,8 +69,7 @@ impl Talk {
         Ok(())
     }
 
-    // One frame is heard and answered, if the talk goes on after it.
-    #[tactic(auto, using(crate::proofs::ServingLemmas::turns))]
+    // One frame is heard and answered, and its answer is sent, if the talk goes on after it.
     fn turn<S: Serves, R: In, W: Out>(
         &mut self,
         served: &mut S,
@@ -85,75 +79,48 @@ impl Talk {
         requires none { waits self.old.outbox ≡ [] }
         requires read { R.failed input.old < 2 ^ 64 - 1 }
         requires written { W.failed out.old < 2 ^ 64 - 1 }
-        ensures talked { TurnAs S.serves S.busy S.works S.rests result served.old served.new
+        ensures talked { TurnAs S.serves result served.old served.new
             (unheard self.old.ear (R.rest input.old)) (unheard self.new.ear (R.rest input.new)) (W.told out.old) (W.told out.new) }
         ensures none { result ≡ Ok turn.On → waits self.new.outbox ≡ [] }
         ensures read { CountsFailure (result ≡ Err broken.Read) (R.failed input.old) (R.failed input.new) }
         ensures written { CountsFailure (result ≡ Err broken.Write) (W.failed out.old) (W.failed out.new) }
         ensures partial { result ≡ Err broken.Read → first_frame (kept self.new.ear) ≡ partial }
     {
-        match self.ear.hear(input)? {
-            Heard::End => return Ok(Turn::Over),
-            Heard::Unclear(fault) => tell_unclear(&mut self.outbox, fault)?,
-            Heard::Request(request) => match served.serve(&request, &mut self.outbox)? {
-                Turn::On => {}
-                Turn::Over => {
-                    send(self.alloc, &mut self.outbox, out)?;
-                    return Ok(Turn::Over);
-                }
-            },
+        match self.take(served, input)? {
+            None => Ok(Turn::Over),
+            Some(turn) => {
+                send(self.alloc, &mut self.outbox, out)?;
+                Ok(turn)
+            }
         }
-        send_on(self.alloc, served, &mut self.outbox, out)?;
-        Ok(Turn::On)
     }
-}
 
-// The messages that wait are sent, and then those of the work that is under way.
-#[tactic(auto, using(crate::proofs::ServingLemmas::pieces, crate::proofs::BrokenLemmas::broken_pieces))]
-fn send_on<S: Serves, W: Out>(
-    alloc: Global,
-    served: &mut S,
-    outbox: &mut Outbox,
-    out: &mut W,
-) -> Result<(), Broken>
-    requires { W.failed out.old < 2 ^ 64 - 1 }
-    ensures sent { OnOk result (SendsMore S.busy S.works S.rests (waits outbox.old) served.old served.new (W.told out.old) (W.told out.new)) }
-    ensures none { OnOk result (waits outbox.new ≡ []) }
-    ensures begun { OnErr result (SendsFirst S.busy S.works S.rests max_pieces (waits outbox.old) served.old (W.told out.old) (W.told out.new)) }
-    ensures failed { CountsFailure (result ≡ Err broken.Write) (W.failed out.old) (W.failed out.new) }
-    ensures only { IfErr result IsMemoryOrWrite }
-{
-    send(alloc, outbox, out)?;
-    send_pieces(alloc, served, MAX_PIECES, outbox, out)
-}
-
-// The messages of each piece are sent when it is done. After so many pieces the work is broken off.
-#[tactic(auto, using(crate::proofs::ServingLemmas::pieces, crate::proofs::BrokenLemmas::broken_pieces))]
-fn send_pieces<S: Serves, W: Out>(
-    alloc: Global,
-    served: &mut S,
-    pieces: u32,
-    outbox: &mut Outbox,
-    out: &mut W,
-) -> Result<(), Broken>
-    requires none { waits outbox.old ≡ [] }
-    requires count { W.failed out.old < 2 ^ 64 - 1 }
-    ensures sent { OnOk result (SendsPieces S.busy S.works S.rests pieces served.old served.new (W.told out.old) (W.told out.new)) }
-    ensures none { OnOk result (waits outbox.new ≡ []) }
-    ensures begun { OnErr result (SendsFirst S.busy S.works S.rests pieces [] served.old (W.told out.old) (W.told out.new)) }
-    ensures failed { CountsFailure (result ≡ Err broken.Write) (W.failed out.old) (W.failed out.new) }
-    ensures only { IfErr result IsMemoryOrWrite }
-{
-    if pieces == 0 {
-        served.break_off(outbox)?;
-        return send(alloc, outbox, out);
+    // One frame is heard, and its answer waits to be sent; none at the end.
+    fn take<S: Serves, R: In>(
+        &mut self,
+        served: &mut S,
+        input: &mut R,
+    ) -> Result<Option<Turn>, Broken>
+        requires none { waits self.old.outbox ≡ [] }
+        requires read { R.failed input.old < 2 ^ 64 - 1 }
+        ensures taken { TakenAs S.serves result served.old served.new
+            (unheard self.old.ear (R.rest input.old)) (unheard self.new.ear (R.rest input.new)) (waits self.new.outbox) }
+        ensures read { CountsFailure (result ≡ Err broken.Read) (R.failed input.old) (R.failed input.new) }
+        ensures written { result ≡ Err broken.Write → ⊥ }
+        ensures partial { result ≡ Err broken.Read → first_frame (kept self.new.ear) ≡ partial }
+    {
+        match self.ear.hear(input)? {
+            Heard::End => Ok(None),
+            Heard::Unclear(fault) => {
+                tell_unclear(&mut self.outbox, fault)?;
+                Ok(Some(Turn::On))
+            }
+            Heard::Request(request) => {
+                let turn = served.serve(&request, &mut self.outbox)?;
+                Ok(Some(turn))
+            }
+        }
     }
-    if !served.is_busy() {
-        return Ok(());
-    }
-    served.work(outbox)?;
-    send(alloc, outbox, out)?;
-    send_pieces(alloc, served, pieces - 1, outbox, out)
 }
 
 // A frame that is no request is told as that.

@@ -13,7 +13,7 @@ use Rattle.mix_dap.specs.Capabilities.{unknown_client}
 use Rattle.mix_dap.specs.Dialogue.{Breaks, BreaksOff, DialogueAs, EndsAs, GoesAs, GoesOnAs, Halts, HeardAll, Stage, StageSteps, debugs, done, waiting}
 use Rattle.mix_dap.specs.Stage.{is_over}
 use Rattle.mix_stream.specs.Stream.{CountsFailure}
-use Rattle.mix_dap.proofs.StageLemmas.{Fits, IsOn, busy, rests, serves, stage-begins, stage-step, stage_in, step, works}
+use Rattle.mix_dap.proofs.StageLemmas.{Fits, IsOn, serves, stage-begins, stage-step, stage_in, step}
 use Rattle.mix_dap.proofs.TalkLemmas.{talks-as}
 
 on-end : {S : Type 0} (b : S) (s : Stage) (count : ℕ) (left new : Option (List ℕ)) → IsOn s → IsEnd (going b) count left new → EndsAs s count left new
@@ -50,7 +50,7 @@ module _ {B : Type 0} (stage : B → Stage) where
   }
 
   off-as : (s : B) (old new told now : Option (List ℕ)) → IsOn (stage s)
-      → BrokenOff (serves stage) (busy stage) (works stage) (rests stage) s old new told now → BreaksOff (stage s) old new told now
+      → BrokenOff (step stage) s old new told now → BreaksOff (stage s) old new told now
   off-as s old new told now on is =
       let talks = stage-talks (going s) (going is.state) is.count old is.rest told is.before on is.talks in
       record {
@@ -67,7 +67,7 @@ module _ {B : Type 0} (stage : B → Stage) where
       }
 
   pub broken-as : (why : Broken) (s t : B) (old new told now : Option (List ℕ)) → IsOn (stage s)
-      → TalkedAs (serves stage) (busy stage) (works stage) (rests stage) (Err why) s t old new told now → Breaks why (stage s) old new told now
+      → TalkedAs (serves stage) (Err why) s t old new told now → Breaks why (stage s) old new told now
   broken-as broken.Cut s t old new told now on is = halts-as broken.Cut s old new told now on is
   broken-as broken.TooLong s t old new told now on is = halts-as broken.TooLong s old new told now on is
   broken-as broken.Read s t old new told now on is = halts-as broken.Read s old new told now on is
@@ -101,7 +101,7 @@ unread : (bytes : List ℕ) (old : Option (List ℕ)) → bytes ≡ [] → prepe
 unread bytes old none = ap (λ b. prepend_known b old) none ∙ heard-none old
 
 pub goes-done : {B : Type 0} (stage : B → Stage) (s t : B) (from to : Stage) (bytes kept : List ℕ) (old new told now : Option (List ℕ))
-    → TalkedAs (serves stage) (busy stage) (works stage) (rests stage) (Ok tt) s t (prepend_known bytes old) (prepend_known kept new) told now
+    → TalkedAs (serves stage) (Ok tt) s t (prepend_known bytes old) (prepend_known kept new) told now
     → stage s ≡ from → is_over from ≡ false → bytes ≡ [] → to ≡ stage t → GoesOnAs from (Ok tt) to old new told now
 goes-done stage s t from to bytes kept old new told now is at on none there =
     let on_there : IsOn (stage s) = on-of (stage s) (ap is_over at ∙ on) in
@@ -114,12 +114,12 @@ goes-done stage s t from to bytes kept old new told now is at on none there =
     )
 
 pub goes-broken : {B : Type 0} (stage : B → Stage) (s t : B) (from to : Stage) (why : Broken) (bytes kept : List ℕ) (old new told now : Option (List ℕ))
-    → TalkedAs (serves stage) (busy stage) (works stage) (rests stage) (Err why) s t (prepend_known bytes old) (prepend_known kept new) told now
+    → TalkedAs (serves stage) (Err why) s t (prepend_known bytes old) (prepend_known kept new) told now
     → stage s ≡ from → is_over from ≡ false → bytes ≡ [] → to ≡ done → (why ≡ broken.Read → first_frame kept ≡ partial)
     → GoesOnAs from (Err why) to old new told now
 goes-broken stage s t from to why bytes kept old new told now is at on none ended whole =
     let on_there : IsOn (stage s) = on-of (stage s) (ap is_over at ∙ on) in
-    let talked = subst (λ o. TalkedAs (serves stage) (busy stage) (works stage) (rests stage) (Err why) s t o (prepend_known kept new) told now) (unread bytes old none) is in
+    let talked = subst (λ o. TalkedAs (serves stage) (Err why) s t o (prepend_known kept new) told now) (unread bytes old none) is in
     let breaks = broken-as stage why s t old (prepend_known kept new) told now on_there talked in
     (kept, heard-all why kept whole, (ended, subst (λ f. Breaks why f old (prepend_known kept new) told now) at breaks))
 

@@ -8,7 +8,6 @@ pub mod CellsLemmas
 pub mod CountsLemmas
 pub mod EntryLemmas
 pub mod EventLemmas
-pub mod FlowLemmas
 pub mod LayoutLemmas
 pub mod LegLemmas
 pub mod ListLemmas
@@ -16,9 +15,7 @@ pub mod LocationLemmas
 pub mod MemoryLemmas
 pub mod PathLemmas
 pub mod PointLemmas
-pub mod PrintLemmas
 pub mod ReferenceLemmas
-pub mod RepliesLemmas
-pub mod RunLemmas
+pub mod ReactionLemmas
 pub mod WholeLemmas
 pub mod WrittenLemmas

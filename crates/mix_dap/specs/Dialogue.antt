@@ -1,14 +1,13 @@
 -- A dialogue of the adapter with its client.
-use Rattle.std.specs.Prelude.{◌≡◌, ◌⊎◌, ◌≤◌, ◌-◌, ◌^◌, ◌++◌, ℕ, List, [], ◌∷◌, codes, false, Option, None, Some, Result, Ok, Err, IsErr, is_some}
+use Rattle.std.specs.Prelude.{◌≡◌, ◌⊎◌, ◌≤◌, ◌-◌, ◌^◌, ◌++◌, ℕ, List, [], ◌∷◌, codes, Option, None, Some, Result, Ok, Err, IsErr}
 use Rattle.std.specs.Io.KnownBytes.{Appends, prepend_known}
 use Rattle.serde_json.specs.Data.{Data}
 use Rattle.dap_message.specs.Request.{command_of}
-use Rattle.dap_message.specs.Told.{Answers, response_to}
 use Rattle.dap_message.specs.declared.request.Request.{Request}
 use Rattle.dap_stream.specs.Asked.{IsRequest}
 use Rattle.dap_frame.specs.Frame.{first_frame, partial}
 use Rattle.dap_stream.specs.Broken.{broken_text}
-use Rattle.dap_stream.specs.BrokenOff.{Begins, SendsFront}
+use Rattle.dap_stream.specs.BrokenOff.{SendsFront}
 use Rattle.dap_stream.specs.Heard.{Hears}
 use Rattle.dap_stream.specs.Hearing.{HearsAs}
 use Rattle.dap_stream.specs.Serving.{IsUnclear, going, over, Steps}
@@ -16,17 +15,15 @@ use Rattle.dap_stream.specs.Talk.{Talks}
 use Rattle.dap_stream.specs.declared.broken.Broken.{Broken}
 use Rattle.dap_stream.specs.declared.broken.Broken.TheVariants as broken
 use Rattle.dap_stream.specs.declared.hear.Heard.TheVariants as heard
-use Rattle.mix_dap.specs.Answer.{HasTexts, launch_shown}
-use Rattle.mix_dap.specs.Before.{AskedShows, Asks, client_after}
+use Rattle.mix_dap.specs.Answer.{HasTexts, launch_events, launch_shown}
+use Rattle.mix_dap.specs.Before.{AskedShows, IsLaunch, client_after}
 use Rattle.mix_dap.specs.Capabilities.{unknown_client}
 use Rattle.mix_dap.specs.Events.{AddsAnswer, Sends}
 use Rattle.mix_dap.specs.Launched.{launched_of}
 use Rattle.mix_dap.specs.Output.{none_told}
-use Rattle.mix_dap.specs.Prints.{launch_events}
 use Rattle.mix_dap.specs.Replies.{answer_message}
-use Rattle.mix_dap.specs.Served.{AdapterServes, AdapterWorks, AdapterRests}
+use Rattle.mix_dap.specs.Served.{AdapterServes}
 use Rattle.mix_dap.specs.Texts.{AreTexts, Known}
-use Rattle.mix_dap.specs.Told.{outcome_of_launch}
 use Rattle.mix_dap.specs.declared.adapter.Adapter.{Adapter}
 use Rattle.mix_dap.specs.declared.capabilities.Client.{Client}
 use Rattle.mix_dap.specs.declared.launch.Texts.{Texts}
@@ -48,22 +45,21 @@ pub data Stage : Type 0 where
 
 -- a launch that was asked for, with these texts: those that it gives, and of files what was known of them
 abbrev pub Launches : Request → Texts → Type 0
-Launches request texts = Asks (asked.Launch texts) (command_of request) request [] [] × (knows : List ℕ → Known) × AreTexts knows request texts
+Launches request texts = IsLaunch (command_of request) × (knows : List ℕ → Known) × AreTexts knows request texts
 
 -- it is answered, and what belongs to its answer is told
 abbrev pub Opens : Request → Texts → List Data → Type 0
-Opens request texts told = Launches request texts × Answers (response_to request (outcome_of_launch (launched_of texts))) [] told
+Opens request texts told = Launches request texts
     × Sends told (λ old new. AddsAnswer (answer_message request (launch_shown (launched_of texts))) (launch_events (launched_of texts)) old new)
 
 -- another request is answered
 abbrev pub Replied : Asked → Request → List Data → Type 0
-Replied asked request told = Asks asked (command_of request) request [] told
-    × (knows : List ℕ → Known) × Sends told (λ old new. AskedShows knows (command_of request) asked request old new)
+Replied asked request told = (knows : List ℕ → Known) × Sends told (λ old new. AskedShows knows (command_of request) asked request old new)
 
--- an adapter is as it begins, for these texts and this client: it does not run, and nothing is told of its rows
+-- an adapter is as it begins, for these texts and this client: nothing is told of its rows
 abbrev pub BeginsAs : Adapter → Texts → Client → Type 0
 BeginsAs a texts client =
-    (launched_of texts ≡ Ok a.session) × (is_some a.way ≡ false) × HasTexts a texts × (a.client ≡ client) × (a.printed ≡ none_told)
+    (launched_of texts ≡ Ok a.session) × HasTexts a texts × (a.client ≡ client) × (a.printed ≡ none_told)
 
 -- a request of a client before a program is launched, and what is waited for after it
 abbrev pub BeforeSteps : Client → Request → List Data → Stage → Type 0
@@ -77,9 +73,8 @@ abbrev pub StageSteps : Stage → Option Data → List Data → Stage → Type 0
 StageSteps (waiting client) None told next = IsUnclear told × (next ≡ waiting client)
 StageSteps (waiting client) (Some message) told next = (request : Request) × IsRequest request message × BeforeSteps client request told next
 StageSteps (debugs a) frame told (waiting client) = ⊥
-StageSteps (debugs a) frame told (debugs b) = Steps AdapterServes (λ c. is_some c.way) AdapterWorks AdapterRests (going a) frame told (going b)
-StageSteps (debugs a) frame told done =
-    (b : Adapter) × Steps AdapterServes (λ c. is_some c.way) AdapterWorks AdapterRests (going a) frame told (over b)
+StageSteps (debugs a) frame told (debugs b) = Steps AdapterServes (going a) frame told (going b)
+StageSteps (debugs a) frame told done = (b : Adapter) × Steps AdapterServes (going a) frame told (over b)
 StageSteps done frame told next = ⊥
 
 -- the client is done, or its input is at its end, or it had as many exchanges as are counted
@@ -88,12 +83,9 @@ EndsAs (waiting client) count left new = HearsAs (Ok heard.End) left new ⊎ ((2
 EndsAs (debugs a) count left new = HearsAs (Ok heard.End) left new ⊎ ((2 ^ 64 - 1 ≤ count) × (new ≡ left))
 EndsAs done count left new = new ≡ left
 
--- what is told for a frame up to where its exchange is broken off: nothing yet; its answer; or of a launched program its answer, and what the first pieces of
--- its run tell
+-- what is told for a frame up to where its exchange is broken off: nothing yet, or its answer
 abbrev pub StageBegins : Stage → Option Data → List Data → Type 0
-StageBegins (waiting client) frame told = (told ≡ []) ⊎ ((next : Stage) × StageSteps (waiting client) frame told next)
-StageBegins (debugs a) frame told = Begins AdapterServes (λ c. is_some c.way) AdapterWorks AdapterRests a frame told
-StageBegins done frame told = ⊥
+StageBegins stage frame told = (told ≡ []) ⊎ ((next : Stage) × StageSteps stage frame told next)
 
 -- A dialogue was had up to where no more can be heard: all frames that were heard are answered.
 pub record Halts (why : Broken) (from : Stage) (old new told now : Option (List ℕ)) : Type 0 where

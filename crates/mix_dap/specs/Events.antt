@@ -1,11 +1,10 @@
 -- Events that are told one after the other.
-use Rattle.std.specs.Prelude.{◌≡◌, ℕ, List, [], ◌∷◌, ◌++◌, codes, Bool, true, false, Option, None, Some}
+use Rattle.std.specs.Prelude.{◌≡◌, ℕ, List, [], ◌∷◌, ◌++◌, codes, Bool, true, false}
 use Rattle.serde_json.specs.Data.{Data, null, string, array, object, no_members, put}
 use Rattle.serde_json.specs.View.{items_of}
 use Rattle.dap_message.specs.Message.{next_seq, waits, event_message}
 use Rattle.dap_message.specs.declared.outbox.Outbox.{Outbox}
-use Rattle.mix_dap.specs.Stopped.{Why, only, long_enough, stopped_body}
-use Rattle.mix_dap.specs.declared.adapter.Way.{Way}
+use Rattle.mix_dap.specs.Stopped.{Why, only, stopped_body}
 use Rattle.mix_dap.specs.declared.capabilities.Client.{Client}
 
 -- an event: its name, and its body
@@ -72,8 +71,3 @@ invalidated client = invalidated_if client.hears_invalidated
 abbrev pub beginning : Bool → List Event
 beginning true = stopped (only (codes "entry")) ∷ []
 beginning false = []
-
--- a run that has come to no stop pauses
-abbrev pub rested : Option Way → List Event
-rested None = []
-rested (Some way) = stopped long_enough ∷ []

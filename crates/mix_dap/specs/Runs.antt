@@ -1,8 +1,10 @@
--- Runs of a client: what stops them, and what a piece of one leaves. Where a run comes to breakpoints that don't stop it, it goes on past them, in a leg
+-- Runs of a client: what stops them, and what one leaves. Where a run comes to breakpoints that don't stop it, it goes on past them, in a leg
 -- of its own.
-use Rattle.std.specs.Prelude.{◌≡◌, ◌⊎◌, ◌-◌, ℕ, zero, suc, Bool, true, false, Option, None, Some, if◌then◌else◌}
+use Rattle.std.specs.Prelude.{◌≡◌, ◌-◌, ℕ, zero, suc, List, length, Bool, true, false, Option, None, Some, if◌then◌else◌}
 use Rattle.mix_machine.specs.World.{WorldState}
 use Rattle.mix_machine.specs.declared.fault.MixFault.{MixFault}
+use Rattle.mix_machine.specs.declared.transfers.Conflict.{Conflict}
+use Rattle.mix_session.specs.Client.{conflict_after}
 use Rattle.mix_session.specs.Command.{Effect, after, effect_of_run, Begun}
 use Rattle.mix_session.specs.Stops.{StopsState}
 use Rattle.mix_session.specs.Timeline.{Timeline, world_of}
@@ -11,8 +13,8 @@ use Rattle.mix_session.specs.declared.answer.Answer.TheVariants as answers
 use Rattle.mix_session.specs.declared.command.stops.Way.TheVariants as session
 use Rattle.mix_session.specs.declared.reply.End.{End}
 use Rattle.mix_session.specs.declared.reply.End.TheVariants as ends
-use Rattle.mix_dap.specs.Points.{PointsState, conditions_of, passes, stop_cells, with_arrivals}
-use Rattle.mix_dap.specs.Stopped.{end_of, fault_at}
+use Rattle.mix_dap.specs.Points.{PointsState, conditions_of, is_filter, passes, reason_at, stop_cells, with_arrivals}
+use Rattle.mix_dap.specs.Stopped.{Why, end_of, fault_at, long_enough, out_of_memory, why_with}
 use Rattle.mix_dap.specs.declared.adapter.Way.{Way}
 use Rattle.mix_dap.specs.declared.adapter.Way.TheVariants as way
 
@@ -93,16 +95,16 @@ abbrev pub Passes : Way → ℕ → Leg → Leg → Type 0
 Passes way zero from leg = leg ≡ from
 Passes way (suc count) from leg = (goes_past way from ≡ true) × Passes way count (next_leg way from) leg
 
--- ---- a piece of a run: at most so many changes, of all its legs
+-- ---- a whole run: at most so many changes, of all its legs
 
-abbrev pub piece : ℕ
-piece = 100000
+abbrev pub most : ℕ
+most = 1000000
 
 abbrev pub first_leg : PointsState → Timeline → Leg
-first_leg points t = record { points = points; timeline = t; left = piece }
+first_leg points t = record { points = points; timeline = t; left = most }
 
 -- It is done, and has ended so: its last leg has, after those that went on.
-pub record PieceDone (way : Way) (points : PointsState) (t : Timeline) (end : End) (now : PointsState) (new : Timeline) : Type 0 where
+pub record RunDone (way : Way) (points : PointsState) (t : Timeline) (end : End) (now : PointsState) (new : Timeline) : Type 0 where
   pub count : ℕ
   pub leg : Leg
   pub passed : Passes way count (first_leg points t) leg
@@ -112,14 +114,21 @@ pub record PieceDone (way : Way) (points : PointsState) (t : Timeline) (end : En
   pub done : new ≡ timeline_after way leg
 
 -- Memory was refused for a leg of it, of which a stage stands.
-pub record PieceBroken (way : Way) (points : PointsState) (t : Timeline) (now : PointsState) (new : Timeline) : Type 0 where
+pub record RunBroken (way : Way) (points : PointsState) (t : Timeline) (now : PointsState) (new : Timeline) : Type 0 where
   pub count : ℕ
   pub leg : Leg
   pub passed : Passes way count (first_leg points t) leg
   pub counted : now ≡ leg.points
   pub begun : Begun (effect_of_leg way leg) new
 
--- whether a run goes on after a piece of it: only its number of changes has ended that
+-- the one or the other: how it has ended, or none for want of memory
+abbrev pub Ran : Way → PointsState → Timeline → Option End → PointsState → Timeline → Type 0
+Ran way points t (Some end) now new = RunDone way points t end now new
+Ran way points t None now new = RunBroken way points t now new
+
+-- ---- why it stops
+
+-- whether it has ended only by its number of changes
 abbrev pub is_limit : End → Bool
 is_limit ends.Halt = false
 is_limit (ends.Until index) = false
@@ -129,18 +138,38 @@ is_limit ends.Limit = true
 is_limit ends.Start = false
 is_limit (ends.Fault fault) = false
 
--- the way in which it goes on then, if it does
-abbrev pub way_on : Way → End → Option Way
-way_on way end = if is_limit end then Some way else None
+-- the word of a breakpoint that stops a run there
+abbrev pub word_at : PointsState → Timeline → List ℕ
+word_at points t = reason_at points (world_of t)
 
--- the fault that is known then: the one that has ended the run, if one has
-abbrev pub fault_on : End → Option MixFault → Option MixFault
-fault_on end known = if is_limit end then known else fault_at end
+-- what it has met is one of the kinds of exceptions
+abbrev pub meets_filter : PointsState → End → Bool
+meets_filter points ends.Halt = false
+meets_filter points (ends.Until index) = is_filter points index
+meets_filter points ends.Break = false
+meets_filter points ends.Arrived = false
+meets_filter points ends.Limit = false
+meets_filter points ends.Start = false
+meets_filter points (ends.Fault fault) = false
 
--- What the next piece leaves, and whether the program still runs, the same way: the piece is done, and it runs on if nothing but its number of changes has
--- ended it; or, for want of memory, a stage of it stands, and the program runs no more. Of a program that does not run nothing is done.
-abbrev pub Advances : Option Way → PointsState → Option MixFault → Timeline → PointsState → Option MixFault → Timeline → Option Way → Type 0
-Advances None points known t now left new goes = (now ≡ points) × (left ≡ known) × (new ≡ t) × (goes ≡ None)
-Advances (Some way) points known t now left new goes =
-    ((end : End) × PieceDone way points t end now new × (goes ≡ way_on way end) × (left ≡ fault_on end known))
-    ⊎ (PieceBroken way points t now new × (goes ≡ None) × (left ≡ None))
+-- how many changes are before the one that it has ended with: that is the last one done, or the one that was taken back, which stands ahead
+abbrev pub before_last : Way → Timeline → ℕ
+before_last (way.Forth location) t = length t.changes - 1
+before_last way.Back t = length t.changes
+
+-- the conflict at which it has ended, if it ended at one
+abbrev pub conflict_met : Way → PointsState → Timeline → End → Option Conflict
+conflict_met way points t end = if meets_filter points end then conflict_after t (before_last way t) else None
+
+-- at a stop, or since it was long enough
+abbrev pub why_of_run : Way → PointsState → Timeline → End → Why
+why_of_run way points t end = if is_limit end then long_enough else why_with (conflict_met way points t end) (word_at points t) end
+
+abbrev pub why_ran : Way → PointsState → Timeline → Option End → Why
+why_ran way points t (Some end) = why_of_run way points t end
+why_ran way points t None = out_of_memory
+
+-- the fault that is known then, if one has ended it
+abbrev pub fault_ran : Option End → Option MixFault
+fault_ran (Some end) = fault_at end
+fault_ran None = None

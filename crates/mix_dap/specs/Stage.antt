@@ -1,11 +1,11 @@
 -- How a client is served where its dialogue is.
-use Rattle.std.specs.Prelude.{◌≡◌, List, [], Bool, true, false, is_some}
+use Rattle.std.specs.Prelude.{◌≡◌, List, [], Bool, true, false}
 use Rattle.serde_json.specs.Data.{Data}
 use Rattle.dap_message.specs.declared.request.Request.{Request}
 use Rattle.dap_stream.specs.declared.serves.Turn.{Turn}
 use Rattle.dap_stream.specs.declared.serves.Turn.TheVariants as turn
 use Rattle.mix_dap.specs.Dialogue.{BeforeSteps, Stage, debugs, done, waiting}
-use Rattle.mix_dap.specs.Served.{AdapterServes, AdapterWorks, AdapterRests}
+use Rattle.mix_dap.specs.Served.{AdapterServes}
 use Rattle.mix_dap.specs.declared.adapter.Adapter.{Adapter}
 use Rattle.mix_dap.specs.declared.served.Holds.{Holds}
 use Rattle.mix_dap.specs.declared.served.Holds.TheVariants as holds
@@ -37,23 +37,3 @@ StageAnswers done request told next = (told ≡ []) × (next ≡ done)
 
 abbrev pub StageServes : Stage → Request → List Data → Turn → Stage → Type 0
 StageServes stage request told next now = (next ≡ turn_at now) × StageAnswers stage request told now
-
--- work is under way where a program runs
-abbrev pub is_busy_at : Stage → Bool
-is_busy_at (waiting client) = false
-is_busy_at (debugs a) = is_some a.way
-is_busy_at done = false
-
-abbrev pub StageWorks : Stage → List Data → Stage → Type 0
-StageWorks (waiting client) told next = ⊥
-StageWorks (debugs a) told (waiting client) = ⊥
-StageWorks (debugs a) told (debugs b) = AdapterWorks a told b
-StageWorks (debugs a) told done = ⊥
-StageWorks done told next = ⊥
-
-abbrev pub StageRests : Stage → List Data → Stage → Type 0
-StageRests (waiting client) told next = (told ≡ []) × (next ≡ waiting client)
-StageRests (debugs a) told (waiting client) = ⊥
-StageRests (debugs a) told (debugs b) = AdapterRests a told b
-StageRests (debugs a) told done = ⊥
-StageRests done told next = (told ≡ []) × (next ≡ done)

@@ -1,6 +1,6 @@
 -- The event that tells that the program stopped, and why.
 use Rattle.std.specs.Prelude.{ℕ, List, codes, true, Option, None, Some}
-use Rattle.serde_json.specs.Data.{Data, Members, null, boolean, string, number, unsigned, object, no_members, put}
+use Rattle.serde_json.specs.Data.{Data, Members, boolean, string, number, unsigned, object, no_members, put}
 use Rattle.mix_machine.specs.Fault.{fault_line}
 use Rattle.mix_machine.specs.declared.fault.MixFault.{MixFault}
 use Rattle.mix_machine.specs.declared.transfers.Conflict.{Conflict}
@@ -9,7 +9,6 @@ use Rattle.mix_session.specs.declared.answer.Answer.{Answer}
 use Rattle.mix_session.specs.declared.answer.Answer.TheVariants as answers
 use Rattle.mix_session.specs.declared.reply.End.{End}
 use Rattle.mix_session.specs.declared.reply.End.TheVariants as ends
-use Rattle.dap_message.specs.Message.{event_message}
 
 -- why it stopped, in the protocol's word, and in a text where there is more to say
 pub record Why : Type 0 where
@@ -23,13 +22,6 @@ put_text (Some text) members = put (codes "text") (string text) (put (codes "des
 abbrev pub stopped_body : Why → Data
 stopped_body why = object (put_text why.text (put (codes "allThreadsStopped") (boolean true)
     (put (codes "threadId") (number (unsigned 1)) (put (codes "reason") (string why.reason) no_members))))
-
-abbrev pub stopped_message : Why → ℕ → Data
-stopped_message why seq = event_message seq (codes "stopped") (stopped_body why)
-
--- the event that tells that the program ended
-abbrev pub terminated_message : ℕ → Data
-terminated_message seq = event_message seq (codes "terminated") null
 
 -- without a text
 abbrev pub only : List ℕ → Why

@@ -75,13 +75,6 @@ count_written (Err wrong) = 0
 abbrev pub bytes_written : ℕ → Data
 bytes_written count = object (put (codes "bytesWritten") (number (unsigned count)) no_members)
 
-abbrev pub written_body : Result (List (ℕ × WordValue) × ℕ) Fault → Result Data Fault
-written_body (Ok asked) = Ok (bytes_written asked.1)
-written_body (Err wrong) = Err wrong
-
-abbrev pub write_shown : SessionState → Request → Result Data Fault
-write_shown s r = written_body (write_asked s r)
-
 -- cells are set, one after the other
 abbrev pub with_cells : Timeline → List (ℕ × WordValue) → Timeline
 with_cells t [] = t

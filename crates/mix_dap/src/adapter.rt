@@ -1,23 +1,21 @@
 //! The adapter of a program that was launched.
 
-ghost use Rattle.std.specs.Prelude.{◌≡◌, ◌⊎◌, IfErr, IfOk, IfNone, IfSome, IsErr, OnOk, Ok, is_some, true, false};
-ghost use Rattle.mix_dap.specs.Answer.{HasTexts, launch_shown, answer_to};
-ghost use Rattle.mix_dap.specs.Events.{AddsAnswer};
-ghost use Rattle.mix_dap.specs.Output.{none_told};
-ghost use Rattle.mix_dap.specs.Prints.{flow_events, flow_printed, launch_events};
-ghost use Rattle.mix_dap.specs.Replies.{Replies, answer_message};
-ghost use Rattle.dap_message.specs.Message.{waits};
+ghost use Rattle.std.specs.Prelude.{◌≡◌, IfErr, IfOk, IfNone, IfSome, IsErr, OnErr, OnOk, Ok};
+ghost use Rattle.dap_message.specs.Message.{refusal_message, Adds};
 ghost use Rattle.dap_message.specs.Request.{command_of};
-ghost use Rattle.dap_message.specs.Told.{response_to, done, Answers};
-ghost use Rattle.mix_dap.specs.Leaves.{flow_of, Begins, FlowLeaves};
-ghost use Rattle.mix_dap.specs.Stays.{GoesOn};
+ghost use Rattle.mix_dap.specs.Answer.{HasTexts, launch_events, launch_shown};
+ghost use Rattle.mix_dap.specs.Events.{AddsAnswer};
+ghost use Rattle.mix_dap.specs.Fault.{fault_number, fault_text, fault_place};
+ghost use Rattle.mix_dap.specs.Kind.{kind_of};
 ghost use Rattle.mix_dap.specs.Launched.{launched_of};
-ghost use Rattle.mix_dap.specs.Told.{outcome_of, outcome_of_launch};
+ghost use Rattle.mix_dap.specs.Output.{none_told};
+ghost use Rattle.mix_dap.specs.Reaction.{GoesOn, KeepsSaid, Leaving, Reacts, ReactsAs, ReactsPartly, RunsPartly, flow_after, reaction};
+ghost use Rattle.mix_dap.specs.Replies.{answer_message};
 
 mod act;
 mod answer;
 mod ends;
-mod piece;
+mod legs;
 mod run;
 mod show;
 mod stop;
@@ -58,6 +56,17 @@ pub(crate) enum Way {
     Back,
 }
 
+/// What comes after the answer to a request.
+#[derive(Clone, Copy)]
+pub(crate) enum Then {
+    /// The next request is waited for.
+    Wait,
+    /// The program runs this way, up to where it stops.
+    Run(Way),
+    /// The client is done.
+    End,
+}
+
 /// A program that was launched, its machine, and what its client has asked for.
 pub struct Adapter {
     alloc: Global,
@@ -67,7 +76,6 @@ pub struct Adapter {
     stops: bool,
     points: Points,
     printed: Printed,
-    way: Option<Way>,
     fault: Option<MixFault>,
 }
 
@@ -81,37 +89,15 @@ impl Drop for Adapter {
             stops: _,
             points: _,
             printed: _,
-            way: _,
             fault: _,
         } = self;
     }
 }
 
-// Whether the client has more to ask after a request of a kind that was answered.
-fn flow_of(kind: Kind) -> Flow
-    ensures flow { result ≡ flow_of kind }
-    ensures done { outcome_of result ≡ done }
-{
-    match kind {
-        Kind::Disconnect => Flow::Over,
-        Kind::Initialize
-        | Kind::Look(_)
-        | Kind::Check
-        | Kind::Points(_)
-        | Kind::Pause
-        | Kind::Terminate
-        | Kind::Restart
-        | Kind::Cancel
-        | Kind::Launch
-        | Kind::Write
-        | Kind::Act(_) => Flow::On,
-    }
-}
-
 impl Adapter {
-    /// Launches a program, and answers the request that asked for it: the machine is that of the texts, with no change, and it does not run yet. No
+    /// Launches a program, and answers the request that asked for it: the machine is that of the texts, with no change. No
     /// adapter exactly where one of the texts is refused.
-    #[tactic(auto, using(dap_message::proofs::Telling::telling, crate::proofs::RepliesLemmas::replying, crate::proofs::EventLemmas::answering))]
+    #[tactic(auto, using(crate::proofs::EventLemmas::answering))]
     pub fn open(
         alloc: Global,
         waiting: &Waiting,
@@ -121,13 +107,10 @@ impl Adapter {
     ) -> Result<Option<Adapter>, Memory>
         ensures opened { IfOk result (λ o. IfSome o (λ a. launched_of texts ≡ Ok a.session)) }
         ensures refused { IfOk result (λ o. IfNone o (IsErr (launched_of texts))) }
-        ensures rests { IfOk result (λ o. IfSome o (λ a. is_some a.way ≡ false)) }
         ensures texts { IfOk result (λ o. IfSome o (λ a. HasTexts a texts)) }
         ensures client { IfOk result (λ o. IfSome o (λ a. a.client ≡ waiting.now.client)) }
         ensures printed { IfOk result (λ o. IfSome o (λ a. a.printed ≡ none_told)) }
-        ensures shows { OnOk result (Replies (answer_message request.now (launch_shown (launched_of texts))) out.old out.new) }
         ensures prints { OnOk result (AddsAnswer (answer_message request.now (launch_shown (launched_of texts))) (launch_events (launched_of texts)) out.old out.new) }
-        ensures answers { OnOk result (Answers (response_to request.now (outcome_of_launch (launched_of texts))) (waits out.old) (waits out.new)) }
     {
         let session = match session_of(alloc, &texts) {
             Ok(session) => session,
@@ -147,7 +130,6 @@ impl Adapter {
             stops: texts.stops,
             points: Points::new(alloc),
             printed: Printed::none(),
-            way: None,
             fault: None,
         }))
     }
@@ -159,50 +141,62 @@ impl Adapter {
         &self.session
     }
 
-    /// Whether the program is running: then `advance` does the next piece of the run.
-    pub fn is_running(&self) -> bool
-        ensures { result ≡ is_some self.now.way }
-    {
-        self.way.is_some()
-    }
-
-    /// Answers a request. What it does to the timeline of the session is what the session's own request does that it stands for; a request that is
-    /// refused changes nothing, nor does one that only looks. One that moves or changes the machine is refused while the program runs, and else exactly
-    /// where it asks for nothing that is there, or the session refuses it. Out of memory, nothing is done, or a stage of that effect stands.
-    #[tactic(auto, using(crate::proofs::RepliesLemmas::replying, crate::proofs::EventLemmas::answering, crate::proofs::FlowLemmas::flows))]
+    /// Answers a request: what is done to the session, to the breakpoints and to what is told is what one row of a table says of the request, and then the
+    /// program runs, if it is to, up to a stop or after 1,000,000 changes. A request that is refused changes nothing, nor does one that only looks. Out of
+    /// memory, nothing is done, or a stage stands of what it asks of the session, or a part of the run.
     pub fn receive(&mut self, request: &Request, out: &mut Outbox) -> Result<Flow, Memory>
         ensures program { self.new.session.program ≡ self.old.session.program }
         ensures first { self.new.session.timeline.first ≡ self.old.session.timeline.first }
-        ensures effect { IfOk result (λ flow. FlowLeaves flow (is_some self.old.way) (command_of request.now) request.now self.old.session self.new.session.timeline) }
-        ensures begun { IfErr result (λ _. (self.new.session.timeline ≡ self.old.session.timeline)
-            ⊎ Begins (is_some self.old.way) (command_of request.now) request.now self.old.session self.new.session.timeline) }
-        ensures answers { IfOk result (λ flow. Answers (response_to request.now (outcome_of flow)) (waits out.old) (waits out.new)) }
-        ensures shows { OnOk result (Replies (answer_message request.now (answer_to (command_of request.now) request.now self.old)) out.old out.new) }
-        ensures keeps { (self.new.name ≡ self.old.name) × (self.new.client ≡ self.old.client) × (self.new.stops ≡ self.old.stops) }
-        ensures goes { IfOk result (λ flow. GoesOn flow (command_of request.now) request.now self.old self.new (waits out.new)) }
-        ensures prints { IfOk result (λ flow. AddsAnswer (answer_message request.now (answer_to (command_of request.now) request.now self.old))
-            (flow_events flow (command_of request.now) request.now self.old self.new.session.timeline) out.old out.new) }
-        ensures printed { IfOk result (λ flow. self.new.printed ≡ flow_printed flow (command_of request.now) request.now self.old.printed self.new.session.timeline) }
+        ensures keeps { KeepsSaid self.old self.new }
+        ensures reacts { IfOk result (λ flow. Reacts request.now self.old flow self.new out.old out.new) }
+        ensures begun { OnErr result (ReactsPartly (command_of request.now) request.now self.old self.new.session.timeline) }
     {
         match request.command() {
             None => self.refuse(request, Fault::NoSuchRequest, out),
-            Some(command) => match self.answer(command, request, out) {
-                Ok(()) => Ok(flow_of(Kind::of(command))),
-                Err(Refused::Fault(fault)) => self.refuse(request, fault, out),
-                Err(Refused::Memory) => Err(Memory),
-            },
+            Some(command) => self.react(Kind::of(command), request, out),
         }
     }
 
-    // The machine is moved and changed at rest alone.
-    fn at_rest(&self) -> Result<(), Refused<Fault>>
-        ensures rests { OnOk result (is_some self.now.way ≡ false) }
-        ensures runs { IfErr result (λ e. (is_some self.now.way ≡ true) × (e ≡ Refused.Fault Fault.Running)) }
+    // A request of this kind.
+    fn react(&mut self, kind: Kind, request: &Request, out: &mut Outbox) -> Result<Flow, Memory>
+        ensures program { self.new.session.program ≡ self.old.session.program }
+        ensures first { self.new.session.timeline.first ≡ self.old.session.timeline.first }
+        ensures keeps { KeepsSaid self.old self.new }
+        ensures reacts { IfOk result (λ flow. ReactsAs (reaction kind request.now self.old) request.now flow self.new out.old out.new) }
+        ensures begun { OnErr result (Leaving kind request.now self.old self.new.session.timeline) }
     {
-        if self.is_running() {
-            Err(Refused::Fault(Fault::Running))
-        } else {
-            Ok(())
+        match self.answer(kind, request, out) {
+            Ok(then) => self.go_on(then, out),
+            Err(Refused::Fault(fault)) => self.refuse(request, fault, out),
+            Err(Refused::Memory) => Err(Memory),
         }
+    }
+
+    // What comes after an answer.
+    fn go_on(&mut self, then: Then, out: &mut Outbox) -> Result<Flow, Memory>
+        ensures program { self.new.session.program ≡ self.old.session.program }
+        ensures first { self.new.session.timeline.first ≡ self.old.session.timeline.first }
+        ensures keeps { KeepsSaid self.old self.new }
+        ensures flow { IfOk result (λ flow. flow ≡ flow_after then) }
+        ensures goes { OnOk result (GoesOn then self.old self.new out.old out.new) }
+        ensures begun { OnErr result (RunsPartly then self.old.points self.old.session.timeline self.new.session.timeline) }
+    {
+        match then {
+            Then::Wait => Ok(Flow::On),
+            Then::Run(way) => {
+                self.run(way, out)?;
+                Ok(Flow::On)
+            }
+            Then::End => Ok(Flow::Over),
+        }
+    }
+
+    // A request is refused, for this reason.
+    fn refuse(&self, request: &Request, fault: Fault, out: &mut Outbox) -> Result<Flow, Memory>
+        ensures flow { IfOk result (λ flow. flow ≡ Flow.Refused fault) }
+        ensures told { OnOk result (Adds out.old out.new (λ seq. refusal_message seq request.now (fault_number fault) (fault_text fault) (fault_place fault))) }
+    {
+        refuse(self.alloc, request, fault, out)?;
+        Ok(Flow::Refused(fault))
     }
 }

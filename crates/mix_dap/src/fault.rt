@@ -2,10 +2,8 @@
 
 ghost use Rattle.std.specs.Prelude.{◌≡◌, IfOk, OnOk, Some};
 ghost use Rattle.serde_json.specs.View.{view};
-ghost use Rattle.dap_message.specs.Message.{waits, refusal_message, Adds};
-ghost use Rattle.dap_message.specs.Told.{response_to, Answers};
+ghost use Rattle.dap_message.specs.Message.{refusal_message, Adds};
 ghost use Rattle.mix_dap.specs.Fault.{fault_number, fault_text, fault_place, text_place};
-ghost use Rattle.mix_dap.specs.Told.{refused_for};
 
 use dap_message::{Fields, Outbox, Request};
 use mix_machine::DeckFault;
@@ -15,8 +13,8 @@ use serde_json::Value;
 use std::alloc::Global;
 use std::fmt;
 
-/// Why a request is refused: a refusal of the session, a fault of the source or the deck, a file that can't be read, or Q1 to Q6 of the
-/// adapter.
+/// Why a request is refused: a refusal of the session, a fault of the source or the deck, a file that can't be read, or Q1 to Q4 or
+/// Q6 of the adapter.
 #[derive(Clone, Copy)]
 pub enum Fault {
     /// C1 to C6.
@@ -41,8 +39,6 @@ pub enum Fault {
     NotLaunched,
     /// Q4: a program is launched already.
     Launched,
-    /// Q5: the program is running.
-    Running,
     /// Q6: there is nothing of this reference, or at this line.
     NoSuchThing,
 }
@@ -60,7 +56,6 @@ impl Fault {
             Fault::BadArgument => 302,
             Fault::NotLaunched => 303,
             Fault::Launched => 304,
-            Fault::Running => 305,
             Fault::NoSuchThing => 306,
             Fault::Deck(fault) | Fault::Cards(fault) => 400 + u64::from(fault.kind.number()),
             Fault::Unread => 502,
@@ -85,7 +80,6 @@ impl fmt::Display for Fault {
             Fault::BadArgument => write!(f, "Q2 bad argument"),
             Fault::NotLaunched => write!(f, "Q3 not launched"),
             Fault::Launched => write!(f, "Q4 launched already"),
-            Fault::Running => write!(f, "Q5 running"),
             Fault::NoSuchThing => write!(f, "Q6 no such thing"),
         }
     }
@@ -98,8 +92,7 @@ pub(crate) fn refuse(
     fault: Fault,
     out: &mut Outbox,
 ) -> Result<(), Memory>
-    ensures told { OnOk result (Adds out.old out.new (λ seq. refusal_message seq request.now (fault_number fault) (fault_text fault) (fault_place fault))) }
-    ensures answers { OnOk result (Answers (response_to request.now (refused_for fault)) (waits out.old) (waits out.new)) }
+    ensures { OnOk result (Adds out.old out.new (λ seq. refusal_message seq request.now (fault_number fault) (fault_text fault) (fault_place fault))) }
 {
     let text = format!(in alloc; "{fault}")?;
     let variables = fault_place(alloc, fault)?;
@@ -119,7 +112,6 @@ fn fault_place(alloc: Global, fault: Fault) -> Result<Value, Memory>
         | Fault::BadArgument
         | Fault::NotLaunched
         | Fault::Launched
-        | Fault::Running
         | Fault::NoSuchThing
         | Fault::Unread
         | Fault::NotOpened

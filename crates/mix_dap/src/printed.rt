@@ -1,9 +1,7 @@
 //! What the units 17 to 20 have written, told as it comes.
-#![tactic(auto, using(dap_message::proofs::Telling::telling, crate::proofs::EventLemmas::events))]
+#![tactic(auto, using(crate::proofs::EventLemmas::events))]
 
 ghost use Rattle.std.specs.Prelude.{◌≡◌, ◌<◌, ◌-◌, ◌∷◌, [], IfOk, OnOk, None, codes, drop, length, map, slice_index_or, string_bytes};
-ghost use Rattle.dap_message.specs.Message.{waits};
-ghost use Rattle.dap_message.specs.Told.{Events};
 ghost use Rattle.mix_machine.specs.World.{unit_at};
 ghost use Rattle.mix_dap.specs.Events.{AddsEvents};
 ghost use Rattle.mix_dap.specs.Output.{all_told, none_told, output, outputs, row_line, row_output, taken_line, taken_output, unit_outputs};
@@ -42,7 +40,6 @@ impl Printed {
         world: &World,
         out: &mut Outbox,
     ) -> Result<(), Memory>
-        ensures events { OnOk result (Events (waits out.old) (waits out.new)) }
         ensures prints { OnOk result (AddsEvents (outputs self.old world.now) out.old out.new) }
         ensures counts { OnOk result (self.new ≡ all_told world.now) }
     {
@@ -69,7 +66,6 @@ fn tell_unit(
     told: u16,
     out: &mut Outbox,
 ) -> Result<u16, Memory>
-    ensures events { OnOk result (Events (waits out.old) (waits out.new)) }
     ensures prints { OnOk result (AddsEvents (unit_outputs number told (unit_at world.now number).rows) out.old out.new) }
     ensures count { IfOk result (λ count. count ≡ length (unit_at world.now number).rows) }
 {
@@ -81,8 +77,7 @@ fn tell_unit(
 
 // The rows of a unit from one on.
 fn tell_rows(alloc: Global, unit: &Unit, from: u16, out: &mut Outbox) -> Result<(), Memory>
-    ensures events { OnOk result (Events (waits out.old) (waits out.new)) }
-    ensures prints { OnOk result (AddsEvents (map row_output (drop from unit.now.rows)) out.old out.new) }
+    ensures { OnOk result (AddsEvents (map row_output (drop from unit.now.rows)) out.old out.new) }
 {
     let mut at = from;
     while at < unit.rows() {
@@ -100,8 +95,7 @@ fn row_at(unit: &Unit, number: u16) -> &Row
 }
 
 fn tell_row(alloc: Global, row: &Row, out: &mut Outbox) -> Result<(), Memory>
-    ensures events { OnOk result (Events (waits out.old) (waits out.new)) }
-    ensures prints { OnOk result (AddsEvents (row_output row.now ∷ []) out.old out.new) }
+    ensures { OnOk result (AddsEvents (row_output row.now ∷ []) out.old out.new) }
 {
     let line = row_line(alloc, row)?;
     out.output("stdout", line.as_str())?;
@@ -124,8 +118,7 @@ fn tell_taken(
     rows: u16,
     out: &mut Outbox,
 ) -> Result<(), Memory>
-    ensures events { OnOk result (Events (waits out.old) (waits out.new)) }
-    ensures prints { OnOk result (AddsEvents (taken_output number told rows) out.old out.new) }
+    ensures { OnOk result (AddsEvents (taken_output number told rows) out.old out.new) }
 {
     if rows < told {
         tell_count(alloc, number, told - rows, out)
@@ -135,8 +128,7 @@ fn tell_taken(
 }
 
 fn tell_count(alloc: Global, number: UnitNo, count: u16, out: &mut Outbox) -> Result<(), Memory>
-    ensures events { OnOk result (Events (waits out.old) (waits out.new)) }
-    ensures prints { OnOk result (AddsEvents (output (codes "console") (taken_line number count) ∷ []) out.old out.new) }
+    ensures { OnOk result (AddsEvents (output (codes "console") (taken_line number count) ∷ []) out.old out.new) }
 {
     let line = taken_line(alloc, number.number(), count)?;
     out.output("console", line.as_str())?;

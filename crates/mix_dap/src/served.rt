@@ -3,15 +3,12 @@
 
 ghost use Rattle.std.specs.Prelude.{◌≡◌, [], IfNone, IfOk, IfSome, IsErr, OnOk};
 ghost use Rattle.dap_message.specs.Message.{waits};
-ghost use Rattle.dap_message.specs.Told.{response_to, Answers};
-ghost use Rattle.mix_dap.specs.Answer.{launch_shown};
+ghost use Rattle.mix_dap.specs.Answer.{launch_events, launch_shown};
 ghost use Rattle.mix_dap.specs.Dialogue.{BeginsAs, debugs, waiting};
 ghost use Rattle.mix_dap.specs.Events.{AddsAnswer};
 ghost use Rattle.mix_dap.specs.Launched.{launched_of};
-ghost use Rattle.mix_dap.specs.Prints.{launch_events};
 ghost use Rattle.mix_dap.specs.Replies.{answer_message};
-ghost use Rattle.mix_dap.specs.Told.{outcome_of_launch};
-ghost use Rattle.mix_dap.specs.Stage.{StageServes, StageWorks, StageRests, is_busy_at, stage_of};
+ghost use Rattle.mix_dap.specs.Stage.{StageServes, stage_of};
 
 use crate::adapter::{Adapter, Flow};
 use crate::launch::{Library, Texts};
@@ -76,12 +73,6 @@ impl<'l, L: Library> Served<'l, L> {
 impl<L: Library> Serves for Served<'_, L> {
     ghost serves = { λ s request told next t. StageServes (stage_of s.holds) request told next (stage_of t.holds) };
 
-    ghost busy = { λ s. is_busy_at (stage_of s.holds) };
-
-    ghost works = { λ s told t. StageWorks (stage_of s.holds) told (stage_of t.holds) };
-
-    ghost rests = { λ s told t. StageRests (stage_of s.holds) told (stage_of t.holds) };
-
     fn serve(&mut self, request: &Request, outbox: &mut Outbox) -> Result<Turn, Memory> {
         match replace(&mut self.holds, Holds::Nothing) {
             Holds::Waiting(before) => {
@@ -95,27 +86,6 @@ impl<L: Library> Serves for Served<'_, L> {
                 Ok(turn)
             }
             Holds::Nothing => Ok(Turn::Over),
-        }
-    }
-
-    fn is_busy(&self) -> bool {
-        match &self.holds {
-            Holds::Program(adapter) => adapter.is_running(),
-            Holds::Waiting(_) | Holds::Nothing => false,
-        }
-    }
-
-    fn work(&mut self, outbox: &mut Outbox) -> Result<(), Memory> {
-        match &mut self.holds {
-            Holds::Program(adapter) => adapter.advance(outbox),
-            Holds::Waiting(_) | Holds::Nothing => Ok(()),
-        }
-    }
-
-    fn break_off(&mut self, outbox: &mut Outbox) -> Result<(), Memory> {
-        match &mut self.holds {
-            Holds::Program(adapter) => adapter.rest(outbox),
-            Holds::Waiting(_) | Holds::Nothing => Ok(()),
         }
     }
 }
@@ -153,7 +123,6 @@ fn opened(
     ensures begins { IfOk result (λ o. IfSome o (λ a. BeginsAs a texts before.now.client)) }
     ensures refused { IfOk result (λ o. IfNone o (IsErr (launched_of texts))) }
     ensures prints { OnOk result (AddsAnswer (answer_message request.now (launch_shown (launched_of texts))) (launch_events (launched_of texts)) outbox.old outbox.new) }
-    ensures answers { OnOk result (Answers (response_to request.now (outcome_of_launch (launched_of texts))) (waits outbox.old) (waits outbox.new)) }
 {
     Adapter::open(alloc, before, texts, request, outbox)
 }

@@ -18,7 +18,7 @@ mod units;
 mod writes;
 
 pub(crate) use change::change_view;
-pub(crate) use check::tell_check;
+pub(crate) use check::check_view;
 pub(crate) use counts::counts_view;
 use dap_message::Fields;
 use mix_machine::Word;

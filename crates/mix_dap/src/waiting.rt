@@ -1,15 +1,12 @@
 //! Before a program is launched.
 
 ghost use Rattle.std.specs.Prelude.{◌≡◌, [], IfOk, OnOk};
-ghost use Rattle.dap_message.specs.Message.{waits};
 ghost use Rattle.dap_message.specs.Request.{command_of};
-ghost use Rattle.dap_message.specs.Told.{response_to, Answers};
-ghost use Rattle.mix_dap.specs.Before.{Asks, LaunchTells, LaunchShows, AskedShows, client_after};
+ghost use Rattle.mix_dap.specs.Before.{LaunchShows, AskedShows, client_after};
 ghost use Rattle.mix_dap.specs.Capabilities.{unknown_client};
 ghost use Rattle.mix_dap.specs.Check.{checked};
 ghost use Rattle.mix_dap.specs.Events.{AddsAnswer};
 ghost use Rattle.mix_dap.specs.Replies.{answer_message};
-ghost use Rattle.mix_dap.specs.Told.{outcome_for};
 
 use crate::capabilities::{Client, capabilities};
 use crate::event::tell_event;
@@ -17,7 +14,7 @@ use crate::fault::{Fault, refuse};
 use crate::kind::Kind;
 use crate::launch::{Library, Texts, texts_of};
 use crate::list::nothing;
-use crate::view::tell_check;
+use crate::view::check_view;
 use dap_message::{Outbox, Request};
 use mix_refused::{Memory, Refused};
 use serde_json::Value;
@@ -53,14 +50,13 @@ impl Waiting {
     }
 
     /// Answers a request, but for one to launch a program, whose texts are read.
-    #[tactic(auto, using(dap_message::proofs::Telling::telling, crate::proofs::EventLemmas::answering))]
+    #[tactic(auto, using(crate::proofs::EventLemmas::answering))]
     pub fn receive<L: Library>(
         &mut self,
         library: &L,
         request: &Request,
         out: &mut Outbox,
     ) -> Result<Asked, Memory>
-        ensures asks { IfOk result (λ asked. Asks asked (command_of request.now) request.now (waits out.old) (waits out.new)) }
         ensures client { OnOk result (self.new.client ≡ client_after (command_of request.now) request.now self.old.client) }
         ensures shows { IfOk result (λ asked. AskedShows (L.knows library.now) (command_of request.now) asked request.now out.old out.new) }
     {
@@ -108,8 +104,7 @@ impl Waiting {
         request: &Request,
         out: &mut Outbox,
     ) -> Result<Asked, Memory>
-        ensures asks { IfOk result (λ asked. LaunchTells asked request.now (waits out.old) (waits out.new)) }
-        ensures shows { IfOk result (λ asked. LaunchShows (L.knows library.now) asked request.now out.old out.new) }
+        ensures { IfOk result (λ asked. LaunchShows (L.knows library.now) asked request.now out.old out.new) }
     {
         match texts_of(self.alloc, library, request) {
             Ok(texts) => Ok(Asked::Launch(texts)),
@@ -123,11 +118,10 @@ impl Waiting {
 
     #[tactic(auto, using(crate::proofs::EventLemmas::answering))]
     fn check(&self, request: &Request, out: &mut Outbox) -> Result<(), Memory>
-        ensures told { OnOk result (AddsAnswer (answer_message request.now (checked request.now)) [] out.old out.new) }
-        ensures answers { OnOk result (Answers (response_to request.now (outcome_for (checked request.now))) (waits out.old) (waits out.new)) }
+        ensures { OnOk result (AddsAnswer (answer_message request.now (checked request.now)) [] out.old out.new) }
     {
-        match tell_check(self.alloc, request, out) {
-            Ok(()) => Ok(()),
+        match check_view(self.alloc, request) {
+            Ok(body) => out.reply(request, body),
             Err(Refused::Fault(fault)) => refuse(self.alloc, request, fault, out),
             Err(Refused::Memory) => Err(Memory),
         }

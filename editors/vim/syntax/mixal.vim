@@ -18,7 +18,7 @@ syntax match mixalComment "^\*.*$"
 
 syntax cluster mixalOp contains=mixalUnknown,mixalOperation,mixalRemarked,mixalPseudo,mixalAlf,mixalEnd
 syntax match mixalUnknown "[^ \t]\+" contained nextgroup=mixalRemark
-syntax match mixalOperation "\%(NOP\|ADD\|SUB\|MUL\|DIV\|S[LR]\%(A\|AX\|C\)\|MOVE\|LD[A1-6X]N\?\|ST[A1-6XJZ]\|JBUS\|JRED\|IOC\|IN\|OUT\|JMP\|JSJ\|JN\?OV\|J\%(L\|E\|G\|GE\|NE\|LE\)\|J[A1-6X]\%(NN\|NZ\|NP\|N\|Z\|P\)\|\%(INC\|DEC\|ENT\|ENN\|CMP\)[A1-6X]\)\%([ \t]\|$\)\@=" contained nextgroup=mixalAddress skipwhite
+syntax match mixalOperation "\%(NOP\|ADD\|SUB\|MUL\|DIV\|SLA\|SRA\|SLAX\|SRAX\|SLC\|SRC\|MOVE\|LD[A1-6X]\|LD[A1-6X]N\|ST[A1-6X]\|STJ\|STZ\|JBUS\|IOC\|IN\|OUT\|JRED\|JMP\|JSJ\|JOV\|JNOV\|JL\|JE\|JG\|JGE\|JNE\|JLE\|J[A1-6X]N\|J[A1-6X]Z\|J[A1-6X]P\|J[A1-6X]NN\|J[A1-6X]NZ\|J[A1-6X]NP\|INC[A1-6X]\|DEC[A1-6X]\|ENT[A1-6X]\|ENN[A1-6X]\|CMP[A1-6X]\)\%([ \t]\|$\)\@=" contained nextgroup=mixalAddress skipwhite
 syntax match mixalRemarked "\%(HLT\|NUM\|CHAR\)\%([ \t]\|$\)\@=" contained nextgroup=mixalLetterRemark,mixalNoLetter skipwhite
 syntax match mixalPseudo "\%(EQU\|ORIG\|CON\)\%([ \t]\|$\)\@=" contained nextgroup=mixalAddress skipwhite
 

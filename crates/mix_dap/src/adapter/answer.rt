@@ -1,82 +1,99 @@
 //! A request is answered by what it is about.
 
-ghost use Rattle.std.specs.Prelude.{◌≡◌, ◌⊎◌, IfOk, OnOk, is_some};
-ghost use Rattle.mix_dap.specs.Answer.{answer_of};
-ghost use Rattle.mix_dap.specs.Events.{AddsAnswer};
-ghost use Rattle.mix_dap.specs.Prints.{kind_events, kind_printed};
-ghost use Rattle.mix_dap.specs.Replies.{Tells, answer_message};
-ghost use Rattle.mix_refused.specs.Refused.{IfFault, IfMemory};
-ghost use Rattle.dap_message.specs.Message.{waits};
-ghost use Rattle.dap_message.specs.Told.{response_to, done, Answers};
-ghost use Rattle.mix_dap.specs.Leaves.{KindAnswered, KindRefused, KindBegun};
-ghost use Rattle.mix_dap.specs.Kind.{kind_of};
-ghost use Rattle.mix_dap.specs.Stays.{KindTells, fault_after, points_of, way_after};
+ghost use Rattle.std.specs.Prelude.{◌≡◌, ◌⊎◌, [], ◌∷◌, codes, Ok, OnOk};
+ghost use Rattle.serde_json.specs.Data.{null};
+ghost use Rattle.mix_refused.specs.Refused.{IfMemory};
+ghost use Rattle.mix_dap.specs.Events.{AddsAnswer, stopped, terminated};
+ghost use Rattle.mix_dap.specs.Replies.{answer_message};
+ghost use Rattle.mix_dap.specs.Stopped.{only};
+ghost use Rattle.mix_dap.specs.Reaction.{AnsweredOr, Begins, KeepsSaid, reaction};
 
-use crate::adapter::Adapter;
+use crate::adapter::{Adapter, Then};
 use crate::capabilities::capabilities;
+use crate::event::tell_event;
 use crate::fault::Fault;
 use crate::kind::Kind;
 use crate::list::nothing;
-use crate::view::tell_check;
-use dap_message::{Command, Outbox, Request};
-use mix_refused::Refused;
+use crate::view::check_view;
+use dap_message::{Outbox, Request};
+use mix_refused::{Memory, Refused};
 
 impl Adapter {
-    // What a request asks for, by what it is about.
-    #[tactic(auto, using(dap_message::proofs::Telling::telling, crate::proofs::RepliesLemmas::replying, crate::proofs::EventLemmas::answering))]
+    // What a request asks for, by what it is about, and what comes then.
+    #[tactic(auto, using(crate::proofs::EventLemmas::answering))]
     pub(crate) fn answer(
         &mut self,
-        command: Command,
+        kind: Kind,
         request: &Request,
         out: &mut Outbox,
-    ) -> Result<(), Refused<Fault>>
+    ) -> Result<Then, Refused<Fault>>
         ensures program { self.new.session.program ≡ self.old.session.program }
         ensures first { self.new.session.timeline.first ≡ self.old.session.timeline.first }
-        ensures done { IfOk result (λ _. KindAnswered (is_some self.old.way) (kind_of command) request.now self.old.session self.new.session.timeline) }
-        ensures refused { IfFault result (λ why. (self.new.session.timeline ≡ self.old.session.timeline)
-            × KindRefused (is_some self.old.way) (kind_of command) request.now self.old.session why) }
-        ensures begun { IfMemory result ((self.new.session.timeline ≡ self.old.session.timeline)
-            ⊎ KindBegun (is_some self.old.way) (kind_of command) request.now self.old.session self.new.session.timeline) }
-        ensures answers { OnOk result (Answers (response_to request.now done) (waits out.old) (waits out.new)) }
-        ensures shows { Tells (answer_of (kind_of command) request.now self.old) request.now out.old out.new result }
-        ensures keeps { (self.new.name ≡ self.old.name) × (self.new.client ≡ self.old.client) × (self.new.stops ≡ self.old.stops) }
-        ensures way { OnOk result (self.new.way ≡ way_after (kind_of command) self.old self.new.session.timeline) }
-        ensures points { OnOk result (self.new.points ≡ points_of (kind_of command) request.now self.old) }
-        ensures fault { OnOk result (self.new.fault ≡ fault_after (kind_of command) request.now self.old) }
-        ensures waits { IfFault result (λ _. (self.new.way ≡ self.old.way) × (self.new.points ≡ self.old.points) × (self.new.fault ≡ self.old.fault)) }
-        ensures tells { OnOk result (KindTells (kind_of command) request.now self.old self.new.session.timeline (waits out.new)) }
-        ensures prints { OnOk result (AddsAnswer (answer_message request.now (answer_of (kind_of command) request.now self.old))
-            (kind_events (kind_of command) request.now self.old self.new.session.timeline) out.old out.new) }
-        ensures printed { OnOk result (self.new.printed ≡ kind_printed (kind_of command) request.now self.old.printed self.new.session.timeline) }
-        ensures unprinted { IfFault result (λ _. self.new.printed ≡ self.old.printed) }
+        ensures keeps { KeepsSaid self.old self.new }
+        ensures reacts { AnsweredOr (reaction kind request.now self.old) request.now self.old self.new out.old out.new result }
+        ensures begun { IfMemory result ((self.new.session.timeline ≡ self.old.session.timeline) ⊎ Begins kind request.now self.old.session self.new.session.timeline) }
     {
-        match Kind::of(command) {
+        match kind {
             Kind::Initialize => {
                 let body = capabilities(self.alloc)?;
-                Ok(out.reply(request, body)?)
+                out.reply(request, body)?;
+                Ok(Then::Wait)
             }
             Kind::Look(look) => {
                 let body = self.show(look, request)?;
-                Ok(out.reply(request, body)?)
+                out.reply(request, body)?;
+                Ok(Then::Wait)
             }
-            Kind::Check => tell_check(self.alloc, request, out),
+            Kind::Check => {
+                let body = check_view(self.alloc, request)?;
+                out.reply(request, body)?;
+                Ok(Then::Wait)
+            }
             Kind::Points(target) => {
                 let body = self.set_points(target, request)?;
-                Ok(out.reply(request, body)?)
+                out.reply(request, body)?;
+                Ok(Then::Wait)
             }
-            Kind::Pause => Ok(self.pause(request, out)?),
-            Kind::Terminate => Ok(self.terminate(request, out)?),
+            Kind::Pause => {
+                self.pause(request, out)?;
+                Ok(Then::Wait)
+            }
+            Kind::Terminate => {
+                self.terminate(request, out)?;
+                Ok(Then::Wait)
+            }
             Kind::Restart => Ok(self.restart(request, out)?),
-            Kind::Cancel | Kind::Disconnect => Ok(out.reply(request, nothing())?),
+            Kind::Cancel => {
+                out.reply(request, nothing())?;
+                Ok(Then::Wait)
+            }
+            Kind::Disconnect => {
+                out.reply(request, nothing())?;
+                Ok(Then::End)
+            }
             Kind::Launch => Err(Refused::Fault(Fault::Launched)),
-            Kind::Write => {
-                self.at_rest()?;
-                self.write(request, out)
-            }
-            Kind::Act(act) => {
-                self.at_rest()?;
-                self.act(act, request, out)
-            }
+            Kind::Write => self.write(request, out),
+            Kind::Act(act) => self.act(act, request, out),
         }
+    }
+
+    // A program that runs is answered when it stops, so this tells only that it stands.
+    #[tactic(auto, using(crate::proofs::EventLemmas::answering))]
+    fn pause(&self, request: &Request, out: &mut Outbox) -> Result<(), Memory>
+        ensures { OnOk result (AddsAnswer (answer_message request.now (Ok null)) (stopped (only (codes "pause")) ∷ []) out.old out.new) }
+    {
+        out.reply(request, nothing())?;
+        self.stopped("pause", None, out)?;
+        Ok(())
+    }
+
+    // The program is at its end, which it may be taken back from.
+    #[tactic(auto, using(crate::proofs::EventLemmas::answering))]
+    fn terminate(&self, request: &Request, out: &mut Outbox) -> Result<(), Memory>
+        ensures { OnOk result (AddsAnswer (answer_message request.now (Ok null)) (terminated ∷ []) out.old out.new) }
+    {
+        out.reply(request, nothing())?;
+        tell_event("terminated", out)?;
+        Ok(())
     }
 }

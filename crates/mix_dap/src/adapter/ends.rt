@@ -36,7 +36,7 @@ pub(crate) fn text_of(alloc: Global, end: End) -> Result<Option<String>, Memory>
     }
 }
 
-/// Whether a piece of a run has ended by its number of changes.
+/// Whether a run has ended by its number of changes.
 pub(crate) fn is_limit(end: End) -> bool
     ensures { result ≡ is_limit end }
 {

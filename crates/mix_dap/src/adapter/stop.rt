@@ -1,20 +1,18 @@
 //! What is told when the program stops, or when what the client shows is out of date.
-#![tactic(auto, using(dap_message::proofs::Telling::telling, crate::proofs::RepliesLemmas::replying, crate::proofs::EventLemmas::events))]
+#![tactic(auto, using(crate::proofs::EventLemmas::events))]
 
 ghost use Rattle.std.specs.Prelude.{◌≡◌, [], ◌∷◌, ◌++◌, IfOk, OnOk, None, Some, codes};
 ghost use Rattle.std.specs.Option.{option_map};
 ghost use Rattle.serde_json.specs.View.{view};
-ghost use Rattle.dap_message.specs.Message.{waits};
-ghost use Rattle.dap_message.specs.Told.{Events};
 ghost use Rattle.mix_session.specs.Conflicts.{conflict_text};
 ghost use Rattle.mix_session.specs.Timeline.{world_of};
 ghost use Rattle.mix_dap.specs.Events.{AddsEvents, all_areas, invalidated, out_of_date, stopped};
 ghost use Rattle.mix_dap.specs.Output.{all_told, outputs};
-ghost use Rattle.mix_dap.specs.Replies.{EndsWith};
-ghost use Rattle.mix_dap.specs.Stays.{Keeps, before_last, conflict_met, conflict_of_run, meets_filter, why_at, word_at};
-ghost use Rattle.mix_dap.specs.Stopped.{reason_of, fault_at, out_of_memory, stopped_message, why_of, why_with};
+ghost use Rattle.mix_dap.specs.Reaction.{Keeps};
+ghost use Rattle.mix_dap.specs.Runs.{before_last, conflict_met, meets_filter, why_of_run, word_at};
+ghost use Rattle.mix_dap.specs.Stopped.{reason_of, fault_at, out_of_memory, why_of, why_with};
 
-use crate::adapter::ends::{fault_at, put_text, text_of};
+use crate::adapter::ends::{fault_at, is_limit, put_text, text_of};
 use crate::adapter::{Adapter, Way};
 use crate::look::THREAD;
 use crate::points::Points;
@@ -26,45 +24,50 @@ use serde_json::Value;
 use std::alloc::Global;
 
 impl Adapter {
-    // Tells what was written and why the program stops: a run this way, or a step.
-    pub(crate) fn stop(
-        &mut self,
-        way: Option<Way>,
-        end: End,
-        out: &mut Outbox,
-    ) -> Result<(), Memory>
+    // Tells what a step that has ended so has written, and why the program stops.
+    pub(crate) fn stop_step(&mut self, end: End, out: &mut Outbox) -> Result<(), Memory>
         ensures keeps { Keeps self.old self.new }
         ensures session { self.new.session ≡ self.old.session }
-        ensures rests { self.new.way ≡ None }
         ensures fault { self.new.fault ≡ fault_at end }
-        ensures tells { OnOk result (EndsWith (stopped_message (why_at way self.old.points self.old.session.timeline end)) (waits out.new)) }
-        ensures events { OnOk result (Events (waits out.old) (waits out.new)) }
-        ensures prints { OnOk result (AddsEvents (outputs self.old.printed (world_of self.old.session.timeline)
-            ++ stopped (why_at way self.old.points self.old.session.timeline end) ∷ []) out.old out.new) }
         ensures printed { OnOk result (self.new.printed ≡ all_told (world_of self.old.session.timeline)) }
+        ensures tells { OnOk result (AddsEvents (outputs self.old.printed (world_of self.old.session.timeline)
+            ++ stopped (why_of (word_at self.old.points self.old.session.timeline) end) ∷ []) out.old out.new) }
     {
-        self.way = None;
+        self.fault = fault_at(end);
+        self.printed.tell(self.alloc, self.session.world(), out)?;
+        self.tell_why(None, end, out)?;
+        Ok(())
+    }
+
+    // The same of a run this way.
+    pub(crate) fn stop_run(&mut self, way: Way, end: End, out: &mut Outbox) -> Result<(), Memory>
+        ensures keeps { Keeps self.old self.new }
+        ensures session { self.new.session ≡ self.old.session }
+        ensures fault { self.new.fault ≡ fault_at end }
+        ensures printed { OnOk result (self.new.printed ≡ all_told (world_of self.old.session.timeline)) }
+        ensures tells { OnOk result (AddsEvents (outputs self.old.printed (world_of self.old.session.timeline)
+            ++ stopped (why_of_run way self.old.points self.old.session.timeline end) ∷ []) out.old out.new) }
+    {
         self.fault = fault_at(end);
         self.printed.tell(self.alloc, self.session.world(), out)?;
         self.tell_end(way, end, out)?;
         Ok(())
     }
 
-    // Tells why a run this way, or a step, stops that has ended so.
-    fn tell_end(&self, way: Option<Way>, end: End, out: &mut Outbox) -> Result<(), Memory>
-        ensures tells { OnOk result (EndsWith (stopped_message (why_at way self.now.points self.now.session.timeline end)) (waits out.new)) }
-        ensures events { OnOk result (Events (waits out.old) (waits out.new)) }
-        ensures prints { OnOk result (AddsEvents (stopped (why_at way self.now.points self.now.session.timeline end) ∷ []) out.old out.new) }
+    // Tells why a run this way stops that has ended so.
+    fn tell_end(&self, way: Way, end: End, out: &mut Outbox) -> Result<(), Memory>
+        ensures { OnOk result (AddsEvents (stopped (why_of_run way self.now.points self.now.session.timeline end) ∷ []) out.old out.new) }
     {
-        let conflict = self.conflict_met(way, end)?;
-        self.tell_why(conflict, end, out)
+        if is_limit(end) {
+            self.stopped("pause", Some("paused after 1000000 changes"), out)
+        } else {
+            self.tell_why(self.conflict_met(way, end)?, end, out)
+        }
     }
 
-    // Tells it, by the conflict at which the run has ended, if it ended at one.
+    // Tells why the program stops, by the conflict at which a run has ended, if it ended at one.
     fn tell_why(&self, conflict: Option<Conflict>, end: End, out: &mut Outbox) -> Result<(), Memory>
-        ensures tells { OnOk result (EndsWith (stopped_message (why_with conflict (word_at self.now.points self.now.session.timeline) end)) (waits out.new)) }
-        ensures events { OnOk result (Events (waits out.old) (waits out.new)) }
-        ensures prints { OnOk result (AddsEvents (stopped (why_with conflict (word_at self.now.points self.now.session.timeline) end) ∷ []) out.old out.new) }
+        ensures { OnOk result (AddsEvents (stopped (why_with conflict (word_at self.now.points self.now.session.timeline) end) ∷ []) out.old out.new) }
     {
         match conflict {
             Some(conflict) => self.tell_conflict(conflict, out),
@@ -77,27 +80,16 @@ impl Adapter {
     }
 
     fn tell_conflict(&self, conflict: Conflict, out: &mut Outbox) -> Result<(), Memory>
-        ensures tells { OnOk result (EndsWith (stopped_message (record { reason = codes "exception"; text = Some (conflict_text conflict) })) (waits out.new)) }
-        ensures events { OnOk result (Events (waits out.old) (waits out.new)) }
-        ensures prints { OnOk result (AddsEvents (stopped (record { reason = codes "exception"; text = Some (conflict_text conflict) }) ∷ []) out.old out.new) }
+        ensures { OnOk result (AddsEvents (stopped (record { reason = codes "exception"; text = Some (conflict_text conflict) }) ∷ []) out.old out.new) }
     {
         let text = conflict_text(self.alloc, conflict)?;
         self.stopped("exception", Some(text.as_str()), out)?;
         Ok(())
     }
 
-    // The conflict at which a run this way, or a step, has ended, if it ended at one.
-    fn conflict_met(&self, way: Option<Way>, end: End) -> Result<Option<Conflict>, Memory>
+    // The conflict at which a run this way has ended, if it ended at one.
+    fn conflict_met(&self, way: Way, end: End) -> Result<Option<Conflict>, Memory>
         ensures { IfOk result (λ conflict. conflict ≡ conflict_met way self.now.points self.now.session.timeline end) }
-    {
-        match way {
-            Some(way) => self.conflict_of_run(way, end),
-            None => Ok(None),
-        }
-    }
-
-    fn conflict_of_run(&self, way: Way, end: End) -> Result<Option<Conflict>, Memory>
-        ensures { IfOk result (λ conflict. conflict ≡ conflict_of_run way self.now.points self.now.session.timeline end) }
     {
         if meets_filter(&self.points, end) {
             let number = before_last(way, &self.session);
@@ -125,14 +117,10 @@ impl Adapter {
     pub(crate) fn stop_for_memory(&mut self, out: &mut Outbox) -> Result<(), Memory>
         ensures keeps { Keeps self.old self.new }
         ensures session { self.new.session ≡ self.old.session }
-        ensures rests { self.new.way ≡ None }
         ensures fault { self.new.fault ≡ None }
-        ensures tells { OnOk result (EndsWith (stopped_message out_of_memory) (waits out.new)) }
-        ensures events { OnOk result (Events (waits out.old) (waits out.new)) }
-        ensures prints { OnOk result (AddsEvents (outputs self.old.printed (world_of self.old.session.timeline) ++ stopped out_of_memory ∷ []) out.old out.new) }
         ensures printed { OnOk result (self.new.printed ≡ all_told (world_of self.old.session.timeline)) }
+        ensures tells { OnOk result (AddsEvents (outputs self.old.printed (world_of self.old.session.timeline) ++ stopped out_of_memory ∷ []) out.old out.new) }
     {
-        self.way = None;
         self.fault = None;
         self.printed.tell(self.alloc, self.session.world(), out)?;
         self.stopped("exception", Some("T1 out of memory"), out)?;
@@ -145,9 +133,7 @@ impl Adapter {
         text: Option<&str>,
         out: &mut Outbox,
     ) -> Result<(), Memory>
-        ensures told { OnOk result (EndsWith (stopped_message (record { reason = reason.now; text = option_map (λ t. t.now) text.entry })) (waits out.new)) }
-        ensures events { OnOk result (Events (waits out.old) (waits out.new)) }
-        ensures prints { OnOk result (AddsEvents (stopped (record { reason = reason.now; text = option_map (λ t. t.now) text.entry }) ∷ []) out.old out.new) }
+        ensures { OnOk result (AddsEvents (stopped (record { reason = reason.now; text = option_map (λ t. t.now) text.entry }) ∷ []) out.old out.new) }
     {
         let mut body = Fields::new(self.alloc);
         body.text("reason", reason)?;
@@ -161,8 +147,7 @@ impl Adapter {
 
     // What the client shows is out of date, after a change that no stop tells of.
     pub(crate) fn invalidated(&self, out: &mut Outbox) -> Result<(), Memory>
-        ensures events { OnOk result (Events (waits out.old) (waits out.new)) }
-        ensures invalid { OnOk result (AddsEvents (invalidated self.now.client) out.old out.new) }
+        ensures { OnOk result (AddsEvents (invalidated self.now.client) out.old out.new) }
     {
         if self.client.hears_invalidated {
             out_of_date(self.alloc, out)
@@ -194,8 +179,7 @@ fn before_last(way: Way, session: &Session) -> usize
 }
 
 fn out_of_date(alloc: Global, out: &mut Outbox) -> Result<(), Memory>
-    ensures events { OnOk result (Events (waits out.old) (waits out.new)) }
-    ensures prints { OnOk result (AddsEvents (out_of_date ∷ []) out.old out.new) }
+    ensures { OnOk result (AddsEvents (out_of_date ∷ []) out.old out.new) }
 {
     let body = all_areas(alloc)?;
     out.event("invalidated", body)?;

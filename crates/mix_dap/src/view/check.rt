@@ -1,40 +1,22 @@
 //! `mix/check`: what there is to say of a text.
 
-ghost use Rattle.std.specs.Prelude.{◌≡◌, [], IfOk, OnOk, map};
+ghost use Rattle.std.specs.Prelude.{◌≡◌, IfOk, OnOk, map};
 ghost use Rattle.serde_json.specs.View.{view};
 ghost use Rattle.dap_message.specs.Fields.{members_in};
-ghost use Rattle.dap_message.specs.Message.{waits};
-ghost use Rattle.dap_message.specs.Told.{response_to, done, Answers};
-ghost use Rattle.mix_dap.specs.Events.{AddsAnswer};
 ghost use Rattle.mix_dap.specs.Check.{check_of, checked, diagnostic_shown, put_columns, put_meaning};
 ghost use Rattle.mix_dap.specs.List.{Shows};
-ghost use Rattle.mix_dap.specs.Replies.{Tells, answer_message};
 
 use crate::fault::Fault;
 use crate::list::{add, list_alone};
-use dap_message::{Fields, Outbox, Request};
+use dap_message::{Fields, Request};
 use mix_check::{code, columns, meaning, severity};
 use mix_refused::{Memory, Refused};
 use mixal_asm::{Diagnostic, diagnose};
 use serde_json::Value;
 use std::alloc::Global;
 
-/// Answers a request by the faults and the warnings of its text, as `mixrev check --json` gives them.
-#[tactic(auto, using(crate::proofs::RepliesLemmas::replying, crate::proofs::EventLemmas::answering))]
-pub(crate) fn tell_check(
-    alloc: Global,
-    request: &Request,
-    out: &mut Outbox,
-) -> Result<(), Refused<Fault>>
-    ensures shows { Tells (checked request.now) request.now out.old out.new result }
-    ensures answers { OnOk result (Answers (response_to request.now done) (waits out.old) (waits out.new)) }
-    ensures prints { OnOk result (AddsAnswer (answer_message request.now (checked request.now)) [] out.old out.new) }
-{
-    let body = check_view(alloc, request)?;
-    Ok(out.reply(request, body)?)
-}
-
-fn check_view(alloc: Global, request: &Request) -> Result<Value, Refused<Fault>>
+/// The faults and the warnings of the text of a request, as `mixrev check --json` gives them.
+pub(crate) fn check_view(alloc: Global, request: &Request) -> Result<Value, Refused<Fault>>
     ensures { Shows (checked request.now) result }
 {
     match request.text("source") {

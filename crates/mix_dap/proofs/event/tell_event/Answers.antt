@@ -2,11 +2,7 @@
 use Rattle.std.proofs.Common.{rules}
 use Rattle.serde_json.specs.Data.{null}
 use Rattle.mix_dap.proofs.EventLemmas.{adds-one}
-use Rattle.mix_dap.proofs.RepliesLemmas.{ends-added}
 use Rattle.mix_dap.proofs.event.tell_event.Goals as goal
 
-pub returns-clause-told : goal.returns-clause-told
-returns-clause-told c = ends-added c.args.name.now _ null c.args.out.now c.event.new.self (search rules) c.in_ok-event.ensures.told
-
-pub returns-clause-prints : goal.returns-clause-prints
-returns-clause-prints c = adds-one c.args.name.now _ null c.args.out.now c.event.new.self (search rules) c.in_ok-event.ensures.told
+pub returns : goal.returns
+returns c = adds-one c.args.name.now _ null c.args.out.now c.event.new.self (search rules) c.in_ok-event.ensures.told

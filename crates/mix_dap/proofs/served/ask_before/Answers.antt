@@ -16,7 +16,6 @@ returns-in-Answered g c = (
   (
     c.in_ok-receive.ensures.client,
     inl (
-      rw (c.in-Answered.is, c.requires) at c.in_ok-receive.ensures.asks,
       g.L.Library.knows c.args.library.now,
       sends-all (λ old new. AskedShows (g.L.Library.knows c.args.library.now) (command_of c.args.request.now) asked.Answered c.args.request.now old new)
           c.args.outbox.now c.receive.new.out c.requires (rw c.in-Answered.is at c.in_ok-receive.ensures.shows),
@@ -28,7 +27,6 @@ pub returns-in-Over : goal.returns-in-Over
 returns-in-Over g c = (
   refl,
   (
-    rw (c.in-Over.is, c.requires) at c.in_ok-receive.ensures.asks,
     g.L.Library.knows c.args.library.now,
     sends-all (λ old new. AskedShows (g.L.Library.knows c.args.library.now) (command_of c.args.request.now) asked.Over c.args.request.now old new)
         c.args.outbox.now c.receive.new.out c.requires (rw c.in-Over.is at c.in_ok-receive.ensures.shows),
@@ -43,8 +41,7 @@ returns-in-Some g c = (
     subst (λ client. BeginsAs c.in-Some.adapter c.in-Launch.texts client) c.in_ok-receive.ensures.client
         (subst (λ o. IfSome o (λ a. BeginsAs a c.in-Launch.texts c.receive.new.self.client)) c.in-Some.is c.in_ok-opened-in-Launch.ensures.begins),
     opens-as (g.L.Library.knows c.args.library.now) c.args.request.now c.in-Launch.texts c.args.outbox.now c.receive.new.out c.opened.new.outbox c.requires
-        (rw c.in-Launch.is at c.in_ok-receive.ensures.asks) (rw c.in-Launch.is at c.in_ok-receive.ensures.shows)
-        c.in_ok-opened-in-Launch.ensures.answers c.in_ok-opened-in-Launch.ensures.prints,
+        (rw c.in-Launch.is at c.in_ok-receive.ensures.shows) c.in_ok-opened-in-Launch.ensures.prints,
   ),
 )
 
@@ -57,8 +54,7 @@ returns-in-None g c = (
       c.in-Launch.texts,
       subst (λ o. IfNone o (IsErr (launched_of c.in-Launch.texts))) c.in-None.is c.in_ok-opened-in-Launch.ensures.refused,
       opens-as (g.L.Library.knows c.args.library.now) c.args.request.now c.in-Launch.texts c.args.outbox.now c.receive.new.out c.opened.new.outbox c.requires
-          (rw c.in-Launch.is at c.in_ok-receive.ensures.asks) (rw c.in-Launch.is at c.in_ok-receive.ensures.shows)
-          c.in_ok-opened-in-Launch.ensures.answers c.in_ok-opened-in-Launch.ensures.prints,
+          (rw c.in-Launch.is at c.in_ok-receive.ensures.shows) c.in_ok-opened-in-Launch.ensures.prints,
     ),
   ),
 )

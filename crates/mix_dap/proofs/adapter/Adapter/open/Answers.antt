@@ -10,4 +10,4 @@ pub returns-clause-prints : goal.returns-clause-prints
 returns-clause-prints c =
     rw c.in-Ok.ensures.ok
     (answer-then (answer_message c.args.request.now (Ok null)) (initialized ∷ []) c.args.out.now c.reply.new.self c.tell_event.new.out
-    (answer-with c.args.request.now _ null c.args.out.now c.reply.new.self (search rules) c.in_ok-reply.ensures.told) c.in_ok-tell_event.ensures.prints)
+    (answer-with c.args.request.now _ null c.args.out.now c.reply.new.self (search rules) c.in_ok-reply.ensures.told) c.in_ok-tell_event.ensures)

@@ -1,12 +1,8 @@
 use Rattle.std.proofs.Common.{rules, codes}
 use Rattle.std.specs.Option.{option_map}
 use Rattle.mix_dap.proofs.EventLemmas.{adds-one}
-use Rattle.mix_dap.proofs.RepliesLemmas.{ends-added}
 use Rattle.mix_dap.specs.Stopped.{stopped_body}
 use Rattle.mix_dap.proofs.adapter.Adapter.stopped.Goals as goal
 
-pub returns-clause-told : goal.returns-clause-told
-returns-clause-told c = ends-added (codes "stopped") _ (stopped_body (record { reason = c.args.reason.now; text = option_map (λ t. t.now) c.args.text })) c.args.out.now c.event.new.self (search rules) c.in_ok-event.ensures.told
-
-pub returns-clause-prints : goal.returns-clause-prints
-returns-clause-prints c = adds-one (codes "stopped") _ (stopped_body (record { reason = c.args.reason.now; text = option_map (λ t. t.now) c.args.text })) c.args.out.now c.event.new.self (search rules) c.in_ok-event.ensures.told
+pub returns : goal.returns
+returns c = adds-one (codes "stopped") _ (stopped_body (record { reason = c.args.reason.now; text = option_map (λ t. t.now) c.args.text })) c.args.out.now c.event.new.self (search rules) c.in_ok-event.ensures.told

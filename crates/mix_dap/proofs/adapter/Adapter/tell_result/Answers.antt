@@ -4,6 +4,5 @@ use Rattle.mix_dap.specs.Answer.{result_body}
 use Rattle.mix_dap.proofs.EventLemmas.{answer-with}
 use Rattle.mix_dap.proofs.adapter.Adapter.tell_result.Goals as goal
 
-pub returns-clause-prints : goal.returns-clause-prints
-returns-clause-prints c =
-    answer-with c.args.request.now _ (result_body c.args.text.now) c.args.out.now c.reply.new.self (search rules) c.in_ok-reply.ensures.told
+pub returns : goal.returns
+returns c = answer-with c.args.request.now _ (result_body c.args.text.now) c.args.out.now c.reply.new.self (search rules) c.in_ok-reply.ensures.told

@@ -6,7 +6,7 @@ use Rattle.mix_dap.specs.Replies.{answer_message}
 use Rattle.mix_dap.proofs.EventLemmas.{answer-then, answer-with}
 use Rattle.mix_dap.proofs.adapter.Adapter.terminate.Goals as goal
 
-pub returns-clause-prints : goal.returns-clause-prints
-returns-clause-prints c =
+pub returns : goal.returns
+returns c =
     answer-then (answer_message c.args.request.now (Ok null)) (terminated ∷ []) c.args.out.now c.reply.new.self c.tell_event.new.out
-    (answer-with c.args.request.now _ null c.args.out.now c.reply.new.self (search rules) c.in_ok-reply.ensures.told) c.in_ok-tell_event.ensures.prints
+    (answer-with c.args.request.now _ null c.args.out.now c.reply.new.self (search rules) c.in_ok-reply.ensures.told) c.in_ok-tell_event.ensures

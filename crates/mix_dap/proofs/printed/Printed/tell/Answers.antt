@@ -1,12 +1,6 @@
 -- One unit after the other.
-use Rattle.dap_message.proofs.Telling.{events-then}
 use Rattle.mix_dap.proofs.EventLemmas.{adds-then-four}
 use Rattle.mix_dap.proofs.printed.Printed.tell.Goals as goal
-
-pub returns-clause-events : goal.returns-clause-events
-returns-clause-events c =
-    events-then _ _ _ (events-then _ _ _ c.in_ok-card_punch.ensures.events c.in_ok-printer.ensures.events)
-    (events-then _ _ _ c.in_ok-typewriter.ensures.events c.in_ok-paper_tape.ensures.events)
 
 pub returns-clause-prints : goal.returns-clause-prints
 returns-clause-prints c =

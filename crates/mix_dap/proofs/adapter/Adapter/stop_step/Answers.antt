@@ -1,0 +1,13 @@
+-- The rows, and then why.
+use Rattle.std.proofs.Common.{[], ◌∷◌}
+use Rattle.mix_session.specs.Timeline.{world_of}
+use Rattle.mix_dap.specs.Events.{stopped}
+use Rattle.mix_dap.specs.Runs.{word_at}
+use Rattle.mix_dap.specs.Stopped.{why_of}
+use Rattle.mix_dap.proofs.EventLemmas.{rows-then}
+use Rattle.mix_dap.proofs.adapter.Adapter.stop_step.Goals as goal
+
+pub returns-clause-tells : goal.returns-clause-tells
+returns-clause-tells c =
+    rows-then c.args.self.now.printed (world_of c.args.self.now.session.timeline) c.world.result.now (stopped (why_of (word_at c.args.self.now.points c.args.self.now.session.timeline) c.args.end) ∷ []) c.args.out.now c.tell.new.out
+    c.tell_why.new.out c.world.ensures c.in_ok-tell.ensures.prints c.in_ok-tell_why.ensures

@@ -1,0 +1,284 @@
+-- What a request of a launched program does: one row for each kind of request.
+use Rattle.std.specs.Prelude.{◌≡◌, ◌⊎◌, ◌^◌, ℕ, List, [], ◌∷◌, ◌++◌, codes, string_bytes, Bool, true, false, Option, None, Some, Result, Ok, Err, nat_lt, if◌then◌else◌}
+use Rattle.std.specs.Str.Lossy.{utf8_lossy}
+use Rattle.serde_json.specs.Data.{Data, null}
+use Rattle.mix_refused.specs.declared.refused.Refused.{Refused}
+use Rattle.mix_refused.specs.declared.refused.Refused.TheVariants as refused
+use Rattle.mix_word.specs.Word.{WordValue}
+use Rattle.mix_word.specs.declared.register.Reg.TheVariants as reg
+use Rattle.mix_machine.specs.World.{register_of}
+use Rattle.mix_machine.specs.declared.fault.MixFault.{MixFault}
+use Rattle.mix_session.specs.Answer.{text_of}
+use Rattle.mix_session.specs.Command.{Effect, after, effect_of, Begun}
+use Rattle.mix_session.specs.Session.{SessionState}
+use Rattle.mix_session.specs.Timeline.{Timeline, world_of}
+use Rattle.mix_session.specs.declared.answer.Answer.{Answer}
+use Rattle.mix_session.specs.declared.reply.End.{End}
+use Rattle.mix_session.specs.declared.request.Request.TheVariants as ask
+use Rattle.dap_message.specs.Request.{command_of}
+use Rattle.dap_message.specs.declared.command.Command.{Command}
+use Rattle.dap_message.specs.declared.outbox.Outbox.{Outbox}
+use Rattle.dap_message.specs.declared.request.Request.{Request}
+use Rattle.mix_dap.specs.Answer.{shown_of, continued, value_body, result_body}
+use Rattle.mix_dap.specs.Capabilities.{capabilities}
+use Rattle.mix_dap.specs.Check.{checked}
+use Rattle.mix_dap.specs.Deed.{deed_of, effect_of_deed, is_console_of}
+use Rattle.mix_dap.specs.Events.{AddsAnswer, AddsEvents, Event, beginning, invalidated, stopped, terminated}
+use Rattle.mix_dap.specs.Kind.{kind_of}
+use Rattle.mix_dap.specs.Leaves.{Leaves, refusal_in}
+use Rattle.mix_dap.specs.Output.{all_told, outputs}
+use Rattle.mix_dap.specs.Points.{PointsState, points_after, points_told}
+use Rattle.mix_dap.specs.Replies.{answer_message}
+use Rattle.mix_dap.specs.Runs.{Ran, fault_ran, why_ran, word_at}
+use Rattle.mix_dap.specs.Stopped.{end_of, fault_at, only, why_of}
+use Rattle.mix_dap.specs.Value.{value_asked, worth_asked}
+use Rattle.mix_dap.specs.Written.{WrittenSome, bytes_written, with_cells, write_asked}
+use Rattle.mix_dap.specs.declared.adapter.Adapter.{Adapter}
+use Rattle.mix_dap.specs.declared.adapter.Flow.{Flow}
+use Rattle.mix_dap.specs.declared.adapter.Flow.TheVariants as flow
+use Rattle.mix_dap.specs.declared.adapter.Then.{Then}
+use Rattle.mix_dap.specs.declared.adapter.Then.TheVariants as then
+use Rattle.mix_dap.specs.declared.adapter.Way.{Way}
+use Rattle.mix_dap.specs.declared.adapter.Way.TheVariants as way
+use Rattle.mix_dap.specs.declared.capabilities.Client.{Client}
+use Rattle.mix_dap.specs.declared.deed.Deed.{Deed}
+use Rattle.mix_dap.specs.declared.fault.Fault.{Fault}
+use Rattle.mix_dap.specs.declared.fault.Fault.TheVariants as fault
+use Rattle.mix_dap.specs.declared.kind.Act.{Act}
+use Rattle.mix_dap.specs.declared.kind.Act.TheVariants as act
+use Rattle.mix_dap.specs.declared.kind.Kind.{Kind}
+use Rattle.mix_dap.specs.declared.kind.Kind.TheVariants as kind
+use Rattle.mix_dap.specs.declared.printed.Printed.{Printed}
+
+-- What is left and told, and what comes then.
+pub record Reaction : Type 0 where
+  -- the changes and the machine
+  pub timeline : Timeline
+  -- the breakpoints
+  pub points : PointsState
+  -- the fault that the last run or step has ended with, if one has
+  pub fault : Option MixFault
+  -- how many rows are told of the units that write them
+  pub printed : Printed
+  -- the one response: with this, or a refusal
+  pub body : Result Data Fault
+  -- the events after it, in this order
+  pub events : List Event
+  -- a run, or the end of the talk, or nothing
+  pub later : Then
+
+-- what an adapter has beside its session, and may alter or asks for
+pub record Beside : Type 0 where
+  pub points : PointsState
+  pub fault : Option MixFault
+  pub printed : Printed
+  pub client : Client
+  pub stops : Bool
+
+abbrev pub beside : Adapter → Beside
+beside a = record { points = a.points; fault = a.fault; printed = a.printed; client = a.client; stops = a.stops }
+
+-- everything is as it was, and nothing is told but that the request is done
+abbrev pub stays : Beside → Timeline → Reaction
+stays b t = record {
+  timeline = t;
+  points = b.points;
+  fault = b.fault;
+  printed = b.printed;
+  body = Ok null;
+  events = [];
+  later = then.Wait;
+}
+
+abbrev pub still : Adapter → Reaction
+still a = stays (beside a) a.session.timeline
+
+-- it is refused, and everything is as it was
+abbrev pub refuses : Adapter → Fault → Reaction
+refuses a why = record (still a) { body = Err why }
+
+-- the program runs from its beginning, unless the launch asked to stop there
+abbrev pub begun : Bool → Then
+begun true = then.Wait
+begun false = then.Run (way.Forth None)
+
+-- the location to which a subroutine returns: that in rJ
+abbrev pub return_location : ℕ → Option ℕ
+return_location n = if nat_lt n (2 ^ 16) then Some n else None
+
+-- ---- an act that the session has answered so, which is then in this state
+
+-- a step, forwards or backwards
+abbrev pub stepped : Answer → Beside → Timeline → Reaction
+stepped answer b t = record (stays b t) {
+  fault = fault_at (end_of answer);
+  printed = all_told (world_of t);
+  events = outputs b.printed (world_of t) ++ stopped (why_of (word_at b.points t) (end_of answer)) ∷ [];
+}
+
+-- a line of the console, or another expression
+abbrev pub evaluated : Bool → Answer → Request → Beside → SessionState → Reaction
+evaluated true answer r b s = record (stays b s.timeline) {
+  fault = None;
+  printed = all_told (world_of s.timeline);
+  body = Ok (result_body (utf8_lossy (text_of answer s.program s.timeline)));
+  events = outputs b.printed (world_of s.timeline) ++ invalidated b.client;
+}
+evaluated false answer r b s = record (stays b s.timeline) { body = Ok (result_body (worth_asked s r)) }
+
+abbrev pub acted : Act → Answer → Request → Beside → SessionState → Reaction
+acted act.Step answer r b s = stepped answer b s.timeline
+acted act.StepBack answer r b s = stepped answer b s.timeline
+acted act.Continue answer r b s = record (stays b s.timeline) { fault = None; body = Ok continued; later = then.Run (way.Forth None) }
+acted act.StepOut answer r b s =
+    record (stays b s.timeline) { fault = None; later = then.Run (way.Forth (return_location (register_of (world_of s.timeline) reg.J).magnitude)) }
+acted act.ReverseContinue answer r b s = record (stays b s.timeline) { fault = None; later = then.Run way.Back }
+acted act.Begin answer r b s = record (stays b s.timeline) { fault = None; events = beginning b.stops; later = begun b.stops }
+acted act.Goto answer r b s = record (stays b s.timeline) { events = stopped (only (codes "goto")) ∷ [] }
+acted act.SetVariable answer r b s = record (stays b s.timeline) { body = Ok (value_body (value_asked (world_of s.timeline) r)); events = invalidated b.client }
+acted act.SetExpression answer r b s = record (stays b s.timeline) { body = Ok (value_body (worth_asked s r)); events = invalidated b.client }
+acted act.Evaluate answer r b s = evaluated (is_console_of r) answer r b s
+
+-- unless the session refuses it
+abbrev pub unless : Option Fault → Act → Effect → Request → Adapter → Reaction
+unless None act effect r a = acted act effect.answer r (beside a) (record { program = a.session.program; timeline = after effect })
+unless (Some why) act effect r a = refuses a why
+
+abbrev pub deed_done : Act → Deed → Request → Adapter → Reaction
+deed_done act deed r a = unless (refusal_in (effect_of_deed deed a.session.timeline)) act (effect_of_deed deed a.session.timeline) r a
+
+-- or it asks for nothing that is there
+abbrev pub asked_done : Act → Result Deed Fault → Request → Adapter → Reaction
+asked_done act (Ok deed) r a = deed_done act deed r a
+asked_done act (Err why) r a = refuses a why
+
+-- ---- the rows
+
+abbrev pub written : Result (List (ℕ × WordValue) × ℕ) Fault → Adapter → Reaction
+written (Ok asked) a =
+    record (stays (beside a) (with_cells a.session.timeline asked.0)) { body = Ok (bytes_written asked.1); events = invalidated a.client }
+written (Err why) a = refuses a why
+
+-- the first state again
+abbrev pub restarted : Beside → Timeline → Reaction
+restarted b t = record (stays b t) {
+  fault = None;
+  printed = all_told (world_of t);
+  events = outputs b.printed (world_of t) ++ beginning b.stops;
+  later = begun b.stops;
+}
+
+abbrev pub reaction : Kind → Request → Adapter → Reaction
+reaction kind.Initialize r a = record (still a) { body = Ok capabilities }
+reaction (kind.Look look) r a = record (still a) { body = shown_of look r a }
+reaction kind.Check r a = record (still a) { body = checked r }
+reaction (kind.Points target) r a = record (still a) {
+  points = points_after target a.session (string_bytes a.name) a.client.first r a.points;
+  body = Ok (points_told target a.session (string_bytes a.name) a.client.first r);
+}
+reaction kind.Pause r a = record (still a) { events = stopped (only (codes "pause")) ∷ [] }
+reaction kind.Terminate r a = record (still a) { events = terminated ∷ [] }
+reaction kind.Restart r a = restarted (beside a) (after (effect_of a.session.timeline ask.BackAll))
+reaction kind.Cancel r a = still a
+reaction kind.Launch r a = refuses a fault.Launched
+reaction kind.Disconnect r a = record (still a) { later = then.End }
+reaction kind.Write r a = written (write_asked a.session r) a
+reaction (kind.Act act) r a = asked_done act (deed_of act r a.session) r a
+
+-- by its command: one of no known name is always refused
+abbrev pub reaction_to : Option Command → Request → Adapter → Reaction
+reaction_to None r a = refuses a fault.NoSuchRequest
+reaction_to (Some command) r a = reaction (kind_of command) r a
+
+-- ---- what happens
+
+-- whether it is done
+abbrev pub is_done : Result Data Fault → Bool
+is_done (Ok body) = true
+is_done (Err why) = false
+
+-- An adapter is left so, this comes then, and the response and the events are told.
+abbrev pub Answered : Reaction → Request → Adapter → Then → Outbox → Outbox → Type 0
+Answered x r b later old new = (is_done x.body ≡ true) × (b.session.timeline ≡ x.timeline) × (b.points ≡ x.points) × (b.fault ≡ x.fault)
+    × (b.printed ≡ x.printed) × (later ≡ x.later) × AddsAnswer (answer_message r x.body) x.events old new
+
+-- all is as it was, but that the timeline was looked at
+abbrev pub IsSame : Adapter → Adapter → Type 0
+IsSame a b = (b.session.timeline ≡ a.session.timeline) × (b.points ≡ a.points) × (b.fault ≡ a.fault) × (b.printed ≡ a.printed)
+
+-- A refusal is not told yet; for want of memory it is neither.
+abbrev pub AnsweredOr : Reaction → Request → Adapter → Adapter → Outbox → Outbox → Result Then (Refused Fault) → Type 0
+AnsweredOr x r a b old new (Ok later) = Answered x r b later old new
+AnsweredOr x r a b old new (Err (refused.Fault why)) = (x.body ≡ Err why) × IsSame a b × (new ≡ old)
+AnsweredOr x r a b old new (Err refused.Memory) = Unit {0}
+
+-- A run that has ended so, or memory was refused for it, is told: the rows that it wrote or took back, and why it stops.
+pub record Runs (way : Way) (a b : Adapter) (old new : Outbox) : Type 0 where
+  pub ended : Option End
+  pub ran : Ran way a.points a.session.timeline ended b.points b.session.timeline
+  pub fault : b.fault ≡ fault_ran ended
+  pub printed : b.printed ≡ all_told (world_of b.session.timeline)
+  pub told : AddsEvents (outputs a.printed (world_of b.session.timeline) ++ stopped (why_ran way b.points b.session.timeline ended) ∷ []) old new
+
+abbrev pub GoesOn : Then → Adapter → Adapter → Outbox → Outbox → Type 0
+GoesOn then.Wait a b old new = (b ≡ a) × (new ≡ old)
+GoesOn (then.Run way) a b old new = Runs way a b old new
+GoesOn then.End a b old new = (b ≡ a) × (new ≡ old)
+
+-- whether the client has more to ask then
+abbrev pub flow_after : Then → Flow
+flow_after then.Wait = flow.On
+flow_after (then.Run way) = flow.On
+flow_after then.End = flow.Over
+
+abbrev pub flow_of : Result Data Fault → Then → Flow
+flow_of (Ok body) later = flow_after later
+flow_of (Err why) later = flow.Refused why
+
+-- A request is answered or refused, and then the program runs, if it is to.
+pub record ReactsAs (x : Reaction) (r : Request) (how : Flow) (b : Adapter) (old new : Outbox) : Type 0 where
+  pub flow : how ≡ flow_of x.body x.later
+  pub mid : Adapter
+  pub between : Outbox
+  pub timeline : mid.session.timeline ≡ x.timeline
+  pub points : mid.points ≡ x.points
+  pub fault : mid.fault ≡ x.fault
+  pub printed : mid.printed ≡ x.printed
+  pub told : AddsAnswer (answer_message r x.body) x.events old between
+  pub goes : GoesOn x.later mid b between new
+
+abbrev pub Reacts : Request → Adapter → Flow → Adapter → Outbox → Outbox → Type 0
+Reacts r a how b old new = ReactsAs (reaction_to (command_of r) r a) r how b old new
+
+-- ---- for want of memory
+
+-- a stage stands of what it asks of the session
+abbrev pub Begins : Kind → Request → SessionState → Timeline → Type 0
+Begins kind.Restart r s new = Begun (effect_of s.timeline ask.BackAll) new
+Begins kind.Write r s new = WrittenSome (write_asked s r) s.timeline new
+Begins (kind.Act act) r s new = Leaves {T = Fault} (deed_of act r s) s.timeline new (Err refused.Memory)
+Begins other r s new = new ≡ s.timeline
+
+-- or a part of the run that follows it
+abbrev pub RunsPartly : Then → PointsState → Timeline → Timeline → Type 0
+RunsPartly then.Wait points t new = ⊥
+RunsPartly (then.Run way) points t new = (ended : Option End) × (now : PointsState) × Ran way points t ended now new
+RunsPartly then.End points t new = ⊥
+
+abbrev pub Leaving : Kind → Request → Adapter → Timeline → Type 0
+Leaving kind r a new = let x = reaction kind r a in
+    (new ≡ a.session.timeline) ⊎ (Begins kind r a.session new ⊎ RunsPartly x.later x.points x.timeline new)
+
+abbrev pub ReactsPartly : Option Command → Request → Adapter → Timeline → Type 0
+ReactsPartly None r a new = new ≡ a.session.timeline
+ReactsPartly (Some command) r a new = Leaving (kind_of command) r a new
+
+-- ---- what is kept
+
+-- what nothing alters: what the launch and the client said
+abbrev pub KeepsSaid : Adapter → Adapter → Type 0
+KeepsSaid a b = (b.name ≡ a.name) × (b.client ≡ a.client) × (b.stops ≡ a.stops)
+
+-- what no request alters but one that sets breakpoints: those too
+abbrev pub Keeps : Adapter → Adapter → Type 0
+Keeps a b = (b.name ≡ a.name) × (b.client ≡ a.client) × (b.stops ≡ a.stops) × (b.points ≡ a.points)

@@ -1,0 +1,97 @@
+"""Which function of a crate's source a text stands in, and by which names the prover tells of it."""
+
+import collections
+import re
+
+# The lines of a function, counted from 0; what matches the names that the prover gives it and its
+# closures; its own name; the trait that it is of, or ''.
+Function = collections.namedtuple("Function", "file first last name word of_trait")
+
+WORDS = r"(?:pub(?:\([a-z ]+\))? )?(?:const )?(?:unsafe )?(?:extern \"C\" )?"
+FUNCTION = re.compile(rf"( *){WORDS}fn (\w+)")
+BLOCK = re.compile(rf"{WORDS}(impl|trait)\b(.*)")
+
+
+def without_brackets(text):
+    """A text without what stands in angle brackets."""
+    depth, left = 0, []
+    for at, letter in enumerate(text):
+        closes = letter == ">" and text[at - 1] != "-"
+        depth += letter == "<"
+        if not depth:
+            left.append(letter)
+        depth -= closes
+    return "".join(left)
+
+
+def last_word(path):
+    return re.findall(r"\w+", path)[-1]
+
+
+def owner_of(kind, header):
+    """What matches the part of a name that the block with this header gives the functions in it, and the trait that they are of, or ''."""
+    header = without_brackets(header).split("{")[0].split(" where ")[0]
+    if kind == "trait":
+        name = re.findall(r"\w+", header)[0]
+        return name, name
+    of_trait, _, of_type = header.rpartition(" for ")
+    name = last_word(of_type)
+    name = name[0].upper() + name[1:]
+    return (rf"{name}\w*{last_word(of_trait)}\w*", last_word(of_trait)) if of_trait else (name, "")
+
+
+def end_of(lines, first, indent):
+    """The last line of what begins at a line with this indent, as rustfmt lays it out."""
+    if lines[first].rstrip().endswith(("}", ";")):
+        return first
+    for at in range(first + 1, len(lines)):
+        line = lines[at]
+        if line == f"{indent}}}":
+            return at
+        if line.strip() and not line.startswith(f"{indent} ") and not line.startswith((f"{indent})", f"{indent}{{", f"{indent}where")):
+            return at - 1
+    return len(lines) - 1
+
+
+def functions_of(crate, file, text):
+    """The functions of a file of a crate."""
+    lines, found, owner, of_trait, block_ends = text.split("\n"), [], "", "", -1
+    modules = [word for word in file.removeprefix("src/").removesuffix(".rt").split("/") if word not in ("lib", "main")]
+    for at, line in enumerate(lines):
+        block = BLOCK.match(line)
+        if block:
+            header = " ".join(lines[at : next(k for k in range(at, len(lines)) if "{" in lines[k]) + 1])
+            (owner, of_trait), block_ends = owner_of(*BLOCK.match(header).groups()), end_of(lines, at, "")
+        function = FUNCTION.match(line)
+        if function:
+            is_inside = at <= block_ends
+            inside = owner if is_inside else ""
+            # A type's functions have the name of the module of the type, which may be another one.
+            before = r"(?:\w+::)*" + inside if inside else "::".join(modules)
+            name = "::".join([crate, *([before] if before else []), function[2]])
+            found.append(Function(file, at, end_of(lines, at, function[1]), name, function[2], of_trait if is_inside else ""))
+    return found
+
+
+def is_of(function, printed):
+    """Whether a name that the prover prints is that of the function, or of a closure in it."""
+    has_closure = "::fn::" in printed
+    return bool(re.fullmatch(function.name + ("(?:::.*)?" if has_closure else ""), printed.replace("::fn::", "::")))
+
+
+def changed_by(mistake, crate, text_of):
+    """The functions that a mistake changes, and whether it changes something outside of them too."""
+    found, outside, where = [], False, None
+    for file, old, _ in mistake.changes:
+        text = text_of(file)
+        at = text.find(old)
+        if at >= 0:
+            # What begins with blank lines or an indent begins where its words do.
+            line = text.count("\n", 0, at + len(old) - len(old.lstrip()))
+            where = next((one for one in functions_of(crate, file, text) if one.first <= line <= one.last), None)
+        # A text that an earlier change made stands where that one was.
+        if where is None:
+            outside = True
+        elif where not in found:
+            found.append(where)
+    return found, outside

@@ -1,0 +1,134 @@
+// What the page is about: the texts, the session of what they say, and the moment that is seen. What is asked for is done one after another, and who
+// has subscribed is told of what is new.
+
+import { counted, doAll } from "./dom.js";
+import { Session } from "./session.js";
+
+const PAUSE = 200; // milliseconds without a key before a text is assembled
+const SESSIONS = 5; // sessions of other texts that can come back
+const SLOW = 400; // milliseconds before a stop is offered
+
+export class Store {
+  // `read` gives the texts as they are now, and `blocks` the requests for blocks of tapes and disks, which are looked at too.
+  constructor(machine, read, blocks) {
+    Object.assign(this, { machine, read, blocks });
+    this.subscribers = new Map();
+    this.session = null; // none while the texts are refused
+    this.view = null;
+    this.refusal = ""; // why there is no session
+    this.warning = ""; // of a program that is accepted
+    this.kept = new Map(); // the last sessions of other texts in which something was done, by their texts
+    this.assembled = ""; // the texts of the session or of the refusal
+    this.timer = 0; // runs while a text is not assembled yet
+    this.last = Promise.resolve(); // of what is to be done
+    this.left = 0; // so much still has to be done
+    this.generation = 0;
+  }
+
+  // Calls `work` whenever something is new:
+  // - "texts": they are others; with what was found in them, the refusal or the program, and what the machine looks like
+  // - "program": it is accepted; "view": a moment is seen, with the answer that led to it and the view before; "forget": another program was opened
+  // - "status": what is told; "busy", "slow": whether it is; "failed": what went wrong
+  // - "ask": who wrote a part; "slide": to a moment; "toggle": a breakpoint; "edited": the source; "copy": a text, with its name
+  on(what, work) {
+    this.subscribers.set(what, [...(this.subscribers.get(what) || []), work]);
+  }
+
+  // Tells all who have subscribed, also where one of them has a fault, which is thrown then.
+  emit(what, ...given) {
+    doAll((this.subscribers.get(what) || []).map((work) => () => work(...given)));
+  }
+
+  tell(did, isFault = false, next = "") {
+    this.emit("status", did, isFault, next);
+  }
+
+  get isBusy() { return this.left > 0 || this.timer !== 0; }
+
+  // Does something after all that was asked for before; what it gives, or nothing where it fails or was dropped. Whatever fails is told.
+  add(work) {
+    const { generation } = this;
+    this.left += 1;
+    this.emit("busy", true);
+    this.last = this.last.then(async () => {
+      const timer = setTimeout(() => this.emit("slow", true), SLOW);
+      try {
+        return generation === this.generation ? await work() : undefined;
+      } catch (fault) {
+        if (generation === this.generation) this.emit("failed", fault);
+        return undefined;
+      } finally {
+        clearTimeout(timer);
+        this.emit("slow", false);
+        this.left -= 1;
+        this.emit("busy", this.isBusy);
+      }
+    });
+    return this.last;
+  }
+
+  // What waits is not done any more, and of what is under way nothing is told.
+  drop() {
+    clearTimeout(this.timer);
+    this.timer = 0;
+    this.generation += 1;
+    this.machine.stop();
+  }
+
+  // Does something on the session of the texts as they are; where they are refused, `unready` answers.
+  enqueue(work, unready = () => this.tell(`${this.refusal}. Nothing was done.`, true)) {
+    return this.add(async () => {
+      await this.assemble();
+      return this.session ? work() : unready();
+    });
+  }
+
+  // The texts are assembled when nothing is altered for a moment, or before the next thing is done.
+  assembleSoon() {
+    clearTimeout(this.timer);
+    this.timer = setTimeout(() => {
+      this.timer = 0;
+      this.enqueue(() => undefined, () => undefined);
+    }, PAUSE);
+    this.emit("busy", true);
+  }
+
+  // A session of the texts as they are now. One of the last that were left for other texts comes back when its texts do.
+  async assemble() {
+    const texts = this.read();
+    const key = JSON.stringify([texts.source, texts.deck, texts.cards]);
+    if (key === this.assembled) return;
+    const back = this.kept.get(key);
+    const session = back || new Session(this.machine, texts, this.blocks);
+    const begun = await session.begin();
+    const isLeft = this.session && this.session.log.length > 0;
+    if (isLeft) this.kept.set(this.assembled, this.session);
+    if (this.kept.size > SESSIONS) this.kept.delete(this.kept.keys().next().value);
+    this.kept.delete(key);
+    Object.assign(this, { assembled: key, session: null });
+    this.emit("texts", { ...begun, texts });
+    if (begun.refusal) {
+      this.tell(`${this.refusal}.`, true);
+      return;
+    }
+    this.session = session;
+    this.emit("program", begun.program);
+    this.show(begun.view);
+    if (back) this.tell(`The text is as it was, and what was done with it is back: ${counted(session.log.length, "command")}.`);
+    else if (isLeft) this.tell("The text is another, so it begins anew. Undo the edit, and what was done comes back.");
+    else if (this.warning) this.tell(this.warning);
+  }
+
+  // Shows a moment of the machine, and why it is this one: `answer` is that to the command which led here from the moment of the view `before`.
+  show(view, answer = null, before = null) {
+    this.view = view;
+    this.emit("view", view, answer, before);
+  }
+
+  // Begins anew with the texts as they are.
+  begin() {
+    this.kept.clear();
+    Object.assign(this, { session: null, assembled: "" });
+    return this.assemble();
+  }
+}

@@ -1,0 +1,17 @@
+"""What the tests for pytest have in common: the program that is tested."""
+import pytest
+
+
+def pytest_addoption(parser):
+    parser.addoption("--program", required=True, help="the built program")
+
+
+@pytest.fixture
+def program(request):
+    return request.config.getoption("--program")
+
+
+def pytest_terminal_summary(terminalreporter):
+    """What was not run is said, with the reason."""
+    for report in terminalreporter.getreports("skipped"):
+        terminalreporter.write_line(f"not run: {report.longrepr[2].removeprefix('Skipped: ')}")

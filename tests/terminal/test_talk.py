@@ -1,0 +1,139 @@
+"""A person sees the greeting, a prompt, types a command, sees its reply and the next prompt, in turn."""
+import pexpect
+from conftest import GREETING, PROMPT, SOURCE, Terminal
+
+FIRST = "0000  + 00 05 00 02 48  ENTA 5                 1   ENTA 5\n"
+THIRD = "0002  + 01 36 00 05 24  STA 100                3   STA 100\n"
+FOURTH = "0003  + 00 00 00 02 05  HLT                    4   HLT\n"
+AFTER = "0004  + 00 00 00 00 00  NOP\n"
+ADDED = "      2  0001  INCA 7               1u  A + 00 00 00 00 05 -> + 00 00 00 00 12\n"
+STORED = "      3  0002  STA 100              2u  0100 + 00 00 00 00 00 -> + 00 00 00 00 12\n"
+HALTED = "      4  0003  HLT                 10u\n"
+LAST = "      2  3999  NOP                  1u\n"
+
+
+def test_in_turn(talk):
+    """Prompt, command, reply, what the last step altered, what comes next or what the command takes, prompt; the end of the input."""
+    terminal = talk()
+    for line, reply in (
+            ("step 4", f"ran 4 to 0004 clock 14: halt\n{HALTED}{AFTER}"), ("back 2", f"back 2 to 0002 clock 2\n{THIRD}"),
+            ("", f"back 2 to 0000 clock 0\n{FIRST}"), ("forth 2", f"forth 2 to 0002 clock 2\n{ADDED}{THIRD}"),
+            ("trace", f"{STORED}ran 1 to 0003 clock 4: limit\n{FOURTH}"), ("r", f"ran 1 to 0004 clock 14: halt\n{HALTED}{AFTER}"),
+            ("back all", f"back 4 to 0000 clock 0\n{FIRST}"), ("jumps", "? C1 no such command\nhelp lists the commands\n"),
+            ("back x", "? C2 bad argument\nback takes a number, all, break or until COND\n"), ("show clock", "clock 0\n"), ("set loc 3999", "ok\n"),
+            ("step", f"ran 1 to 4000 clock 1: limit\n{LAST}"), ("step", "ran 0 to 4000 clock 1: fault M15 no cell at the location\n")):
+        assert terminal.said(line) == reply
+    assert terminal.end("\x04") == 3 and terminal.before == "\r\n"
+
+
+def test_person(aside, ran):
+    """What a person types, and the line of a script that it stands for: each writes the same on standard output."""
+    lines = [("s", "step"), ("n", "step"), ("ba", "back 1"), ("F", "forth 1"), ("next 1", "step 1"), ("b 3", "break 3"), ("r", "run 1000000"), ("cl 3", "clear 3"),
+             ("back u A", "back until A"), ("c", "run 1000000"), ("ba al", "back al"), ("ba all", "back all"), ("RUN until cell 100", "run 1000000 until cell 100"),
+             ("run 5 un loc 1", "run 5 until loc 1"), ("g 1", "goto 1"), ("se A 7", "set A 7"), ("t", "trace"), ("continue 1", "run 1"), ("sh regs", "show regs"),
+             ("  s \t 1", "step 1"), ("* s", "* s"), ("s * s", "step * s"), ("S", "step"), ("stepp", "stepp"), ("", "step"), ("ba u cell 100", "back until cell 100"),
+             ("show clock", "show clock"), (" \t", "back until cell 100"), ("run x", "run x"), ("", "back until cell 100"),
+             ("set rA 5", "set A 5"), ("set Ri1 -7", "set I1 -7"), ("set cell 3 rA", "set cell 3 rA"), ("back until rA", "back until A"), ("u rX", "run 1000000 until X"),
+             ("run 3 u rJ", "run 3 until J"), ("p", "show values"), ("p A", "show values"), ("print rI1", "show values"), ("print over", "show regs"),
+             ("p 5+3", "show value 5+3"), ("p FOO", "show value FOO"), ("print cell 100", "show values 100 100"), ("print 1 2", "show value 1 2"),
+             ("show A", "show values"), ("show LOC", "show regs"), ("show", "show"), ("show clock", "show clock"), ("show last", "show last 1"),
+             ("show cell 2", "show values 2 2"), ("show cells 1", "show cells 1 1"), ("show cells 1 3", "show cells 1 3"), ("show code 1", "show code 1 1"),
+             ("show values 0", "show values 0 0"), ("show unit 3", "show unit 3"), ("where", "show code"), ("w", "show code"), ("where 2", "show code 2 2"),
+             ("x 100", "show values 100 100"), ("x 0 2", "show values 0 2"), ("break FOO", "break FOO"), ("goto START", "goto START"),
+             ("clear all", "clear all"), ("exit now", "quit now"), ("goto 0", "goto 0"), ("watch rA", ""), ("c", "run 1000000 until A"), ("run 3", "run 3 until A"),
+             ("back", "back until A"), ("forth", "forth until A"), ("wa rX", ""), ("back all", "back all"), ("r", "run 1000000 until A or X"), ("ba 1", "back 1"),
+             ("run 3", "run 3 until A or X"), ("watch FOO", ""), ("wa cell 100 OR rI1 or over or cmp or I2", ""), ("ba", "back until A or X or cell 100 or I1 or over or cmp or I2"),
+             ("watch unit 18 or unit 19", ""), ("F", "forth until A or X or cell 100 or I1 or over or cmp or I2"), ("watch loc 3", ""),
+             ("c", "run 1000000 until A or X or cell 100 or I1 or over or cmp or I2 or loc 3"), ("watch J", ""),
+             ("back", "back until A or X or cell 100 or I1 or over or cmp or I2 or loc 3"), ("u rX or rA", "run 1000000 until X or A"), ("back all", "back all"),
+             ("run 2 until X", "run 2 until X"), ("delete", ""), ("ba", "back 1"), ("watch FOO BAR", ""), ("ba", "back 1"), ("watch cell 100", ""), ("b 3", "break 3"),
+             ("back all", "back all"), ("run", "run 1000000 until cell 100"), ("", "back all"), ("forth break", "forth break"), ("delete 1", "delete 1"),
+             ("d", ""), ("F", "forth 1"), ("display A", ""), ("n", "step"), ("di FOO BAR", ""), ("undisplay 1", "undisplay 1"), ("und", ""), ("un A", "run 1000000 until A")]
+    terminal, output = aside()
+    for line, _ in lines:
+        terminal.said(line.replace("\t", " "))
+    scripted = ran("debug", "a.mixal", given="".join(f"{line}\n" for _, line in lines))
+    assert (terminal.end("q\n"), output()) == (scripted.status, scripted.output)
+
+
+def test_listed(aside, folder):
+    """The lines of the source around what comes next, a line or a symbol, on standard error alone."""
+    lines = ["* the first", " ENTA 5", "LOOP INCA 7", " STA 100", *["* between"] * 6, "DONE HLT", " END LOOP-1"]
+    (folder / "list.mixal").write_text("".join(f"{line}\n" for line in lines))
+
+    def around(at, marked):
+        return "".join(f"{n:5}{'>' if n == marked else ' '} {lines[n - 1]}\n" for n in range(max(1, at - 5), min(len(lines), at + 4) + 1))
+
+    terminal, output = aside("list.mixal")
+    form = "list takes the number of a line, a symbol, or nothing\n"
+    for line, reply in (("list", around(2, 2)), ("l 9", around(9, 2)), ("list done", around(11, 2)), ("list 99", ""), ("list FOO", form), ("list 1 2", form),
+                        ("set loc DONE", ""), ("LIST", around(11, 11)), ("set loc 3000", ""), ("list", around(1, 0))):
+        assert terminal.said(line) == reply
+    assert terminal.end("exit\n") == 0 and output() == "ok\n" * 2
+
+
+def test_displayed(aside):
+    """What is displayed is shown when it is asked for and after each stop, on standard error alone, up to `undisplay`."""
+    terminal, _ = aside()
+    here = [f'+ 00 00 00 00 {n:02} {n:11}  "    {letter}"\n' for n, letter in enumerate(" ABCDEFGHIΔJK")]
+    none, twelve = (f"0100 {here[n]}" for n in (0, 12))
+    for line, reply in (("display cell 100", none), ("step 2", f"{ADDED}{THIRD}{none}"), ("display FOO BAR", "display takes a register, cell E or a word W, as print does\n"),
+                        ("set X 1", ""), ("s", f"{STORED.replace('3', '4', 1)}{FOURTH}{twelve}"), ("di *", here[3]), ("back 1", f"{THIRD}{none}{here[2]}"),
+                        ("back x", "back takes a number, all, break or until COND\n"), ("", f"{THIRD}{none}{here[2]}"), ("undisplay", ""), ("trace", FOURTH)):
+        assert terminal.said(line) == reply
+    assert terminal.end("exit\n") == 3
+
+
+def test_newcomer(talk):
+    """From `help` alone to the step that wrote a cell: each line that is typed then is one that the screen has shown."""
+    terminal = talk()
+    seen = terminal.said("help")
+    for line, reply in (("run", "ran 4 to 0004 clock 14: halt\n"), ("back until cell 100", "STA 100")):
+        assert line in seen and reply in terminal.said(line)
+    assert terminal.end() == 0
+
+
+def test_help_and_quit(aside):
+    """Help stands on standard error alone, and `quit` ends the talk."""
+    terminal, output = aside()
+    for line, part in (("help", "step, run, trace"), ("HELP back", "back until COND"), ("help jump", "no help on that"), ("step", "")):
+        assert part in terminal.said(line)
+    assert terminal.end("Quit\n") == 0 and output() == "ran 1 to 0001 clock 1: limit\n"
+
+
+def test_closed_terminal(talk):
+    """A terminal that goes away ends the talk."""
+    terminal = talk()
+    terminal.ptyproc.fileobj.close()
+    assert terminal.wait() is not None or terminal.signalstatus is not None
+
+
+def test_without_words(program, folder):
+    """A person who types the name alone sees the help, which is a mistake all the same; nothing is waited for."""
+    for words, usage, status in (((), "<COMMAND>", 2), (("run",), "run [OPTIONS] <SOURCE>", 2), (("--help",), "<COMMAND>", 0)):
+        terminal = Terminal(program, *words, folder=folder)
+        assert f"\nUsage: mixrev {usage}\n" in terminal.seen(pexpect.EOF) and terminal.wait() == status
+
+
+def test_source_typed(program, folder):
+    """The name - is the terminal: a source that is typed up to the end of the input."""
+    terminal = Terminal(program, "list", "-", folder=folder)
+    assert terminal.end(" END 0\n\x04") == 0 and "                        1   END 0\r\nsymbols 0\r\n" in terminal.before
+
+
+def test_warned_source(talk, ran, folder):
+    """The warnings of a source: before the greeting, where a person talks, and before the first step of a run; a program is told none."""
+    (folder / "typo.mixal").write_text(" JMP LOPP\n END 0\n")
+    warning = "typo.mixal:1:6: warning: LOPP is defined nowhere: END makes a cell of 0 for it [undefined-symbol]\n JMP LOPP\n     ^^^^\n"
+    assert talk("typo.mixal", greeting=warning + GREETING).end("q\n") == 0
+    run, quiet = ran("run", "typo.mixal", "--steps", "1"), ran("debug", "typo.mixal")
+    assert (run.output, run.errors, run.status) == ("", f"{warning}typo.mixal: steps used up at 0001 clock 1\n", 3)
+    assert (quiet.output, quiet.errors, quiet.status) == ("", "", 0)
+
+
+def test_refused_source(program, folder):
+    """The line and a mark, as editors read them, and the line of a script."""
+    (folder / "a.mixal").write_text(" ENTA 5\nX JUMP 3 what\n END\n")
+    terminal = Terminal(program, "debug", "a.mixal", folder=folder)
+    assert terminal.seen(pexpect.EOF) == "a.mixal:2:3: error: A2 no such operation: JUMP\nX JUMP 3 what\n  ^^^^\nline 2: A2 no such operation\n"
+    assert terminal.wait() == 1
