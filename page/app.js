@@ -3,13 +3,14 @@
 import { Bars } from "./bars.js";
 import { cardsApart, isBundle, linesIn, openedOf, scriptOf, withCards } from "./bundle.js";
 import { Compare } from "./compare.js";
-import { $, copied, counted, on, onResize, put } from "./dom.js";
+import { $, copied, counted, on, put } from "./dom.js";
 import { missing, showFound, toldRefusal } from "./faults.js";
 import { Heat } from "./heat.js";
 import { Listing } from "./listing.js";
 import { Broken, STOPPED } from "./machine.js";
 import { Memory, showRegisters, showSymbols } from "./memory.js";
 import { TimeMap } from "./pictures.js";
+import { choose, place } from "./place.js";
 import { conflictOf, toldOf } from "./sentence.js";
 import { commandsOf } from "./session.js";
 import { Store } from "./store.js";
@@ -18,8 +19,6 @@ import { Time } from "./time.js";
 import { Output, Units } from "./units.js";
 import { Who } from "./who.js";
 
-const WIDEST = window.matchMedia("(min-width: 100rem) and (min-height: 34rem)"); // the pictures are in the third column
-
 export class App {
   constructor(machine, grammar) {
     const store = new Store(machine, () => this.texts, () => this.units.requests);
@@ -27,7 +26,6 @@ export class App {
     this.isEdited = false;
     this.isOpening = false; // a program, whose script stays as it came
     this.agreed = ""; // a command that was given once, and is done when it is given again
-    this.wanted = undefined; // the moment that the slider asks for
     store.on("texts", (begun) => this.showTexts(begun));
     this.listing = new Listing(store, grammar);
     store.on("view", (view) => showRegisters(store, view));
@@ -53,20 +51,7 @@ export class App {
     store.on("copy", (text, name) => this.copy(text, name));
     for (const id of ["cards", "deck"]) on(id, "input", () => this.edited());
     on("anew", "click", () => store.add(() => store.begin()));
-    this.place();
-  }
-
-  // Tabs, of a window that is too narrow for all parts; the pictures, below the listing or in a column of their own; and what is scrolled to comes below
-  // the bar of time.
-  place() {
-    for (const tab of document.querySelectorAll("#tabs button")) tab.addEventListener("click", () => this.choose(tab.dataset.tab));
-    this.choose("program");
-    const setPicture = () => (WIDEST.matches ? document.querySelector(".more") : $("shelf")).insertBefore($("picture"), WIDEST.matches ? $("talk") : null);
-    WIDEST.addEventListener("change", setPicture);
-    setPicture();
-    for (const [name, element] of [["--bar", $("time")], ["--head", document.querySelector("header")]]) {
-      onResize(element, () => document.documentElement.style.setProperty(name, `${element.offsetHeight}px`));
-    }
+    place();
   }
 
   // What is to be assembled and loaded. Cards of which one looks like a header go apart, so that they are refused as cards.
@@ -122,12 +107,6 @@ export class App {
   async copy(text, name) {
     const isDone = await copied(text);
     this.tell(isDone ? `${name} is copied.` : "This browser does not let the page copy.", !isDone);
-  }
-
-  // Shows one of the tabs.
-  choose(name) {
-    document.querySelector("main").dataset.tab = name;
-    for (const tab of document.querySelectorAll("#tabs button")) tab.setAttribute("aria-pressed", String(tab.dataset.tab === name));
   }
 
   // The texts were changed. A bundle that was pasted is opened.
@@ -204,26 +183,6 @@ export class App {
     });
   }
 
-  // Shows a moment while the slider is dragged; where more come than can be shown, the last. A key on the slider ends at once what it begins, so nothing
-  // is looked at before the events that come together are done.
-  async preview(moment) {
-    const { store } = this;
-    const isUnderWay = this.wanted !== undefined;
-    this.wanted = moment;
-    if (isUnderWay) return;
-    await store.enqueue(async () => {
-      const { session } = store;
-      await new Promise((resolve) => setTimeout(resolve));
-      for (let seen; seen !== this.wanted && this.time.isDragged; ) {
-        seen = this.wanted;
-        const { view } = await session.look(seen, true);
-        if (session !== store.session) break;
-        store.show(view);
-      }
-    });
-    this.wanted = undefined;
-  }
-
   toggle(asked) {
     const { listing } = this;
     const line = listing.lineFrom(asked);
@@ -248,7 +207,7 @@ export class App {
       $("deck").value = others;
       $("given").open = deck !== "";
       store.emit("forget");
-      this.choose("program");
+      choose("program");
       for (const line of new Set(breaks)) listing.toggle(line);
       listing.shut(shown.includes("no-words"));
       $("map-box").open = shown.includes("map");

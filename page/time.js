@@ -1,6 +1,7 @@
 // Buttons, keys and the slider: ways through the changes.
 
 import { $, on, put } from "./dom.js";
+import { choose } from "./place.js";
 
 const KEYS = {
   F7: "back", F8: "step", F10: "over", "Control+F10": "out", "Shift+F7": "to-break", "Shift+F8": "run", "Control+F7": "to-start", "Control+F8": "to-end",
@@ -8,12 +9,14 @@ const KEYS = {
 
 export class Time {
   constructor(app) {
+    this.app = app;
+    this.wanted = undefined; // the moment that the slider asks for
     this.others = {
       F9: () => app.toggle(app.listing.source.caretLine),
       F1: () => app.tell(app.listing.source.caretExplained || "The cursor is at no operation."),
       "Control+Enter": () => {
         const isCommand = document.activeElement === $("command");
-        app.choose(isCommand ? "program" : "talk");
+        choose(isCommand ? "program" : "talk");
         if (isCommand) app.listing.cm.focus();
         else $("command").focus();
       },
@@ -23,7 +26,7 @@ export class Time {
     on("slider", "input", () => {
       this.isDragged = true;
       $("moment").value = $("slider").value;
-      app.preview(Number($("slider").value));
+      this.preview(Number($("slider").value));
     });
     on("slider", "change", () => {
       this.isDragged = false;
@@ -37,6 +40,26 @@ export class Time {
     on("stop", "click", () => app.store.machine.stop());
     document.addEventListener("keydown", (event) => this.pressed(event));
     app.store.on("view", (view) => this.show(app.store.session, view.state));
+  }
+
+  // Shows a moment while the slider is dragged; where more come than can be shown, the last. A key on the slider ends at once what it begins, so nothing
+  // is looked at before the events that come together are done.
+  async preview(moment) {
+    const { store } = this.app;
+    const isUnderWay = this.wanted !== undefined;
+    this.wanted = moment;
+    if (isUnderWay) return;
+    await store.enqueue(async () => {
+      const { session } = store;
+      await new Promise((resolve) => setTimeout(resolve));
+      for (let seen; seen !== this.wanted && this.isDragged; ) {
+        seen = this.wanted;
+        const { view } = await session.look(seen, true);
+        if (session !== store.session) break;
+        store.show(view);
+      }
+    });
+    this.wanted = undefined;
   }
 
   pressed(event) {

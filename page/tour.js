@@ -3,6 +3,7 @@
 // without it.
 
 import { $, on, put } from "./dom.js";
+import { choose } from "./place.js";
 
 export const NO_TOUR = "#no-tour";
 
@@ -48,7 +49,7 @@ export class Tour {
 
   frame({ part, tab }) {
     for (const framed of document.querySelectorAll(".toured")) framed.classList.remove("toured");
-    if (tab) this.app.choose(tab);
+    if (tab) choose(tab);
     if (!part) return;
     $(part).classList.add("toured");
     $(part).scrollIntoView({ block: "nearest" });
