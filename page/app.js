@@ -25,6 +25,7 @@ export class App {
     this.store = store;
     this.isEdited = false;
     this.isOpening = false; // a program, whose script stays as it came
+    this.said = [""]; // what the status says
     this.agreed = ""; // a command that was given once, and is done when it is given again
     store.on("texts", (begun) => this.showTexts(begun));
     this.listing = new Listing(store, grammar);
@@ -78,16 +79,21 @@ export class App {
     this.tell(did, isFault, next);
   }
 
-  tell(did, isFault = false, next = "") {
+  tell(...said) {
+    this.said = said;
+    this.showStatus(...said);
+  }
+
+  showStatus(did, isFault = false, next = "") {
     $("status").classList.toggle("fault", isFault);
     put($("did"), did);
     put($("next"), next);
   }
 
-  // Whether what is done takes long, so that it may be stopped.
+  // Whether what is done takes long, so that it may be stopped. After it the status says what was told last.
   slow(isSlow) {
     $("stop").hidden = !isSlow;
-    if (isSlow) this.tell("Working …");
+    this.showStatus(...(isSlow ? ["Working …"] : this.said));
   }
 
   // Tells what went wrong. The text, the breakpoints and the commands are as they were, and the last view is shown again.

@@ -81,10 +81,12 @@ function causeOf(what, line) {
   const number = what.split(" ")[0];
   if (/^[;#/]/.test(first)) return "A remark line begins with *";
   if (first.endsWith(":")) return "A label has no colon";
-  if (number === "A2" && isOperation(first)) return `${first} is at the first column, so it is read as a label: put a blank before it`;
+  const atFirst = `${first} is at the first column, so it is read as a label`;
+  if (number === "A2" && isOperation(first)) return `${atFirst}: put a blank before it`;
   if (number === "A2" && operation) {
-    const near = nearTo(operation);
-    return near ? `Perhaps ${near} is meant, not ${operation}` : `${operation} is none`;
+    const [near, meant] = [nearTo(operation), nearTo(first)];
+    if (near) return `Perhaps ${near} is meant, not ${operation}`;
+    return meant ? `${atFirst}: perhaps ${meant} behind a blank is meant` : `${operation} is none`;
   }
   if (number === "A5" && !/,\s/.test(address)) return "";
   const causes = {

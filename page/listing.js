@@ -7,6 +7,8 @@ import { Source } from "./source.js";
 
 const LINES_WALKED = { ArrowUp: -1, ArrowDown: 1, PageUp: -15, PageDown: 15, Home: -Infinity, End: Infinity };
 
+const PLACES = ["wrap", "gutter"]; // where a line has its class
+
 // The letter of a line at a column, which counts tab stops at each eighth.
 function letterAt(text, column) {
   let [at, place] = [0, 1];
@@ -131,8 +133,9 @@ export class Listing {
     const { cm, marked, left } = this;
     const wanted = [[marked, "at"], [left === marked ? 0 : left, "left"], ...[...this.said.keys()].map((line) => [line, this.bad.has(line) ? "wrong" : "warned"])];
     cm.operation(() => {
-      for (const [handle, name] of this.classed) cm.removeLineClass(handle, "wrap", name);
-      this.classed = wanted.flatMap(([line, name]) => (cm.getLineHandle(line - 1) ? [[cm.addLineClass(line - 1, "wrap", name), name]] : []));
+      for (const [handle, name] of this.classed) for (const where of PLACES) cm.removeLineClass(handle, where, name);
+      this.classed = wanted.map(([line, name]) => [cm.getLineHandle(line - 1), name]).filter(([handle]) => handle);
+      for (const [handle, name] of this.classed) for (const where of PLACES) cm.addLineClass(handle, where, name);
     });
     this.bow.remove();
     if (!marked || !left || Math.abs(marked - left) < 2) return;

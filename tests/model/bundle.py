@@ -1,13 +1,11 @@
 """A bundle: source, deck and script in one input; what the program writes for it, and its status."""
 
 import assembler
-import source as small
 from commands import Session
 from deck import read_deck
 from listing import listing
 from machine import World
 from pieces import lines_of
-from parts import has
 from texts import Fault
 
 BUNDLE_BYTES = 41943040
@@ -31,10 +29,8 @@ def cut(text):
 
 def program_of(source):
     """The words with their places, the start, what the names in commands stand for, and the whole program."""
-    if has("assembler"):
-        program = assembler.assemble(source)
-        return program.words, program.start, program.names, program
-    return small.assemble(source) + ({}, None)
+    program = assembler.assemble(source)
+    return program.words, program.start, program.names, program
 
 
 def run(text, watch=None):

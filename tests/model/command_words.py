@@ -1,9 +1,8 @@
 """The words of a command: numbers, expressions, W-values, places. All of them are read before any is tested for its range."""
 
 from expressions import expression, w_value
-from parts import has
 from texts import Fault
-from words import FULL, number
+from words import number
 
 
 def digits_of(word):
@@ -12,18 +11,7 @@ def digits_of(word):
     return int(word)
 
 
-def plain_word(word):
-    """A number of one to ten digits and perhaps a sign, as a word."""
-    sign = "-" if word[:1] == b"-" else "+"
-    magnitude = digits_of(word[1:] if word[:1] in (b"+", b"-") else word)
-    if magnitude >= FULL:
-        raise Fault("C2")
-    return (sign, magnitude)
-
-
 def expression_in(session, word):
-    if not has("expressions"):
-        return plain_word(word)
     try:
         value, at = expression(word, 0, session.names, session.here())
     except Fault:
@@ -34,8 +22,6 @@ def expression_in(session, word):
 
 
 def w_value_in(session, word):
-    if not has("expressions"):
-        return plain_word(word)
     try:
         return w_value(word, session.names, session.here())
     except Fault:

@@ -5,7 +5,6 @@ from command_words import cells_between, count, digits_of, expression_in, place_
 from machine import do, replay
 from operations import REGISTERS
 from pieces import words_of
-from parts import has
 from texts import Fault
 from units import UNITS, is_empty, shown
 from words import ZERO, written
@@ -30,8 +29,7 @@ class Session:
             return b"", True
         self.faulted = False
         try:
-            if (words[0] not in COMMANDS or words[0] in LATER and not has("commands") or
-                    words[0] in OF_SOURCES and not has("sources") or words[0] in OF_HISTORY and not has("history")):
+            if words[0] not in COMMANDS:
                 raise Fault("C1")
             reply = COMMANDS[words[0]](self, words[1:])
         except Fault as fault:
@@ -73,7 +71,7 @@ def step(session, words):
 
 
 def is_until(words):
-    return has("history") and words[:1] == [b"UNTIL"]
+    return words[:1] == [b"UNTIL"]
 
 
 def run(session, words):
@@ -123,7 +121,7 @@ def back(session, words):
     count(words, 1)
     if words[0] == b"ALL":
         number = len(session.changes)
-    elif words[0] == b"BREAK" and has("commands"):
+    elif words[0] == b"BREAK":
         number = to_a_break(session)
     else:
         number = asked(words[0], session.changes)
@@ -160,7 +158,7 @@ def forth(session, words):
         line, number = history.forth_until(session, words[1:])
         return line + gone_forth(session, number)
     count(words, 1)
-    if words[0] == b"ALL" and has("sources"):
+    if words[0] == b"ALL":
         return gone_forth(session, len(session.ahead))
     return gone_forth(session, asked(words[0], session.ahead))
 
@@ -174,7 +172,7 @@ def gone_forth(session, number):
 
 
 def is_line(words):
-    return has("sources") and len(words) == 2 and words[0] == b"LINE"
+    return len(words) == 2 and words[0] == b"LINE"
 
 
 def goto(session, words):
@@ -233,18 +231,16 @@ def show(session, words):
         return "changes %d\n" % len(session.changes)
     if len(words) == 3 and words[0] == b"CELLS":
         return "".join(cell_line(world, place) for place in cells_between(session, words))
-    if len(words) == 2 and words[0] == b"UNIT" and has("units"):
+    if len(words) == 2 and words[0] == b"UNIT":
         n = digits_of(words[1])
         if n >= UNITS:
             raise Fault("C3")
         return shown(n, world.units[n])
-    if words == [b"BREAKS"] and has("commands"):
+    if words == [b"BREAKS"]:
         return breakpoints(world)
-    if words == [b"ALL"] and has("show-all"):
+    if words == [b"ALL"]:
         return everything(world)
-    if has("sources"):
-        return history.show(session, words)
-    raise Fault("C2")
+    return history.show(session, words)
 
 
 def registers(world):
@@ -272,6 +268,3 @@ def everything(world):
 
 COMMANDS = {b"STEP": step, b"RUN": run, b"BACK": back, b"FORTH": forth, b"BREAK": break_, b"CLEAR": clear, b"SET": set_,
             b"SHOW": show, b"GOTO": goto, b"TRACE": trace}
-LATER = (b"RUN", b"FORTH", b"BREAK", b"CLEAR")
-OF_SOURCES = (b"GOTO",)
-OF_HISTORY = (b"TRACE",)

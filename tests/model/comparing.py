@@ -9,7 +9,6 @@ import tempfile
 from collections import Counter
 
 import bundle
-import parts
 from machine import instruction
 from operations import TABLE, UNIT_OPERATIONS
 from program import Runner
@@ -192,8 +191,7 @@ def listed(counts, names):
 
 
 def tell(seen, wanted=None):
-    ops = [op for (c, _), op in TABLE.items() if parts.has("units") or not 34 <= c <= 38]
-    names = [name for name in dict.fromkeys(op.name for op in ops) if wanted is None or name in wanted]
+    names = [name for name in dict.fromkeys(op.name for op in TABLE.values()) if wanted is None or name in wanted]
     print("faults: " + listed(seen.faults, TEXTS))
     print("statuses: " + listed(seen.statuses, (0, 1, 2, 3)))
     if seen.more:

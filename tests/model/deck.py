@@ -3,7 +3,6 @@
 import re
 
 from pieces import is_blank, lines_of, words_of
-from parts import has
 from texts import Fault
 from units import EMPTY, KINDS, MOST, no_units
 from words import code_of, joined
@@ -88,7 +87,7 @@ def read_deck(deck):
     at = 0
     try:
         for at, line in enumerate(lines, 1):
-            if line.startswith(b"%") and has("units"):
+            if line.startswith(b"%"):
                 if part:
                     part.close()
                 part = header(line, parts)

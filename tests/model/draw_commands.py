@@ -1,6 +1,4 @@
-"""Random scripts of every command, forward and backward: `python3 tests/model/draw_commands.py SEED K` prints bundle K of a seed.
-
-What is drawn depends on the parts that the program has: names and expressions come where it knows them, decks where it has units."""
+"""Random scripts of every command, forward and backward: `python3 tests/model/draw_commands.py SEED K` prints bundle K of a seed."""
 
 import random
 
@@ -9,7 +7,6 @@ import draw_request as texts
 import draw_units
 from draw_machine import Scene, one, several, text, any_word, short, REGISTERS
 from draw_text import BAD_WORDS, RANGES, UNKNOWN, dressed, wrong_command
-from parts import has
 
 PROGRAMS = [program.split("/") for program in (
     "START ENT1 5/2H DEC1 1/LOOP INCA 3/ J1P 2B/X HLT/Y CON 7/ JMP START/ END START",
@@ -24,13 +21,10 @@ PROGRAMS = [program.split("/") for program in (
     "START IN 50(20)/ OUT 50(19)/LOOP JBUS *(19)/ OUT 50(17)/ IOC 0(18)/ OUT 50(18)/ IOC 0(20)/ JRED START(20)/X HLT/ JMP START/ END START",
     "Y EQU 500/START IN Y(16)/ LDA Y/ LDX Y+1/ NUM/ STA X/ INCA 1/ CHAR/2H STA Y+2/ STX Y+3/ OUT Y(18)/LOOP JBUS *(18)/ JMP START/X CON -5/ END START",
     "2H EQU 3/X CON X/START JSJ *+2/ HLT/ ENT1 1,1/ JMP START/2H END 2B")]
-PLAIN_PROGRAMS = [program.split("/") for program in (" ENTA 5/ INCA 7/ STA 100/ HLT/ END 0", " HLT/ HLT/ INCA 1/ STA 0/ END 0", " INCA 1/ STA 1/ HLT/ END 0",
-                  " ENTA 1/ STA 4000/ END 0", " ENTA 39/ STA 5/ INCA 1/ INCA 1/ INCA 1/ END 0", " INCA 1/ INCA 1/ INCA 1/ INCA 1/ HLT/ END 1", " END 3997")]
 ORIGS = [[], [], [], [" ORIG 10"], [" ORIG 3988"], [" ORIG 3990"]]
 NAMES = b"X Y Z START LOOP NOWHERE 2B 2b 9B x start * *".split()
 PLACES = b"""X START LOOP Y 2B 9B * *+1 *-1 X+1 START+2 LOOP-1 START+3 3999 4000 -0 -1 0 1 2 3 4 5 6 7 10 11 12 13 3990 3991 3992 3999 +3 Q 2F 2H 3B =3= 5/0 1:2 4095
     1073741824 12345678901 5+ 5,1 (5) 5( X+ Z X*X 1//2 START/2 0003 NOWHERE""".split()
-PLAIN_PLACES = b"0 0 0 1 1 1 2 2 2 3 3 3 4 4 5 5 6 100 3997 3998 3999 -0 0000000002 +1".split()
 WORDS = b"""0 1 -1 -0 5 X -X START X+Y Z 2B 1(0:2) 1,-1000(0:2) -1(0:1),16(2:2),3(3:3),5(4:4),4(5:5) 1(6) 1(6 1( Q 2F =3= 5/0 *,1(1:1) 1,2(4:4) 4095 4096 -4095 -4096
     1073741823 1073741824 1073741823+1 5) 1, ,1 7(0:0) -7(0:0) X(1:5) * 2H 3B 12345678901""".split()
 COUNTS = b"0 1 1 1 2 2 3 4 5 7 10 20 100 1000 0000000002 00000000002 1000001 9999999999 99999999999 -1 +1 X * 1+1 all break".split()
@@ -45,17 +39,11 @@ def count(r):
 
 
 def place(r):
-    if not has("expressions") and r.randrange(12):
-        return r.choice(PLAIN_PLACES)
     return r.choice(PLACES[:35] if r.randrange(6) else PLACES)
 
 
 def value(r):
     kind = r.randrange(8)
-    if not has("expressions") and r.randrange(12):
-        kind = 5
-        if r.randrange(3) == 0:
-            return r.choice(b"39 39 39 133 262183 524327 786471 0 262192 -1".split())  # JMP 0 to JMP 3, HLT, INCA 1
     if kind < 4:
         return r.choice(WORDS)
     if kind < 6:
@@ -115,9 +103,8 @@ set cell Q 4000/set loc/set loc Q/show cells 4000 Q/show cells 5 4/ break 1/Brea
 def source(r):
     kind = r.randrange(10)
     if kind < 8:
-        program = r.choice(ORIGS) + r.choice(PROGRAMS) if has("assembler") else r.choice(PLAIN_PROGRAMS)
-        return [line.encode() for line in program]
-    if kind < 9 or not has("assembler"):
+        return [line.encode() for line in r.choice(ORIGS) + r.choice(PROGRAMS)]
+    if kind < 9:
         return [b" END 0"]
     return draw_asm.source(r)
 
@@ -149,13 +136,6 @@ def script(r):
 def long(r, which):
     """Runs of many steps, and far back."""
     kind = which % 5
-    if not has("assembler"):  # cells 0 and 1 are to hold INC1 1 and JMP 0
-        first = [[b"set cell 0 39"], [b"set cell 0 262193", b"set cell 1 39"]][kind != 0]
-        return [b" END 0"], first + [[b"run 100000", b"back 99999", b"show changes", b"forth 500", b"show clock", b"back all"],
-                                     [b"break 0", b"run 20000", b"run 20000", b"show changes", b"back break", b"show breaks", b"back break", b"forth 3"],
-                                     [b"run 4000", b"break 0", b"back break", b"show regs", b"forth 1", b"back all", b"forth 3000", b"show regs"],
-                                     [b"break %d" % (at % 4000) for at in range(0, 4000, 7)] + [b"show breaks", b"back 300", b"show breaks", b"run 1000", b"back break"],
-                                     [b"run 3000", b"show changes", b"back 1000", b"forth 1000", b"back all", b"show regs"]][kind]
     if kind == 0:
         return [b" JMP *", b" END 0"], [b"run 100000", b"back 99999", b"show changes", b"forth 500", b"show clock"]
     if kind == 1:
@@ -175,8 +155,6 @@ def numbered(seed, k):
         deck = []
     else:
         lines, commands = source(r), script(r)
-        deck = []
-        if has("units"):
-            deck = r.choice(DECKS) if r.randrange(8) else draw_units.deck(r, False)[0]
+        deck = r.choice(DECKS) if r.randrange(8) else draw_units.deck(r, False)[0]
     return draw_asm.joined(r, lines).rstrip(b"\r\n") + b"\n" + (b"%DEVICES\n" + draw_units.joined(r, deck) if deck else b"") + \
         b"%SCRIPT\n" + draw_asm.joined(r, commands)

@@ -80,7 +80,7 @@ def source(r, simple):
 NUMBERS = """0 1 2 3 5 10 100 3999 4000 4095 4096 1000000 1000001 1073741823 1073741824 9999999999 0000000001 00000000001
     10000000000 99999999999 -1 -0 +0 +1 -3999 -4096 -1073741823 -1073741824 +1073741823 +0000000007 +00000000007
     -9999999999 + - ++1 --1 +-1 1+1 1- 5+ * x 0x1 1e3 1_0 1. 1/2 2//3 1:3 7(0:2) 1,2 ? \u0661 \uff11 \u00b2""".encode().split()
-# Commands that aren't there (or not in a tool with fewer parts), commands with words left out, unknown or too many, and
+# Commands that aren't there, commands with words left out, unknown or too many, and
 # commands that are written well and out of range, or just in it.
 UNKNOWN = [b"", b"\t", b" * x", b"\xff"] + b"""*/*step/jump/run 5/run/break 1/clear 1/forth 1/steps/ste/help/%SCRIPT/%DEVICES
 5/?/list/quit/=/step,1""".replace(b"\n", b"/").split(b"/")
@@ -135,7 +135,7 @@ def right_command(r):
 
 
 def wrong_command(r):
-    """A command with words of any kind, mostly wrong ones. Those that a tool with fewer parts does not know are among them."""
+    """A command with words of any kind, mostly wrong ones."""
     kind = r.randrange(12)
     if kind < 3:
         return r.choice((UNKNOWN, BAD_WORDS, RANGES)[kind])

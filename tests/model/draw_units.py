@@ -5,7 +5,6 @@ The source is END alone and every instruction is put by `set cell`, so a program
 import random
 
 from draw_machine import Scene, any_word
-from parts import has
 from units import KINDS
 
 CHARACTERS = b"ABIJRSZ09.,()+-*/=$<>@;:'~[# az"
@@ -203,7 +202,7 @@ def several(s, units):
             seen.append(transfer(s, place + k, units, r.choice((place + k, place + k, place, place + k + 1))))
     s.say("set", "loc", place)
     for _ in range(r.randrange(1, 4)):
-        s.say(r.choice(("step", "run")) if has("commands") else "step", r.choice((1, 2, count, count, 10, 40)))
+        s.say(r.choice(("step", "run")), r.choice((1, 2, count, count, 10, 40)))
         s.say("show", "clock")
     for unit, m, size in seen[:3]:
         look(s, unit, m, size)
@@ -217,7 +216,7 @@ def again(s, unit):
         s.say("back", back)
         if unit < 21:
             s.say("show", "unit", unit)
-        if has("commands") and r.randrange(2):
+        if r.randrange(2):
             s.say("forth", 1 if back == "all" else back)
             s.say("show", "unit", min(unit, 20))
 
@@ -228,7 +227,7 @@ def script(r, units):
         (one if r.randrange(3) else several)(scene, units)
     if r.randrange(4) == 0:
         scene.say("show", "unit", r.choice((0, 15, 16, 20, 21, 99, "00", "9999999999", "99999999999", "x", "-1", "+1", "")))
-    if has("show-all") and r.randrange(3) == 0:
+    if r.randrange(3) == 0:
         scene.say("show", "all")
     if r.randrange(3) == 0:
         scene.say("back", "all")

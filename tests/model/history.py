@@ -5,7 +5,6 @@ All of it is told from worlds made again from the loaded machine, and from what 
 from command_words import cells_between, digits_of, expression_in, place_in_range, w_value_in
 from machine import do, instruction, replay
 from operations import FLOATING, NEEDS_FIELD, REGISTERS, TABLE
-from parts import has
 from texts import Fault
 from transfers import conflict, conflicts
 from units import UNITS, characters
@@ -314,9 +313,7 @@ def show(session, words):
         return "".join("%04d %s" % (place, value_text(session.world.cell(place))) for place in cells_between(session, words))
     if len(words) == 2 and words[0] == b"VALUE":
         return value_text(w_value_in(session, words[1]))
-    if has("history"):
-        return show_past(session, words)
-    raise Fault("C2")
+    return show_past(session, words)
 
 
 def show_past(session, words):

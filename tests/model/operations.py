@@ -2,7 +2,6 @@
 
 from collections import Counter, namedtuple
 
-from parts import has
 from tables import rows
 from texts import Fault
 
@@ -39,6 +38,6 @@ TABLE = _table()
 def operation(c, f):
     if (c, f) in FLOATING:
         raise Fault("M2")
-    if (c, f) not in TABLE or 34 <= c <= 38 and not has("units"):
+    if (c, f) not in TABLE:
         raise Fault("M1")
     return TABLE[c, f]

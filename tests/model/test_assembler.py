@@ -2,10 +2,9 @@
 
 from assembler import Program, assemble, first_pass
 from bundle import run, run_list
-from testing import bundle, is_so, replies, with_parts, word
+from testing import bundle, is_so, replies, word
 from texts import Fault
 
-with_parts("assembler")
 
 
 def words(wanted, *lines, name=None):

@@ -1,10 +1,8 @@
 """Every command, forward and backward, against values known beforehand: worked by hand."""
 
 from bundle import run
-from parts import WHOLE
-from testing import I_AND_J, bundle, is_so, replies, with_parts
+from testing import I_AND_J, bundle, is_so, replies
 
-with_parts(*WHOLE)
 
 
 def shows(name, source, script, wanted, status=0):

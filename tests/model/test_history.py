@@ -7,8 +7,7 @@ import re
 from assembler import assemble
 from bundle import run
 from history import text_of
-from parts import WHOLE
-from testing import bundle, is_so, replies, with_parts, word
+from testing import bundle, is_so, replies, word
 from words import joined
 
 ROWS = """
@@ -519,7 +518,6 @@ def row_test(name, lines):
     is_so(name, (found, errors, status), (wanted, b"", 3 if refused else 0))
 
 
-with_parts(*WHOLE)
 for row in re.split("^== ", ROWS, flags=re.M)[1:]:
     name, *lines = row.rstrip("\n").split("\n")
     row_test(name, lines)
@@ -531,10 +529,3 @@ for index in (0, 6, 7):
     pairs = [joined("-", [63, 0, index, f, c]) for c in range(64) for f in range(64) if (c + f) % 3 == 0]
     source = "".join(" " + text_of(one) + "\n" for one in pairs) + " END 0\n"
     is_so("texts assemble to their words", [one for _, one in assemble(source.encode()).words], pairs)
-for missing, refused in [("history", [("run 1 until A", "C2 bad argument"), ("back until A", "C2 bad argument"), ("trace", "C1 no such command"),
-                                      ("show counts", "C2 bad argument"), ("show last 1", "C2 bad argument"), ("show writes A", "C2 bad argument")]),
-                         ("sources", [("forth all", "C2 bad argument"), ("goto 0", "C1 no such command"), ("break line 1", "C2 bad argument"),
-                                      ("show code", "C2 bad argument")])]:
-    with_parts(*(part for part in WHOLE if part != missing))
-    for command, number in refused:
-        replies("without %s: %s" % (missing, command), [command], ["? " + number], 3)

@@ -2,11 +2,9 @@
 
 from deck import read_deck
 from machine import World
-from parts import WHOLE
-from testing import is_so, with_parts
+from testing import is_so
 from transfers import conflicts
 
-with_parts(*WHOLE)
 
 
 def word(aa, i, f, c):

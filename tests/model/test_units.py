@@ -5,12 +5,10 @@ from commands import Session
 from deck import read_deck
 from kept import kept_by
 from machine import World, do
-from parts import WHOLE
-from testing import at, bundle, is_so, replies, with_parts, word
+from testing import at, bundle, is_so, replies, word
 from texts import Fault
 from units import EMPTY, no_units
 
-with_parts(*WHOLE)
 
 SEVEN = "+0000000007"
 BLOCK = [SEVEN] * 100

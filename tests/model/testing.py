@@ -5,7 +5,6 @@ import sys
 
 sys.path.append(os.path.join(os.path.dirname(os.path.abspath(__file__)), os.pardir))
 
-import parts
 import words as w
 from bundle import run
 from counting import Count
@@ -37,9 +36,3 @@ def replies(name, script, wanted, status=0, source=(" END 0",)):
     output, errors, found = run(bundle(list(source), script))
     lines = output.decode().splitlines()
     is_so(name, (lines[len(lines) - len(wanted):], errors, found), (wanted, b"", status))
-
-
-def with_parts(*names):
-    """From here on the model is a program that has these parts alone."""
-    parts.taken.clear()
-    parts.taken.update(names)
