@@ -190,7 +190,7 @@ EXERCISES = [
     Exercise("11_maximum", "At the halt rA has the largest of the N entries from TABLE+1 on, and rX the smallest.",
              extremes, (1, 2, 12, 40), (("JLE  NEXT", "JGE  NEXT"),)),
     Exercise("12_sieve", "For each k from 2 to N, TABLE+k gets the smallest prime factor of k, or 0 if k is prime.",
-             smallest_factors, (2, 40, 130, 110, 150), (("JANZ 1F", "JAZ  1F"),)),
+             smallest_factors, (2, 130, 140, 110, 150), (("JANZ 1F", "JAZ  1F"),)),
     Exercise("13_josephus", "LAST gets the number of the last of N men, of whom every M-th leaves the circle.", last_man, (1, 2, 11, 24), (("INCX M", "INCX M-1"),)),
     Exercise("14_saddle_point", "The matrix has M rows of N elements each, from A+1 on, row by row. COUNT gets the number of its saddle points, and POINTS+1, POINTS+2 "
              "and so on get their numbers, the last one first: the element in row i and column j has the number N(i-1)+j.", all_saddle_points, (2, 3, 5, 9),

@@ -35,10 +35,10 @@ def three_increments(draw, n):
 
 
 def keys_in_order(draw, n):
-    """Parts of n, n-1, .. 2 keys, of each of which the right part has one key less."""
+    """Parts of n, n-1, .. 2 keys, of each of which the right part has one key less, and the left part none."""
     n += draw.number(0, 8)
     keys = draw.distinct(n, 1, 999)
-    return Case({"N": n, "data": sorted(keys)}, sorted(keys), ("KEY+1 KEY+N",), (f"clock = {18 + 49 * (n - 1) + 2 * (n * n + n - 2)}",),
+    return Case({"N": n, "data": sorted(keys)}, sorted(keys), ("KEY+1 KEY+N",), (f"clock = {18 + 49 * (n - 1) + 2 * (n * n + n - 2)}", "3H = 0"),
                 told=f"Your N is {n}. Your keys are {', '.join(map(str, keys))}, in another order.")
 
 
