@@ -22,6 +22,7 @@ pub mod List
 pub mod Locations
 pub mod Look
 pub mod Memory
+pub mod Next
 pub mod Output
 pub mod Path
 pub mod Points

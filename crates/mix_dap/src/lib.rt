@@ -35,4 +35,5 @@ pub use dialogue::Dialogue;
 pub use fault::Fault;
 pub use launch::{FileLibrary, Library, NoLibrary, Texts};
 pub use stream::{serve, serve_from};
+pub use view::next_law;
 pub use waiting::{Asked, Waiting};

@@ -13,7 +13,7 @@ use crate::disassembly::disassemble;
 use crate::fault::Fault;
 use crate::kind::{Look, Target};
 use crate::list::list_alone;
-use crate::look::{Name, scopes, stack_trace, threads};
+use crate::look::{Name, put_exception, scopes, stack_trace, threads};
 use crate::memory::read_memory;
 use crate::points::breakpoint_locations;
 use crate::set::goto_targets;
@@ -95,11 +95,8 @@ fn exception_info(alloc: Global, fault: Option<MixFault>) -> Result<Value, Refus
 fn exception_shown(alloc: Global, fault: MixFault) -> Result<Value, Memory>
     ensures { IfOk result (λ v. view v ≡ exception_shown fault) }
 {
-    let number = fault.number();
-    let id = format!(in alloc; "M{number}")?;
     let mut body = Fields::new(alloc);
-    body.text("exceptionId", id.as_str())?;
-    body.text("description", fault.text())?;
+    put_exception(alloc, &mut body, fault)?;
     body.text("breakMode", "always")?;
     Ok(body.done())
 }
