@@ -179,8 +179,8 @@ def pictures(open_page, count):
     with open_page(width=720) as page:
         page.command("Emulation.setEmulatedMedia", media="print")
         page.shot(OUT / "on-paper.png")
-        shown = page.script("return ['printed', 'listing'].map(id => document.getElementById(id).getClientRects().length > 0)")
-        count.same("pictures: on paper the listing is a table", shown, [True, False])
+        visible = page.script("return ['printed', 'listing'].map(id => document.getElementById(id).getClientRects().length > 0)")
+        count.same("pictures: on paper the listing is a table", visible, [True, False])
 
 
 def bounds(page, native, count):

@@ -1,4 +1,6 @@
 pub mod Answer
+pub mod ArgumentName
+pub mod Arguments
 pub mod Asked
 pub mod Before
 pub mod Breakpoint
