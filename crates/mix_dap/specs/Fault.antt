@@ -14,7 +14,7 @@ fault_number (fault.Source at) = 100 + kind_number at.kind
 fault_number (fault.Session refusal) = 200 + refusal_number refusal
 fault_number fault.NoSuchRequest = 301
 fault_number fault.BadArgument = 302
-fault_number (fault.Argument name) = 302
+fault_number (fault.Argument which) = 302
 fault_number fault.NotLaunched = 303
 fault_number fault.Launched = 304
 fault_number fault.NoSuchThing = 306
@@ -29,7 +29,7 @@ fault_text (fault.Source at) = asm_fault_line at
 fault_text (fault.Session refusal) = refusal_text refusal
 fault_text fault.NoSuchRequest = codes "Q1 no such request"
 fault_text fault.BadArgument = codes "Q2 bad argument"
-fault_text (fault.Argument name) = codes "Q2 bad argument"
+fault_text (fault.Argument which) = codes "Q2 bad argument"
 fault_text fault.NotLaunched = codes "Q3 not launched"
 fault_text fault.Launched = codes "Q4 launched already"
 fault_text fault.NoSuchThing = codes "Q6 no such thing"
@@ -41,7 +41,7 @@ fault_text fault.TooLong = codes "T6 input too long"
 
 -- which argument is at fault
 abbrev pub argument_place : ArgumentName → Data
-argument_place name = object (put (codes "argument") (string (argument_name name)) no_members)
+argument_place which = object (put (codes "argument") (string (argument_name which)) no_members)
 
 -- where a fault of a text stands: which text of a launch, and its line
 abbrev pub text_place : List ℕ → ℕ → Data
@@ -54,7 +54,7 @@ fault_place (fault.Cards at) = text_place (codes "cards") at.line
 fault_place (fault.Session refusal) = null
 fault_place fault.NoSuchRequest = null
 fault_place fault.BadArgument = null
-fault_place (fault.Argument name) = argument_place name
+fault_place (fault.Argument which) = argument_place which
 fault_place fault.NotLaunched = null
 fault_place fault.Launched = null
 fault_place fault.NoSuchThing = null

@@ -57,6 +57,7 @@ requests =
     (codes "mix/state", kind.Look look.State) ∷
     (codes "mix/units", kind.Look look.Units) ∷
     (codes "mix/change", kind.Look look.Change) ∷
+    (codes "mix/next", kind.Look look.Next) ∷
     (codes "mix/writes", kind.Look look.Writes) ∷
     (codes "mix/check", kind.Check) ∷ []
 

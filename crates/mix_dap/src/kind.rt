@@ -74,6 +74,8 @@ pub(crate) enum Look {
     Units,
     /// A change by its number.
     Change,
+    /// The change that a step would be.
+    Next,
     /// The changes that altered a part.
     Writes,
 }
@@ -165,6 +167,7 @@ fn requests() -> &'static [(&'static str, Kind)]
         ("mix/state", Kind::Look(Look::State)),
         ("mix/units", Kind::Look(Look::Units)),
         ("mix/change", Kind::Look(Look::Change)),
+        ("mix/next", Kind::Look(Look::Next)),
         ("mix/writes", Kind::Look(Look::Writes)),
         ("mix/check", Kind::Check),
     ]

@@ -19,7 +19,8 @@ use crate::points::breakpoint_locations;
 use crate::set::goto_targets;
 use crate::variables::variables;
 use crate::view::{
-    change_view, counts_view, path_view, program_view, state_view, units_view, writes_view,
+    change_view, counts_view, next_view, path_view, program_view, state_view, units_view,
+    writes_view,
 };
 use crate::watch::data_breakpoint_info;
 use dap_message::{Fields, Request};
@@ -57,6 +58,7 @@ impl Adapter {
             Look::State => state_view(alloc, session, request),
             Look::Units => units_view(alloc, session.world(), request),
             Look::Change => change_view(alloc, session, request),
+            Look::Next => Ok(next_view(alloc, session)?),
             Look::Writes => writes_view(alloc, session, request),
         }
     }
