@@ -30,7 +30,6 @@ use Rattle.mix_dap.specs.declared.adapter.Then.TheVariants as then
 use Rattle.mix_dap.specs.declared.adapter.Way.{Way}
 use Rattle.mix_dap.specs.declared.deed.Deed.{Deed}
 use Rattle.mix_dap.specs.declared.fault.Fault.{Fault}
-use Rattle.mix_dap.specs.declared.fault.Fault.TheVariants as fault
 use Rattle.mix_dap.specs.declared.kind.Act.{Act}
 use Rattle.mix_dap.specs.declared.kind.Act.TheVariants as act
 use Rattle.mix_dap.specs.declared.kind.Kind.{Kind}

@@ -1,5 +1,5 @@
 -- The arguments of requests: what each has to be, by one table, and the first that is missing there or is something else.
-use Rattle.std.specs.Prelude.{ℕ, ◌-◌, ◌^◌, List, [], ◌∷◌, codes, Bool, true, false, Option, None, Some, is_none, is_some, nat_le, if◌then◌else◌}
+use Rattle.std.specs.Prelude.{ℕ, ◌-◌, ◌^◌, List, [], ◌∷◌, codes, Bool, false, Option, None, Some, is_some, nat_le, if◌then◌else◌}
 use Rattle.serde_json.specs.Data.{Data}
 use Rattle.serde_json.specs.Find.{as_array, as_bool, as_object, as_str}
 use Rattle.dap_message.specs.Request.{are_arguments, argument_of, list_of, member_of}

@@ -1,5 +1,5 @@
 -- The bytes of the memory that a client asks for.
-use Rattle.std.specs.Prelude.{ℕ, ℤ, pos, ◌-◌, ◌==◌, List, codes, drop, take, Result, Ok, Err, ok_or, unwrap_or, if◌then◌else◌}
+use Rattle.std.specs.Prelude.{ℕ, ℤ, pos, ◌-◌, ◌==◌, List, codes, drop, take, Result, Ok, ok_or, unwrap_or, if◌then◌else◌}
 use Rattle.base64.specs.Engines.{standard}
 use Rattle.base64.specs.GeneralPurpose.{encode_of}
 use Rattle.serde_json.specs.Data.{Data, Members, string, number, unsigned, object, no_members, put}
