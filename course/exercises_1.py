@@ -15,8 +15,9 @@ def second_numbers(draw, n):
 
 
 def multiple(draw, size):
-    """Numbers with a large common divisor, so that their product need not fit into a word while their least multiple does."""
-    one, other = sorted(draw.numbers(2, 1, 12 * size + 1))
+    """Numbers with a large common divisor, so that their product need not fit into a word while their least multiple does. Neither divides the other."""
+    one = draw.number(2, 6 * size + 2) if size else 1
+    other = one * draw.number(1, 6) + draw.number(1, one - 1) if size else 1
     factor = draw.number(1, 64**5 // (one * other) - 1) if size else 1
     return Case({"M": str(factor * other), "N": str(factor * one)}, [lcm(factor * other, factor * one)], ("LCM",))
 
@@ -30,8 +31,9 @@ def recursive_fibonacci(draw, n):
 
 
 def degrees(draw, size):
-    """Of 8 or 17 degrees above 32 four ninths are left over, which is the most that makes no degree more."""
-    fahrenheit = 32 + (0, 1, -1, 8 + 9 * draw.number(0, 90), -8 - 9 * draw.number(0, 90), draw.number(1, 999), draw.number(-999, -1))[size]
+    """Of 8 or 17 degrees above 32 four ninths are left over, which is the most that makes no degree more; of the last two sizes more are."""
+    ninths = 9 * draw.number(0, 90)
+    fahrenheit = 32 + (0, 1, -1, 8 + ninths, -8 - ninths, ninths + draw.one_of((1, 3, 5, 7)), -ninths - draw.one_of((1, 3, 5, 7)))[size]
     return Case({"FAHREN": str(fahrenheit)}, [round((fahrenheit - 32) * 5 / 9)], ("RESULT",))  # a ninth is never half way
 
 
@@ -72,13 +74,12 @@ def last_man(draw, n):
 
 
 def all_saddle_points(draw, n):
-    """Small numbers, and a row and a column of which one element is the smallest and the largest, and one more as large."""
-    m, at, j = draw.number(2, n + 1), 0, draw.number(0, n - 1)
+    """Small numbers; but for the smallest size two rows and a column of which two elements are the smallest and the largest."""
+    m, j = draw.number(2, n + 1), draw.number(0, n - 1)
     rows = [draw.numbers(n, 2, 9) for _ in range(m)]
-    rows[at] = [max(one, 5) for one in rows[at]]
-    for row in rows:
-        row[j] = min(row[j], 5)
-    rows[at][j] = rows[-1][j] = 5
+    for row in rows if n > 2 else ():
+        row[:] = [max(one, 5) for one in row] if row in (rows[0], rows[-1]) else row
+        row[j] = 5 if row in (rows[0], rows[-1]) else min(row[j], 5)
     points = saddle_points(rows)
     return Case({"M": m, "N": n, "data": sum(rows, [])}, [len(points), *points], ("COUNT", *(f"POINTS+{k}" for k in range(1, len(points) + 1))))
 
@@ -86,7 +87,7 @@ def all_saddle_points(draw, n):
 def farey_lines(draw, n):
     n += draw.number(0, 3)
     series = sorted({Fraction(x, y) for y in range(1, n + 1) for x in range(y + 1)})
-    return Case({"N": n}, ["%05d  /  %05d" % (one.numerator, one.denominator) for one in series], steps=200000)
+    return Case({"N": n}, ["%05d  /  %05d" % (one.numerator, one.denominator) for one in series], deck=["%UNIT 18 delay 100"], steps=200000, strict=True)
 
 
 def fixed_points(draw, n):
@@ -97,11 +98,14 @@ def fixed_points(draw, n):
 
 def longest_inverse(draw, size):
     n = draw.number(5, 12)
-    return Case({"N": n, "data": [n, *range(1, n)]}, [*range(2, n + 1), 1], ("X+1 X+N",), told=f"Your N is {n}.")
+    return Case({"N": n, "data": [n, *range(1, n)]}, [*range(2, n + 1), 1], ("X+1 X+N",), (f"clock = {12 + 20 * n + 2 * n * (n - 1)}",), told=f"Your N is {n}.")
 
 
 def three_exits(draw, n):
+    """Among several there are the divisors 0 and 1, and a remainder that is not 0 and has another sign than the quotient."""
     above, below = draw.numbers(n, -500, 500), [draw.one_of([0, 1, 2, 5, draw.number(-9, -1), draw.number(10, 99)]) for _ in range(n)]
+    if n > 1:
+        above[0], below[:3] = 7 * draw.number(1, 60) + draw.number(1, 6), [-7, 0, 1]
     left = [(abs(one) % abs(other) * (-1 if one < 0 else 1)) if other else 0 for one, other in zip(above, below)]
     whole = sum(other != 0 and one % other == 0 for one, other in zip(above, below))
     return Case({"N": n, "above": above, "below": below}, [below.count(0), whole, *left], ("I4", "I5", "REMS+1 REMS+N"))
@@ -112,18 +116,19 @@ def swapped_text(draw, n):
     swapped = re.sub(r"([^.])([^.])", r"\2\1", text)
     digits = "".join("%02d" % CHARACTERS.index(one) for one in text)
     card = "".join(digit + " " * (draw.number(0, 3) == 0) for digit in digits)
-    return Case({}, [" ".join(swapped[at : at + 4] for at in range(0, len(swapped), 4))], cards=[card])
+    return Case({}, [" ".join(swapped[at : at + 4] for at in range(0, len(swapped), 4))], deck=["%UNIT 16 delay 100", card], strict=True)
 
 
 def squares(draw, n):
     """The squares down from n; or, if n is 0, another program for the small machine, with a copy of a product on top of its stack."""
+    deck = ["%UNIT 18 delay 200"]
     if n:
         n += draw.number(0, 5)
-        return Case({"N": n}, ["%010d" % (k * k) for k in range(n, 0, -1)])
+        return Case({"N": n}, ["%010d" % (k * k) for k in range(n, 0, -1)], deck=deck)
     first, second, third = draw.numbers(3, 2, 40)
     small = f"{first}(PUSH) {second}(PUSH) 0(TIMES) 0(COPY) 0(COPY) 0(PLUS) 0(PRINT) {third}(PUSH) 0(COPY) 0(PRINT) 0(PLUS) 0(PRINT) 0(STOP)".split()
     code = [f"{'CODE' if at == 0 else '':<7} NOP  {address}" for at, address in enumerate(small)]
-    return Case({"code": code}, ["%010d" % number for number in (2 * first * second, third, first * second + third)])
+    return Case({"code": code}, ["%010d" % number for number in (2 * first * second, third, first * second + third)], deck=deck, strict=True)
 
 
 def traced_values(draw, n):
@@ -161,14 +166,14 @@ def fibonacci(draw, size):
 
 
 def checked_sum(draw, n):
-    """Sums that fit, that just fit, and that do not."""
-    table = draw.numbers(n, 0, (2 * 64**5 - 2) // n if draw.number(0, 1) else 999)
+    """Sums that may just fit if n is even, and that do not fit if it is odd."""
+    table = draw.numbers(n, *((64**5 // n + 1, 64**5 - 1) if n % 2 else (0, (64**5 - 1) // n)))
     return Case({"N": n, "data": table}, [sum(table) if sum(table) < 64**5 else -1], ("SUM",))
 
 
 def punched(draw, n):
     words, first = draw.numbers(n, 1, 64**5 - 1), draw.number(100, 3000)
-    return Case({"N": n, "TO": first, "data": words}, [card.rstrip() for card in cards_of(first, words)], unit="17")
+    return Case({"N": n, "TO": first, "data": words}, [card.rstrip() for card in cards_of(first, words)], deck=["%UNIT 17 delay 200"], unit="17", strict=True)
 
 
 EXERCISES = [
@@ -185,7 +190,7 @@ EXERCISES = [
     Exercise("11_maximum", "At the halt rA has the largest of the N entries from TABLE+1 on, and rX the smallest.",
              extremes, (1, 2, 12, 40), (("JLE  NEXT", "JGE  NEXT"),)),
     Exercise("12_sieve", "For each k from 2 to N, TABLE+k gets the smallest prime factor of k, or 0 if k is prime.",
-             smallest_factors, (2, 20, 90, 150), (("JANZ 1F", "JAZ  1F"),)),
+             smallest_factors, (2, 130, 140, 110, 150), (("JANZ 1F", "JAZ  1F"),)),
     Exercise("13_josephus", "LAST gets the number of the last of N men, of whom every M-th leaves the circle.", last_man, (1, 2, 11, 24), (("INCX M", "INCX M-1"),)),
     Exercise("14_saddle_point", "The matrix has M rows of N elements each, from A+1 on, row by row. COUNT gets the number of its saddle points, and POINTS+1, POINTS+2 "
              "and so on get their numbers, the last one first: the element in row i and column j has the number N(i-1)+j.", all_saddle_points, (2, 3, 5, 9),
@@ -199,9 +204,9 @@ EXERCISES = [
     Exercise("20_entrances_exits", "For k from 1 to N, REMS+k gets the remainder of ABOVE+k divided by BELOW+k, or 0 if BELOW+k is 0. At the halt rI4 "
              "says how many divisors are 0, and rI5 how many divisions leave no remainder.", three_exits, (1, 5, 20), (("JXZ  1,3", "JXZ  2,3"),)),
     Exercise("21_recursion", "RESULT gets the Fibonacci number F(N), by a subroutine that calls itself for N-1 and for N-2 if N is larger than 2. CALLS gets how "
-             "often it is called.", recursive_fibonacci, (1, 3, 6, 11), (("LD1  STACK,6(4:5)", "NOP  STACK,6(4:5)"), ("ADD  STACK-1,6", "LDA  STACK-1,6"))),
+             "often it is called.", recursive_fibonacci, (1, 3, 5, 8, 12), (("LD1  STACK,6(4:5)", "NOP  STACK,6(4:5)"), ("ADD  STACK-1,6", "LDA  STACK-1,6"))),
     Exercise("22_coroutines", "The text of one card is printed as the lesson says, but each two of its characters are exchanged.",
-             swapped_text, (0, 1, 2, 9, 22), (("STA  LINE,2(2:2)", "STA  LINE,2(3:3)"),)),
+             swapped_text, (0, 1, 2, 9, 21), (("STA  LINE,2(2:2)", "STA  LINE,2(3:3)"),)),
     Exercise("23_interpreter", "Your program for the small machine begins with the label CODE and prints the squares of N, N-1 and so on to 1, ten digits on a "
              "line. It is between the comments * code and * end of code, and uses the names PUSH, TIMES and so on of the lesson, and COPY. Other programs "
              "for the small machine are put there too, and have to print what they should.", squares, (0, 1, 0, 4, 0), (("JMP  DOCOPY", "JMP  DOPUSH"),)),
@@ -213,7 +218,7 @@ EXERCISES = [
     Exercise("05_overflow", "The cells FIRST and SECOND hold the first two numbers of a sequence; each later number is the sum of the two before it. RESULT "
              "gets the largest one below 64^5, and INDEX its index.", fibonacci, (0, 1, 4, 2, 3), (("JOV  DONE", "JNOV DONE"),)),
     Exercise("16_hunt", "SUM gets the sum of the N numbers from TABLE+1 on, or -1 if it does not fit into a word.",
-             checked_sum, (1, 4, 4, 10, 10), (("JOV  *+1", "NOP  *+1"),)),
+             checked_sum, (4, 5, 10, 11), (("JOV  *+1", "NOP  *+1"),)),
     Exercise("06_loader", "The N words from WORDS+1 on, none of which is 0 or negative, are punched as cards for the loader, which puts them into the cells "
              "from TO on and begins there.", punched, (1, 7, 8, 20), (("CMP3 =14=", "CMP3 =12="),)),
 ]

@@ -1,6 +1,6 @@
 """The exercises of chapter 2: what their programs must leave, by Python's lists, dictionaries and recursion."""
 from exercise import Case, Exercise
-from linked_lists import moved_to_the_left
+from linked_lists import list_lines, moved_to_the_left
 from stacks import coded, taken
 
 
@@ -31,17 +31,9 @@ def circle_left(draw, n):
     return Case({"N": n, "M": len(relations), "data": lines}, [*row, *[0] * (n - len(row)), *left, *[0] * (n - len(left))], shown)
 
 
-def list_lines(name, terms):
-    """A polynomial as a circular list in two-word nodes, the head first."""
-    lines = []
-    for at, one in enumerate([None, *sorted(terms, reverse=True)]):
-        following = f"{name}+{2 * (at + 1)}" if at < len(terms) else name
-        lines += [f"        CON  {terms.get(one, 0)}", f"        CON  {'-1(0:3)' if one is None else '%d(1:1),%d(2:2),%d(3:3)' % one},{following}(4:5)"]
-    return lines
-
-
 def given_back(draw, n):
-    """P is added to Q; then its nodes come before the free ones: the first of them, and at last its head, which leads to what was free before."""
+    """P is added to Q; then its nodes come before the free ones: the first of them, and at last its head, which leads to what was free before. To follow
+    all links of P takes 5u for each."""
     p, q = ({tuple(draw.numbers(3, 0, 2)): draw.one_of((-2, -1, 1, 2)) for _ in range(size)} for size in (n, draw.number(0, n)))
     free, place = [1200 + 2 * k for k in range(15, -1, -1)], {one: 1102 + 2 * at for at, one in enumerate(sorted(q, reverse=True))}
     for one in sorted(p, reverse=True):
@@ -54,7 +46,9 @@ def given_back(draw, n):
     cells, wanted = ["I6", "P+1"], [first, head]
     for one in sorted(place):
         cells, wanted = [*cells, str(place[one])], [*wanted, p.get(one, 0) + q.get(one, 0)]
-    return Case({"K": 16, "p": list_lines("P", p), "q": list_lines("Q", q)}, wanted, tuple(cells))
+    both, deleted = len(set(p) & set(q)), sum(p[one] + q.get(one, 0) == 0 for one in p)
+    clock = 146 + 20 * (both - deleted) + 25 * deleted + 23 * (len(p) - both) + 8 * (len(q) - both)
+    return Case({"K": 16, "p": list_lines("P", p), "q": list_lines("Q", q)}, wanted, tuple(cells), (f"clock <= {clock}",))
 
 
 def two_clerks(draw, n):
@@ -149,7 +143,7 @@ EXERCISES = [
     Exercise("32_topological_sort", "The things that can be sorted are in ROW+1 and so on, in their order; those that are left over are in LEFT+1 and so "
              "on, the largest number first. The other cells of both tables are 0.", circle_left, (3, 9, 18), (("JAZ  2F", "JANZ 2F"),)),
     Exercise("33_polynomials", "P is added to Q as in the lesson. Then all nodes of P are free: rI6 has the first of them, and the head of P leads to what "
-             "was free before. The time of this does not depend on P.", given_back, (1, 3, 6), (("ST6  P+1(4:5)", "ST5  P+1(4:5)"),)),
+             "was free before. The time of this does not depend on P.", given_back, (1, 3, 12), (("ST6  P+1(4:5)", "ST5  P+1(4:5)"),)),
     Exercise("34_double_links", "M nodes are free at first. A number from OPS+1 on is inserted at the right end; -k moves the node of k to the left end, if there is "
              "one; 0 is the end. Then ROW+1 and so on get the numbers from left to right, and BACK+1 and so on from right to left.", rows_in_both_directions,
              (3, 8, 20), (("ST1  1,2(4:5)", "NOP  1,2(4:5)"), ("ST2  1,3(1:2)", "NOP  1,3(1:2)"), ("ST3  1,2(4:5)", "NOP  1,2(4:5)"))),

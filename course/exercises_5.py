@@ -1,9 +1,12 @@
 """The exercises of chapters 5 and 6: what their programs must leave, by Python's sort, pairs of keys, and places in a list."""
-from deleting import columns_of, deleted, grown
+import functools
+
+from balancing import height, inserted as balanced, lean
+from deleting import columns_of, deleted, grown, subtree
 from exercise import Case, Exercise
 from machine import CHARACTERS
-from probing import lazily
-from searching import doubly_hashed
+from probing import inserted, lazily
+from searching import doubly_hashed, probes
 from sorting import rightmost
 
 
@@ -32,10 +35,10 @@ def three_increments(draw, n):
 
 
 def keys_in_order(draw, n):
-    """Parts of n, n-1, .. 2 keys, of each of which the right part has one key less."""
+    """Parts of n, n-1, .. 2 keys, of each of which the right part has one key less, and the left part none."""
     n += draw.number(0, 8)
     keys = draw.distinct(n, 1, 999)
-    return Case({"N": n, "data": sorted(keys)}, sorted(keys), ("KEY+1 KEY+N",), (f"clock = {18 + 49 * (n - 1) + 2 * (n * n + n - 2)}",),
+    return Case({"N": n, "data": sorted(keys)}, sorted(keys), ("KEY+1 KEY+N",), (f"clock = {18 + 49 * (n - 1) + 2 * (n * n + n - 2)}", "3H = 0"),
                 told=f"Your N is {n}. Your keys are {', '.join(map(str, keys))}, in another order.")
 
 
@@ -55,19 +58,23 @@ def selected(draw, n):
 def keys_of_two_words(draw, n):
     high, low = [draw.number(1, 1 + n // 3) for _ in range(n)], draw.distinct(n, 1, 999)
     order = sorted(range(n), key=lambda at: (high[at], low[at]))
-    return Case({"N": n, "high": high, "low": low}, [at + 1 for at in order], ("ORDER+1 ORDER+N",), (f"clock <= {60 * n * n.bit_length()}",))
+    return Case({"N": n, "high": high, "low": low}, [at + 1 for at in order], ("ORDER+1 ORDER+N",), (f"clock <= {25 * n * n.bit_length()}",), steps=100000)
 
 
 def keys_in_table(draw, n):
     keys = draw.distinct(n, 1, 999)
-    return Case({"N": n, "data": keys}, sorted(keys), ("TABLE+1 TABLE+N",))
+    order = [0, *sorted(range(1, n + 1), key=lambda k: keys[k - 1]), 0]
+    links = dict(zip(order, order[1:]))
+    return Case({"N": n, "data": keys}, [links[0], *keys, *(links[k] for k in range(1, n + 1)), *sorted(keys)],
+                ("LINK", "KEY+1 KEY+N", "LINK+1 LINK+N", "TABLE+1 TABLE+N"))
 
 
 def last_two_digits(draw, n):
     keys = [tuple(draw.numbers(3, 0, 9)) for _ in range(n)]
     order = sorted(range(1, n + 1), key=lambda k: keys[k - 1][1:])
     links = dict(zip([0, *order], [*order, 0]))
-    return Case({"N": n, "data": ["        CON  %d(3:3),%d(4:4),%d(5:5)" % key for key in keys]}, [links[k] for k in range(n + 1)], ("LINK LINK+N",))
+    return Case({"N": n, "data": ["        CON  %d(3:3),%d(4:4),%d(5:5)" % key for key in keys]}, [links[k] for k in range(n + 1)], ("LINK LINK+N",),
+                (f"clock <= {34 * n + 600}",))
 
 
 def two_at_once(draw, n):
@@ -79,7 +86,8 @@ def two_at_once(draw, n):
 
 def by_halves(draw, n):
     keys = sorted(draw.distinct(n, 1, 999))
-    wanted = {7: keys[0], 16: keys[-1], 17: keys[0]}.get(n, draw.one_of([*keys, draw.number(1, 999)]))
+    absent = next(key for key in range(keys[n // 2], 1000) if key not in keys)
+    wanted = {7: keys[2 % n], 16: keys[-1], 17: keys[0], 30: absent}.get(n, draw.one_of([*keys, draw.number(1, 999)]))
     halves = [(n + 2 ** (j - 1)) // 2**j for j in range(1, n.bit_length() + 3)]
     place = keys.index(wanted) + 1 if wanted in keys else 0
     return Case({"N": n, "WANTED": wanted, "data": keys, "halves": halves[: halves.index(0) + 1]}, [place], ("I1",),
@@ -101,29 +109,25 @@ def fewest_comparisons(draw, size):
     keys = sorted(draw.distinct(n, 1, 999))
     compared = sum(level * 2**level for level in range(levels))
     clock = 6 + 10 + 4 * n + 3 * (n - 1) + 4 * compared + 5 * compared - 2 * (n - 1) + 3 * (n - 1) + (n - 1) // 2 + 3 * (n - 1)
-    return Case({"N": n, "data": middle_first(keys)}, [n], ("I4",), (f"clock <= {clock}",), told=f"Your N is {n}. Your keys are {', '.join(map(str, keys))}.")
-
-
-def probed(keys, m):
-    """The table of m cells after these keys came, each into the first free cell from its remainder down."""
-    table = [0] * m
-    for key in keys:
-        table[next(at for at in ((key - step) % m for step in range(m)) if not table[at])] = key
-    return table
+    return Case({"N": n, "data": middle_first(keys)}, [n], ("I4",), (f"clock = {clock}",), told=f"Your N is {n}. Your keys are {', '.join(map(str, keys))}.")
 
 
 def opposite_order(draw, n):
     n, m = n + draw.number(0, 4), 2 * n + 1 + draw.number(0, 6)
     keys = draw.distinct(n, m, 999)
-    while probed(keys, m) == probed(keys[::-1], m) or keys[-1] % m != keys[-2] % m:
+    while inserted(keys, m) == inserted(keys[::-1], m) or keys[-1] % m != keys[-2] % m:
         keys = draw.distinct(n, m, 999)
-    return Case({"N": n, "M": m, "data": keys[::-1]}, probed(keys[::-1], m), ("TABLE TABLE+M-1",),
+    looked, rounds = probes(sorted(keys), m)
+    return Case({"N": n, "M": m, "data": keys[::-1]}, inserted(keys[::-1], m), ("TABLE TABLE+M-1",), (f"clock = {12 + 24 * n + 8 * looked + 2 * rounds}",),
                 told=f"Your M is {m}, your N is {n}. Your keys come in this order: {', '.join(map(str, keys))}.")
 
 
 def without_some(draw, n):
-    keys = draw.shuffled(draw.distinct(n, 1, 998))
-    gone = [*draw.shuffled(keys)[: (n + 1) // 2], 999]
+    """The root is deleted first. It is the key in the middle, so it has two subtrees; of nine keys the smaller ones are in ascending order."""
+    keys = draw.distinct(n, 1, 998)
+    middle = sorted(keys)[n // 2]
+    keys.sort(key=lambda key: (key != middle, n == 9 and min(key, middle)))
+    gone = [keys[0], *draw.shuffled(keys[1:])[: n // 2], 999]
     root, links = columns_of(grown(keys), keys)
     tree = grown(keys)
     for key in gone:
@@ -133,6 +137,22 @@ def without_some(draw, n):
     cells = [(f"{part}+{at}", sides[side]) for at, sides in kept.items() for side, part in enumerate(("LEFT", "RIGHT"))]
     given = {"N": n, "keys": keys, "left": [links[key][0] for key in keys], "right": [links[key][1] for key in keys], "gone": [*gone, 0], "ROOT": str(root)}
     return Case(given, [new_root, *(number for _, number in cells)], ("ROOT", *(cell for cell, _ in cells)))
+
+
+def levels(draw, n):
+    """A balanced tree; if it has five nodes, neither all left links nor all right links make a longest way."""
+    tree = keys = []
+    while not tree and n or n > 4 and height(tree) in (chain(tree, 1), chain(tree, 2)):
+        keys = draw.distinct(n, 1, 999)
+        tree = functools.reduce(balanced, keys, None)
+    root, links = columns_of(tree, keys)
+    leans = [lean(subtree(tree, key)) for key in keys]
+    given = {"N": n, "left": [links[key][0] for key in keys], "right": [links[key][1] for key in keys], "leans": leans, "ROOT": str(root)}
+    return Case(given, [height(tree)], ("HEIGHT",), (f"clock <= {12 * height(tree) + 25}",))
+
+
+def chain(tree, side):
+    return 1 + chain(tree[side], side) if tree else 0
 
 
 def by_two_remainders(draw, n):
@@ -156,7 +176,8 @@ def sorted_cards(draw, n):
     letters = CHARACTERS[1:39]
     keys = ["".join(draw.one_of(letters) for _ in range(3)) + letters[at // 38] + letters[at % 38] for at in range(n)]
     cards = [key + "".join(draw.one_of(letters) for _ in range(71)) + "%04d" % at for at, key in enumerate(keys)]
-    return Case({}, sorted(cards, key=lambda card: [CHARACTERS.index(one) for one in card[:5]]), cards=[*draw.shuffled(cards), "99999"], steps=400000)
+    deck = [*(f"%UNIT {tape} delay 20" for tape in range(4)), "%UNIT 16", *draw.shuffled(cards), "99999"]
+    return Case({}, sorted(cards, key=lambda card: [CHARACTERS.index(one) for one in card[:5]]), deck=deck, steps=400000, strict=True)
 
 
 EXERCISES = [
@@ -167,15 +188,16 @@ EXERCISES = [
              (("JGE  2F", "JLE  2F"), ("ENT3 0,2", "ENT3 0,1"))),
     Exercise("53_quicksort", "The program of the lesson is kept. Its N and its data are your keys, in increasing order.", keys_in_order, (8,), (), put=False),
     Exercise("55_heapsort", "KEY+N-2 to KEY+N get the three largest of the N keys from KEY+1 on.", three_largest, (4, 10, 40), (("CMP2 =N-3=", "CMP2 =N-2="),)),
-    Exercise("56_list_merge", "TABLE+1 to TABLE+N get the N keys from KEY+1 on, in their order.", keys_in_table, (2, 4, 8, 16), (("STA  TABLE,2", "STA  TABLE-1,2"),)),
+    Exercise("56_list_merge", "The N keys from KEY+1 on stay there. LINK leads to the smallest of them, LINK+k from key k to the next, the last to 0. "
+             "TABLE+1 to TABLE+N get the keys in their order.", keys_in_table, (2, 4, 8, 16), (("STA  TABLE,2", "STA  TABLE-1,2"),)),
     Exercise("57_list_merge_sort", "ORDER+1 to ORDER+N get the numbers of the keys in ascending order. Key k is the word at HIGH+k, and if these agree that at "
-             "LOW+k. No two keys are equal.", keys_of_two_words, (3, 5, 16, 60), (("CMPX LOW,2", "CMPA LOW,2"), ("JL   FIRST", "NOP  FIRST"))),
+             "LOW+k. No two keys are equal.", keys_of_two_words, (3, 5, 16, 90), (("CMPX LOW,2", "CMPA LOW,2"), ("JL   FIRST", "NOP  FIRST"))),
     Exercise("58_radix", "LINK leads to the smallest of the N keys by bytes 4 and 5 alone, LINK+k from key k to the next, the last to 0; keys that agree keep "
-             "their order.", last_two_digits, (1, 2, 8, 30), (("CMP6 =P=", "CMP6 =P+1="),)),
+             "their order.", last_two_digits, (1, 2, 8, 60), (("CMP6 =P=", "CMP6 =P+1="),)),
     Exercise("60_sequential_search", "At the halt rI1 has the position of WANTED among the N keys from KEY+1 on, or 0 if it is not there.",
              two_at_once, (1, 2, 9, 40), (("DEC1 2", "DEC1 1"),)),
     Exercise("61_binary_search", "At the halt rI1 has the position of WANTED among the N keys from KEY+1 on, or 0 if it is not there. The table of halves from "
-             "HALVES+1 on is given.", by_halves, (1, 2, 7, 16, 17, 31, 31), (("DEC1 0,3", "DEC1 1,3"),)),
+             "HALVES+1 on is given.", by_halves, (1, 2, 7, 16, 17, 31, 30), (("DEC1 0,3", "DEC1 1,3"),)),
     Exercise("62_search_tree", "The program of the lesson is kept. Its N and its data are your keys, in an order with the fewest comparisons; at the halt rI4 "
              "has N.", fewest_comparisons, (0,), (), put=False),
     Exercise("65_hashing", "The program of the lesson is kept. Its M, its N and its data are your keys, in the opposite order.",
@@ -183,6 +205,9 @@ EXERCISES = [
     Exercise("63_tree_deletion", "Node k of a search tree is KEY+k with the links LEFT+k and RIGHT+k, and ROOT has the number of the root, or 0. The keys from GONE+1 "
              "on, up to a 0, are deleted one after another: a node without a left subtree is replaced by its right one, otherwise the node before it in "
              "order takes its place.", without_some, (1, 5, 9, 25), (("ST3  0,5", "ST2  0,5"), ("ST4  RIGHT,3", "NOP  RIGHT,3"), ("J4Z  2F", "JMP  2F"))),
+    Exercise("64_balanced_tree", "Node k of a balanced tree has its links in LEFT+k and RIGHT+k. BAL+k is negative if its left subtree is the higher one, positive if it is "
+             "the right one, and otherwise 0. ROOT has the number of the root, or 0. HEIGHT gets the number of levels.", levels, (0, 1, 2, 5, 20, 60),
+             (("JAN  2F", "JAP  2F"),)),
     Exercise("66_chaining", "The cells TABLE to TABLE+M-1 get the N keys from KEYS+1 on by double hashing; an empty cell is 0, and a key that comes twice is "
              "stored once. M is a prime, at least 5 and larger than N.", by_two_remainders, (1, 4, 10, 16, 34, 55), (("DIV  =M-2=", "DIV  =M-1="), ("INC2 M", "INC2 M-1"))),
     Exercise("67_hash_deletion", "The table of M cells from TABLE on is empty at first. An order k from OPS+1 on inserts k, unless it is there, into the first cell of "

@@ -1,4 +1,5 @@
 """The list of the lessons."""
+import balancing
 import cards
 import deleting
 import first_programs
@@ -15,5 +16,5 @@ import subroutines
 import tapes
 import trees
 
-TOPICS = (first_programs, matrices, permutations, subroutines, stacks, linked_lists, trees, sorting, merging, searching, deleting, probing, hunt, cards, tapes)
+TOPICS = (first_programs, matrices, permutations, subroutines, stacks, linked_lists, trees, sorting, merging, searching, deleting, balancing, probing, hunt, cards, tapes)
 ALL = sorted(lesson for topic in TOPICS for lesson in topic.LESSONS)

@@ -1,13 +1,26 @@
 """Runs a lesson's bundle with a program, with other data or one instruction changed, and reads what it writes."""
+import os
 import pathlib
 import re
 import subprocess
+import sys
 
 COURSE = pathlib.Path(__file__).resolve().parent
 MARK = "show value 1073741823"  # its reply parts the replies of the commands
 MARKED = '+ 63 63 63 63 63  1073741823  "?????"'
 RAN = re.compile(r"ran (\d+) to (\d+) clock (\d+): (.*)")
 COUNTED = re.compile(r" *(\d+) +(\d+)  (\d{4})  ( *\d+)[ *] (.*)")
+
+
+def done(main):
+    """Ends a script with its status; one whose reader has seen enough, as head, ends without a word."""
+    try:
+        status = main()
+        sys.stdout.flush()
+    except BrokenPipeError:
+        os.dup2(os.open(os.devnull, os.O_WRONLY), sys.stdout.fileno())
+        status = 141
+    sys.exit(status)
 
 
 class Refused(Exception):

@@ -1,5 +1,6 @@
 """Facts of the lesson on stacks that share their room: Python's lists, and what moves by the sizes of the stacks."""
 import random
+from fractions import Fraction
 
 from counting import times
 from lesson import RUN, Lesson
@@ -35,6 +36,29 @@ def pushed(orders, bases):
     return stacks, bases, counts
 
 
+def shared(orders, bases):
+    """The same by Algorithm G: a tenth of the free cells is shared equally, the others by what each stack has grown since the last time."""
+    stacks, bases, olds = [[] for _ in bases[1:]], list(bases), list(bases)
+    counts = dict.fromkeys("IRODCUH", 0)
+    for stack, number in orders:
+        counts["I"] += 1
+        if bases[stack] + len(stacks[stack]) == bases[stack + 1]:
+            sizes = [len(one) + (k == stack) for k, one in enumerate(stacks)]
+            free, grown = bases[-1] - bases[0] - sum(sizes), [base + size - old for base, size, old in zip(bases, sizes, olds)]
+            if free < 0:
+                counts["O"] += 1
+                break
+            ends = [sum(Fraction(free, 10 * len(sizes)) + Fraction(9 * free * one, 10 * sum(grown)) for one in grown[:k]) for k in range(len(sizes))]
+            news = [bases[0] + sum(sizes[:k]) + int(end) for k, end in enumerate(ends)]
+            counts["R"] += 1
+            for new, base, one in zip(news, bases, stacks):
+                counts["D"], counts["C"] = counts["D"] + (new < base), counts["C"] + (new < base) * len(one)
+                counts["U"], counts["H"] = counts["U"] + (new > base), counts["H"] + (new > base) * len(one)
+            bases, olds = [*news, bases[-1]], [new + size for new, size in zip(news, sizes)]
+        stacks[stack].append(number)
+    return stacks, bases, counts
+
+
 def coded(orders):
     return [*("        CON  %d(1:1),%d(4:5)" % (stack + 1, number) for stack, number in orders), 0]
 
@@ -63,13 +87,14 @@ def repacking(run):
     cases += [(n, room, drawn_orders(draw, n, room)) for n, room in ((2, 10), (4, 16), (5, 40), (8, 60))]
     for n, room, orders in cases:
         bases = [LOW + k * room // n for k in range(n)] + [LOW + room]
-        stacks, ends, counts = pushed(orders, bases)
         shows = [f"show values {LOW + 1} {LOW + room}", "show values TOP+1 TOP+N", "show values BASE+1 BASE+N+1"]
-        ran = run(N=n, ROOM=room, data={"bases": bases, "data": coded(orders)}, script=[*RUN, *shows])
-        cells, tops, found = (ran.numbers(show) for show in shows)
-        yield f"the bases and tops after {orders}", (found, tops), (ends, [base + len(stack) for base, stack in zip(ends, stacks)])
-        yield "what the stacks hold", [cells[base - LOW : base - LOW + len(stack)] for base, stack in zip(ends, stacks)], stacks
-        yield from times(ran, N=n, **counts)
+        for name, method in (("lesson.mixal", pushed), ("shares.mixal", shared)):
+            stacks, ends, counts = method(orders, bases)
+            ran = run(name, N=n, ROOM=room, data={"bases": bases, "data": coded(orders)}, script=[*RUN, *shows])
+            cells, tops, found = (ran.numbers(show) for show in shows)
+            yield f"{name}: bases and tops after {orders}", (found, tops), (ends, [base + len(stack) for base, stack in zip(ends, stacks)])
+            yield "what the stacks hold", [cells[base - LOW : base - LOW + len(stack)] for base, stack in zip(ends, stacks)], stacks
+            yield from times(ran, N=n, **counts)
         orders = [order for pair in zip(orders, [(stack, 0) for stack, _ in orders[::-1]]) for order in pair][: room + n]
         ran = run("answer.mixal", N=n, ROOM=room, data={"bases": bases, "data": coded(orders)}, script=["run 100000", f"show values TAKEN TAKEN+{room}"])
         removed = taken(orders, n)

@@ -8,7 +8,7 @@ import exercises_5
 from exercise import Draw
 from running import COURSE, Bundle
 
-ALL = [*exercises_1.EXERCISES, *exercises_2.EXERCISES, *exercises_5.EXERCISES]
+ALL = sorted([*exercises_1.EXERCISES, *exercises_2.EXERCISES, *exercises_5.EXERCISES])
 
 
 SMALL, LARGE, MORE = 3, 8, 3  # up to SMALL entries a case counts one point, if others have LARGE or more; any other case counts MORE

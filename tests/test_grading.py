@@ -8,6 +8,7 @@ import subprocess
 import pytest
 
 GRADE = pathlib.Path(__file__).resolve().parent.parent / "grade"
+COURSE = GRADE.parent / "course"
 SUM = "N EQU 3\nSTART ENT1 N\nLOOP INCA 2\n DEC1 1\n J1P LOOP\n STA SUM\n HLT\nSUM CON 0\n END START\n"
 REFUSED = "\ufeffSTART FOO 1\n BAR 2\n HLT\n"
 FAULTS = ["line 1, column 1: A1 bad byte: a byte order mark: save the source without it", "line 2, column 2: A2 no such operation: BAR"]
@@ -82,11 +83,22 @@ def test_a_reader_that_goes_away_is_no_fault(course, script):
             verdict = pathlib.Path("verdicts") / name / "cases" / case
             verdict.parent.mkdir(parents=True, exist_ok=True)
             verdict.write_text(f"ok - {name} cases/{case}\n")
+    assert said_to_nobody(GRADE / script[0], *script[1:], *names) == ""
+
+
+@pytest.mark.parametrize("words", ["variant", "card", "times PROGRAM LESSON N=4", "facts PROGRAM 01"])
+def test_nor_is_it_for_the_course(program, words):
+    lesson = COURSE / "50_insertion" / "lesson.mixal"
+    assert said_to_nobody(*(COURSE / words).as_posix().replace("PROGRAM", str(program)).replace("LESSON", str(lesson)).split(" ")) == ""
+
+
+def said_to_nobody(*words):
+    """What a script says on standard error if nobody reads what it writes."""
     read, write = os.pipe()
     os.close(read)
-    ran = subprocess.run([GRADE / script[0], *script[1:], *names], stdout=write, stderr=subprocess.PIPE, text=True)
+    ran = subprocess.run(words, stdout=write, stderr=subprocess.PIPE, text=True)
     os.close(write)
-    assert ran.stderr == ""
+    return ran.stderr
 
 
 def test_if_all_handed_in_the_same_each_pair_is_found(course):

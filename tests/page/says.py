@@ -60,6 +60,8 @@ def each_found(page, native, count):
     for written, meant in NEAR.items():
         page.put("text", f" {written} 1\n HLT\n END 0\n")
         count.row(f"found: {written}", f"Perhaps {meant} is meant, not {written}" in page.text("wrong-text"), page.text("wrong-text"))
+    page.put("text", "LDI1 3\n HLT\n END 0\n")
+    count.row("found: an operation at the first column, misspelt", "LDI1 is at the first column, so it is read as a label: perhaps LD1 behind a blank" in page.text("wrong-text"), page.text("wrong-text"))
     warnings = {" NOP\n END 0\n": "Line 2: there is no HLT", " HLT\n END 0\n INCA 1\n": "Line 3: this stands behind END and is not read"}
     for text, said in warnings.items():
         page.put("text", text)
