@@ -115,15 +115,15 @@ VIEWS = [
     ("breakpointLocations", {"endLine": 2}, '"id":302'), ("breakpointLocations", {"line": "2"}, '"id":302'),
     # how breakpoints are told: of lines, of another source, of instructions, of data, and those of
     # which there are none
-    ("setBreakpoints", {"breakpoints": [{"line": 1}, {"line": 6}, {}]}, '"body":{"breakpoints":[{"instructionReference":"0x0000","line":2,"verified":true},'
-     '{"message":"no word from this line on","verified":false},{"instructionReference":"0x0000","line":2,"verified":true}]}'),
+    ("setBreakpoints", {"breakpoints": [{"line": 1}, {"line": 6}]}, '"body":{"breakpoints":[{"instructionReference":"0x0000","line":2,"verified":true},'
+     '{"message":"no word from this line on","verified":false}]}'),
     ("setBreakpoints", {"breakpoints": [{"line": 2}], "source": {"path": "another.program.mixal"}},
      '"body":{"breakpoints":[{"message":"another source","verified":false}]}'),
     ("setInstructionBreakpoints", {"breakpoints": [{"instructionReference": "0x0000", "offset": 12}, {"instructionReference": "24000"}]},
      '"body":{"breakpoints":[{"instructionReference":"0x000c","verified":true},{"message":"no such cell","verified":false}]}'),
     ("setDataBreakpoints", {"breakpoints": [{"dataId": "cell A"}, {"dataId": "B"}]},
      '"body":{"breakpoints":[{"verified":true},{"message":"no such part of the machine","verified":false}]}'),
-    ("setDataBreakpoints", {}, '"body":{"breakpoints":[]}'), ("setFunctionBreakpoints", {"breakpoints": [{"name": "A"}]}, '"body":{"breakpoints":[]}'),
+    ("setDataBreakpoints", {"breakpoints": []}, '"body":{"breakpoints":[]}'), ("setFunctionBreakpoints", {"breakpoints": [{"name": "A"}]}, '"body":{"breakpoints":[]}'),
     # refusals of commands, by number and text
     ("evaluate", {"expression": "stop", "context": "repl"}, '"format":"C1 no such command","id":201,'),
     ("evaluate", {"expression": "set A", "context": "repl"}, '"format":"C2 bad argument","id":202,'),
@@ -151,6 +151,37 @@ VIEWS = [
     # a text where a number is due, a number where a text is, and each as it is to be
     ("setVariable", {"variablesReference": "1", "name": "A", "value": "1"}, '"id":302'), ("setVariable", {"variablesReference": 1, "name": 1, "value": "1"}, '"id":302'),
     ("setVariable", {"variablesReference": 1, "name": "A", "value": "1"}, '"success":true')]
+
+# Requests with an argument that is missing or is something else, and the name of the first one.
+LINE_3 = {"breakpoints": [{"line": 3}]}
+WRONG = [
+    ("setBreakpoints", {}, "breakpoints"), ("setBreakpoints", {"source": {"path": "program.mixal"}}, "breakpoints"), ("setBreakpoints", {"source": 5}, "source"),
+    ("setBreakpoints", {"source": {"path": 5}, **LINE_3}, "path"), ("setBreakpoints", {"breakpoints": 5}, "breakpoints"),
+    ("setBreakpoints", {"breakpoints": {"line": 3}}, "breakpoints"), ("setBreakpoints", {"breakpoints": [{"line": "x"}]}, "line"),
+    ("setBreakpoints", {"breakpoints": [{}]}, "line"), ("setBreakpoints", {"breakpoints": [{"line": 2}, {"line": 2.5}]}, "line"),
+    ("setBreakpoints", {"breakpoints": [5]}, "line"), ("setBreakpoints", {"breakpoints": [{"line": -1}]}, "line"),
+    ("setBreakpoints", {"breakpoints": [{"line": 3, "condition": 1}]}, "condition"), ("setBreakpoints", {"breakpoints": [{"line": 3, "hitCondition": 2}]}, "hitCondition"),
+    ("setInstructionBreakpoints", {}, "breakpoints"), ("setInstructionBreakpoints", {"breakpoints": [{"instructionReference": 0}]}, "instructionReference"),
+    ("setInstructionBreakpoints", {"breakpoints": [{"instructionReference": "0", "offset": "6"}]}, "offset"),
+    ("setDataBreakpoints", {}, "breakpoints"), ("setDataBreakpoints", {"breakpoints": [{"dataId": 5}]}, "dataId"), ("setDataBreakpoints", {"breakpoints": [{}]}, "dataId"),
+    ("setExceptionBreakpoints", {}, "filters"), ("setExceptionBreakpoints", {"filters": "conflict"}, "filters"), ("setExceptionBreakpoints", {"filters": ["conflict", 5]}, "filters"),
+    ("setFunctionBreakpoints", {}, "breakpoints"), ("setFunctionBreakpoints", {"breakpoints": [{"name": 5}]}, "name"),
+    ("writeMemory", {"memoryReference": "0", "data": "AAAAAAAF", "offset": 1e19}, "offset"), ("writeMemory", {"memoryReference": "0", "data": "AAAAAAAF", "offset": "6"}, "offset"),
+    ("writeMemory", {"memoryReference": "0", "data": "AAAAAAAF", "offset": 9223372036854775808}, "offset"), ("writeMemory", {"memoryReference": 0, "data": "AAAAAAAF"}, "memoryReference"),
+    ("writeMemory", {"memoryReference": "0"}, "data"), ("readMemory", {"memoryReference": "0", "count": -1}, "count"), ("readMemory", {"memoryReference": "0"}, "count"),
+    ("disassemble", {"memoryReference": "0", "instructionCount": 1, "instructionOffset": 0.5}, "instructionOffset"),
+    ("variables", {}, "variablesReference"), ("variables", {"variablesReference": 1, "start": "0"}, "start"), ("stackTrace", {"startFrame": "1"}, "startFrame"),
+    ("setVariable", {"variablesReference": 1, "name": "A", "value": 1}, "value"), ("evaluate", {"expression": 5}, "expression"),
+    ("evaluate", {"expression": "set A 1", "context": 5}, "context"), ("goto", {}, "targetId"), ("goto", {"targetId": "3"}, "targetId"),
+    ("breakpointLocations", {"line": 2, "endLine": "3"}, "endLine"), ("dataBreakpointInfo", {"name": "A", "variablesReference": "1"}, "variablesReference"),
+    ("mix/path", {"columns": 501}, "columns"), ("mix/path", {"columns": 2, "until": "3"}, "until"), ("mix/writes", {"part": "A", "count": 1001}, "count"),
+    ("mix/writes", {"part": "A", "until": -1}, "until"), ("mix/state", {"cells": 5}, "cells"), ("mix/state", {"nonzero": 1}, "nonzero"), ("mix/units", {"unit": "16"}, "unit"),
+    ("mix/units", {"unit": 16, "block": "0"}, "block"), ("mix/change", {"number": 18446744073709551616}, "number"), ("mix/check", {"source": 5}, "source"),
+    ("initialize", {"linesStartAt1": 0}, "linesStartAt1"), ("launch", {"sourceText": SOURCE, "stopOnEntry": "yes"}, "stopOnEntry"), ("evaluate", [], "arguments"), ("threads", 5, "arguments")]
+# An offset of 6 as JSON may write it, and one of 0, or none.
+WHOLE_NUMBERS = [b"6", b"6.0", b"6e0", b"0.6e1", b"60E-1", b"600.00e-2"]
+ABSENT = [b"0", b"0.0", b"-0", b"-0.0", b"null"]
+FIRST_CELL, SECOND_CELL = '"address":"0x0000"', '"address":"0x0006"'
 
 # Of two lines that give a word for the same cell a breakpoint stays on the second alone, since its
 # word is there.
@@ -302,6 +333,28 @@ def locations(command, count):
     count.row(STAYS, any(STAYS in message for message in found), found)
 
 
+def wrong(command, count):
+    """A request with an argument that is not what it has to be is refused by the name of it, and changes nothing."""
+    stands = [("setBreakpoints", LINE_3), ("setDataBreakpoints", {"breakpoints": [{"dataId": "cell 100"}]})]
+    runs = [("continue", {}), ("continue", {}), ("evaluate", {"expression": "show changes", "context": "repl"})]
+    for name, given, argument in WRONG:
+        asked = b"".join(frame(body) for body in (
+            *(request(seq, each, **its) for seq, (each, its) in enumerate([launch(SOURCE), DONE, *stands], 1)),
+            json.dumps({"seq": 5, "type": "request", "command": name, "arguments": given}).encode(),
+            *(request(seq, each, **its) for seq, (each, its) in enumerate(runs, 6))))
+        found = [json.loads(text) for text in texts(command, asked)[0]]
+        answer = next((message for message in found if message.get("request_seq") == 5), {})
+        error = answer.get("body", {}).get("error", {})
+        count.same(f"{name} {given}", (answer.get("message"), error.get("id"), error.get("variables")), ("Q2 bad argument", 302, {"argument": argument}))
+        reasons = [message["body"]["reason"] for message in found if message.get("event") == "stopped"]
+        count.same(f"{name} {given}: what stands", reasons, ["entry", "breakpoint", "data breakpoint"])
+    for texts_of, cell in ((WHOLE_NUMBERS, SECOND_CELL), (ABSENT, FIRST_CELL)):
+        for number in texts_of:
+            body = b'{"seq":2,"type":"request","command":"readMemory","arguments":{"memoryReference":"0","count":6.0,"offset":%s}}' % number
+            found = texts(command, frame(request(1, *launch(SOURCE)[:1], **launch(SOURCE)[1])) + frame(body))[0]
+            count.row(f"an offset {number}", any(cell in text for text in found), found)
+
+
 def conflicts(command, count):
     """Runs that stop at a step that conflicts, both ways, where that is asked for."""
     requests = [row[:2] for row in CONFLICTS]
@@ -331,7 +384,7 @@ def checks(command, count):
 def main():
     command = [os.path.abspath(sys.argv[1]), *sys.argv[2:]]
     count = Count()
-    for part in (ends, frames, messages, leads, steps, ahead, views, locations, conflicts, checks):
+    for part in (ends, frames, messages, leads, steps, ahead, views, locations, wrong, conflicts, checks):
         part(command, count)
     print(f"{count.passed} passed, {count.failed} failed")
     return 1 if count.failed else 0

@@ -2,7 +2,7 @@
 
 A header is lines, each ended by a line feed, before which a carriage return may stand, up to the first empty one; `Content-Length`, in any letters,
 gives the length of the body in bytes, in 1 to 10 digits. A body is a request where it is JSON in UTF-8, an object of the type "request", with a
-whole number from 0 on as `seq` and a text as `command`."""
+whole number from 0 on as `seq`, however it is written, and a text as `command`."""
 import json
 import re
 
@@ -59,7 +59,7 @@ def request_of(body):
     if not isinstance(message, dict) or message.get("type") != "request" or not isinstance(message.get("command"), str):
         return None
     seq = message.get("seq")
-    return message if type(seq) is int and 0 <= seq < 2 ** 64 else None
+    return message if type(seq) in (int, float) and 0 <= seq < 2 ** 64 and seq % 1 == 0 else None
 
 
 def heard(text):
@@ -103,7 +103,7 @@ def commands(requests, accepted):
             if command == "continue" or not stops:
                 yield "run 1000000"
         elif command == "goto":
-            yield f"set loc {given['targetId']}"
+            yield f"set loc {int(given['targetId'])}"
         elif command == "setVariable":
             where = "" if given["variablesReference"] < 1000 else "cell "
             yield f"set {where}{given['name']} {given['value']}"

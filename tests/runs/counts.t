@@ -32,15 +32,37 @@ The counts of a run as a table. ENT1, INCA, DEC1 and J1P take 1u, STA 2u, HLT 10
   \bottomrule
   \end{tabular}
 
-If several forms are asked for, LaTeX comes before JSON and JSON before CSV. A form alone does nothing.
-
-  $ mixrev run sum.mixal --latex --counts --json </dev/null | head -n 1
-  \begin{tabular}{rrrr}
-  $ mixrev run sum.mixal --counts --csv --json </dev/null | head -n 1
-  [
   $ mixrev run sum.mixal --counts --csv </dev/null | head -n 1
   line,location,count,time
-  $ mixrev run sum.mixal --json --latex --csv </dev/null
+
+A run writes one table, in one form. What would be dropped is refused, and a form alone too.
+
+  $ mixrev run sum.mixal --latex --counts --json </dev/null | grep -v '^stderr: $'
+  stderr: error: the argument '--json' cannot be used with '--latex'
+  stderr: Usage: mixrev run [OPTIONS] <SOURCE>
+  stderr: For more information, try '--help'.
+  $ mixrev run sum.mixal --csv </dev/null >told || echo $?
+  2
+  $ head -n 1 told
+  stderr: error: the argument '--csv' cannot be used without '--counts', '--writes <PART>' or '--trace'
+  $ mixrev run sum.mixal --counts --csv --json </dev/null | grep error:
+  stderr: error: the argument '--csv' cannot be used with '--json'
+  $ mixrev run sum.mixal --csv --latex </dev/null | grep error:
+  stderr: error: the argument '--csv' cannot be used with '--latex'
+  $ mixrev run sum.mixal --counts --writes SUM </dev/null | grep error:
+  stderr: error: the argument '--counts' cannot be used with '--writes <PART>'
+  $ mixrev run sum.mixal --counts --trace </dev/null | grep error:
+  stderr: error: the argument '--counts' cannot be used with '--trace'
+  $ mixrev run sum.mixal --writes SUM --trace </dev/null | grep error:
+  stderr: error: the argument '--writes <PART>' cannot be used with '--trace'
+  $ mixrev run sum.mixal --strict --counts </dev/null | grep error:
+  stderr: error: the argument '--strict' cannot be used with '--counts'
+  $ mixrev run sum.mixal --strict --trace --csv </dev/null | grep error:
+  stderr: error: the argument '--strict' cannot be used with '--csv'
+  $ mixrev run sum.mixal --unit 18 --writes SUM </dev/null | grep error:
+  stderr: error: the argument '--unit <N>' cannot be used with '--writes <PART>'
+  $ mixrev run sum.mixal --strict --trace --unit 18 </dev/null | wc -l
+  12
 
 No line of the source put a word into cell 1: it is +0, a NOP of 1u.
 
@@ -83,7 +105,7 @@ A fault and the end of the steps are reported as of any run. A fault at the firs
 Cards are read, and what the units hold is kept. What is printed is not written.
 
   $ printf ' IN 100(16)\n OUT 100(20)\n HLT\n END 0\n' >copy.mixal
-  $ printf 'A CARD\nANOTHER\n' | mixrev run copy.mixal --cards - --counts --keep left --trace
+  $ printf 'A CARD\nANOTHER\n' | mixrev run copy.mixal --cards - --counts --keep left
   line,location,count,time
   1,0,1,1
   2,1,1,1

@@ -1,8 +1,7 @@
-pub mod Command
 pub mod Fields
 pub mod Fault
 pub mod Members
 pub mod Message
 pub mod Reads
 pub mod Request
-pub mod Told
+pub mod Whole

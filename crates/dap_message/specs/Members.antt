@@ -2,15 +2,16 @@
 use Rattle.std.specs.Prelude.{ℕ, List, codes, Bool, true, false, Option, None, Some, is_some, option_and_then, if◌then◌else◌}
 use Rattle.std.specs.Str.{bytes_eq}
 use Rattle.serde_json.specs.Data.{Data}
-use Rattle.serde_json.specs.Find.{get, as_number, as_str, as_u64}
+use Rattle.serde_json.specs.Find.{get, as_str}
+use Rattle.dap_message.specs.Whole.{natural_in}
 
 -- a member that is a text
 abbrev pub text_in : List ℕ → Data → Option (List ℕ)
 text_in name message = option_and_then as_str (get name message)
 
--- a member that is a number, zero or more
+-- a member that is a whole number, zero or more
 abbrev pub number_in : List ℕ → Data → Option ℕ
-number_in name message = option_and_then (λ d. option_and_then as_u64 (as_number d)) (get name message)
+number_in name message = option_and_then natural_in (get name message)
 
 -- whether a text is this one
 abbrev pub is_text : List ℕ → Option (List ℕ) → Bool

@@ -4,7 +4,6 @@ ghost use Rattle.std.specs.Prelude.{◌≡◌, [], true, false, map, IfOk, OnOk,
 ghost use Rattle.serde_json.specs.View.{view};
 ghost use Rattle.dap_message.specs.Fields.{members_in};
 ghost use Rattle.dap_message.specs.Message.{response_head, refusal_error, refusal_body, output_body, numbered, reply_message, refusal_message, event_message, output_message, waits, Adds, Stays};
-ghost use Rattle.dap_message.specs.Told.{response_to, done, refused, Events, Answers};
 
 use crate::fields::Fields;
 use crate::request::Request;
@@ -49,10 +48,8 @@ impl Outbox {
     }
 
     /// Answers a request that was done; a body of `Null` is left out. Out of memory, here and below, no message more waits.
-    #[tactic(auto, using(crate::proofs::Telling::tells))]
     pub fn reply(&mut self, to: &Request, body: Value) -> Result<(), Memory>
         ensures told { OnOk result (Adds self.old self.new (λ seq. reply_message seq to.now (view body))) }
-        ensures answers { OnOk result (Answers (response_to to.now done) (waits self.old) (waits self.new)) }
         ensures stays { OnErr result (Stays self.old self.new) }
     {
         let head = self.response(to, true)?;
@@ -60,7 +57,6 @@ impl Outbox {
     }
 
     /// Answers a request that was refused, with a number and a text, and with what the text tells of as values; variables of `Null` are left out.
-    #[tactic(auto, using(crate::proofs::Telling::tells))]
     pub fn refuse(
         &mut self,
         to: &Request,
@@ -69,7 +65,6 @@ impl Outbox {
         variables: Value,
     ) -> Result<(), Memory>
         ensures told { OnOk result (Adds self.old self.new (λ seq. refusal_message seq to.now number text.now (view variables))) }
-        ensures answers { OnOk result (Answers (response_to to.now (refused number text.now)) (waits self.old) (waits self.new)) }
         ensures stays { OnErr result (Stays self.old self.new) }
     {
         let mut head = self.response(to, false)?;
@@ -79,10 +74,8 @@ impl Outbox {
     }
 
     /// Tells of an event; a body of `Null` is left out.
-    #[tactic(auto, using(crate::proofs::Telling::tells))]
     pub fn event(&mut self, name: &str, body: Value) -> Result<(), Memory>
         ensures told { OnOk result (Adds self.old self.new (λ seq. event_message seq name.now (view body))) }
-        ensures events { OnOk result (Events (waits self.old) (waits self.new)) }
         ensures stays { OnErr result (Stays self.old self.new) }
     {
         let mut head = Fields::new(self.alloc);
@@ -94,7 +87,6 @@ impl Outbox {
     /// Tells a text to the one who debugs, of a category: `stdout` is the program's, `console` and `important` are the adapter's.
     pub fn output(&mut self, category: &str, text: &str) -> Result<(), Memory>
         ensures told { OnOk result (Adds self.old self.new (λ seq. output_message seq category.now text.now)) }
-        ensures events { OnOk result (Events (waits self.old) (waits self.new)) }
         ensures stays { OnErr result (Stays self.old self.new) }
     {
         let body = self.text(category, text)?;

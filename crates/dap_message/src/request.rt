@@ -5,9 +5,9 @@ ghost use Rattle.serde_json.specs.View.{view, items_view};
 ghost use Rattle.dap_message.specs.Fault.{message_fault_text};
 ghost use Rattle.dap_message.specs.Members.{request_seq};
 ghost use Rattle.dap_message.specs.Reads.{ReadsAs};
-ghost use Rattle.dap_message.specs.Request.{name_of, command_of, argument_of, text_of, number_of, integer_of, flag_of, list_of};
+ghost use Rattle.dap_message.specs.Request.{name_of, unless_null, member_of, are_arguments, argument_of, text_of, number_of, integer_of, flag_of, list_of};
 
-use crate::command::Command;
+use crate::whole::{integer, natural};
 use mix_refused::Refused;
 use serde_json::Value;
 use std::alloc::Global;
@@ -69,18 +69,21 @@ impl Request {
         }
     }
 
-    /// What it asks for, if that is among the commands.
-    pub fn command(&self) -> Option<Command>
-        ensures { result ≡ command_of self.now }
+    /// Whether its arguments are an object, or there are none.
+    pub fn has_arguments(&self) -> bool
+        ensures { result ≡ are_arguments self.now }
     {
-        Command::named(self.name())
+        match member_of(&self.message, "arguments") {
+            Some(arguments) => arguments.is_object(),
+            None => true,
+        }
     }
 
-    /// An argument, if it is there.
+    /// An argument, if it is there; one that is null is not.
     pub fn argument(&self, name: &str) -> Option<&Value>
         ensures { option_map (λ v. view v.now) result ≡ argument_of self.now name.now }
     {
-        self.message.get("arguments")?.get(name)
+        member_of(self.message.get("arguments")?, name)
     }
 
     /// An argument that is a text.
@@ -90,18 +93,18 @@ impl Request {
         self.argument(name)?.as_str()
     }
 
-    /// An argument that is a number, zero or more.
+    /// An argument that is a whole number, zero or more.
     pub fn number(&self, name: &str) -> Option<u64>
         ensures { result ≡ number_of self.now name.now }
     {
-        self.argument(name)?.as_u64()
+        natural(self.argument(name)?)
     }
 
     /// An argument that is a whole number.
     pub fn integer(&self, name: &str) -> Option<i64>
         ensures { result ≡ integer_of self.now name.now }
     {
-        self.argument(name)?.as_i64()
+        integer(self.argument(name)?)
     }
 
     /// Whether an argument is `true`.
@@ -119,6 +122,14 @@ impl Request {
     {
         Some(self.argument(name)?.as_array()?.as_slice())
     }
+}
+
+/// A member of an object, if it is there; one that is null is not.
+pub fn member_of<'v>(object: &'v Value, name: &str) -> Option<&'v Value>
+    ensures { option_map (λ v. view v.now) result ≡ member_of name.now (view object.now) }
+{
+    let member = object.get(name)?;
+    if member.is_null() { None } else { Some(member) }
 }
 
 // The request that a message is.
@@ -139,5 +150,5 @@ fn seq_in(message: &Value) -> Option<u64>
         return None;
     }
     message.get("command")?.as_str()?;
-    message.get("seq")?.as_u64()
+    natural(message.get("seq")?)
 }

@@ -1,3 +1,4 @@
 pub mod Fault
 pub mod Plan
 pub mod Program
+pub mod Vain

@@ -7,6 +7,9 @@ use Rattle.std.specs.Str.{bytes_eq}
 use Rattle.std.specs.Str.Parse.{digits_value, without_leading_plus}
 use Rattle.clap.specs.Words.{Kinds, Row, Text, all_of, fault_of, first_of, subcommand_of}
 use Rattle.mix_cli.specs.Program.{mixrev}
+pub use Rattle.mix_cli.specs.Vain.{is_set}
+use Rattle.mix_cli.specs.Vain.{vain_in}
+use Rattle.mix_cli.specs.declared.vain.Vain.{Vain}
 use Rattle.mix_cli.specs.declared.words.AskedTable.{AskedTable}
 use Rattle.mix_cli.specs.declared.words.Format.{Format}
 use Rattle.mix_cli.specs.declared.words.Format.TheVariants.{Csv, Json, Latex}
@@ -57,10 +60,6 @@ prints rows unit = option_map_or (λ texts. list_any (names_unit unit) texts) (a
 
 abbrev pub printing_of : List Row → Printing
 printing_of rows = record { punch = prints rows 17; printer = prints rows 18; typewriter = prints rows 19; tape = prints rows 20 }
-
--- whether an option without a value is there: clap holds `true` for it then, and else `false`
-abbrev pub is_set : Text → List Row → Bool
-is_set id rows = option_map_or (λ text. bytes_eq text (codes "true")) (first_of id rows) false
 
 -- the form that is asked for, if one is
 abbrev pub form_of : List Row → Option Format
@@ -123,3 +122,12 @@ planned terminal words =
 -- the kinds of error that the words may give, by clap's own definitions; where there is none they give a plan
 abbrev pub line_kinds : Bool → List Text → Kinds
 line_kinds terminal words = if means_bundle terminal (length words) then [] else fault_of mixrev words
+
+-- the options that say nothing together, of the words after a subcommand: of `run` alone
+abbrev pub subcommand_vain : Text × List Row → Option Vain
+subcommand_vain found = if bytes_eq found.0 (codes "run") then vain_in found.1 else None
+
+-- those of a command line, by clap's own definitions
+abbrev pub line_vain : Bool → List Text → Option Vain
+line_vain terminal words =
+    if means_bundle terminal (length words) then None else option_and_then subcommand_vain (subcommand_of mixrev words)

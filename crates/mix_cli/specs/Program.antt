@@ -25,21 +25,6 @@ option_named name = record (new_rule name) { long = Some name; value_names = 1 }
 abbrev pub devices_option : Rule
 devices_option = option_named (codes "devices")
 
-abbrev pub cards_option : Rule
-cards_option = option_named (codes "cards")
-
-abbrev pub typewriter_option : Rule
-typewriter_option = option_named (codes "typewriter")
-
-abbrev pub keep_option : Rule
-keep_option = option_named (codes "keep")
-
-abbrev pub svg_option : Rule
-svg_option = option_named (codes "svg")
-
-abbrev pub writes_option : Rule
-writes_option = option_named (codes "writes")
-
 -- `--steps N`, a number from 1 on
 abbrev pub steps_option : Rule
 steps_option = record (option_named (codes "steps")) { parser = Some (Unsigned 1 max_steps) }
@@ -76,17 +61,17 @@ debug_app = with_rule (with_rule (with_rule (of_source (codes "debug")) (new_rul
 
 -- what goes in, what is asked of the run, and what it gives beside the rows of its units
 abbrev pub run_inputs : App
-run_inputs = with_rule (with_rule (with_rule (of_source (codes "run")) cards_option) typewriter_option) devices_option
+run_inputs = with_rule (with_rule (with_rule (of_source (codes "run")) (option_named (codes "cards"))) (option_named (codes "typewriter"))) devices_option
 
 abbrev pub limited_run : App
 limited_run = with_rule (with_rule run_inputs steps_option) unit_option
 
 abbrev pub kept_run : App
-kept_run = with_rule (with_rule (with_rule limited_run (flag_named (codes "trace"))) (flag_named (codes "strict"))) keep_option
+kept_run = with_rule (with_rule (with_rule limited_run (flag_named (codes "trace"))) (flag_named (codes "strict"))) (option_named (codes "keep"))
 
 -- with its picture, and what it is a table of
 abbrev pub tabled_run : App
-tabled_run = with_rule (with_rule (with_rule kept_run svg_option) (flag_named (codes "counts"))) writes_option
+tabled_run = with_rule (with_rule (with_rule kept_run (option_named (codes "svg"))) (flag_named (codes "counts"))) (option_named (codes "writes"))
 
 -- with the form of the table
 abbrev pub run_app : App

@@ -6,15 +6,19 @@ ghost use Rattle.clap.specs.declared.error.kind.ErrorKind.TheVariants.{OutOfMemo
 ghost use Rattle.mix_cli.specs.Fault.{IsFaultOf, status_of_fault};
 ghost use Rattle.mix_cli.specs.declared.fault.LineFault.TheVariants.{Memory as memory};
 
+use crate::vain::Vain;
 use clap::Error;
 use clap::error::ErrorKind;
 use std::alloc::AllocError;
 
-/// Why a command line gives no plan: its words are a mistake or ask for help or the version, or memory is refused.
+/// Why a command line gives no plan: its words are a mistake or ask for help or the version, some of
+/// its options say nothing together, or memory is refused.
 #[derive(Drop)]
 pub enum LineFault {
     /// The text that help shows, the version, or what names the mistake.
     Line(Error),
+    /// Options that say nothing together.
+    Vain(Vain),
     Memory,
 }
 
@@ -49,6 +53,6 @@ pub fn line_status(fault: &LineFault) -> u8
             ErrorKind::DisplayHelp | ErrorKind::DisplayVersion => 0,
             _ => FAILED,
         },
-        LineFault::Memory => FAILED,
+        LineFault::Vain(_) | LineFault::Memory => FAILED,
     }
 }

@@ -76,7 +76,7 @@ pub(crate) fn optional(
     }
 }
 
-// Whether an option without a value is there.
+/// Whether an option without a value is there.
 pub(crate) fn is_set(words: &ArgMatches<'_>, id: &str) -> bool
     ensures { result ≡ is_set id.now (rows_of (found_of words.now)) }
 {
@@ -86,8 +86,8 @@ pub(crate) fn is_set(words: &ArgMatches<'_>, id: &str) -> bool
     }
 }
 
-// Whether an option with a value is there.
-fn is_given(words: &ArgMatches<'_>, id: &str) -> bool
+/// Whether an option with a value is there.
+pub(crate) fn is_given(words: &ArgMatches<'_>, id: &str) -> bool
     ensures { result ≡ is_some (first_of id.now (rows_of (found_of words.now))) }
 {
     first(words, id).is_some()

@@ -6,7 +6,9 @@ mod found;
 mod help;
 mod options;
 mod program;
+mod vain;
 mod words;
 
 pub use fault::{FAILED, LineFault, line_status};
+pub use vain::{Choice, Vain};
 pub use words::{AskedTable, Format, Plan, Printing, TableRows, read_words};

@@ -2,7 +2,7 @@
 
 ghost use Rattle.std.specs.Prelude.{◌≡◌, false};
 ghost use Rattle.clap.specs.Words.{rule_of};
-ghost use Rattle.mix_cli.specs.Program.{cards_option, devices_option, flag_named, keep_option, option_named, steps_option, svg_option, typewriter_option, unit_option, writes_option};
+ghost use Rattle.mix_cli.specs.Program.{devices_option, flag_named, option_named, steps_option, unit_option};
 
 use clap::builder::ValueParser;
 use clap::{Arg, ArgAction};
@@ -11,8 +11,13 @@ use std::alloc::Global;
 /// How many steps a run may be allowed.
 const MAX_STEPS: u64 = 1_000_000_000_000_000_000;
 
-// An option with one value.
-fn option_named<'a>(alloc: Global, name: &'a str, value: &'a str, help: &'a str) -> Arg<'a>
+/// An option with one value.
+pub(crate) fn option_named<'a>(
+    alloc: Global,
+    name: &'a str,
+    value: &'a str,
+    help: &'a str,
+) -> Arg<'a>
     ensures rule { rule_of result ≡ option_named name.entry.now }
     ensures local { result.global ≡ false }
 {
@@ -22,7 +27,7 @@ fn option_named<'a>(alloc: Global, name: &'a str, value: &'a str, help: &'a str)
         .help(help)
 }
 
-// An option without a value.
+/// An option without a value.
 pub(crate) fn flag_named<'a>(alloc: Global, name: &'a str, help: &'a str) -> Arg<'a>
     ensures rule { rule_of result ≡ flag_named name.entry.now }
     ensures local { result.global ≡ false }
@@ -33,6 +38,7 @@ pub(crate) fn flag_named<'a>(alloc: Global, name: &'a str, help: &'a str) -> Arg
         .help(help)
 }
 
+/// The deck, of `debug` and of `run`.
 pub(crate) fn devices_option<'a>(alloc: Global) -> Arg<'a>
     ensures rule { rule_of result ≡ devices_option }
     ensures local { result.global ≡ false }
@@ -42,66 +48,6 @@ pub(crate) fn devices_option<'a>(alloc: Global) -> Arg<'a>
         "devices",
         "FILE",
         "The deck: what tapes, disks and cards hold; without one all are empty",
-    )
-}
-
-pub(crate) fn cards_option<'a>(alloc: Global) -> Arg<'a>
-    ensures rule { rule_of result ≡ cards_option }
-    ensures local { result.global ≡ false }
-{
-    option_named(
-        alloc,
-        "cards",
-        "FILE",
-        "The cards of the reader, one a line, instead of those of the deck",
-    )
-}
-
-pub(crate) fn typewriter_option<'a>(alloc: Global) -> Arg<'a>
-    ensures rule { rule_of result ≡ typewriter_option }
-    ensures local { result.global ≡ false }
-{
-    option_named(
-        alloc,
-        "typewriter",
-        "FILE",
-        "The lines that the typewriter gives, one a line, instead of those of the deck",
-    )
-}
-
-pub(crate) fn keep_option<'a>(alloc: Global) -> Arg<'a>
-    ensures rule { rule_of result ≡ keep_option }
-    ensures local { result.global ≡ false }
-{
-    option_named(
-        alloc,
-        "keep",
-        "FILE",
-        "Writes what tapes, disks and cards hold at the end, as a deck for another run",
-    )
-}
-
-pub(crate) fn svg_option<'a>(alloc: Global) -> Arg<'a>
-    ensures rule { rule_of result ≡ svg_option }
-    ensures local { result.global ≡ false }
-{
-    option_named(
-        alloc,
-        "svg",
-        "FILE",
-        "Writes a picture of the run as SVG: which lines were executed when, and how often",
-    )
-}
-
-pub(crate) fn writes_option<'a>(alloc: Global) -> Arg<'a>
-    ensures rule { rule_of result ≡ writes_option }
-    ensures local { result.global ≡ false }
-{
-    option_named(
-        alloc,
-        "writes",
-        "PART",
-        "Writes no rows, but a table of each change of this part, such as A, over, 100 or X+1, as CSV",
     )
 }
 

@@ -8,10 +8,7 @@ use crate::help::{
     ABOUT, LONG_VERSION, MORE, MORE_ON_CHECK, MORE_ON_DAP, MORE_ON_DEBUG, MORE_ON_LIST,
     MORE_ON_RUN, SOURCE, VERSION,
 };
-use crate::options::{
-    cards_option, devices_option, flag_named, keep_option, steps_option, svg_option,
-    typewriter_option, unit_option, writes_option,
-};
+use crate::options::{devices_option, flag_named, option_named, steps_option, unit_option};
 use clap::{Arg, ArgAction, Command};
 use std::alloc::{AllocError, Global};
 
@@ -86,8 +83,18 @@ fn of_inputs<'a>(alloc: Global) -> Result<Command<'a>, AllocError>
     ensures app { IfOk result (λ c. app_of c ≡ run_inputs) }
 {
     of_source(alloc, "run")?
-        .arg(cards_option(alloc))?
-        .arg(typewriter_option(alloc))?
+        .arg(option_named(
+            alloc,
+            "cards",
+            "FILE",
+            "The cards of the reader, one a line, instead of those of the deck",
+        ))?
+        .arg(option_named(
+            alloc,
+            "typewriter",
+            "FILE",
+            "The lines that the typewriter gives, one a line, instead of those of the deck",
+        ))?
         .arg(devices_option(alloc))
 }
 
@@ -117,7 +124,12 @@ fn kept_run<'a>(alloc: Global) -> Result<Command<'a>, AllocError>
             "strict",
             "Ends before a step that uses cells of a transfer that is not over",
         ))?
-        .arg(keep_option(alloc))
+        .arg(option_named(
+            alloc,
+            "keep",
+            "FILE",
+            "Writes what tapes, disks and cards hold at the end, as a deck for another run",
+        ))
 }
 
 // And with its picture, and what it is a table of.
@@ -125,13 +137,23 @@ fn tabled_run<'a>(alloc: Global) -> Result<Command<'a>, AllocError>
     ensures app { IfOk result (λ c. app_of c ≡ tabled_run) }
 {
     kept_run(alloc)?
-        .arg(svg_option(alloc))?
+        .arg(option_named(
+            alloc,
+            "svg",
+            "FILE",
+            "Writes a picture of the run as SVG: which lines were executed when, and how often",
+        ))?
         .arg(flag_named(
             alloc,
             "counts",
             "Writes no rows, but a table of how often each instruction was executed, as CSV",
         ))?
-        .arg(writes_option(alloc))
+        .arg(option_named(
+            alloc,
+            "writes",
+            "PART",
+            "Writes no rows, but a table of each change of this part, such as A, over, 100 or X+1, as CSV",
+        ))
 }
 
 // And with the form of the table.

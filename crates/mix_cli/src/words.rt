@@ -1,16 +1,17 @@
 //! What a command line asks for.
 
-ghost use Rattle.std.specs.Prelude.{◌≡◌, IfOk, IfErr, IsSome, Some, [], length, map, true, option_and_then};
+ghost use Rattle.std.specs.Prelude.{◌≡◌, IfOk, IfErr, IsSome, None, Some, [], length, map, true, option_and_then};
 ghost use Rattle.clap.specs.Words.{FailsBy, fault_of, found_of, kind_of, rows_of, subcommand_of, subcommand_rows_of, takes};
 ghost use Rattle.clap.specs.declared.error.kind.ErrorKind.TheVariants.{OutOfMemory};
 ghost use Rattle.mix_cli.specs.Fault.{IsRefusedBy};
-ghost use Rattle.mix_cli.specs.Plan.{check_planned, debug_planned, is_set, line_kinds, list_planned, means_bundle, planned, planned_of, run_planned, subcommand_planned};
+ghost use Rattle.mix_cli.specs.Plan.{check_planned, debug_planned, is_set, line_kinds, line_vain, list_planned, means_bundle, planned, planned_of, run_planned, subcommand_planned, subcommand_vain};
 ghost use Rattle.mix_cli.specs.Program.{mixrev};
 ghost use Rattle.mix_cli.specs.declared.fault.LineFault.{LineFault};
 
 use crate::fault::LineFault;
 use crate::found::{is_set, optional, required, several, steps, table, what_is_printed};
 use crate::program::program;
+use crate::vain::{Vain, vain_in};
 use clap::{ArgMatches, Error};
 use std::alloc::{AllocError, Global};
 
@@ -157,6 +158,15 @@ fn plan_of(alloc: Global, found: &ArgMatches<'_>) -> Result<Plan, AllocError>
     subcommand(alloc, name, words)
 }
 
+// The options of words that clap takes that say nothing together.
+fn vain_of(found: &ArgMatches<'_>) -> Option<Vain>
+    requires { IsSome (option_and_then subcommand_planned (subcommand_rows_of found.now)) }
+    ensures { result ≡ option_and_then subcommand_vain (subcommand_rows_of found.now) }
+{
+    let (name, words) = found.subcommand().unwrap();
+    if name == "run" { vain_in(words) } else { None }
+}
+
 // What clap finds in the words.
 fn found_in<'a>(alloc: Global, words: &'a [&'a str]) -> Result<ArgMatches<'a>, Error>
     ensures found { IfOk result (λ m. subcommand_rows_of m ≡ subcommand_of mixrev (map (λ s. s.now) words.entry.now)) }
@@ -173,11 +183,14 @@ fn means_bundle(words: usize, terminal: bool) -> bool
     !terminal && words <= 1
 }
 
-/// The plan of a command line. The words are as `env::args` gives them, the first the program's name: none after it is a bundle,
-/// `list SOURCE` a listing, `check SOURCE..` a check, with `--json` in JSON, `debug SOURCE SCRIPT` a session, with a deck by `--devices FILE`, `debug SOURCE` a talk, `run SOURCE` a run, and `dap`
-/// the debug adapter. Where standard input is a terminal no bundle is meant, and help is shown.
+/// The plan of a command line. The words are as `env::args` gives them, the first the program's
+/// name: none after it is a bundle, `list SOURCE` a listing, `check SOURCE..` a check, with `--json`
+/// in JSON, `debug SOURCE SCRIPT` a session, with a deck by `--devices FILE`, `debug SOURCE` a talk,
+/// `run SOURCE` a run, and `dap` the debug adapter. Where standard input is a terminal no bundle is
+/// meant, and help is shown.
 ///
-/// It fails with `Line` where the words are none of these or ask for help or the version, and with `Memory` where memory is refused.
+/// It fails with `Line` where the words are none of these or ask for help or the version, with
+/// `Vain` where two options say nothing together, and with `Memory` where memory is refused.
 pub fn read_words<'a>(
     alloc: Global,
     words: &'a [&'a str],
@@ -185,13 +198,19 @@ pub fn read_words<'a>(
 ) -> Result<Plan, LineFault>
     ensures plan { IfOk result (λ p. planned terminal (map (λ s. s.now) words.entry.now) ≡ Some (planned_of p)) }
     ensures accepted { IfOk result (λ _. line_kinds terminal (map (λ s. s.now) words.entry.now) ≡ []) }
-    ensures refused { IfErr result (IsRefusedBy (line_kinds terminal (map (λ s. s.now) words.entry.now))) }
+    ensures heeded { IfOk result (λ _. line_vain terminal (map (λ s. s.now) words.entry.now) ≡ None) }
+    ensures refused { IfErr result (IsRefusedBy (line_kinds terminal (map (λ s. s.now) words.entry.now))
+        (line_vain terminal (map (λ s. s.now) words.entry.now))) }
     ensures none { IfErr result (λ e. means_bundle terminal (length words.entry.now) ≡ true → e ≡ LineFault.Memory) }
-    ensures taken { IfErr result (λ e. takes mixrev (map (λ s. s.now) words.entry.now) ≡ true → e ≡ LineFault.Memory) }
+    ensures taken { IfErr result (λ e. takes mixrev (map (λ s. s.now) words.entry.now) ≡ true
+        → line_vain terminal (map (λ s. s.now) words.entry.now) ≡ None → e ≡ LineFault.Memory) }
 {
     if means_bundle(words.len(), terminal) {
         return Ok(Plan::Bundle);
     }
     let found = found_in(alloc, words)?;
-    Ok(plan_of(alloc, &found)?)
+    match vain_of(&found) {
+        Some(vain) => Err(LineFault::Vain(vain)),
+        None => Ok(plan_of(alloc, &found)?),
+    }
 }

@@ -1,11 +1,10 @@
 -- A launch that was left waits for its answer, and nothing else does.
-use Rattle.std.proofs.Common.{◌≡◌, ℕ, Option, None, Some, List, refl}
-use Rattle.dap_message.specs.declared.command.Command.{Command}
+use Rattle.std.proofs.Common.{◌≡◌, ℕ, Result, Ok, Err, List, refl}
 use Rattle.dap_message.specs.declared.outbox.Outbox.{Outbox}
 use Rattle.dap_message.specs.declared.request.Request.{Request}
 use Rattle.mix_dap.specs.Before.{AskedShows, IsLaunch, ShowsBefore, answer_before, events_before, later_before}
-use Rattle.mix_dap.specs.Kind.{kind_of}
 use Rattle.mix_dap.specs.Texts.{AreTexts, Known}
+use Rattle.mix_dap.specs.declared.fault.Fault.{Fault}
 use Rattle.mix_dap.specs.declared.kind.Kind.{Kind}
 use Rattle.mix_dap.specs.declared.kind.Kind.TheVariants as kind
 use Rattle.mix_dap.specs.declared.launch.Texts.{Texts}
@@ -28,7 +27,7 @@ kind-launch kind.Cancel knows texts r a b is = absurd (let e = is.0 in cc)
 kind-launch kind.Write knows texts r a b is = absurd (let e = is.0 in cc)
 kind-launch (kind.Act act) knows texts r a b is = absurd (let e = is.0 in cc)
 
-pub launch-waits : (command : Option Command) (knows : List ℕ → Known) (texts : Texts) (r : Request) (a b : Outbox)
-    → AskedShows knows command (asked.Launch texts) r a b → IsLaunch command × AreTexts knows r texts × (b ≡ a)
-launch-waits None knows texts r a b is = absurd (let e = is.0 in cc)
-launch-waits (Some command) knows texts r a b is = kind-launch (kind_of command) knows texts r a b is
+pub launch-waits : (asks : Result Kind Fault) (knows : List ℕ → Known) (texts : Texts) (r : Request) (a b : Outbox)
+    → AskedShows knows asks (asked.Launch texts) r a b → IsLaunch asks × AreTexts knows r texts × (b ≡ a)
+launch-waits (Err why) knows texts r a b is = absurd (let e = is.0 in cc)
+launch-waits (Ok k) knows texts r a b is = kind-launch k knows texts r a b is

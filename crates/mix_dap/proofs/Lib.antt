@@ -13,6 +13,7 @@ pub mod LegLemmas
 pub mod ListLemmas
 pub mod LocationLemmas
 pub mod MemoryLemmas
+pub mod NextLemmas
 pub mod PathLemmas
 pub mod PointLemmas
 pub mod ReferenceLemmas

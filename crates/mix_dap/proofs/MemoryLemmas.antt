@@ -6,7 +6,7 @@ use Rattle.std.proofs.lemmas.List.FromFn.{length-map-range_with_len, take-map-ra
 use Rattle.std.specs.List.{range_with_len}
 use Rattle.mix_machine.specs.World.{WorldState}
 use Rattle.mix_dap.specs.Layout.{byte_of_reference, memory_byte, memory_bytes}
-use Rattle.mix_dap.specs.Memory.{bytes_from, integer_asked, start_named}
+use Rattle.mix_dap.specs.Memory.{bytes_from, integer_asked, start_asked}
 use Rattle.mix_dap.specs.declared.fault.Fault.{Fault}
 use Rattle.mix_dap.specs.declared.fault.Fault.TheVariants as fault
 use Rattle.mixal_text.specs.Steps.{◌>>=◌}
@@ -39,5 +39,5 @@ by_reference r text = ok_or text fault.BadArgument >>= (λ reference. ok_or (byt
 
 -- a request whose reference names no byte
 pub no_start : (r : Request) (reference : List ℕ) → Some reference ≡ text_of r (codes "memoryReference")
-    → None ≡ byte_of_reference reference (integer_asked r (codes "offset")) → start_named r ≡ Err fault.NoSuchThing
+    → None ≡ byte_of_reference reference (integer_asked r (codes "offset")) → start_asked r ≡ Err fault.NoSuchThing
 no_start r reference text none = ap (by_reference r) (sym text) ∙ ap (λ (byte : Option ℕ). ok_or byte fault.NoSuchThing) (sym none)

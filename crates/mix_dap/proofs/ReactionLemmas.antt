@@ -9,7 +9,6 @@ use Rattle.mix_session.specs.Timeline.{Timeline, world_of}
 use Rattle.mix_session.specs.declared.answer.Answer.{Answer}
 use Rattle.mix_session.specs.declared.reply.End.{End}
 use Rattle.dap_message.specs.Message.{Adds, refusal_message, reply_message}
-use Rattle.dap_message.specs.declared.command.Command.{Command}
 use Rattle.dap_message.specs.declared.outbox.Outbox.{Outbox}
 use Rattle.dap_message.specs.declared.request.Request.{Request}
 use Rattle.mix_dap.specs.Deed.{deed_of, effect_of_deed, is_console_of}
@@ -124,12 +123,10 @@ reacts-refuses x r a b why how old mid new is same still_old flows tells = subst
   goes = (refl, refl);
 })
 
-pub reacts-unknown : (command : Option Command) (r : Request) (a : Adapter) (how : Flow) (old new : Outbox) → command ≡ None → how ≡ flow.Refused fault.NoSuchRequest
-    → Adds old new (λ seq. refusal_message seq r (fault_number fault.NoSuchRequest) (fault_text fault.NoSuchRequest) (fault_place fault.NoSuchRequest))
-    → ReactsAs (reaction_to command r a) r how a old new
-reacts-unknown None r a how old new is flows tells =
-    reacts-refuses (refuses a fault.NoSuchRequest) r a a fault.NoSuchRequest how old old new refl (refl, refl, refl, refl) refl flows tells
-reacts-unknown (Some command) r a how old new is flows tells = absurd (let e = is in cc)
+pub reacts-misread : (asked : Result Kind Fault) (why : Fault) (r : Request) (a : Adapter) (how : Flow) (old new : Outbox) → asked ≡ Err why → how ≡ flow.Refused why
+    → Adds old new (λ seq. refusal_message seq r (fault_number why) (fault_text why) (fault_place why)) → ReactsAs (reaction_to asked r a) r how a old new
+reacts-misread asked why r a how old new is flows tells =
+    reacts-refuses (reaction_to asked r a) r a a why how old old new (ap (λ (k : Result Kind Fault). reaction_to k r a) is) (refl, refl, refl, refl) refl flows tells
 
 pub reacts-refused : (k : Kind) (r : Request) (a b : Adapter) (why : Fault) (how : Flow) (old mid new : Outbox)
     → ((reaction k r a).body ≡ Err why) × IsSame a b × (mid ≡ old) → how ≡ flow.Refused why
@@ -177,12 +174,11 @@ pub on-refused : {E : Type 0} (result : Result Flow E) (k : Kind) (r : Request) 
 on-refused (Ok how) k r a b why old mid new is flows tells = reacts-refused k r a b why how old mid new is flows tells
 on-refused (Err wrong) k r a b why old mid new is flows tells = tt
 
-pub on-unknown : {E : Type 0} (result : Result Flow E) (command : Option Command) (r : Request) (a : Adapter) (old new : Outbox) → command ≡ None
-    → IfOk result (λ how. how ≡ flow.Refused fault.NoSuchRequest)
-    → OnOk result (Adds old new (λ seq. refusal_message seq r (fault_number fault.NoSuchRequest) (fault_text fault.NoSuchRequest) (fault_place fault.NoSuchRequest)))
-    → IfOk result (λ how. ReactsAs (reaction_to command r a) r how a old new)
-on-unknown (Ok how) command r a old new is flows tells = reacts-unknown command r a how old new is flows tells
-on-unknown (Err wrong) command r a old new is flows tells = tt
+pub on-misread : {E : Type 0} (result : Result Flow E) (asked : Result Kind Fault) (why : Fault) (r : Request) (a : Adapter) (old new : Outbox) → asked ≡ Err why
+    → IfOk result (λ how. how ≡ flow.Refused why) → OnOk result (Adds old new (λ seq. refusal_message seq r (fault_number why) (fault_text why) (fault_place why)))
+    → IfOk result (λ how. ReactsAs (reaction_to asked r a) r how a old new)
+on-misread (Ok how) asked why r a old new is flows tells = reacts-misread asked why r a how old new is flows tells
+on-misread (Err wrong) asked why r a old new is flows tells = tt
 
 -- ---- a run, and what it tells
 

@@ -14,6 +14,7 @@ use Rattle.mix_dap.specs.Look.{short_name, threads, stack_trace, scopes, excepti
 use Rattle.mix_dap.specs.Memory.{memory_asked}
 use Rattle.mix_dap.specs.Disassembly.{disassembly_asked}
 use Rattle.mix_dap.specs.Targets.{targets_asked}
+use Rattle.mix_dap.specs.Next.{next_asked}
 use Rattle.mix_dap.specs.Path.{path_asked}
 use Rattle.mix_dap.specs.Points.{no_points}
 use Rattle.mix_dap.specs.Program.{program_shown}
@@ -46,6 +47,7 @@ shown_of look.Path r a = path_asked a.session r
 shown_of look.State r a = state_asked a.session r
 shown_of look.Units r a = units_asked (world_of a.session.timeline) r
 shown_of look.Change r a = change_asked a.session r
+shown_of look.Next r a = Ok (next_asked a.session)
 shown_of look.Writes r a = writes_asked a.session r
 
 -- a run of all threads goes on

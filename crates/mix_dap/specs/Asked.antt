@@ -2,13 +2,14 @@
 use Rattle.std.specs.Prelude.{ℕ, ◌+◌, ◌-◌, ◌<◌, ◌≤◌, ◌==◌, ◌&&◌, ◌||◌, not, Bool, false, List, [], ◌∷◌, ◌++◌, codes, Option, None, Some, Result, Ok, Err, ok_or, option_and_then, nat_lt, nat_le, if◌then◌else◌}
 use Rattle.std.specs.List.{list_any}
 use Rattle.serde_json.specs.Data.{Data, Items, no_items, item}
-use Rattle.serde_json.specs.Find.{as_array, as_number, as_u64}
+use Rattle.serde_json.specs.Find.{as_array}
 use Rattle.mixal_text.specs.Steps.{◌>>=◌}
 use Rattle.mix_word.specs.Word.{WordValue}
 use Rattle.mix_word.specs.declared.word.Sign.{Sign}
 use Rattle.mix_word.specs.declared.word.Sign.TheVariants.{Plus, Minus}
 use Rattle.mix_machine.specs.World.{WorldState, cell_of}
 use Rattle.dap_message.specs.Request.{argument_of}
+use Rattle.dap_message.specs.Whole.{natural_in}
 use Rattle.dap_message.specs.declared.request.Request.{Request}
 use Rattle.mix_dap.specs.declared.fault.Fault.{Fault}
 use Rattle.mix_dap.specs.declared.fault.Fault.TheVariants as fault
@@ -20,9 +21,6 @@ two_in (item a no_items) = None
 two_in (item a (item b no_items)) = Some (a, b)
 two_in (item a (item b (item c rest))) = None
 
-abbrev pub number_in : Data → Option ℕ
-number_in d = option_and_then as_u64 (as_number d)
-
 -- the cells from one to another, both among them
 abbrev pub cells_from : ℕ → ℕ → Result (ℕ × ℕ) Fault
 cells_from first last = if nat_lt last first then Err fault.BadArgument else if nat_lt last 4000 then Ok (first, last) else Err fault.NoSuchThing
@@ -31,8 +29,8 @@ cells_from first last = if nat_lt last first then Err fault.BadArgument else if 
 unfoldable pub range_of : Data → Result (ℕ × ℕ) Fault
 range_of d = do
   ends ← ok_or (option_and_then two_in (as_array d)) fault.BadArgument
-  first ← ok_or (number_in ends.0) fault.BadArgument
-  last ← ok_or (number_in ends.1) fault.BadArgument
+  first ← ok_or (natural_in ends.0) fault.BadArgument
+  last ← ok_or (natural_in ends.1) fault.BadArgument
   cells_from first last
 
 abbrev pub IsRange : ℕ × ℕ → Type 0

@@ -1,13 +1,11 @@
 -- How a request is answered before a program is launched.
 use Rattle.std.specs.Prelude.{◌≡◌, ℕ, List, [], ◌∷◌, Option, None, Some, Result, Ok, Err}
 use Rattle.serde_json.specs.Data.{Data, null}
-use Rattle.dap_message.specs.declared.command.Command.{Command}
 use Rattle.dap_message.specs.declared.outbox.Outbox.{Outbox}
 use Rattle.dap_message.specs.declared.request.Request.{Request}
 use Rattle.mix_dap.specs.Capabilities.{capabilities, client_of}
 use Rattle.mix_dap.specs.Check.{checked}
 use Rattle.mix_dap.specs.Events.{AddsAnswer, Event, terminated}
-use Rattle.mix_dap.specs.Kind.{kind_of}
 use Rattle.mix_dap.specs.Replies.{answer_message}
 use Rattle.mix_dap.specs.Texts.{Known, AreTexts, RefusesTexts}
 use Rattle.mix_dap.specs.declared.fault.Fault.{Fault}
@@ -53,22 +51,21 @@ abbrev pub ShowsBefore : (List ℕ → Known) → Option (Result Data Fault) →
 ShowsBefore knows None events later how r old new = LaunchShows knows how r old new
 ShowsBefore knows (Some shown) events later how r old new = (how ≡ later) × AddsAnswer (answer_message r shown) events old new
 
--- by its command: one of no known name is always refused
-abbrev pub AskedShows : (List ℕ → Known) → Option Command → Asked → Request → Outbox → Outbox → Type 0
-AskedShows knows None how r old new = ShowsBefore knows (Some (Err fault.NoSuchRequest)) [] asked.Answered how r old new
-AskedShows knows (Some command) how r old new =
-    ShowsBefore knows (answer_before (kind_of command) r) (events_before (kind_of command)) (later_before (kind_of command)) how r old new
+-- by what it is about: one of no known name, or with an argument that is not what it has to be, is always refused
+abbrev pub AskedShows : (List ℕ → Known) → Result Kind Fault → Asked → Request → Outbox → Outbox → Type 0
+AskedShows knows (Err why) how r old new = ShowsBefore knows (Some (Err why)) [] asked.Answered how r old new
+AskedShows knows (Ok k) how r old new = ShowsBefore knows (answer_before k r) (events_before k) (later_before k) how r old new
 
 -- whether a launch is asked for
-abbrev pub IsLaunch : Option Command → Type 0
-IsLaunch None = ⊥
-IsLaunch (Some command) = kind_of command ≡ kind.Launch
+abbrev pub IsLaunch : Result Kind Fault → Type 0
+IsLaunch (Err why) = ⊥
+IsLaunch (Ok k) = k ≡ kind.Launch
 
 -- what the client is known to be like: what it says when it begins
 abbrev pub kind_client : Kind → Request → Client → Client
 kind_client kind.Initialize r client = client_of r
 kind_client other r client = client
 
-abbrev pub client_after : Option Command → Request → Client → Client
-client_after None r client = client
-client_after (Some command) r client = kind_client (kind_of command) r client
+abbrev pub client_after : Result Kind Fault → Request → Client → Client
+client_after (Err why) r client = client
+client_after (Ok k) r client = kind_client k r client

@@ -2,7 +2,7 @@
 use Rattle.std.specs.Prelude.{◌≡◌, ◌⊎◌, ◌≤◌, ◌-◌, ◌^◌, ◌++◌, ℕ, List, [], ◌∷◌, codes, Option, None, Some, Result, Ok, Err, IsErr}
 use Rattle.std.specs.Io.KnownBytes.{Appends, prepend_known}
 use Rattle.serde_json.specs.Data.{Data}
-use Rattle.dap_message.specs.Request.{command_of}
+use Rattle.mix_dap.specs.Kind.{kind_before}
 use Rattle.dap_message.specs.declared.request.Request.{Request}
 use Rattle.dap_stream.specs.Asked.{IsRequest}
 use Rattle.dap_frame.specs.Frame.{first_frame, partial}
@@ -45,7 +45,7 @@ pub data Stage : Type 0 where
 
 -- a launch that was asked for, with these texts: those that it gives, and of files what was known of them
 abbrev pub Launches : Request → Texts → Type 0
-Launches request texts = IsLaunch (command_of request) × (knows : List ℕ → Known) × AreTexts knows request texts
+Launches request texts = IsLaunch (kind_before request) × (knows : List ℕ → Known) × AreTexts knows request texts
 
 -- it is answered, and what belongs to its answer is told
 abbrev pub Opens : Request → Texts → List Data → Type 0
@@ -54,7 +54,7 @@ Opens request texts told = Launches request texts
 
 -- another request is answered
 abbrev pub Replied : Asked → Request → List Data → Type 0
-Replied asked request told = (knows : List ℕ → Known) × Sends told (λ old new. AskedShows knows (command_of request) asked request old new)
+Replied asked request told = (knows : List ℕ → Known) × Sends told (λ old new. AskedShows knows (kind_before request) asked request old new)
 
 -- an adapter is as it begins, for these texts and this client: nothing is told of its rows
 abbrev pub BeginsAs : Adapter → Texts → Client → Type 0
@@ -63,9 +63,9 @@ BeginsAs a texts client =
 
 -- a request of a client before a program is launched, and what is waited for after it
 abbrev pub BeforeSteps : Client → Request → List Data → Stage → Type 0
-BeforeSteps client request told (waiting next) = (next ≡ client_after (command_of request) request client)
+BeforeSteps client request told (waiting next) = (next ≡ client_after (kind_before request) request client)
     × (Replied asked.Answered request told ⊎ ((texts : Texts) × IsErr (launched_of texts) × Opens request texts told))
-BeforeSteps client request told (debugs a) = (texts : Texts) × BeginsAs a texts (client_after (command_of request) request client) × Opens request texts told
+BeforeSteps client request told (debugs a) = (texts : Texts) × BeginsAs a texts (client_after (kind_before request) request client) × Opens request texts told
 BeforeSteps client request told done = Replied asked.Over request told
 
 -- one exchange of a dialogue

@@ -1,8 +1,9 @@
 -- The entries of a list in a request, and what is read of one.
 use Rattle.std.specs.Prelude.{ℕ, ℤ, List, [], ◌∷◌, Option, None, Some, option_and_then}
 use Rattle.serde_json.specs.Data.{Data, Items, no_items, item}
-use Rattle.serde_json.specs.Find.{get, as_i64, as_number}
+use Rattle.serde_json.specs.Find.{get}
 use Rattle.dap_message.specs.Request.{list_of}
+use Rattle.dap_message.specs.Whole as whole
 use Rattle.dap_message.specs.declared.request.Request.{Request}
 
 abbrev pub data_in : Items → List Data
@@ -19,4 +20,4 @@ entries_of r name = entries_in (list_of r name)
 
 -- a member of an entry that is a whole number
 abbrev pub integer_in : List ℕ → Data → Option ℤ
-integer_in name entry = option_and_then (λ d. option_and_then as_i64 (as_number d)) (get name entry)
+integer_in name entry = option_and_then whole.integer_in (get name entry)

@@ -1,4 +1,6 @@
 pub mod Answer
+pub mod ArgumentName
+pub mod Arguments
 pub mod Asked
 pub mod Before
 pub mod Breakpoint
@@ -22,6 +24,7 @@ pub mod List
 pub mod Locations
 pub mod Look
 pub mod Memory
+pub mod Next
 pub mod Output
 pub mod Path
 pub mod Points

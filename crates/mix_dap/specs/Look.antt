@@ -84,11 +84,13 @@ scopes = object (list_members (codes "scopes")
     (object (put (codes "presentationHint") (string (codes "registers")) (scope_members (codes "Registers") 1 false))
     ∷ object (scope_members (codes "Flags") 2 false) ∷ object (scope_members (codes "Units") 3 true) ∷ object (scope_members (codes "Memory") 4 true) ∷ []))
 
--- the answer to `exceptionInfo`: the fault that the last run has ended with, by its number and its text
+-- a fault of the machine, by its number and its text
+abbrev pub put_exception : MixFault → Members → Members
+put_exception f members = put (codes "description") (string (fault_text f)) (put (codes "exceptionId") (string (codes "M" ++ decimal (fault_number f))) members)
+
+-- the answer to `exceptionInfo`: the fault that the last run has ended with
 abbrev pub exception_shown : MixFault → Data
-exception_shown f =
-    object (put (codes "breakMode") (string (codes "always")) (put (codes "description") (string (fault_text f))
-    (put (codes "exceptionId") (string (codes "M" ++ decimal (fault_number f))) no_members)))
+exception_shown f = object (put (codes "breakMode") (string (codes "always")) (put_exception f no_members))
 
 abbrev pub exception_of : Option MixFault → Result Data Fault
 exception_of None = Err fault.NoSuchThing

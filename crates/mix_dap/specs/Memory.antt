@@ -1,12 +1,11 @@
 -- The bytes of the memory that a client asks for.
-use Rattle.std.specs.Prelude.{ℕ, ℤ, pos, ◌-◌, ◌==◌, ◌&&◌, List, codes, drop, take, Bool, false, Option, None, Some, is_none, Result, Ok, Err, ok_or, unwrap_or, if◌then◌else◌}
+use Rattle.std.specs.Prelude.{ℕ, ℤ, pos, ◌-◌, ◌==◌, List, codes, drop, take, Result, Ok, Err, ok_or, unwrap_or, if◌then◌else◌}
 use Rattle.base64.specs.Engines.{standard}
 use Rattle.base64.specs.GeneralPurpose.{encode_of}
 use Rattle.serde_json.specs.Data.{Data, Members, string, number, unsigned, object, no_members, put}
-use Rattle.serde_json.specs.Find.{as_null}
 use Rattle.mixal_text.specs.Steps.{◌>>=◌}
 use Rattle.mix_machine.specs.World.{WorldState}
-use Rattle.dap_message.specs.Request.{argument_of, text_of, number_of, integer_of}
+use Rattle.dap_message.specs.Request.{text_of, number_of, integer_of}
 use Rattle.dap_message.specs.declared.request.Request.{Request}
 use Rattle.mix_dap.specs.Layout.{byte_of_reference, byte_reference, memory_bytes}
 use Rattle.mix_dap.specs.declared.fault.Fault.{Fault}
@@ -16,23 +15,11 @@ use Rattle.mix_dap.specs.declared.fault.Fault.TheVariants as fault
 abbrev pub integer_asked : Request → List ℕ → ℤ
 integer_asked r name = unwrap_or (integer_of r name) (pos 0)
 
-abbrev pub is_given : Option Data → Bool
-is_given None = false
-is_given (Some value) = is_none (as_null value)
-
--- whether an argument is there and is no whole number of 64 bits; null is none
-abbrev pub is_no_integer : Request → List ℕ → Bool
-is_no_integer r name = is_given (argument_of r name) && is_none (integer_of r name)
-
 -- the byte of the memory, or its end, that a request names
-abbrev pub start_named : Request → Result ℕ Fault
-start_named r = do
+abbrev pub start_asked : Request → Result ℕ Fault
+start_asked r = do
   reference ← ok_or (text_of r (codes "memoryReference")) fault.BadArgument
   ok_or (byte_of_reference reference (integer_asked r (codes "offset"))) fault.NoSuchThing
-
--- unless its offset is none
-abbrev pub start_asked : Request → Result ℕ Fault
-start_asked r = if is_no_integer r (codes "offset") then Err fault.BadArgument else start_named r
 
 -- so many bytes of the memory from one on, or those that are there
 unfoldable pub bytes_from : WorldState → ℕ → ℕ → List ℕ

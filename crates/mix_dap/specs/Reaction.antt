@@ -15,8 +15,6 @@ use Rattle.mix_session.specs.Timeline.{Timeline, world_of}
 use Rattle.mix_session.specs.declared.answer.Answer.{Answer}
 use Rattle.mix_session.specs.declared.reply.End.{End}
 use Rattle.mix_session.specs.declared.request.Request.TheVariants as ask
-use Rattle.dap_message.specs.Request.{command_of}
-use Rattle.dap_message.specs.declared.command.Command.{Command}
 use Rattle.dap_message.specs.declared.outbox.Outbox.{Outbox}
 use Rattle.dap_message.specs.declared.request.Request.{Request}
 use Rattle.mix_dap.specs.Answer.{shown_of, continued, value_body, result_body}
@@ -24,7 +22,7 @@ use Rattle.mix_dap.specs.Capabilities.{capabilities}
 use Rattle.mix_dap.specs.Check.{checked}
 use Rattle.mix_dap.specs.Deed.{deed_of, effect_of_deed, is_console_of}
 use Rattle.mix_dap.specs.Events.{AddsAnswer, AddsEvents, Event, beginning, invalidated, stopped, terminated}
-use Rattle.mix_dap.specs.Kind.{kind_of}
+use Rattle.mix_dap.specs.Kind.{kind_asked}
 use Rattle.mix_dap.specs.Leaves.{Leaves, refusal_in}
 use Rattle.mix_dap.specs.Output.{all_told, outputs}
 use Rattle.mix_dap.specs.Points.{PointsState, points_after, points_told}
@@ -185,10 +183,10 @@ reaction kind.Disconnect r a = record (still a) { later = then.End }
 reaction kind.Write r a = written (write_asked a.session r) a
 reaction (kind.Act act) r a = asked_done act (deed_of act r a.session) r a
 
--- by its command: one of no known name is always refused
-abbrev pub reaction_to : Option Command → Request → Adapter → Reaction
-reaction_to None r a = refuses a fault.NoSuchRequest
-reaction_to (Some command) r a = reaction (kind_of command) r a
+-- by what it is about: one of no known name, or with an argument that is not what it has to be, is always refused
+abbrev pub reaction_to : Result Kind Fault → Request → Adapter → Reaction
+reaction_to (Err why) r a = refuses a why
+reaction_to (Ok k) r a = reaction k r a
 
 -- ---- what happens
 
@@ -248,7 +246,7 @@ pub record ReactsAs (x : Reaction) (r : Request) (how : Flow) (b : Adapter) (old
   pub goes : GoesOn x.later mid b between new
 
 abbrev pub Reacts : Request → Adapter → Flow → Adapter → Outbox → Outbox → Type 0
-Reacts r a how b old new = ReactsAs (reaction_to (command_of r) r a) r how b old new
+Reacts r a how b old new = ReactsAs (reaction_to (kind_asked r) r a) r how b old new
 
 -- ---- for want of memory
 
@@ -269,9 +267,9 @@ abbrev pub Leaving : Kind → Request → Adapter → Timeline → Type 0
 Leaving kind r a new = let x = reaction kind r a in
     (new ≡ a.session.timeline) ⊎ (Begins kind r a.session new ⊎ RunsPartly x.later x.points x.timeline new)
 
-abbrev pub ReactsPartly : Option Command → Request → Adapter → Timeline → Type 0
-ReactsPartly None r a new = new ≡ a.session.timeline
-ReactsPartly (Some command) r a new = Leaving (kind_of command) r a new
+abbrev pub ReactsPartly : Result Kind Fault → Request → Adapter → Timeline → Type 0
+ReactsPartly (Err why) r a new = new ≡ a.session.timeline
+ReactsPartly (Ok k) r a new = Leaving k r a new
 
 -- ---- what is kept
 

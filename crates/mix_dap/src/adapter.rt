@@ -2,11 +2,10 @@
 
 ghost use Rattle.std.specs.Prelude.{◌≡◌, IfErr, IfOk, IfNone, IfSome, IsErr, OnErr, OnOk, Ok};
 ghost use Rattle.dap_message.specs.Message.{refusal_message, Adds};
-ghost use Rattle.dap_message.specs.Request.{command_of};
+ghost use Rattle.mix_dap.specs.Kind.{kind_asked};
 ghost use Rattle.mix_dap.specs.Answer.{HasTexts, launch_events, launch_shown};
 ghost use Rattle.mix_dap.specs.Events.{AddsAnswer};
 ghost use Rattle.mix_dap.specs.Fault.{fault_number, fault_text, fault_place};
-ghost use Rattle.mix_dap.specs.Kind.{kind_of};
 ghost use Rattle.mix_dap.specs.Launched.{launched_of};
 ghost use Rattle.mix_dap.specs.Output.{none_told};
 ghost use Rattle.mix_dap.specs.Reaction.{GoesOn, KeepsSaid, Leaving, Reacts, ReactsAs, ReactsPartly, RunsPartly, flow_after, reaction};
@@ -24,7 +23,7 @@ mod tell;
 use crate::capabilities::Client;
 use crate::event::tell_event;
 use crate::fault::{Fault, refuse};
-use crate::kind::Kind;
+use crate::kind::{Kind, kind_asked};
 use crate::launch::{Texts, session_of};
 use crate::list::nothing;
 use crate::points::Points;
@@ -149,11 +148,11 @@ impl Adapter {
         ensures first { self.new.session.timeline.first ≡ self.old.session.timeline.first }
         ensures keeps { KeepsSaid self.old self.new }
         ensures reacts { IfOk result (λ flow. Reacts request.now self.old flow self.new out.old out.new) }
-        ensures begun { OnErr result (ReactsPartly (command_of request.now) request.now self.old self.new.session.timeline) }
+        ensures begun { OnErr result (ReactsPartly (kind_asked request.now) request.now self.old self.new.session.timeline) }
     {
-        match request.command() {
-            None => self.refuse(request, Fault::NoSuchRequest, out),
-            Some(command) => self.react(Kind::of(command), request, out),
+        match kind_asked(request) {
+            Err(fault) => self.refuse(request, fault, out),
+            Ok(kind) => self.react(kind, request, out),
         }
     }
 

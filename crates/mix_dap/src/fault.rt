@@ -3,8 +3,9 @@
 ghost use Rattle.std.specs.Prelude.{◌≡◌, IfOk, OnOk, Some};
 ghost use Rattle.serde_json.specs.View.{view};
 ghost use Rattle.dap_message.specs.Message.{refusal_message, Adds};
-ghost use Rattle.mix_dap.specs.Fault.{fault_number, fault_text, fault_place, text_place};
+ghost use Rattle.mix_dap.specs.Fault.{fault_number, fault_text, fault_place, argument_place, text_place};
 
+use crate::arguments::ArgumentName;
 use dap_message::{Fields, Outbox, Request};
 use mix_machine::DeckFault;
 use mix_refused::Memory;
@@ -33,8 +34,10 @@ pub enum Fault {
     TooLong,
     /// Q1: the adapter has no such request.
     NoSuchRequest,
-    /// Q2: an argument is missing, or is not what it has to be.
+    /// Q2: an argument says nothing that can be done.
     BadArgument,
+    /// Q2: the argument of this name is missing, or is not what it has to be.
+    Argument(ArgumentName),
     /// Q3: no program is launched yet.
     NotLaunched,
     /// Q4: a program is launched already.
@@ -53,7 +56,7 @@ impl Fault {
             Fault::Source(fault) => 100 + u64::from(fault.kind.number()),
             Fault::Session(refusal) => 200 + u64::from(refusal.number()),
             Fault::NoSuchRequest => 301,
-            Fault::BadArgument => 302,
+            Fault::BadArgument | Fault::Argument(_) => 302,
             Fault::NotLaunched => 303,
             Fault::Launched => 304,
             Fault::NoSuchThing => 306,
@@ -77,7 +80,7 @@ impl fmt::Display for Fault {
             Fault::NotOpened => write!(f, "T4 not opened"),
             Fault::TooLong => write!(f, "T6 input too long"),
             Fault::NoSuchRequest => write!(f, "Q1 no such request"),
-            Fault::BadArgument => write!(f, "Q2 bad argument"),
+            Fault::BadArgument | Fault::Argument(_) => write!(f, "Q2 bad argument"),
             Fault::NotLaunched => write!(f, "Q3 not launched"),
             Fault::Launched => write!(f, "Q4 launched already"),
             Fault::NoSuchThing => write!(f, "Q6 no such thing"),
@@ -99,7 +102,7 @@ pub(crate) fn refuse(
     out.refuse(request, fault.number(), text.as_str(), variables)
 }
 
-// Where a fault of a text stands; nothing for one that is of no text.
+// Where a fault stands: in a line of a text, or in an argument; nothing for another one.
 fn fault_place(alloc: Global, fault: Fault) -> Result<Value, Memory>
     ensures { IfOk result (λ place. view place ≡ fault_place fault) }
 {
@@ -107,6 +110,7 @@ fn fault_place(alloc: Global, fault: Fault) -> Result<Value, Memory>
         Fault::Source(at) => place_of(alloc, "source", at.line),
         Fault::Deck(at) => place_of(alloc, "devices", at.line),
         Fault::Cards(at) => place_of(alloc, "cards", at.line),
+        Fault::Argument(name) => argument_place(alloc, name),
         Fault::Session(_)
         | Fault::NoSuchRequest
         | Fault::BadArgument
@@ -117,6 +121,14 @@ fn fault_place(alloc: Global, fault: Fault) -> Result<Value, Memory>
         | Fault::NotOpened
         | Fault::TooLong => Ok(Value::Null),
     }
+}
+
+fn argument_place(alloc: Global, name: ArgumentName) -> Result<Value, Memory>
+    ensures { IfOk result (λ place. view place ≡ argument_place name) }
+{
+    let mut place = Fields::new(alloc);
+    place.text("argument", name.text())?;
+    Ok(place.done())
 }
 
 // Where a fault of a text stands: which text of a launch, and its line.

@@ -1,9 +1,12 @@
-//! What a request is about, by its command.
+//! What a request is about, by its name.
 
-ghost use Rattle.std.specs.Prelude.{◌≡◌};
-ghost use Rattle.mix_dap.specs.Kind.{kind_of};
+ghost use Rattle.std.specs.Prelude.{◌≡◌, map};
+ghost use Rattle.mix_dap.specs.Arguments.{misread};
+ghost use Rattle.mix_dap.specs.Kind.{kind_among, kind_asked, kind_before, kind_named, needs_program, requests, unless_misread};
 
-use dap_message::Command;
+use crate::arguments::misread;
+use crate::fault::Fault;
+use dap_message::Request;
 
 /// What a request is about.
 #[derive(Clone, Copy)]
@@ -71,6 +74,8 @@ pub(crate) enum Look {
     Units,
     /// A change by its number.
     Change,
+    /// The change that a step would be.
+    Next,
     /// The changes that altered a part.
     Writes,
 }
@@ -115,54 +120,121 @@ pub(crate) enum Act {
     Evaluate,
 }
 
-impl Kind {
-    /// What a command is about.
-    pub(crate) fn of(command: Command) -> Kind
-        ensures { result ≡ kind_of command }
-    {
-        match command {
-            Command::Initialize => Kind::Initialize,
-            Command::Threads => Kind::Look(Look::Threads),
-            Command::StackTrace => Kind::Look(Look::Frames),
-            Command::Scopes => Kind::Look(Look::Scopes),
-            Command::Variables => Kind::Look(Look::Variables),
-            Command::ExceptionInfo => Kind::Look(Look::Fault),
-            Command::ReadMemory => Kind::Look(Look::Memory),
-            Command::Disassemble => Kind::Look(Look::Instructions),
-            Command::GotoTargets => Kind::Look(Look::Targets),
-            Command::DataBreakpointInfo => Kind::Look(Look::Watch),
-            Command::BreakpointLocations => Kind::Look(Look::Locations),
-            Command::Completions => Kind::Look(Look::Completions),
-            Command::ViewProgram => Kind::Look(Look::Program),
-            Command::ViewCounts => Kind::Look(Look::Counts),
-            Command::ViewPath => Kind::Look(Look::Path),
-            Command::ViewState => Kind::Look(Look::State),
-            Command::ViewUnits => Kind::Look(Look::Units),
-            Command::ViewChange => Kind::Look(Look::Change),
-            Command::ViewWrites => Kind::Look(Look::Writes),
-            Command::ViewCheck => Kind::Check,
-            Command::SetBreakpoints => Kind::Points(Target::Lines),
-            Command::SetInstructionBreakpoints => Kind::Points(Target::Instructions),
-            Command::SetDataBreakpoints => Kind::Points(Target::Data),
-            Command::SetFunctionBreakpoints => Kind::Points(Target::Nothing),
-            Command::SetExceptionBreakpoints => Kind::Points(Target::Exceptions),
-            Command::Pause => Kind::Pause,
-            Command::Terminate => Kind::Terminate,
-            Command::Restart => Kind::Restart,
-            Command::Cancel => Kind::Cancel,
-            Command::Launch => Kind::Launch,
-            Command::Disconnect => Kind::Disconnect,
-            Command::Next | Command::StepIn => Kind::Act(Act::Step),
-            Command::StepBack => Kind::Act(Act::StepBack),
-            Command::Continue => Kind::Act(Act::Continue),
-            Command::StepOut => Kind::Act(Act::StepOut),
-            Command::ReverseContinue => Kind::Act(Act::ReverseContinue),
-            Command::ConfigurationDone => Kind::Act(Act::Begin),
-            Command::Goto => Kind::Act(Act::Goto),
-            Command::SetVariable => Kind::Act(Act::SetVariable),
-            Command::SetExpression => Kind::Act(Act::SetExpression),
-            Command::WriteMemory => Kind::Write,
-            Command::Evaluate => Kind::Act(Act::Evaluate),
+/// The requests that there are, by their names in the protocol, and views of a machine of MIX beside it.
+#[rattlefmt::skip]
+fn requests() -> &'static [(&'static str, Kind)]
+    ensures { map (λ row. (row.0.now, row.1)) result.now ≡ requests }
+{
+    &[
+        ("initialize", Kind::Initialize),
+        ("launch", Kind::Launch),
+        ("configurationDone", Kind::Act(Act::Begin)),
+        ("setBreakpoints", Kind::Points(Target::Lines)),
+        ("setFunctionBreakpoints", Kind::Points(Target::Nothing)),
+        ("setInstructionBreakpoints", Kind::Points(Target::Instructions)),
+        ("setDataBreakpoints", Kind::Points(Target::Data)),
+        ("setExceptionBreakpoints", Kind::Points(Target::Exceptions)),
+        ("dataBreakpointInfo", Kind::Look(Look::Watch)),
+        ("breakpointLocations", Kind::Look(Look::Locations)),
+        ("threads", Kind::Look(Look::Threads)),
+        ("stackTrace", Kind::Look(Look::Frames)),
+        ("scopes", Kind::Look(Look::Scopes)),
+        ("variables", Kind::Look(Look::Variables)),
+        ("setVariable", Kind::Act(Act::SetVariable)),
+        ("setExpression", Kind::Act(Act::SetExpression)),
+        ("evaluate", Kind::Act(Act::Evaluate)),
+        ("completions", Kind::Look(Look::Completions)),
+        ("exceptionInfo", Kind::Look(Look::Fault)),
+        ("continue", Kind::Act(Act::Continue)),
+        ("next", Kind::Act(Act::Step)),
+        ("stepIn", Kind::Act(Act::Step)),
+        ("stepOut", Kind::Act(Act::StepOut)),
+        ("stepBack", Kind::Act(Act::StepBack)),
+        ("reverseContinue", Kind::Act(Act::ReverseContinue)),
+        ("pause", Kind::Pause),
+        ("goto", Kind::Act(Act::Goto)),
+        ("gotoTargets", Kind::Look(Look::Targets)),
+        ("readMemory", Kind::Look(Look::Memory)),
+        ("writeMemory", Kind::Write),
+        ("disassemble", Kind::Look(Look::Instructions)),
+        ("restart", Kind::Restart),
+        ("disconnect", Kind::Disconnect),
+        ("terminate", Kind::Terminate),
+        ("cancel", Kind::Cancel),
+        ("mix/program", Kind::Look(Look::Program)),
+        ("mix/counts", Kind::Look(Look::Counts)),
+        ("mix/path", Kind::Look(Look::Path)),
+        ("mix/state", Kind::Look(Look::State)),
+        ("mix/units", Kind::Look(Look::Units)),
+        ("mix/change", Kind::Look(Look::Change)),
+        ("mix/next", Kind::Look(Look::Next)),
+        ("mix/writes", Kind::Look(Look::Writes)),
+        ("mix/check", Kind::Check),
+    ]
+}
+
+/// What a request of this name is about, if there is one: letter for letter.
+#[tactic(auto, unfolding(crate::specs::Kind::kind_named))]
+fn kind_named(name: &str) -> Option<Kind>
+    ensures { result ≡ kind_named name.now }
+{
+    kind_among(requests(), name)
+}
+
+fn kind_among(rows: &[(&str, Kind)], name: &str) -> Option<Kind>
+    ensures { result ≡ kind_among name.now (map (λ row. (row.0.now, row.1)) rows.now) }
+{
+    for row in rows {
+        if row.0 == name {
+            return Some(row.1);
         }
+    }
+    None
+}
+
+/// What a request is about; it is refused whatever the machine is like, if there is none of its name, or an argument is not what it has to be.
+#[tactic(auto, unfolding(crate::specs::Kind::kind_asked))]
+pub(crate) fn kind_asked(request: &Request) -> Result<Kind, Fault>
+    ensures { result ≡ kind_asked request.now }
+{
+    match kind_named(request.name()) {
+        Some(kind) => unless_misread(kind, request),
+        None => Err(Fault::NoSuchRequest),
+    }
+}
+
+/// The same before a program is launched, of which a request that needs one has its arguments not looked at.
+#[tactic(auto, unfolding(crate::specs::Kind::kind_before))]
+pub(crate) fn kind_before(request: &Request) -> Result<Kind, Fault>
+    ensures { result ≡ kind_before request.now }
+{
+    match kind_named(request.name()) {
+        Some(kind) if needs_program(kind) => Ok(kind),
+        Some(kind) => unless_misread(kind, request),
+        None => Err(Fault::NoSuchRequest),
+    }
+}
+
+fn unless_misread(kind: Kind, request: &Request) -> Result<Kind, Fault>
+    ensures { result ≡ unless_misread (misread kind request.now) kind }
+{
+    match misread(kind, request) {
+        Some(name) => Err(Fault::Argument(name)),
+        None => Ok(kind),
+    }
+}
+
+fn needs_program(kind: Kind) -> bool
+    ensures { result ≡ needs_program kind }
+{
+    match kind {
+        Kind::Initialize | Kind::Check | Kind::Launch | Kind::Terminate | Kind::Disconnect => false,
+        Kind::Look(_)
+        | Kind::Points(_)
+        | Kind::Pause
+        | Kind::Restart
+        | Kind::Cancel
+        | Kind::Write
+        | Kind::Act(_) => true,
     }
 }

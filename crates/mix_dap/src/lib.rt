@@ -2,6 +2,7 @@
 #![tactic(auto)]
 
 mod adapter;
+mod arguments;
 mod broken;
 mod capabilities;
 mod completions;
@@ -29,10 +30,12 @@ mod waiting;
 mod watch;
 
 pub use adapter::{Adapter, Flow};
+pub use arguments::ArgumentName;
 pub use dap_frame::{Next, frame, next_frame};
 pub use dap_message::{Outbox, Request};
 pub use dialogue::Dialogue;
 pub use fault::Fault;
 pub use launch::{FileLibrary, Library, NoLibrary, Texts};
 pub use stream::{serve, serve_from};
+pub use view::next_law;
 pub use waiting::{Asked, Waiting};

@@ -5,14 +5,14 @@ ghost use Rattle.serde_json.specs.View.{view};
 ghost use Rattle.dap_message.specs.Fields.{members_in};
 ghost use Rattle.mixal_asm.specs.Row.{source_value};
 ghost use Rattle.mix_session.specs.Timeline.{world_of};
-ghost use Rattle.mix_dap.specs.Look.{short_name, threads, source, line_for, source_line, line_of, line_of_cell, line_at, frame_name, put_line, frame_members, frame, stack_trace, scope_members, scopes};
+ghost use Rattle.mix_dap.specs.Look.{short_name, threads, source, line_for, source_line, line_of, line_of_cell, line_at, frame_name, put_line, frame_members, frame, stack_trace, put_exception, scope_members, scopes};
 
 use crate::layout::reference_of;
 use crate::list::{add, list_alone};
 use crate::scope::{ALL_UNITS, FLAGS, MEMORY, REGISTERS};
 use crate::value::{cell_at, cell_name};
 use dap_message::{Fields, Request};
-use mix_machine::{Place, World};
+use mix_machine::{MixFault, Place, World};
 use mix_refused::Memory;
 use mix_session::Session;
 use mix_word::Instruction;
@@ -34,6 +34,16 @@ pub(crate) fn threads(alloc: Global) -> Result<Value, Memory>
     let mut list = Vec::new(alloc);
     add(&mut list, thread.done())?;
     list_alone(alloc, "threads", list)
+}
+
+/// A fault of the machine, by its number and its text.
+pub(crate) fn put_exception(alloc: Global, body: &mut Fields, fault: MixFault) -> Result<(), Memory>
+    ensures { OnOk result (members_in body.new ≡ put_exception fault (members_in body.old)) }
+{
+    let number = fault.number();
+    let id = format!(in alloc; "M{number}")?;
+    body.text("exceptionId", id.as_str())?;
+    body.text("description", fault.text())
 }
 
 /// The only frame: the instruction at the location, with the line of the source that put the word there.

@@ -2,13 +2,12 @@
 
 ghost use Rattle.std.specs.Prelude.{◌≡◌, ◌+◌, ◌-◌, ◌≤◌, IfOk, IfSome, OnOk, Ok, Err, codes, map};
 ghost use Rattle.std.specs.List.{range_with_len};
-ghost use Rattle.std.specs.Option.{option_map};
 ghost use Rattle.serde_json.specs.View.{view};
 ghost use Rattle.mix_refused.specs.Refused.{IfFault};
 ghost use Rattle.dap_message.specs.Fields.{members_in};
 ghost use Rattle.mix_dap.specs.Layout.{byte_of_reference, memory_byte};
 ghost use Rattle.mix_dap.specs.List.{Shows};
-ghost use Rattle.mix_dap.specs.Memory.{integer_asked, is_given, is_no_integer, start_asked, start_named, bytes_from, put_missing, memory_shown, memory_asked};
+ghost use Rattle.mix_dap.specs.Memory.{integer_asked, start_asked, bytes_from, put_missing, memory_shown, memory_asked};
 
 use crate::fault::Fault;
 use crate::layout::{MEMORY_BYTES, byte_of_reference, byte_reference, memory_byte};
@@ -26,39 +25,11 @@ pub(crate) fn integer_asked(request: &Request, name: &str) -> i64
     request.integer(name).unwrap_or(0)
 }
 
-/// Whether an argument is there and is no whole number of 64 bits; null is none.
-fn is_no_integer(request: &Request, name: &str) -> bool
-    ensures { result ≡ is_no_integer request.now name.now }
-{
-    is_given(request.argument(name)) && request.integer(name).is_none()
-}
-
-fn is_given(argument: Option<&Value>) -> bool
-    ensures { result ≡ is_given (option_map (λ v. view v.now) argument.entry) }
-{
-    match argument {
-        Some(value) => !value.is_null(),
-        None => false,
-    }
-}
-
-/// The byte that a request about the memory names; an offset that is no whole number is refused.
+/// The byte that a request about the memory names.
 pub(crate) fn start_of(request: &Request) -> Result<u64, Refused<Fault>>
     ensures is { IfOk result (λ start. start_asked request.now ≡ Ok start) }
     ensures bound { IfOk result (λ start. start ≤ 24000) }
     ensures refused { IfFault result (λ why. start_asked request.now ≡ Err why) }
-{
-    if is_no_integer(request, "offset") {
-        Err(Refused::Fault(Fault::BadArgument))
-    } else {
-        start_named(request)
-    }
-}
-
-fn start_named(request: &Request) -> Result<u64, Refused<Fault>>
-    ensures is { IfOk result (λ start. start_named request.now ≡ Ok start) }
-    ensures bound { IfOk result (λ start. start ≤ 24000) }
-    ensures refused { IfFault result (λ why. start_named request.now ≡ Err why) }
 {
     let Some(reference) = request.text("memoryReference") else {
         return Err(Refused::Fault(Fault::BadArgument));

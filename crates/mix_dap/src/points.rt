@@ -16,6 +16,7 @@ mod source;
 
 use breakpoint::{Breakpoint, count_all, stop_any};
 use dap_message::Request;
+pub(crate) use entry::entries_of;
 use filters::Filters;
 use kinds::{Instructions, Lines, Other, Parts, set_all};
 pub(crate) use line::cell_of_line;

@@ -1,7 +1,7 @@
 //! Before a program is launched.
 
 ghost use Rattle.std.specs.Prelude.{◌≡◌, [], IfOk, OnOk};
-ghost use Rattle.dap_message.specs.Request.{command_of};
+ghost use Rattle.mix_dap.specs.Kind.{kind_before};
 ghost use Rattle.mix_dap.specs.Before.{LaunchShows, AskedShows, client_after};
 ghost use Rattle.mix_dap.specs.Capabilities.{unknown_client};
 ghost use Rattle.mix_dap.specs.Check.{checked};
@@ -11,7 +11,7 @@ ghost use Rattle.mix_dap.specs.Replies.{answer_message};
 use crate::capabilities::{Client, capabilities};
 use crate::event::tell_event;
 use crate::fault::{Fault, refuse};
-use crate::kind::Kind;
+use crate::kind::{Kind, kind_before};
 use crate::launch::{Library, Texts, texts_of};
 use crate::list::nothing;
 use crate::view::check_view;
@@ -57,14 +57,17 @@ impl Waiting {
         request: &Request,
         out: &mut Outbox,
     ) -> Result<Asked, Memory>
-        ensures client { OnOk result (self.new.client ≡ client_after (command_of request.now) request.now self.old.client) }
-        ensures shows { IfOk result (λ asked. AskedShows (L.knows library.now) (command_of request.now) asked request.now out.old out.new) }
+        ensures client { OnOk result (self.new.client ≡ client_after (kind_before request.now) request.now self.old.client) }
+        ensures shows { IfOk result (λ asked. AskedShows (L.knows library.now) (kind_before request.now) asked request.now out.old out.new) }
     {
-        let Some(command) = request.command() else {
-            refuse(self.alloc, request, Fault::NoSuchRequest, out)?;
-            return Ok(Asked::Answered);
+        let kind = match kind_before(request) {
+            Ok(kind) => kind,
+            Err(fault) => {
+                refuse(self.alloc, request, fault, out)?;
+                return Ok(Asked::Answered);
+            }
         };
-        match Kind::of(command) {
+        match kind {
             Kind::Initialize => {
                 self.client = Client::of(request);
                 out.reply(request, capabilities(self.alloc)?)?;

@@ -9,6 +9,12 @@ use std::io::IsTerminal;
 use std::process::ExitCode;
 use std::{env, fmt, io};
 
+/// What stands below a mistake in the options of `run`.
+const USAGE: &str = "\
+Usage: mixrev run [OPTIONS] <SOURCE>
+
+For more information, try '--help'.";
+
 fn main(rt: HostRuntime) -> ExitCode {
     match words(&rt) {
         Ok(words) => run(&rt, &words),
@@ -67,6 +73,11 @@ fn tell(rt: &HostRuntime, fault: &LineFault) -> ExitCode {
     match fault {
         LineFault::Line(error) => {
             let _ = error.print(rt);
+            ExitCode::from(line_status(fault))
+        }
+        LineFault::Vain(vain) => {
+            let vain = *vain;
+            let _ = eprintln!(rt; "error: {vain}\n\n{}", USAGE);
             ExitCode::from(line_status(fault))
         }
         LineFault::Memory => report(rt, ToolFault::Memory),

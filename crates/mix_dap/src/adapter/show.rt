@@ -13,13 +13,14 @@ use crate::disassembly::disassemble;
 use crate::fault::Fault;
 use crate::kind::{Look, Target};
 use crate::list::list_alone;
-use crate::look::{Name, scopes, stack_trace, threads};
+use crate::look::{Name, put_exception, scopes, stack_trace, threads};
 use crate::memory::read_memory;
 use crate::points::breakpoint_locations;
 use crate::set::goto_targets;
 use crate::variables::variables;
 use crate::view::{
-    change_view, counts_view, path_view, program_view, state_view, units_view, writes_view,
+    change_view, counts_view, next_view, path_view, program_view, state_view, units_view,
+    writes_view,
 };
 use crate::watch::data_breakpoint_info;
 use dap_message::{Fields, Request};
@@ -57,6 +58,7 @@ impl Adapter {
             Look::State => state_view(alloc, session, request),
             Look::Units => units_view(alloc, session.world(), request),
             Look::Change => change_view(alloc, session, request),
+            Look::Next => Ok(next_view(alloc, session)?),
             Look::Writes => writes_view(alloc, session, request),
         }
     }
@@ -95,11 +97,8 @@ fn exception_info(alloc: Global, fault: Option<MixFault>) -> Result<Value, Refus
 fn exception_shown(alloc: Global, fault: MixFault) -> Result<Value, Memory>
     ensures { IfOk result (λ v. view v ≡ exception_shown fault) }
 {
-    let number = fault.number();
-    let id = format!(in alloc; "M{number}")?;
     let mut body = Fields::new(alloc);
-    body.text("exceptionId", id.as_str())?;
-    body.text("description", fault.text())?;
+    put_exception(alloc, &mut body, fault)?;
     body.text("breakMode", "always")?;
     Ok(body.done())
 }

@@ -6,7 +6,7 @@ ghost use Rattle.serde_json.specs.View.{view};
 ghost use Rattle.dap_message.specs.Members.{text_in, number_in};
 ghost use Rattle.mix_dap.specs.Entries.{entries_of, integer_in};
 
-use dap_message::Request;
+use dap_message::{Request, integer, natural};
 use serde_json::Value;
 
 /// The entries of a list; none where there is no list.
@@ -31,12 +31,12 @@ pub(crate) fn text_in<'v>(name: &str, entry: &'v Value) -> Option<&'v str>
 pub(crate) fn number_in(name: &str, entry: &Value) -> Option<u64>
     ensures { result ≡ number_in name.now (view entry.now) }
 {
-    entry.get(name)?.as_u64()
+    natural(entry.get(name)?)
 }
 
 /// A member that is a whole number.
 pub(crate) fn integer_in(name: &str, entry: &Value) -> Option<i64>
     ensures { result ≡ integer_in name.now (view entry.now) }
 {
-    entry.get(name)?.as_i64()
+    integer(entry.get(name)?)
 }

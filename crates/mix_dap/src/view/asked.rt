@@ -12,7 +12,7 @@ use crate::fault::Fault;
 use crate::list::{Numbered, add};
 use crate::value::place_at;
 use crate::view::put_word;
-use dap_message::{Fields, Request};
+use dap_message::{Fields, Request, natural};
 use mix_machine::{Place, Sign, Word, World};
 use mix_refused::{Memory, Refused};
 use mix_word::{CELLS, Instruction};
@@ -83,8 +83,8 @@ fn range_of(range: &Value) -> Result<(u16, u16), Fault>
 {
     let list = range.as_array().ok_or(Fault::BadArgument)?;
     let (first, last) = two_in(list.as_slice()).ok_or(Fault::BadArgument)?;
-    let first = first.as_u64().ok_or(Fault::BadArgument)?;
-    let last = last.as_u64().ok_or(Fault::BadArgument)?;
+    let first = natural(first).ok_or(Fault::BadArgument)?;
+    let last = natural(last).ok_or(Fault::BadArgument)?;
     cells_from(first, last)
 }
 

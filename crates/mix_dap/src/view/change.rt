@@ -21,9 +21,9 @@ use std::alloc::Global;
 
 /// Two states of the machine, one change apart.
 #[derive(Clone, Copy)]
-struct Worlds<'a> {
-    before: &'a World,
-    after: &'a World,
+pub(crate) struct Worlds<'a> {
+    pub(crate) before: &'a World,
+    pub(crate) after: &'a World,
 }
 
 /// What a change did and where, how long it took, and what it altered: of a step but for the location and the clock.
@@ -47,11 +47,16 @@ pub(crate) fn change_view(
         before: &before,
         after: &after,
     };
-    Ok(body(alloc, number, change, worlds)?)
+    Ok(change_between(alloc, number, change, worlds)?)
 }
 
-// It borrows the two states: where values are owned that take long to drop, each `?` is dear to prove.
-fn body(alloc: Global, number: u64, change: Change, worlds: Worlds<'_>) -> Result<Value, Memory>
+/// A change from one state to another. (It borrows the two states: where values are owned that take long to drop, each `?` is dear to prove.)
+pub(crate) fn change_between(
+    alloc: Global,
+    number: u64,
+    change: Change,
+    worlds: Worlds<'_>,
+) -> Result<Value, Memory>
     ensures { IfOk result (λ v. view v ≡ change_between number change worlds.entry.before.now worlds.entry.after.now) }
 {
     let mut body = Fields::new(alloc);

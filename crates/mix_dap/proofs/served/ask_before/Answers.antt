@@ -1,7 +1,7 @@
 -- What waits after a request is what its contract says, and nothing waited before it.
 use Rattle.std.proofs.Common.{inl, inr, refl, subst}
 use Rattle.std.specs.Prelude.{IfNone, IfSome, IsErr}
-use Rattle.dap_message.specs.Request.{command_of}
+use Rattle.mix_dap.specs.Kind.{kind_before}
 use Rattle.mix_dap.specs.Before.{AskedShows}
 use Rattle.mix_dap.specs.Dialogue.{BeginsAs}
 use Rattle.mix_dap.specs.Launched.{launched_of}
@@ -17,7 +17,7 @@ returns-in-Answered g c = (
     c.in_ok-receive.ensures.client,
     inl (
       g.L.Library.knows c.args.library.now,
-      sends-all (λ old new. AskedShows (g.L.Library.knows c.args.library.now) (command_of c.args.request.now) asked.Answered c.args.request.now old new)
+      sends-all (λ old new. AskedShows (g.L.Library.knows c.args.library.now) (kind_before c.args.request.now) asked.Answered c.args.request.now old new)
           c.args.outbox.now c.receive.new.out c.requires (rw c.in-Answered.is at c.in_ok-receive.ensures.shows),
     ),
   ),
@@ -28,7 +28,7 @@ returns-in-Over g c = (
   refl,
   (
     g.L.Library.knows c.args.library.now,
-    sends-all (λ old new. AskedShows (g.L.Library.knows c.args.library.now) (command_of c.args.request.now) asked.Over c.args.request.now old new)
+    sends-all (λ old new. AskedShows (g.L.Library.knows c.args.library.now) (kind_before c.args.request.now) asked.Over c.args.request.now old new)
         c.args.outbox.now c.receive.new.out c.requires (rw c.in-Over.is at c.in_ok-receive.ensures.shows),
   ),
 )

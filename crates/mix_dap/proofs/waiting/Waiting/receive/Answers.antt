@@ -8,7 +8,7 @@ use Rattle.mix_dap.proofs.waiting.Waiting.receive.Goals as goal
 
 pub returns-in_ok-tell_event-in-Terminate-clause-shows : goal.returns-in_ok-tell_event-in-Terminate-clause-shows
 returns-in_ok-tell_event-in-Terminate-clause-shows g c =
-    rw (← c.command.ensures, c.in-Some.is, ← c.of.ensures, c.in-Terminate.is) (
+    rw (← c.kind_before.ensures, c.in-Ok.is, c.in-Terminate.is) (
       refl,
       answer-then (answer_message c.args.request.now (Ok null)) (terminated ∷ []) c.args.out.now c.reply-in-Terminate.new.self c.tell_event.new.out
           (answer-with c.args.request.now _ null c.args.out.now c.reply-in-Terminate.new.self (search rules) c.in_ok-reply-in-Terminate.ensures.told)

@@ -1,0 +1,153 @@
+//! Options of `run` that say nothing together: none is dropped without a word.
+
+ghost use Rattle.std.specs.Prelude.{◌≡◌};
+ghost use Rattle.clap.specs.Words.{found_of, rows_of};
+ghost use Rattle.mix_cli.specs.Vain.{alone, clash, first_form, is_chosen, vain_in};
+
+use crate::found::{is_given, is_set};
+use clap::ArgMatches;
+use std::fmt;
+
+/// An option of `run` that says nothing beside some others.
+#[derive(Clone, Copy)]
+pub enum Choice {
+    Counts,
+    Writes,
+    Trace,
+    Strict,
+    Unit,
+    Csv,
+    Json,
+    Latex,
+}
+
+impl Choice {
+    fn name(self) -> &'static str {
+        match self {
+            Choice::Counts => "--counts",
+            Choice::Writes => "--writes <PART>",
+            Choice::Trace => "--trace",
+            Choice::Strict => "--strict",
+            Choice::Unit => "--unit <N>",
+            Choice::Csv => "--csv",
+            Choice::Json => "--json",
+            Choice::Latex => "--latex",
+        }
+    }
+}
+
+/// Two options that say nothing together, or the form of a table where there is none.
+#[derive(Clone, Copy)]
+pub enum Vain {
+    Together(Choice, Choice),
+    Alone(Choice),
+}
+
+impl fmt::Display for Vain {
+    fn fmt<W: fmt::Write>(&self, f: &mut fmt::Formatter<W>) -> fmt::Result {
+        match self {
+            Vain::Together(a, b) => write!(
+                f,
+                "the argument '{}' cannot be used with '{}'",
+                a.name(),
+                b.name()
+            ),
+            Vain::Alone(form) => write!(
+                f,
+                "the argument '{}' cannot be used without '--counts', '--writes <PART>' or '--trace'",
+                form.name()
+            ),
+        }
+    }
+}
+
+fn is_chosen(words: &ArgMatches<'_>, choice: Choice) -> bool
+    ensures { result ≡ is_chosen (rows_of (found_of words.now)) choice }
+{
+    match choice {
+        Choice::Counts => is_set(words, "counts"),
+        Choice::Writes => is_given(words, "writes"),
+        Choice::Trace => is_set(words, "trace"),
+        Choice::Strict => is_set(words, "strict"),
+        Choice::Unit => is_given(words, "unit"),
+        Choice::Csv => is_set(words, "csv"),
+        Choice::Json => is_set(words, "json"),
+        Choice::Latex => is_set(words, "latex"),
+    }
+}
+
+// The first of some pairs of which both are chosen.
+#[tactic(auto, unfolding(crate::specs::Vain::clash))]
+fn clash(words: &ArgMatches<'_>, pairs: &[(Choice, Choice)]) -> Option<Vain>
+    ensures { result ≡ clash (rows_of (found_of words.now)) pairs.now }
+{
+    let mut rest = pairs;
+    while let [pair, after @ ..] = rest {
+        let (a, b) = *pair;
+        if is_chosen(words, a) && is_chosen(words, b) {
+            return Some(Vain::Together(a, b));
+        }
+        rest = after;
+    }
+    None
+}
+
+// The first of some forms that is chosen.
+#[tactic(auto, unfolding(crate::specs::Vain::first_form))]
+fn first_form(words: &ArgMatches<'_>, forms: &[Choice]) -> Option<Vain>
+    ensures { result ≡ first_form (rows_of (found_of words.now)) forms.now }
+{
+    let mut rest = forms;
+    while let [form, after @ ..] = rest {
+        if is_chosen(words, *form) {
+            return Some(Vain::Alone(*form));
+        }
+        rest = after;
+    }
+    None
+}
+
+// A form, where there is nothing to write in it.
+#[tactic(auto, unfolding(crate::specs::Vain::alone))]
+fn alone(words: &ArgMatches<'_>) -> Option<Vain>
+    ensures { result ≡ alone (rows_of (found_of words.now)) }
+{
+    let has_rows = is_chosen(words, Choice::Counts)
+        || is_chosen(words, Choice::Writes)
+        || is_chosen(words, Choice::Trace);
+    if has_rows {
+        None
+    } else {
+        first_form(words, &[Choice::Csv, Choice::Json, Choice::Latex])
+    }
+}
+
+/// Options that say nothing together, if there are any.
+#[tactic(auto, unfolding(crate::specs::Vain::vain_in, crate::specs::Vain::pairs))]
+pub(crate) fn vain_in(words: &ArgMatches<'_>) -> Option<Vain>
+    ensures { result ≡ vain_in (rows_of (found_of words.now)) }
+{
+    use Choice::{Counts, Csv, Json, Latex, Strict, Trace, Unit, Writes};
+    let pairs = [
+        (Counts, Writes),
+        (Counts, Trace),
+        (Writes, Trace),
+        (Csv, Json),
+        (Csv, Latex),
+        (Json, Latex),
+        (Strict, Counts),
+        (Strict, Writes),
+        (Strict, Csv),
+        (Strict, Json),
+        (Strict, Latex),
+        (Unit, Counts),
+        (Unit, Writes),
+        (Unit, Csv),
+        (Unit, Json),
+        (Unit, Latex),
+    ];
+    match clash(words, &pairs) {
+        Some(vain) => Some(vain),
+        None => alone(words),
+    }
+}

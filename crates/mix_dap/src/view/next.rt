@@ -1,0 +1,66 @@
+//! `mix/next`: what one step more would be.
+
+ghost use Rattle.std.specs.Prelude.{◌≡◌, ◌+◌, ℕ, IfOk, IsSome, Ok, length};
+ghost use Rattle.serde_json.specs.View.{view};
+ghost use Rattle.undo_core.specs.Replay.{replay};
+ghost use Rattle.mix_machine.specs.Do.{does};
+ghost use Rattle.mix_machine.specs.World.{WorldState};
+ghost use Rattle.mix_machine.specs.declared.old.Change.TheVariants.{Step};
+ghost use Rattle.mix_session.specs.Timeline.{Timeline, with_change, world_of};
+ghost use Rattle.mix_dap.specs.Change.{change_shown};
+ghost use Rattle.mix_dap.specs.Next.{next_asked, next_refused, next_shown};
+
+use crate::look::put_exception;
+use crate::view::change::{Worlds, change_between};
+use dap_message::Fields;
+use mix_machine::{Change, MixFault, World};
+use mix_refused::{Memory, Refused};
+use mix_session::{Session, change_text};
+use serde_json::Value;
+use std::alloc::Global;
+use undo_core::{Kept, Undo};
+
+/// The change that one step more would be, told and not done; or the fault that it would meet.
+#[tactic(auto, using(crate::proofs::NextLemmas::machine_now))]
+pub(crate) fn next_view(alloc: Global, session: &Session) -> Result<Value, Memory>
+    ensures { IfOk result (λ v. view v ≡ next_asked session.now) }
+{
+    let done = session.changes().len();
+    // (no journal has room for one more)
+    let Some(number) = (done as u64).checked_add(1) else {
+        return Err(Memory);
+    };
+    let mut after = session.world_at(alloc, done)?;
+    let mut kept = Kept::new(alloc);
+    let before = session.world();
+    match after.apply(&Change::Step, &mut kept) {
+        Ok(()) => change_between(
+            alloc,
+            number,
+            Change::Step,
+            Worlds {
+                before,
+                after: &after,
+            },
+        ),
+        Err(Refused::Fault(fault)) => next_refused(alloc, number, before, fault),
+        Err(Refused::Memory) => Err(Memory),
+    }
+}
+
+fn next_refused(alloc: Global, number: u64, world: &World, fault: MixFault) -> Result<Value, Memory>
+    ensures { IfOk result (λ v. view v ≡ next_refused number world.now fault) }
+{
+    let mut body = Fields::new(alloc);
+    body.number("number", number)?;
+    body.number("location", u64::from(world.loc()))?;
+    body.text("text", change_text(alloc, &Change::Step, world)?.as_str())?;
+    put_exception(alloc, &mut body, fault)?;
+    Ok(body.done())
+}
+
+/// What `mix/next` tells is what `mix/change` tells of that step when it is done.
+pub fn next_law()
+    ensures { (t : Timeline) (v : WorldState) → IsSome (replay does t.first t.changes) → does (world_of t) Step ≡ Ok v →
+        next_shown t ≡ change_shown (with_change t Step) (length t.changes + 1) Step }
+{}
