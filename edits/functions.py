@@ -4,8 +4,8 @@ import collections
 import re
 
 # The lines of a function, counted from 0; what matches the names that the prover gives it and its
-# closures; its own name; the trait that it is of, or ''.
-Function = collections.namedtuple("Function", "file first last name word of_trait")
+# closures; its own word, and an end of that name; the trait that it is of, or ''.
+Function = collections.namedtuple("Function", "file first last name word end of_trait")
 
 WORDS = r"(?:pub(?:\([a-z ]+\))? )?(?:const )?(?:unsafe )?(?:extern \"C\" )?"
 FUNCTION = re.compile(rf"( *){WORDS}fn (\w+)")
@@ -69,7 +69,8 @@ def functions_of(crate, file, text):
             # A type's functions have the name of the module of the type, which may be another one.
             before = r"(?:\w+::)*" + inside if inside else "::".join(modules)
             name = "::".join([crate, *([before] if before else []), function[2]])
-            found.append(Function(file, at, end_of(lines, at, function[1]), name, function[2], of_trait if is_inside else ""))
+            end = name if not inside else function[2] if of_trait else f"{inside}::{function[2]}"
+            found.append(Function(file, at, end_of(lines, at, function[1]), name, function[2], end, of_trait if is_inside else ""))
     return found
 
 

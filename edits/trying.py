@@ -11,6 +11,7 @@ from mistakes import Unfit, put_in
 
 ABOUT = re.compile(r"fn (\S+): (.*)")
 AT = re.compile(r"(?:note: )?(?:\./)?((?:src|specs|proofs)/\S+?):(\d+):\d+: (.*)")
+SEVERAL = re.compile(r"several functions are named `(.*?)`: help: write one of (.*)")
 # What the prover says where a proof names what an edit took away: nothing of the contract.
 NAMES = re.compile(r"has no field|is not in scope|has no `|was not admitted")
 # What a method of these does, callers see in its body and not by a clause, so a change of one may
@@ -41,7 +42,7 @@ class Trying:
     """The tries of a crate's mistakes in a copy of it, where the crates below are proved."""
 
     def __init__(self, crate, folder, jobs):
-        self.crate, self.folder, self.jobs, self.kept, self.found, self.names, self.is_cut = crate, folder, jobs, {}, {}, [], False
+        self.crate, self.folder, self.jobs, self.kept, self.found, self.ends, self.is_cut = crate, folder, jobs, {}, {}, {}, False
 
     def text_of(self, file):
         if file not in self.kept:
@@ -62,21 +63,30 @@ class Trying:
 
     def check(self, texts, functions):
         """The status and the output of a check of the crate with these texts, or of these functions alone."""
-        only = [name for name in self.names if "::fn::" not in name and any(is_of(it, name) for it in functions)]
         for file, text in texts.items():
             (self.folder / file).write_text(text, encoding="utf-8")
-        status, output = self.rt("check", *(word for name in only for word in ("--only", name)))
+        while True:
+            ends = dict.fromkeys(self.ends.get(it.name, it.end) for it in functions)
+            status, output = self.rt("check", *(word for end in ends for word in ("--only", end)))
+            several = SEVERAL.search(output)
+            if several:
+                names = re.findall(r"`(.+?)`", several[2])
+                self.ends.update({it.name: name for it in functions for name in names if it.end == several[1] and is_of(it, name)})
+            elif not functions or "has no function" not in output:
+                break
+            if not several or several[1] in (self.ends.get(it.name, it.end) for it in functions):
+                functions = []  # all of the crate
         for file in texts:
             (self.folder / file).write_text(self.text_of(file), encoding="utf-8")
-        self.names = self.names or [about[1] for about in map(ABOUT.match, output.split("\n")) if about]
         return status, output
 
     def fill(self, pending, most):
         """As many of the mistakes as can stand in one copy, each with its functions; the texts with them; and whether it has to be alone."""
         chosen, texts, used, alone = [], {}, [], False
-        for one in pending:
-            functions, outside = changed_by(one, self.crate, self.text_of)
-            is_alone = outside or one.name in self.found or any(it.of_trait in SEEN_THROUGH for it in functions)
+        changed = [(one, *changed_by(one, self.crate, self.text_of)) for one in pending]
+        marked = [(outside or one.name in self.found or any(it.of_trait in SEEN_THROUGH for it in functions), one, functions) for one, functions, outside in changed]
+        # those that have to be alone come last, since each of them takes a check of the whole crate
+        for is_alone, one, functions in sorted(marked, key=lambda it: it[0]):
             if chosen and (is_alone or any(it in used for it in functions)):
                 continue
             try:
@@ -126,18 +136,18 @@ class Trying:
         pending, self.most = list(mistakes), len(mistakes)
         try:
             while pending:
-                pending = self.round(pending, len(mistakes))
+                pending = self.round(pending)
         except KeyboardInterrupt:
             self.is_cut = True
             self.found.update({one.name: "not tried" for one in pending})
         return self.found
 
-    def round(self, pending, all):
+    def round(self, pending):
         """Tries as many of those that are left as can stand in one copy. Returns those that are left then."""
         begun = time.time()
         chosen, texts, alone = self.fill(pending, self.most)
         changed = [it for _, functions in chosen for it in functions]
-        status, output = self.check(texts, [] if alone or len(chosen) > all / 2 else changed)
+        status, output = self.check(texts, [] if alone else changed)
         reasons = own_reasons(output)
         bad = self.not_compiled(chosen, texts, output)
         if bad:
