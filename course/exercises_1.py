@@ -188,7 +188,7 @@ EXERCISES = [
     Exercise("10_rotation", "The table of N entries from TABLE+1 on is rotated K positions to the right.",
              rotation, (2, 3, 7, 20), (("ENT2 K", "ENT2 K-1"),)),
     Exercise("11_maximum", "At the halt rA has the largest of the N entries from TABLE+1 on, and rX the smallest.",
-             extremes, (1, 2, 12, 40), (("JLE  NEXT", "JGE  NEXT"),)),
+             extremes, (1, 2, 12, 90), (("JLE  NEXT", "JGE  NEXT"),)),
     Exercise("12_sieve", "For each k from 2 to N, TABLE+k gets the smallest prime factor of k, or 0 if k is prime.",
              smallest_factors, (2, 130, 140, 110, 150), (("JANZ 1F", "JAZ  1F"),)),
     Exercise("13_josephus", "LAST gets the number of the last of N men, of whom every M-th leaves the circle.", last_man, (1, 2, 11, 24), (("INCX M", "INCX M-1"),)),
