@@ -65,11 +65,14 @@ def smallest_factors(draw, n):
 
 
 def last_man(draw, n):
-    """A division for each man takes some 25u in any way; a circle takes 4u for each step along it, so more than 5 of these for each man."""
-    m, men, at = draw.number(2 if n < 11 else 7, 12), list(range(1, n + 1)), 0
-    while len(men) > 1:
-        at = (at + m - 1) % len(men)
-        del men[at]
+    """A division for each man takes some 25u in any way; a circle takes 4u for each step along it, so more than 5 of these for each man. The last man of
+    many is another one than of few."""
+    men = []
+    while not men or n >= 11 and men[0] <= n // 2:
+        m, men, at = draw.number(2 if n < 11 else 7, 12), list(range(1, n + 1)), 0
+        while len(men) > 1:
+            at = (at + m - 1) % len(men)
+            del men[at]
     return Case({"N": n, "M": m}, men, ("LAST",), (f"clock <= {26 * n + 20}",))
 
 

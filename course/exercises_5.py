@@ -79,7 +79,7 @@ def last_two_digits(draw, n):
 
 def two_at_once(draw, n):
     keys = draw.distinct(n, 1, 999)
-    wanted = draw.one_of([*keys, 1000])
+    wanted = 1000 if n in (2, 40) else draw.one_of(keys)
     place = keys.index(wanted) + 1 if wanted in keys else 0
     return Case({"N": n, "WANTED": wanted, "data": keys}, [place], ("I1",), (f"clock <= {18 + (7 * (n + 1 - place) + 1) // 2}",))
 
