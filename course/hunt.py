@@ -4,7 +4,8 @@ import math
 from lesson import Lesson
 
 RUN = "run 20000"
-# Of each program the command that shows its result, what is wrong, how it is mended, and what is right.
+# Of each program the command that shows its result, what is wrong, how it is mended, and what is
+# right.
 HUNTS = {
     "lesson.mixal": ("show values SUM SUM", ("halt", [120]),
                    [("1H      ST1  FACTOR", "        ENT2 0,1\n1H      ST2  FACTOR"), ("DEC1 1\n        J1P  1B", "DEC2 1\n        J2P  1B")],

@@ -8,7 +8,8 @@ REGISTERS = "A123456X"
 UNITS = [("0-7", "tapes", 100, "IN OUT IOC"), ("8-15", "disks", 100, "IN OUT IOC, block in rX"), ("16", "card reader", 16, "IN"), ("17", "card punch", 16, "OUT"),
          ("18", "printer", 24, "OUT IOC"), ("19", "typewriter", 14, "IN OUT"), ("20", "paper tape", 14, "IN OUT IOC")]
 
-# The code C, the normal field F, which names the operation where several have its code, the time in u, what M is for, and a sentence.
+# The code C, the normal field F, which names the operation where several have its code, the time in
+# u, what M is for, and a sentence.
 Operation = namedtuple("Operation", "name code field time uses sentence")
 
 

@@ -1,6 +1,7 @@
-// The page: what a person asks for, by buttons, keys, commands and the slider, and the parts that show what the store holds.
+// The page: what a person asks for, by buttons, keys, commands and the slider, and the parts that show it.
 
 import { Bars } from "./bars.js";
+import { commandsOf } from "./buttons.js";
 import { cardsApart, isBundle, linesIn, openedOf, scriptOf, withCards } from "./bundle.js";
 import { Compare } from "./compare.js";
 import { $, copied, counted, on, put } from "./dom.js";
@@ -12,7 +13,6 @@ import { Memory, showRegisters, showSymbols } from "./memory.js";
 import { TimeMap } from "./pictures.js";
 import { choose, place } from "./place.js";
 import { conflictOf, toldOf } from "./sentence.js";
-import { commandsOf } from "./session.js";
 import { Store } from "./store.js";
 import { Talk } from "./talk.js";
 import { Time } from "./time.js";
@@ -26,7 +26,7 @@ export class App {
     this.isEdited = false;
     this.isOpening = false; // a program, whose script stays as it came
     this.said = [""]; // what the status says
-    this.agreed = ""; // a command that was given once, and is done when it is given again
+    this.agreed = ""; // a command that is done when it is given again
     store.on("texts", (begun) => this.showTexts(begun));
     this.listing = new Listing(store, grammar);
     store.on("view", (view) => showRegisters(store, view));
@@ -41,24 +41,21 @@ export class App {
     this.talk = new Talk(this);
     this.who = new Who(this);
     store.on("view", (...shown) => this.told(...shown));
-    store.on("status", (...said) => this.tell(...said));
-    store.on("busy", (isBusy) => document.querySelector("main").setAttribute("aria-busy", String(isBusy)));
-    store.on("slow", (isSlow) => this.slow(isSlow));
-    store.on("failed", (fault) => this.failed(fault));
+    store.on("busy", (isBusy) => $("main").setAttribute("aria-busy", String(isBusy)));
     store.on("ask", (part, name) => store.enqueue(() => this.who.open(part, name)).then(() => this.map.watch(part)));
-    store.on("slide", (moment) => this.slide(moment));
-    store.on("toggle", (line) => this.toggle(line));
-    store.on("edited", (changes) => this.edited(changes));
-    store.on("copy", (text, name) => this.copy(text, name));
+    for (const what of ["tell", "slow", "failed", "slide", "toggle", "edited", "copy"]) {
+      store.on(what, (...given) => this[what](...given));
+    }
     for (const id of ["cards", "deck"]) on(id, "input", () => this.edited());
     on("anew", "click", () => store.add(() => store.begin()));
     place();
   }
 
-  // What is to be assembled and loaded. Cards of which one looks like a header go apart, so that they are refused as cards.
+  // What is to be assembled and loaded. Cards of which one looks like a header go apart, to be refused as cards.
   get texts() {
     const [source, deck, cards] = [this.listing.text, $("deck").value, $("cards").value];
-    return /^%/m.test(cards) ? { source, deck, cards, apart: 0 } : { source, deck: withCards(deck, cards), apart: linesIn(cards).length };
+    if (/^%/m.test(cards)) return { source, deck, cards, apart: 0 };
+    return { source, deck: withCards(deck, cards), apart: linesIn(cards).length };
   }
 
   // Shows what was found in the texts, and the program or why they are refused.
@@ -67,7 +64,7 @@ export class App {
     listing.setProgram(program);
     showFound([...found, ...(program ? missing(listing, program, view) : [])], listing);
     store.refusal = toldRefusal(refusal, found, texts, listing);
-    document.querySelector("main").classList.toggle("stale", Boolean(refusal)); // what is seen is that of an older program
+    $("main").classList.toggle("stale", Boolean(refusal)); // what is seen is that of an older program
     if (refusal) this.time.hide();
     else store.warning = showSymbols(program, found, this.memory);
   }
@@ -96,7 +93,7 @@ export class App {
     this.showStatus(...(isSlow ? ["Working …"] : this.said));
   }
 
-  // Tells what went wrong. The text, the breakpoints and the commands are as they were, and the last view is shown again.
+  // Tells what went wrong, and shows the last view again.
   failed(fault) {
     const { session, view } = this.store;
     this.time.isDragged = false;
@@ -109,7 +106,6 @@ export class App {
     else this.tell(isEngine ? `Not done: ${fault.message}. ${rest}` : `The page itself has a fault: ${fault}`, true);
   }
 
-  // Copies a text, and says so.
   async copy(text, name) {
     const isDone = await copied(text);
     this.tell(isDone ? `${name} is copied.` : "This browser does not let the page copy.", !isDone);
@@ -121,13 +117,6 @@ export class App {
     const isMore = changes.some(({ text }) => text.some((line) => line.startsWith("%")));
     if (isMore && isBundle(this.listing.text)) this.open(openedOf(this.listing.text, true));
     else this.store.assembleSoon();
-  }
-
-  // Whether something is asked for the second time, so that it is done.
-  isAgreed(asked) {
-    if (this.agreed === asked) return true;
-    this.agreed = asked;
-    return false;
   }
 
   // Shows what something did with the session, perhaps when it is done.
@@ -151,7 +140,6 @@ export class App {
     this.store.enqueue(() => this.act(command));
   }
 
-  // Goes to a moment by the slider or by a picture.
   slide(moment) {
     this.store.enqueue(() => this.did(this.store.session.slide(moment)));
   }
@@ -161,7 +149,8 @@ export class App {
     const { store } = this;
     const work = () => {
       const { ahead } = store.session;
-      if (!/^\s*set\s/i.test(command) || ahead === 0 || this.isAgreed(command)) return this.act(command);
+      if (!/^\s*set\s/i.test(command) || ahead === 0 || this.agreed === command) return this.act(command);
+      this.agreed = command;
       this.talk.answer(command, `This drops ${counted(ahead, "change")} ahead. Press Enter again to do it.`);
       return undefined;
     };
@@ -175,7 +164,7 @@ export class App {
     return this.did(found);
   }
 
-  // What a button asks for. A key that is held down does not pile up what it asks for; after a halt only the button for that goes on.
+  // What a button asks for. What a key that is held down asks for does not pile up.
   press(name) {
     const { store, listing } = this;
     if (store.left > 2) return;
@@ -184,8 +173,9 @@ export class App {
       if (session.isHalted && ["step", "over", "out", "run"].includes(name)) return;
       const { location, registers } = view.state;
       const out = Number(registers.find(({ name: each }) => each === "J").number);
-      const points = { cells: listing.breakCells, filters: $("conflicts").checked ? ["conflict"] : [], over: location + 1, out };
-      for await (const [command, conflict] of commandsOf(name, session, points)) await this.act(command, view, conflict);
+      const filters = $("conflicts").checked ? ["conflict"] : [];
+      const commands = commandsOf(name, session, { cells: listing.breakCells, filters, over: location + 1, out });
+      for await (const [command, conflict] of commands) await this.act(command, view, conflict);
     });
   }
 
@@ -236,6 +226,7 @@ export class App {
     const done = session ? session.log.map(({ command }) => command) : [];
     const { breaks, isShut } = this.listing;
     const shown = [...(this.map.isOpen ? ["map"] : []), ...(isShut ? ["no-words"] : [])].join(" ");
-    return { source, deck, script: scriptOf({ done, left: this.talk.lines, breaks, bars: this.bars.kept, shown, lesson }) };
+    const kept = { left: this.talk.lines, breaks, bars: this.bars.kept, shown, lesson };
+    return { source, deck, script: scriptOf({ done, ...kept }) };
   }
 }

@@ -1,4 +1,4 @@
-// A range of cells as bars, with the index registers that point into it, at each moment. All of it comes from the view of the moment.
+// A range of cells as bars, with the index registers that point into it, by the view of a moment alone.
 
 import { $, counted, mark, note, on } from "./dom.js";
 import { Strip, keepsPictures } from "./pictures.js";
@@ -12,7 +12,7 @@ const SHOWS = /^\s*show\s+(?:cells|values)\s+(\S+)\s+(\S+)\s*$/i;
 const FIELD = /^\s*([0-5]):([0-5])\s*$/;
 
 export class Bars {
-  constructor(store) {
+  constructor(/** @type {Store} */ store) {
     this.store = store;
     this.strip = new Strip(store);
     this.code = new Set(); // the cells of instructions
@@ -39,18 +39,20 @@ export class Bars {
   // The cells that are drawn.
   get cells() { return this.isOpen ? this.range.cells.slice(0, MAX_BARS) : []; }
 
-  // What is kept of it beside the commands: the ends of the range, by what the bars are drawn, and whether with the strip. Nothing where none are shown.
+  // What is kept of it: the ends of the range, by what the bars are drawn, and whether with the strip; "" if shut.
   get kept() {
     const by = this.by === "field" ? $("bars-field").value.trim() : this.by;
     const kept = [...this.range.ends, by, ...(this.strip.isOpen ? ["strip"] : [])];
     return this.isOpen && kept.every((word) => /^\S+$/.test(word)) ? kept.join(" ") : "";
   }
 
-  // Another program was opened: the bars that were kept with it, or else the widest range of which its script shows the cells.
+  // Another program was opened: the bars that were kept with it, or the widest range of cells that its script shows.
   async open(kept, script) {
     const [from, to, by, strip] = kept.split(" ");
     const named = script.map((line) => SHOWS.exec(line)).filter(Boolean).map(([, first, last]) => [first, last]);
-    const numbers = kept || named.length === 0 ? [] : await this.store.enqueue(() => this.store.session.values(named.flat()));
+    const { store } = this;
+    const isAsked = !kept && named.length > 0;
+    const numbers = isAsked ? await store.enqueue(() => store.session.values(named.flat())) : [];
     if (!numbers) return; // another program was opened meanwhile
     const widths = named.map((_, index) => numbers[2 * index + 1] - numbers[2 * index] + 1 || 0);
     const best = Math.max(0, ...widths.filter((width) => width <= MAX_BARS));
@@ -66,7 +68,6 @@ export class Bars {
     $("bars-box").open = false;
     this.range.cells = [];
     $("bars").replaceChildren();
-    this.strip.forget();
   }
 
   setProgram({ rows }) {
@@ -77,39 +78,41 @@ export class Bars {
   show() {
     const isByField = this.by === "field";
     $("bars-field").hidden = !isByField;
-    document.querySelector("main").classList.toggle("bars", this.isOpen);
+    $("main").classList.toggle("bars", this.isOpen);
     const { cells, store: { view } } = this;
     if (!view || cells.length === 0) return;
     const field = FIELD.exec($("bars-field").value);
     const isField = !isByField || (field && field[1] <= field[2]);
     mark($("bars-field"), "aria-invalid", !isField);
     if (!isField) return;
-    const f = isByField ? 8 * field[1] + Number(field[2]) : this.by === "characters" ? 13 : 5;
+    const f = isByField ? 8 * Number(field[1]) + Number(field[2]) : this.by === "characters" ? 13 : 5;
     const bars = this.bars(view, cells, f);
     const arrows = this.arrows(view.state, cells[0], cells[cells.length - 1]);
     const title = `Cells ${this.range.ends.join(" to ")} by ${this.by}${isByField ? ` (${field[0].trim()})` : ""}`;
     const conflict = view.conflict && cells.includes(view.conflict.cell) ? view.conflict : null;
     const text = textOf(bars, arrows) + (conflict ? ` Conflict at ${conflict.cell}: ${conflict.use}.` : "");
-    $("bars").replaceChildren(barsOf({ title: `${title}, after ${counted(view.state.done, "change")}`, text, bars, arrows, conflict }));
+    const after = `after ${counted(view.state.done, "change")}`;
+    $("bars").replaceChildren(barsOf({ title: `${title}, ${after}`, text, bars, arrows, conflict }));
     this.strip.show({ cells, valueOf: (word) => Number(fieldOf(word, f)), title });
     const all = this.range.cells.length;
     note("bars-more", all > cells.length ? `These are the first ${MAX_BARS} of ${counted(all, "cell")}.` : "");
   }
 
   // What is drawn of each cell: its value in a field, and before the last change, if that wrote it.
-  bars({ altered, before, wordIn }, cells, f) {
+  bars(/** @type {View} */ { altered, before, wordIn }, cells, f) {
     return cells.map((cell) => {
       const { word, characters } = wordIn(cell);
       const isWritten = altered.has(`cell ${cell}`);
       const told = fieldOf(word, f);
       const was = Number(fieldOf((isWritten && before.get(`cell ${cell}`)) || word, f));
-      return { cell, value: Number(told), text: this.by === "characters" ? characters.trimEnd() : told, isWritten, was };
+      const text = this.by === "characters" ? characters.trimEnd() : told;
+      return { cell, value: Number(told), text, isWritten, was };
     });
   }
 
-  // The index registers that point to a cell of the range, or to the one before or behind it: of each the cell that the first instruction that uses
-  // one of these by the register would use now.
-  arrows({ cells, registers }, from, to) {
+  // The index registers that point to a cell of the range, or to the one before or behind it: of each the cell that the
+  // first instruction that uses one of these by the register would use now.
+  arrows(/** @type {State} */ { cells, registers }, from, to) {
     const found = new Map();
     for (const cell of cells) {
       if (!this.code.has(cell.cell)) continue;
@@ -121,10 +124,12 @@ export class Bars {
   }
 }
 
-// The picture as a text.
 function textOf(bars, arrows) {
   const [first, last] = [bars[0].cell, bars[bars.length - 1].cell];
-  const told = bars.map(({ cell, text, isWritten, was, value }) => `${cell}: ${text || "blank"}${isWritten ? (was === value ? " (written)" : ` (written, was ${was})`) : ""}`);
+  const told = bars.map(({ cell, text, isWritten, was, value }) => {
+    const written = was === value ? " (written)" : ` (written, was ${was})`;
+    return `${cell}: ${text || "blank"}${isWritten ? written : ""}`;
+  });
   const place = (cell) => (cell < first ? `before ${first}` : cell > last ? `behind ${last}` : `to ${cell}`);
   return [`${told.join(", ")}.`, ...arrows.map(({ name, cell }) => `${name} points ${place(cell)}.`)].join(" ");
 }

@@ -1,5 +1,5 @@
-// The bundle: a source, then perhaps `%DEVICES` and a deck, then perhaps `%SCRIPT` and a script. The cards, which the page shows apart from the
-// rest of the deck. And what the page keeps in a script beside the commands that were done, as remarks.
+// The bundle: a source, then perhaps `%DEVICES` and a deck, then perhaps `%SCRIPT` and a script. The cards, which the
+// page shows apart from the rest of the deck. And what the page keeps in a script as remarks.
 
 const HEADER_OF_CARDS = /^%unit[ \t]+0?16(?![0-9])/i;
 const KEPT = "* Kept by the page, and no commands:";
@@ -14,7 +14,6 @@ const whole = (text) => (text === "" || text.endsWith("\n") ? text : `${text}\n`
 export const linesIn = (text) => linesOf(whole(text)).slice(0, -1); // without what is behind the last end of a line
 const textOfLines = (lines) => lines.map((line) => `${line}\n`).join("");
 
-// The parts of a bundle.
 function partsOf(text) {
   const lines = linesOf(text);
   const find = (marker) => (lines.includes(marker) ? lines.indexOf(marker) : lines.length);
@@ -35,16 +34,17 @@ export const isBundle = (text) => linesOf(text).some((line) => line === "%DEVICE
 
 // A script of the commands that were done, and behind them, as remarks, what else the page holds.
 export function scriptOf({ done, left, breaks, bars, shown, lesson }) {
-  const named = [[LESSON, lesson], [BREAKS, breaks.join(" ")], [BARS, bars], [SHOWN, shown]].filter(([, text]) => text).map((pair) => pair.join(""));
-  const kept = [...named, ...left.map((line) => LEFT + line)];
+  const named = [[LESSON, lesson], [BREAKS, breaks.join(" ")], [BARS, bars], [SHOWN, shown]].filter(([, text]) => text);
+  const kept = [...named.map((pair) => pair.join("")), ...left.map((line) => LEFT + line)];
   return textOfLines(kept.length > 0 ? [...done, KEPT, ...kept] : done);
 }
 
-// What a script holds: the lines that are to be done at once, and what the page kept in it. Of another script all lines are to be done.
+// What a script holds: the lines that are to be done at once (all, where the page kept nothing), and what it kept.
 function keptIn(script) {
   const lines = linesIn(script);
   const at = lines.includes(KEPT) ? lines.lastIndexOf(KEPT) : lines.length;
-  const after = (name) => lines.slice(at + 1).filter((line) => line.startsWith(name)).map((line) => line.slice(name.length));
+  const named = (name) => lines.slice(at + 1).filter((line) => line.startsWith(name));
+  const after = (name) => named(name).map((line) => line.slice(name.length));
   return {
     done: lines.slice(0, at),
     left: after(LEFT),
@@ -80,7 +80,6 @@ export function cardsApart(deck) {
   return { deck: lines.join("\n") + (isLast ? "\n" : ""), cards: isLast ? cards.join("\n") : textOfLines(cards) };
 }
 
-// The deck with the cards in it.
 export function withCards(deck, cards) {
   if (cards === "") return deck;
   const lines = linesIn(deck);

@@ -1,10 +1,14 @@
-// Colours of the source, by the grammar of the editors: rules that match, that begin and end, and groups that have rules of their own.
+// Colours of the source, by the grammar of the editors: rules that match, or begin and end, and groups with rules.
 
-const KINDS = /^(comment|entity|keyword\.control|keyword\.operator|keyword\.other|support|string|constant|variable\.language|variable|punctuation|invalid)\b/;
+const OTHERS = "comment|entity|support|string|constant|punctuation|invalid";
+const KINDS = new RegExp(`^(${OTHERS}|keyword\\.(control|operator|other)|variable(\\.language)?)\\b`);
 
 export class Grammar {
   constructor({ patterns, repository }) {
-    Object.assign(this, { patterns, repository, made: new Map(), lists: new Map() });
+    this.patterns = patterns;
+    this.repository = repository;
+    this.made = new Map(); // the patterns as those of JavaScript
+    this.lists = new Map(); // of each list of rules the flat one
   }
 
   // The rules of a list, with those that it includes in their places.
@@ -19,7 +23,8 @@ export class Grammar {
 
   // The first match of a pattern from a place on; it is made in JavaScript's signs.
   find(pattern, text, at) {
-    if (!this.made.has(pattern)) this.made.set(pattern, new RegExp(pattern.replace("(?i)", ""), `dg${pattern.includes("(?i)") ? "i" : ""}`));
+    const flags = pattern.includes("(?i)") ? "dgi" : "dg";
+    if (!this.made.has(pattern)) this.made.set(pattern, new RegExp(pattern.replace("(?i)", ""), flags));
     const regex = this.made.get(pattern);
     regex.lastIndex = at;
     return regex.exec(text);

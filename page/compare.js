@@ -1,7 +1,7 @@
-// Two runs side by side: the one that is shown, and another one that was kept, after as many changes. The other one has an engine of its own, which does
-// its commands again.
+// Two runs side by side: the one that is shown, and another one that was kept, after as many changes. The other one has
+// an engine of its own, which does its commands again.
 
-import { $, counted, fourDigits, keepRows, make, note, on, put } from "./dom.js";
+import { $, all, counted, fourDigits, keepRows, make, note, on, put } from "./dom.js";
 import { Machine } from "./machine.js";
 import { flagsOf } from "./memory.js";
 import { Picture } from "./pictures.js";
@@ -14,14 +14,16 @@ const MOST_NAMES = 30; // of what differs
 const valueIn = ({ number, characters }) => `${number} “${characters}”`;
 
 // What is compared of a moment: names with what they hold.
-const comparedIn = ({ state }) => [...state.registers.map((register) => [`r${register.name}`, valueIn(register)]), ...flagsOf(state).map(({ name, text }) => [name, text])];
+const comparedIn = (/** @type {View} */ { state }) => [
+  ...state.registers.map((register) => [`r${register.name}`, valueIn(register)]),
+  ...flagsOf(state).map(({ name, text }) => [name, text]),
+];
 
 export class Compare extends Picture {
   constructor(store) {
     super(store);
     this.machine = new Machine(store.machine.program, store.machine.module);
-    store.on("view", (view) => this.show(view));
-    store.on("forget", () => this.forget());
+    store.on("view", (view) => this.look(view));
     this.papers = new Papers("other-papers", "the other run’s ");
     on("compare-open", "click", () => store.enqueue(() => this.keep()));
     on("compare-close", "click", () => this.close());
@@ -35,7 +37,7 @@ export class Compare extends Picture {
     const { texts, log, state } = this.store.session;
     this.session = Object.assign(new Session(this.machine, texts, () => []), { log: [...log], state });
     this.forget();
-    this.show(this.store.view);
+    this.look(this.store.view);
   }
 
   close() {
@@ -43,14 +45,10 @@ export class Compare extends Picture {
     this.machine.stop();
     this.machine.end();
     $("compare").hidden = true;
-    this.papers.show({ units: [] });
-    for (const row of $("papers").querySelectorAll(".differs")) row.classList.remove("differs");
+    this.papers.forget();
+    for (const row of all("#papers .differs")) row.classList.remove("differs");
     showOutput();
     $("compare-open").focus();
-  }
-
-  show(view) {
-    this.look(view);
   }
 
   // The other run as it is after as many changes as are done; after all of its changes if these are fewer.
@@ -64,23 +62,26 @@ export class Compare extends Picture {
     const { found: other, of: view, session } = this;
     if (!other || !session || view !== this.store.view) return;
     const cells = differingCells(view, other);
-    const others = new Map(comparedIn(other));
+    const others = new Map(/** @type {any[]} */ (comparedIn(other)));
     const parts = comparedIn(view).map(([name, here]) => ({ name, here, there: others.get(name) }));
-    const held = cells.map((cell) => ({ name: `cell ${fourDigits(cell)}`, here: valueIn(view.wordIn(cell)), there: valueIn(other.wordIn(cell)) }));
+    const [here, there] = [view, other].map(({ wordIn }) => (cell) => valueIn(wordIn(cell)));
+    const held = cells.map((cell) => ({ name: `cell ${fourDigits(cell)}`, here: here(cell), there: there(cell) }));
     const rows = [...parts, ...held.slice(0, CELLS_COMPARED)];
     this.papers.show(other);
     const printed = markRows();
     showOutput();
     $("compare").hidden = false;
-    const isBehind = view.state.done > session.total;
-    put($("compare-what"), `The other run has ${counted(session.total, "change")}${isBehind ? ", and is shown after the last of them" : ""}.`);
-    put($("compare-text"), saidOf([...[...parts, ...held].filter(({ here, there }) => here !== there).map(({ name }) => name), ...printed]));
+    const behind = view.state.done > session.total ? ", and is shown after the last of them" : "";
+    put($("compare-what"), `The other run has ${counted(session.total, "change")}${behind}.`);
+    const different = [...parts, ...held].filter((part) => part.here !== part.there).map(({ name }) => name);
+    put($("compare-text"), saidOf([...different, ...printed]));
     keepRows($("compare-rows"), rows, ({ name }) => name, freshRow, ({ children }, { name, here, there }) => {
       const isSame = here === there;
       [`${name}${isSame ? "" : " ≠"}`, here, there].forEach((text, index) => put(children[index], text));
       children[0].parentNode.classList.toggle("differs", !isSame);
     });
-    note("compare-more", cells.length > CELLS_COMPARED ? `${cells.length - CELLS_COMPARED} more cells are different.` : "");
+    const more = cells.length - CELLS_COMPARED;
+    note("compare-more", more > 0 ? `${more} more cells are different.` : "");
   }
 }
 
@@ -89,26 +90,26 @@ function showOutput() {
   $("output").hidden = $("papers").childElementCount + $("other-papers").childElementCount === 0;
 }
 
-// What is different, in a sentence.
 function saidOf(names) {
   const more = names.length - MOST_NAMES;
-  return names.length === 0 ? "Nothing is different." : `Different: ${names.slice(0, MOST_NAMES).join(", ")}${more > 0 ? `, and ${more} more` : ""}.`;
+  const listed = names.slice(0, MOST_NAMES).join(", ");
+  return names.length === 0 ? "Nothing is different." : `Different: ${listed}${more > 0 ? `, and ${more} more` : ""}.`;
 }
 
 const freshRow = () => make("tr", {}, make("th", { scope: "row" }), make("td"), make("td"));
 
 // The cells that hold something else.
-function differingCells(view, other) {
+function differingCells(/** @type {View} */ view, /** @type {View} */ other) {
   const cells = new Set([...view.state.cells, ...other.state.cells].map(({ cell }) => cell));
   return [...cells].filter((cell) => view.wordIn(cell).word !== other.wordIn(cell).word).sort((a, b) => a - b);
 }
 
 // Marks the rows that were written by one run alone, or otherwise by both; their names.
 function markRows() {
-  const linesOf = (box) => new Map([...$(box).children].map((unit) => [unit.dataset.unit, [...unit.querySelectorAll(".paper div:not(.page)")]]));
-  const [here, there] = [linesOf("papers"), linesOf("other-papers")];
-  return [...new Set([...here.keys(), ...there.keys()])].flatMap((unit) => {
-    const [mine, others] = [here.get(unit) || [], there.get(unit) || []];
+  const rowsOf = (box, unit) => all(`#${box} [data-unit="${unit}"] .paper div:not(.page)`);
+  const units = new Set(all(":is(#papers, #other-papers) [data-unit]").map(({ dataset }) => dataset.unit));
+  return [...units].flatMap((unit) => {
+    const [mine, others] = [rowsOf("papers", unit), rowsOf("other-papers", unit)];
     const longer = mine.length > others.length ? mine : others;
     return longer.flatMap((_, at) => {
       const [one, two] = [mine[at], others[at]];

@@ -1,8 +1,9 @@
 // Small helps for elements.
 
-export const $ = (id) => document.getElementById(id);
+export const $ = (id) => /** @type {any} */ (document.getElementById(id));
 
-// Does something whenever an event comes to an element.
+export const all = (selector, within = document) => /** @type {any[]} */ ([...within.querySelectorAll(selector)]);
+
 export const on = (id, event, work) => $(id).addEventListener(event, work);
 
 // An element with attributes and children; a child that is a text stays a text. Numbers have a tenth at most.
@@ -10,7 +11,7 @@ export function furnished(element, given, children) {
   for (const [key, value] of Object.entries(given)) {
     if (typeof value === "function") element.addEventListener(key, value);
     else if (typeof value === "number") element.setAttribute(key, Math.round(value * 10) / 10);
-    else if (value !== null && value !== undefined && value !== false) element.setAttribute(key, value === true ? "" : value);
+    else if ((value ?? false) !== false) element.setAttribute(key, value === true ? "" : value);
   }
   element.append(...children);
   return element;
@@ -18,17 +19,14 @@ export function furnished(element, given, children) {
 
 export const make = (name, given = {}, ...children) => furnished(document.createElement(name), given, children);
 
-// Puts a text into an element if it is another one.
 export function put(element, text) {
   if (element.textContent !== text) element.textContent = text;
 }
 
-// Sets an attribute if it has another value.
 export function mark(element, name, value) {
   if (element.getAttribute(name) !== String(value)) element.setAttribute(name, value);
 }
 
-// Whether a button is pressed.
 export const isPressed = (id) => $(id).getAttribute("aria-pressed") === "true";
 
 // Shows a sentence, or nothing where it is empty.
@@ -37,43 +35,31 @@ export function note(id, text) {
   put($(id), text);
 }
 
-// Does all of some works, also where one of them has a fault; the first fault is thrown then.
-export function doAll(works) {
-  const faults = [];
-  for (const work of works) {
-    try {
-      work();
-    } catch (fault) {
-      faults.push(fault);
-    }
-  }
-  if (faults.length > 0) throw faults[0];
-}
-
 // Of the buttons of a box the one to which the tab key comes.
 export const stopIn = (box) => box.querySelector("button[tabindex='0']");
 
-export function setStop(box, button) {
-  const old = stopIn(box);
-  if (old) old.tabIndex = -1;
-  button.tabIndex = 0;
+// How far the arrow keys go, where a page has so many.
+export function stepOf(key, page) {
+  return { ArrowUp: -1, ArrowDown: 1, PageUp: -page, PageDown: page, Home: -Infinity, End: Infinity }[key];
 }
 
-// Lets the arrow keys walk among the buttons of a box, of which a page has so many.
+export const between = (least, number, most) => Math.max(least, Math.min(most, number));
+
+// Lets the arrow keys walk among the buttons of a box.
 export function walks(id, page) {
   on(id, "keydown", (event) => {
-    const step = { ArrowUp: -1, ArrowDown: 1, PageUp: -page, PageDown: page, Home: -Infinity, End: Infinity }[event.key];
-    const buttons = [...$(id).querySelectorAll("button")];
+    const step = stepOf(event.key, page);
+    const buttons = all("button", $(id));
     if (!step || buttons.length === 0) return;
     event.preventDefault();
-    const at = buttons.indexOf(stopIn($(id))) + step;
-    const next = buttons[Math.max(0, Math.min(buttons.length - 1, at))];
-    setStop($(id), next);
+    const old = stopIn($(id));
+    const next = buttons[between(0, buttons.indexOf(old) + step, buttons.length - 1)];
+    if (old) old.tabIndex = -1;
+    next.tabIndex = 0;
     next.focus();
   });
 }
 
-// Saves a text as a file.
 export function saved(text, type, name) {
   const link = make("a", { href: URL.createObjectURL(new Blob([text], { type })), download: name });
   link.click();
@@ -86,7 +72,7 @@ export async function copied(text) {
     await navigator.clipboard.writeText(text);
     return true;
   } catch {
-    const focused = document.activeElement;
+    const focused = /** @type {any} */ (document.activeElement);
     const box = make("textarea", { class: "unseen" });
     box.value = text;
     (document.querySelector("dialog[open]") || document.body).append(box);
@@ -98,13 +84,13 @@ export async function copied(text) {
   }
 }
 
-// Calls back when an element has another size. It is done in the next frame, since a frame that alters a size again in answer to one is an error.
+// Calls back when an element has another size: in the next frame, since to alter a size in the same one is an error.
 export function onResize(element, work) {
   new ResizeObserver(() => requestAnimationFrame(work)).observe(element);
 }
 
-// The rows of a list by their keys. A row whose key is still there keeps its element, and so the focus and the selection in it; `create` makes the
-// element of a new one, and `update` shows what it holds now. Where the focus was in a row that is gone, it goes to the box.
+// The rows of a list by their keys. A row whose key is still there keeps its element, and so the focus in it; `create`
+// makes a new one, and `update` shows what it holds now. Where the focus was in a row that is gone, it goes to the box.
 export function keepRows(box, items, keyOf, create, update) {
   const keys = new Set(items.map((item) => String(keyOf(item))));
   const gone = [...box.children].filter((row) => !keys.has(row.dataset.key));

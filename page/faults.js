@@ -1,8 +1,8 @@
-// What is wrong with a text: each fault and each warning of the source in a list below it, with what is mostly the cause; and why a text is refused.
+// What is wrong with a text: each fault and warning of the source in a list, with its remedy; why a text is refused.
 
 import { $, counted, keepRows, make, note, put } from "./dom.js";
 import { placeOf } from "./bundle.js";
-import { CHARACTERS, OPERATIONS, PSEUDO } from "./operations.js";
+import { CHARACTERS, namesOfAll } from "./operations.js";
 
 const isError = ({ severity }) => severity === "error";
 const textOfFound = (each) => (isError(each) ? `${each.code} ${each.text}` : each.text);
@@ -49,30 +49,24 @@ export function missing(listing, { rows }, { wordIn }) {
   const lines = listing.text.split("\n");
   const end = lines.findIndex((line) => /^[^*\s]*[ \t]+END(\s|$)/i.test(line)) + 1;
   const behind = lines.findIndex((line, at) => at >= end && line.trim() !== "") + 1;
-  const hasHalt = rows.some(({ cell, instruction }) => instruction && wordIn(cell).text.startsWith("HLT"));
-  return [
-    ...(hasHalt || rows.length === 0 ? [] : [{ line: end, text: "there is no HLT, so a run goes on into whatever stands behind the program" }]),
-    ...(behind > end ? [{ line: behind, text: "this stands behind END and is not read" }] : []),
-  ];
+  const halts = rows.some(({ cell, instruction }) => instruction && wordIn(cell).text.startsWith("HLT"));
+  const noHalt = { line: end, text: "there is no HLT, so a run goes on into whatever stands behind the program" };
+  const more = { line: behind, text: "this stands behind END and is not read" };
+  return [...(halts || rows.length === 0 ? [] : [noHalt]), ...(behind > end ? [more] : [])];
 }
 
-const NAMES = [...OPERATIONS.keys(), ...PSEUDO.keys()];
-const isOperation = (word) => NAMES.includes(word.toUpperCase());
+const isOperation = (word) => namesOfAll().includes(word.toUpperCase());
 
-// Whether one word is the other without one of its letters.
-const isShorter = (one, other) => [...other].some((_, at) => one === other.slice(0, at) + other.slice(at + 1));
+// A word without each of its letters.
+const withoutOne = (word) => [...word].map((_, at) => word.slice(0, at) + word.slice(at + 1));
 
-// Whether two words of a length differ in one letter, or have two neighbours exchanged.
-function isAlike(one, other) {
-  if (one.length !== other.length) return false;
-  const [a, b, ...more] = [...one].flatMap((letter, at) => (letter === other[at] ? [] : [at]));
-  return b === undefined || (more.length === 0 && one[a] === other[b] && one[b] === other[a]);
-}
-
-// An operation that is nearly a word.
+// An operation that is nearly a word: by a letter more or less, by another one, or with two neighbours exchanged.
 function nearTo(word) {
-  const given = word.toUpperCase();
-  return NAMES.find((name) => isShorter(given, name) || isShorter(name, given)) || NAMES.find((name) => isAlike(name, given));
+  const [given, names] = [word.toUpperCase(), namesOfAll()];
+  const parts = withoutOne(given);
+  const isAlike = (part, at) => parts.slice(Math.max(0, at - 1), at + 2).includes(part);
+  return names.find((name) => parts.includes(name) || withoutOne(name).includes(given))
+    || names.find((name) => name.length === given.length && withoutOne(name).some(isAlike));
 }
 
 // What is mostly the cause of a fault on a line; "" where the page has no guess.

@@ -11,8 +11,10 @@ const FRAMED = ["bars", "registers", "output", "memory"]; // what a frame may sh
 const HELD_EVERY = 1000; // milliseconds
 const LONGEST_HELD = 100000; // letters of an address
 const LONG_LINK = 2000; // letters; mail and chats may cut what is longer
-const FRESH = "* What the program does\n        ORIG 1000\nSTART   ENTA 5            put 5 into rA\n        HLT\n        END  START\n";
-export const IN_FRAME = new URLSearchParams(window.location.search).has("embed"); // the page shows the program, the buttons and one picture
+const FRESH = "* What the program does\n        ORIG 1000\nSTART   ENTA 5            put 5 into rA\n"
+  + "        HLT\n        END  START\n";
+const EMBED = new URLSearchParams(window.location.search).get("embed"); // the parts that a frame shows, if it is one
+export const IN_FRAME = EMBED !== null;
 
 // The address of the page with a fragment; `search` is what is between both.
 const addressOf = (fragment, search = "") => window.location.href.split(/[?#]/)[0] + search + fragment;
@@ -26,7 +28,7 @@ function sharedLines(text, other) {
 }
 
 export class Keep {
-  constructor(app, lessons) {
+  constructor(/** @type {App} */ app, /** @type {Lesson[]} */ lessons) {
     this.app = app;
     this.lessons = lessons;
     this.lesson = null;
@@ -66,7 +68,6 @@ export class Keep {
     });
   }
 
-  // The lesson that is here, or none, with its notes.
   setLesson(lesson) {
     this.lesson = lesson;
     showNotes(lesson || undefined);
@@ -74,10 +75,10 @@ export class Keep {
 
   // Whether a text is that of a lesson or of its answer.
   isOf(lesson, text) {
-    return Boolean(lesson) && [lesson.bundle, lesson.solution || ""].some((bundle) => bundle !== "" && sourceOf(bundle) === text);
+    return Boolean(lesson) && [lesson.bundle, lesson.solution].some((bundle) => bundle && sourceOf(bundle) === text);
   }
 
-  // Names the text that is here: a lesson, which it becomes again by undo; an edited one; or one's own, which has no line of it.
+  // Names the text: a lesson, which it becomes again by undo; an edited one; or one's own, which has no line of it.
   recognize() {
     const { talk, listing: { text } } = this.app;
     const other = this.isOf(this.lesson, text) ? null : this.lessons.find((lesson) => this.isOf(lesson, text));
@@ -111,39 +112,36 @@ export class Keep {
     await this.put(lesson, openedOf(bundle, true));
   }
 
-  // Opens a bundle that was saved or shared: what was done is done, the rest waits.
+  // Opens a bundle that was saved or shared: what was done is done, the rest waits. Or the reason why not.
   async openBundle(bundle) {
     const opened = openedOf(bundle, false);
     const reason = tooLarge(opened.source);
-    if (reason) throw new RangeError(reason);
-    await this.put(this.lessons.find(({ name }) => name === opened.lesson) || null, opened);
+    if (!reason) await this.put(this.lessons.find(({ name }) => name === opened.lesson) || null, opened);
+    return reason;
   }
 
   async openFile() {
     const [file] = $("file").files;
     $("file").value = "";
     if (!file || !(await this.isFree())) return;
-    try {
-      await this.openBundle(await file.text());
-    } catch (fault) {
-      if (!(fault instanceof RangeError)) throw fault;
-      this.app.tell(`${file.name} was not opened: ${fault.message}.`, true);
-    }
+    const reason = await this.openBundle(await file.text());
+    if (reason) this.app.tell(`${file.name} was not opened: ${reason}.`, true);
   }
 
   // Opens what the link holds; whether it is a link of the page.
   async openLink() {
-    let reason = "";
+    let told = "is cut or was changed: it holds no program";
     try {
       const bundle = await bundleIn(window.location.hash);
       if (bundle === null) return false;
-      if (await this.isFree()) await this.openBundle(bundle);
-      return true;
+      const reason = (await this.isFree()) ? await this.openBundle(bundle) : "";
+      if (!reason) return true;
+      told = `is not opened: ${reason}`;
     } catch (fault) {
-      reason = fault instanceof RangeError ? `This link is not opened: ${fault.message}.` : "This link is cut or was changed: it holds no program.";
+      if (fault instanceof RangeError) told = `is not opened: ${fault.message}`;
     }
     if (!this.lesson) await this.openLesson(this.lessons[0]);
-    this.app.tell(reason, true);
+    this.app.tell(`This link ${told}.`, true);
     return true;
   }
 
@@ -152,31 +150,31 @@ export class Keep {
   // What is printed above the listing: the lesson, the moment, the day.
   get heading() {
     const { session } = this.app.store;
-    return `${this.title}${session ? `, change ${session.done} of ${session.total}` : ""}, ${new Date().toISOString().slice(0, 10)}`;
+    const moment = session ? `, change ${session.done} of ${session.total}` : "";
+    return `${this.title}${moment}, ${new Date().toISOString().slice(0, 10)}`;
   }
 
   get bundle() { return bundleOf(this.app.partsFor(this.lesson ? this.lesson.name : "")); }
 
   save() {
-    saved(this.bundle, "text/plain", `${this.lesson ? `${this.lesson.name.replace("/", "_")}${this.isOther ? "-edited" : ""}` : "program"}.mixal`);
+    const name = this.lesson ? this.lesson.name.replace("/", "_") : "program";
+    saved(this.bundle, "text/plain", `${name}${this.isOther ? "-edited" : ""}.mixal`);
     this.app.isEdited = false;
   }
 
-  // Holds all that is here in the address, so that nothing is lost by a reload, and each address is a link. What is too long is not held.
+  // Holds all that is here in the address, so that nothing is lost by a reload. What is too long is not held.
   async hold() {
-    const { app } = this;
-    if (app.store.isBusy || app.time.isDragged) return;
-    const { bundle } = this;
-    if (this.held === undefined || bundle === this.held) return;
+    const { app: { store, time }, bundle, held } = this;
+    if (store.isBusy || time.isDragged || held === undefined || bundle === held) return;
     const fragment = await fragmentOf(bundle);
     if (bundle !== this.bundle) return;
     this.held = fragment.length <= LONGEST_HELD ? bundle : "";
     window.history.replaceState(null, "", this.held ? fragment : addressOf("#no-tour", window.location.search));
   }
 
-  // In a frame the parts that its author chose stand beside the program; without a choice the bars, the registers, and what is printed.
+  // In a frame the parts that its author chose stand beside the program; without a choice all but the memory.
   frame() {
-    const asked = new URLSearchParams(window.location.search).get("embed").split(",").filter((name) => FRAMED.includes(name));
+    const asked = EMBED.split(",").filter((name) => FRAMED.includes(name));
     for (const name of asked.length > 0 ? asked : FRAMED.slice(0, 3)) {
       const part = $({ bars: "picture" }[name] || name);
       part.classList.add("chosen");
@@ -187,8 +185,8 @@ export class Keep {
   // The frame that Share gives, with the parts that are ticked.
   putFrame() {
     const parts = FRAMED.filter((name) => $(`frame-${name}`).checked).join(",");
-    const title = this.lesson ? this.title : "A program of MIX";
-    $("frame-text").value = make("iframe", { src: addressOf(this.fragment, `?embed=${parts}`), title, width: 800, height: 500 }).outerHTML;
+    const given = { title: this.lesson ? this.title : "A program of MIX", width: 800, height: 500 };
+    $("frame-text").value = make("iframe", { src: addressOf(this.fragment, `?embed=${parts}`), ...given }).outerHTML;
   }
 
   // In a frame a link leads to the whole page, with the same program, commands and moment.
@@ -204,10 +202,10 @@ export class Keep {
     $("link-text").value = link;
     this.fragment = fragment;
     this.putFrame();
-    const notes = [];
-    if (window.location.protocol === "file:") notes.push("This page is a file, so the link leads to this file. Behind another address of the page the # and what follows do the same.");
-    if (link.length > LONG_LINK) notes.push(`The link has ${link.length.toLocaleString("en")} letters: mail and chats may cut it, so try it or send the file.`);
-    put($("link-note"), notes.join(" "));
+    $("file-note").hidden = window.location.protocol !== "file:";
+    const many = link.length.toLocaleString("en");
+    const told = `The link has ${many} letters: mail and chats may cut it, so try it or send the file.`;
+    put($("link-note"), link.length > LONG_LINK ? told : "");
     $("link").showModal();
     $("link-text").select();
   }

@@ -1,12 +1,11 @@
-// Beside each line of the source its location, its word and how often it was executed. The lines of the last step and of the next one are marked, with
-// a bow where a jump lies between, and so are those with a fault.
+// Beside each line of the source its location, its word and how often it was executed. The lines of the last step and
+// of the next one are marked, with a bow where a jump lies between, and so are those with a fault.
 
-import { $, fourDigits, isPressed, make, mark, on, onResize, put } from "./dom.js";
+import { $, between, fourDigits, isPressed, make, mark, on, onResize, put, stepOf } from "./dom.js";
 import { ZERO } from "./sentence.js";
 import { Source } from "./source.js";
 
-const LINES_WALKED = { ArrowUp: -1, ArrowDown: 1, PageUp: -15, PageDown: 15, Home: -Infinity, End: Infinity };
-
+const PAGE = 15; // lines
 const PLACES = ["wrap", "gutter"]; // where a line has its class
 
 // The letter of a line at a column, which counts tab stops at each eighth.
@@ -17,7 +16,7 @@ function letterAt(text, column) {
 }
 
 export class Listing {
-  constructor(store, grammar) {
+  constructor(/** @type {Store} */ store, grammar) {
     this.store = store;
     this.rows = new WeakMap(); // of each line that was drawn its parts
     this.points = new Set(); // the lines with a breakpoint
@@ -26,7 +25,8 @@ export class Listing {
     this.bad = new Set(); // lines with a fault
     this.said = new Map(); // the texts of faults and warnings, by their lines
     this.times = new Map(); // how often cells were executed
-    this.wordIn = () => ZERO;
+    this.heat = null; // how dark a line is, where somebody asks for it
+    this.wordIn = (_) => ZERO;
     this.bow = make("div", { class: "bow", "aria-hidden": "true" });
     this.source = new Source(grammar, {
       edited: (changes) => this.edited(changes),
@@ -111,14 +111,13 @@ export class Listing {
     return lines.length > 0 ? Math.min(...lines) : 0;
   }
 
-  // The cells of the breakpoints.
   get breakCells() {
     const cells = this.breaks.map((line) => this.cellOf.get(this.lineFrom(line)));
     return [...new Set(cells)].filter((cell) => cell !== undefined).sort((a, b) => a - b);
   }
 
-  // Shows a moment of the machine: marked are the line at the location, or that of a HLT which was the last change, and the line that was left.
-  show({ state, times, change, wordIn }) {
+  // Shows a moment: marked are the line at the location, or that of a HLT which was done, and the line that was left.
+  show(/** @type {View} */ { state, times, change, wordIn }) {
     Object.assign(this, { times, wordIn });
     this.marked = this.lineOf.get(state.halted ? change.location : state.location) || 0;
     this.left = (change && !state.halted && this.lineOf.get(change.location)) || 0;
@@ -128,10 +127,10 @@ export class Listing {
     this.source.reveal(this.marked);
   }
 
-  // Marks lines by classes.
   mark() {
     const { cm, marked, left } = this;
-    const wanted = [[marked, "at"], [left === marked ? 0 : left, "left"], ...[...this.said.keys()].map((line) => [line, this.bad.has(line) ? "wrong" : "warned"])];
+    const found = [...this.said.keys()].map((line) => [line, this.bad.has(line) ? "wrong" : "warned"]);
+    const wanted = [[marked, "at"], [left === marked ? 0 : left, "left"], ...found];
     cm.operation(() => {
       for (const [handle, name] of this.classed) for (const where of PLACES) cm.removeLineClass(handle, where, name);
       this.classed = wanted.map(([line, name]) => [cm.getLineHandle(line - 1), name]).filter(([handle]) => handle);
@@ -139,7 +138,8 @@ export class Listing {
     });
     this.bow.remove();
     if (!marked || !left || Math.abs(marked - left) < 2) return;
-    const [top, bottom] = [Math.min(left, marked), Math.max(left, marked)].map((line) => cm.heightAtLine(line - 1, "local") + cm.defaultTextHeight() / 2);
+    const middle = (line) => cm.heightAtLine(line - 1, "local") + cm.defaultTextHeight() / 2;
+    const [top, bottom] = [middle(Math.min(left, marked)), middle(Math.max(left, marked))];
     this.bow.className = `bow ${marked < left ? "up" : "down"}`;
     cm.addWidget({ line: 0, ch: 0 }, this.bow);
     Object.assign(this.bow.style, { top: `${top}px`, height: `${bottom - top}px`, left: "" });
@@ -149,7 +149,8 @@ export class Listing {
   draw() {
     const { cm } = this;
     const { from, to } = cm.getViewport();
-    let stop = [this.stop, cm.getLineHandle(this.marked - 1)].find((handle) => handle && cm.getLineNumber(handle) >= from && cm.getLineNumber(handle) < to);
+    const isDrawn = (handle) => handle && between(from, cm.getLineNumber(handle), to - 1) === cm.getLineNumber(handle);
+    let stop = [this.stop, cm.getLineHandle(this.marked - 1)].find(isDrawn);
     cm.operation(() => cm.eachLine(from, to, (handle) => {
       stop ??= handle;
       this.drawRow(handle, cm.getLineNumber(handle) + 1, handle === stop);
@@ -160,7 +161,9 @@ export class Listing {
     let parts = this.rows.get(handle);
     if (!parts) {
       const button = make("button", { type: "button" });
-      parts = { button, row: make("div", { class: "line", "cm-ignore-events": "true" }, button), label: "" };
+      const beside = ["loc", "word", "times"].map((kind) => make("span", { class: kind }));
+      const row = make("div", { class: "line", "cm-ignore-events": "true" }, button, ...beside);
+      parts = { button, beside, row, label: "" };
       this.rows.set(handle, parts);
       this.cm.setGutterMarker(handle, "beside", parts.row);
     }
@@ -172,7 +175,7 @@ export class Listing {
     if (parts.label === label) return;
     parts.label = label;
     put(parts.button, String(line));
-    for (const [name, text] of Object.entries(known)) putPart(parts, name, text);
+    parts.beside.forEach((span) => put(span, known[span.className]));
     parts.row.style.setProperty("--heat", heat);
     Object.assign(parts.button, { tabIndex: isStop ? 0 : -1, title });
     const said = known.loc ? `, location ${known.loc}, ${known.word}, ${known.times || "0"} times` : "";
@@ -190,10 +193,10 @@ export class Listing {
   // The arrow keys walk from line to line at the left.
   walk(event) {
     const row = event.target.closest(".line");
-    const step = LINES_WALKED[event.key];
+    const step = stepOf(event.key, PAGE);
     if (!row || !step) return;
     event.preventDefault();
-    const line = Math.max(1, Math.min(this.cm.lineCount(), Number(row.firstChild.textContent) + step));
+    const line = between(1, Number(row.firstChild.textContent) + step, this.cm.lineCount());
     this.stop = this.cm.getLineHandle(line - 1);
     this.source.reveal(line);
     this.draw();
@@ -205,28 +208,23 @@ export class Listing {
     const { cm } = this;
     for (const each of this.marks) each.clear();
     this.marks = found.filter(({ column }) => column).map(({ line, column, endColumn, isFault }) => {
-      const [from, to] = [column, endColumn].map((at) => letterAt(this.lineText(line), at));
-      return cm.markText({ line: line - 1, ch: from }, { line: line - 1, ch: to }, { className: isFault ? "fault-text" : "warned-text" });
+      const [from, to] = [column, endColumn].map((at) => ({ line: line - 1, ch: letterAt(this.lineText(line), at) }));
+      return cm.markText(from, to, { className: isFault ? "fault-text" : "warned-text" });
     });
     this.bad = new Set(found.filter(({ isFault }) => isFault).map(({ line }) => line));
-    this.said = new Map(found.map(({ line }) => [line, found.filter((each) => each.line === line).map(({ text }) => text).join("; ")]));
+    this.said = new Map();
+    for (const { line, text } of found) this.said.set(line, [...(this.said.get(line) || []), text]);
+    for (const [line, texts] of this.said) this.said.set(line, texts.join("; "));
     mark($("text"), "aria-invalid", this.bad.size > 0);
     this.mark();
     this.draw();
   }
 
-  // All lines as they are printed.
   print() {
     const rows = this.text.split("\n").map((text, index) => {
-      const { loc, word, times } = this.knownOf(index + 1);
-      return make("tr", {}, ...[String(index + 1), loc, word, times, text].map((each, at) => make("td", { class: at === 4 && "source" }, each)));
+      const beside = [String(index + 1), ...Object.values(this.knownOf(index + 1))].map((each) => make("td", {}, each));
+      return make("tr", {}, ...beside, make("td", { class: "source" }, text));
     });
     $("printed").replaceChildren(...rows);
   }
-}
-
-// Puts a text beside a line; what is empty has no element until then.
-function putPart(parts, name, text) {
-  if (!parts[name] && text !== "") parts.row.append((parts[name] = make("span", { class: name })));
-  if (parts[name]) put(parts[name], text);
 }

@@ -1,5 +1,4 @@
-// The engine as the page sees it: requests of the debug adapter go in, answers come out, and the page never waits for it. Nothing here knows what a
-// request does.
+// The engine as the page sees it: requests of the debug adapter go in, answers come out, and the page is not held up.
 
 export const STOPPED = "it was stopped";
 const BRACE = 123; // with which the body of a frame begins; a header has none
@@ -7,7 +6,7 @@ const HEADER = "Content-Length: ";
 const [writer, reader] = [new TextEncoder(), new TextDecoder()];
 
 // The frames of requests, each a pair of a command and its arguments; they are numbered from 1.
-function framesOf(requests) {
+export function framesOf(requests) {
   const frames = requests.map(([command, given], index) => {
     const body = JSON.stringify({ seq: index + 1, type: "request", command, arguments: given });
     return `${HEADER}${writer.encode(body).length}\r\n\r\n${body}`;
@@ -15,7 +14,7 @@ function framesOf(requests) {
   return writer.encode(frames.join(""));
 }
 
-// The answers in some frames, in their order. Where the program has stopped after one, it has the event that tells why as `stopped`.
+// The answers in some frames, in their order. Where the program has stopped after one, `stopped` tells why.
 function answersOf(bytes) {
   const answers = [];
   for (let at = 0; at < bytes.length; ) {
@@ -30,29 +29,32 @@ function answersOf(bytes) {
 }
 
 // The text of a refusal; nothing where a request was done.
-export const refusalOf = ({ success, body, message }) => (success ? "" : body && body.error ? body.error.format : message);
+export function refusalOf(/** @type {Answer} */ { success, body, message }) {
+  return success ? "" : body?.error?.format || message;
+}
 
 // The reply to a command of the script: that of the machine, or the line of its refusal.
 export function replyOf(answer) {
   if (answer.success) return answer.body.result;
-  const number = answer.body && answer.body.error ? answer.body.error.id : 0;
+  const number = answer.body?.error?.id || 0;
   return `${number >= 200 && number < 300 ? "?" : "??"} ${refusalOf(answer)}\n`;
 }
 
-// What makes a call fail that is no answer of the adapter: no memory, a trap, or that it was stopped. The session of the engine is lost then.
+// What makes a call fail: no memory, a trap, or that it was stopped. The session of the engine is lost then.
 export class Broken extends Error {}
 
 export class Machine {
   // The text of the worker's program, and the bytes of the module.
   constructor(program, module) {
-    Object.assign(this, { program, module });
+    this.program = program;
+    this.module = module;
     this.url = URL.createObjectURL(new Blob([program], { type: "text/javascript" }));
     this.worker = null;
     this.holder = null; // whose session the engine holds
     this.drop = null;
   }
 
-  // The answers to requests of a holder, in their order. Where the engine does not hold its session, they begin a new one.
+  // The answers to requests of a holder, in their order. Where the engine does not hold its session, they begin one.
   async ask(holder, requests) {
     if (!this.worker) {
       this.worker = new Worker(this.url);
@@ -60,7 +62,7 @@ export class Machine {
     }
     const isNew = this.holder !== holder;
     this.holder = null;
-    const { bytes, fault } = await new Promise((resolve) => {
+    const { bytes, fault } = await new Promise((/** @type {(given: any) => void} */ resolve) => {
       this.drop = () => resolve({ fault: STOPPED });
       this.worker.onmessage = ({ data }) => resolve(data);
       this.worker.onerror = (event) => resolve({ fault: event.message || "the engine does not start" });

@@ -1,17 +1,20 @@
-// The beginning: the engine, the lessons and the grammar are in the page itself, in blocks that `assemble` has put there.
+// The beginning: engine, lessons, grammar and tables are in the page itself, in blocks that `assemble` has put there.
 
 import { App } from "./app.js";
 import { Grammar } from "./colours.js";
-import { make } from "./dom.js";
+import { $, make } from "./dom.js";
 import { IN_FRAME, Keep } from "./keep.js";
 import { Machine } from "./machine.js";
-import { fillCard } from "./operations.js";
+import { fillCard, takeTables } from "./operations.js";
 import { bytesOfBlock, textOfBlock } from "./share.js";
 import { NO_TOUR, Tour } from "./tour.js";
 
 async function begin() {
-  const texts = ["worker", "lessons", "grammar", "library"].map((name) => textOfBlock(`${name}-block`));
-  const [module, worker, lessons, grammar, library] = await Promise.all([bytesOfBlock("engine-block"), ...texts]);
+  const names = ["worker", "lessons", "grammar", "operations", "characters", "library"];
+  const texts = names.map((name) => textOfBlock(`${name}-block`));
+  const module = await bytesOfBlock("engine-block");
+  const [worker, lessons, grammar, operations, characters, library] = await Promise.all(texts);
+  takeTables(operations, characters);
   document.head.append(make("script", {}, library)); // the policy of the page names it by its sum
   const app = new App(new Machine(worker, module), new Grammar(JSON.parse(grammar)));
   const told = (reason) => app.tell(`The page itself has a fault: ${reason}`, true);
@@ -19,12 +22,12 @@ async function begin() {
   window.addEventListener("error", ({ message }) => told(message));
   fillCard();
   const keep = new Keep(app, JSON.parse(lessons));
-  const tour = new Tour(app);
+  const tour = new Tour();
   if (await keep.openLink()) return;
   await keep.openLesson(keep.lessons[0]);
   if (!IN_FRAME && window.location.hash !== NO_TOUR) tour.go(0);
 }
 
 begin().catch((reason) => {
-  document.getElementById("did").textContent = `This browser can't show the page (${reason}). It has to be one of 2024 or later.`;
+  $("did").textContent = `This browser can't show the page (${reason}). It has to be one of 2024 or later.`;
 });

@@ -1,5 +1,5 @@
-// What the machine holds: registers and flags, cells of the memory, symbols. What the last change altered is marked, with what it was before; each name
-// asks who wrote it.
+// What the machine holds: registers and flags, cells of the memory, symbols. What the last change altered is marked,
+// with what it was before; each name asks who wrote it.
 
 import { $, fourDigits, keepRows, make, mark, note, on, put, stopIn, walks } from "./dom.js";
 import { CELLS, CellRange, upTo } from "./range.js";
@@ -10,34 +10,38 @@ const CELLS_SHOWN = 500; // rows
 // A row of a word: a button that asks who wrote it; sign and bytes, number, characters, what it was before.
 function wordRow(name, label, asked) {
   const button = make("button", { type: "button", "aria-label": `${name}: who wrote it?` }, label);
-  const head = make("th", { scope: "row", role: "rowheader" }, button, make("span", { class: "unseen" }), make("span", { class: "unseen" }));
+  const unseen = [1, 2].map(() => make("span", { class: "unseen" }));
+  const head = make("th", { scope: "row", role: "rowheader" }, button, ...unseen);
   const clicked = () => {
     if (window.getSelection().isCollapsed) asked(); // otherwise somebody marks a number to copy it
   };
-  return make("tr", { click: clicked, role: "row" }, head, ...["word", "number", "chars", "was"].map((kind) => make("td", { class: kind, role: "cell" })));
+  const cells = ["word", "number", "chars", "was"].map((kind) => make("td", { class: kind, role: "cell" }));
+  return make("tr", { click: clicked, role: "row" }, head, ...cells);
 }
 
-// Shows the word of a part in such a row, with what it was if it was altered, and perhaps its use by a unit.
-function showWord(row, part, { word, number, characters }, { altered, before }, more = [], use = "") {
+// Shows the word of a part in such a row, with what it was if it was altered.
+function showWord(row, part, { word, number, characters }, { altered, before }, more = []) {
   const isAltered = altered.has(part);
-  const was = isAltered && before.has(part) && `was ${numberOf(before.get(part))}`;
-  const listed = (texts) => texts.filter(Boolean).join(", ");
-  [word, number, `“${characters}”`, listed([was, use])].forEach((text, index) => put(row.children[index + 1], text));
+  const was = isAltered && before.has(part) ? `was ${numberOf(before.get(part))}` : "";
+  const texts = [word, number, `“${characters}”`, was];
+  texts.forEach((text, index) => put(row.children[index + 1], text));
   row.classList.toggle("altered", isAltered);
-  put(row.querySelector(".unseen"), listed([isAltered && "altered", ...more]));
+  put(row.querySelector(".unseen"), [isAltered && "altered", ...more].filter(Boolean).join(", "));
 }
 
 // Flags, location and clock: of each its name, the part that may be asked for, and what it holds.
-export const flagsOf = (state) => [
+export const flagsOf = (/** @type {State} */ state) => [
   { name: "overflow", part: "over", text: state.over ? "on" : "off" },
   { name: "comparison", part: "cmp", text: COMPARED[state.cmp] },
   { name: "location", part: "", text: fourDigits(state.location) },
   { name: "clock", part: "", text: `${state.clock} u` },
 ];
 
-// Shows the registers and the flags of a moment.
-export function showRegisters(store, view) {
-  const asks = (part, name) => make("button", { type: "button", "aria-label": `${name}: who wrote it?`, click: () => store.emit("ask", part, name) }, name);
+export function showRegisters(store, /** @type {View} */ view) {
+  const asks = (part, name) => {
+    const click = () => store.emit("ask", part, name);
+    return make("button", { type: "button", "aria-label": `${name}: who wrote it?`, click }, name);
+  };
   const row = ({ name }) => wordRow(`r${name}`, `r${name}`, () => store.emit("ask", name, `r${name}`));
   const flag = ({ name, part }) => make("div", {}, make("dt", {}, part ? asks(part, name) : name), make("dd"));
   const stop = stopIn($("register-rows"));
@@ -53,10 +57,13 @@ export function showRegisters(store, view) {
 }
 
 // A moment as a text, to copy: registers, flags, location and clock, and some cells.
-export function momentOf({ state, wordIn }, shown, lineOf) {
-  const row = (name, { word, number, characters }) => `${name.padEnd(4)} ${word.padEnd(16)} ${number.padStart(11)}  “${characters}”`;
+export function momentOf(/** @type {View} */ { state, wordIn }, shown, lineOf) {
+  const row = (name, { word, number, characters }) => {
+    return `${name.padEnd(4)} ${word.padEnd(16)} ${number.padStart(11)}  “${characters}”`;
+  };
   const line = lineOf.get(state.location);
-  const flags = flagsOf(state).map(({ name, text }) => `${name} ${text}${name === "location" && line ? ` (line ${line})` : ""}`);
+  const more = { location: line ? ` (line ${line})` : "" };
+  const flags = flagsOf(state).map(({ name, text }) => `${name} ${text}${more[name] || ""}`);
   if (state.halted) flags.push("halted");
   const registers = state.registers.map((register) => row(`r${register.name}`, register));
   return [...registers, flags.join(", "), ...shown.map((cell) => row(fourDigits(cell), wordIn(cell))), ""].join("\n");
@@ -64,7 +71,7 @@ export function momentOf({ state, wordIn }, shown, lineOf) {
 
 // Cells of the memory: those around M, the cell that the next step uses; those that are not zero; or a range.
 export class Memory {
-  constructor(store) {
+  constructor(/** @type {Store} */ store) {
     this.store = store;
     this.middle = 0; // the cell around which cells are shown
     this.shownCells = [];
@@ -89,7 +96,6 @@ export class Memory {
     this.show();
   }
 
-  // Shows the cells from a symbol on.
   showFrom(name) {
     $("cells-which").value = "range";
     this.range.ends = [name, `${name}+19`];
@@ -104,43 +110,56 @@ export class Memory {
     const { cell: met, use } = view.conflict || {};
     if (met !== undefined || used !== null) this.middle = met ?? used;
     else if (this.middle < 0) this.middle = Math.min(view.state.location, CELLS - 1);
-    const ranges = { filled: view.state.cells.map(({ cell }) => cell), near: upTo(Math.max(0, this.middle - 8), this.middle + 16), range: this.range.cells };
-    const all = ranges[this.which];
+    const near = upTo(Math.max(0, this.middle - 8), this.middle + 16);
+    const filled = view.state.cells.map(({ cell }) => cell);
+    const all = { near, filled, range: this.range.cells }[this.which];
     const shown = all.slice(0, CELLS_SHOWN);
     this.shownCells = shown;
     const stop = stopIn($("cell-rows"));
-    const current = [stop && Number(stop.closest("tr").dataset.cell), this.middle].find((cell) => shown.includes(cell)) ?? shown[0];
-    const fresh = (cell) => wordRow(`cell ${cell}`, fourDigits(cell), () => this.store.emit("ask", `cell ${cell}`, `cell ${cell}`));
+    const old = stop && Number(stop.closest("tr").dataset.cell);
+    const current = [old, this.middle].find((cell) => shown.includes(cell)) ?? shown[0];
+    const fresh = (cell) => {
+      const name = `cell ${cell}`;
+      return wordRow(name, fourDigits(cell), () => this.store.emit("ask", name, name));
+    };
     keepRows($("cell-rows"), shown, (cell) => cell, fresh, (element, cell) => {
       const isMet = cell === met;
-      showWord(element, `cell ${cell}`, view.wordIn(cell), view, [cell === used && "M", isMet && "conflict"], isMet && use);
+      const more = [cell === used && "M", isMet && "conflict"];
+      showWord(element, `cell ${cell}`, view.wordIn(cell), view, more);
       element.classList.toggle("here", cell === used);
       element.classList.toggle("conflict", isMet);
       mark(element, "data-cell", cell);
       mark(element.querySelector("button"), "tabindex", cell === current ? "0" : "-1");
     });
+    note("cells-use", use ? `Cell ${fourDigits(met)}: ${use}` : "");
     const more = all.length - shown.length;
-    note("cells-more", more > 0 ? `${more} more are not shown: choose a range.` : all.length === 0 ? "All cells are zero." : "");
+    const none = all.length === 0 ? "All cells are zero." : "";
+    note("cells-more", more > 0 ? `${more} more are not shown: choose a range.` : none);
     this.reveal(met ?? shown.find((cell) => view.altered.has(`cell ${cell}`)) ?? used);
   }
 
   // Scrolls its box so that a cell is seen.
   reveal(cell) {
-    const row = $("cell-rows").querySelector(`[data-cell="${cell}"]`);
-    const box = $("cells-box");
-    if (row && (row.offsetTop < box.scrollTop || row.offsetTop + row.offsetHeight > box.scrollTop + box.clientHeight)) box.scrollTop = row.offsetTop - box.clientHeight / 3;
+    const [row, box] = [$("cell-rows").querySelector(`[data-cell="${cell}"]`), $("cells-box")];
+    if (!row) return;
+    const { offsetTop: top, offsetHeight: high } = row;
+    const isSeen = top >= box.scrollTop && top + high <= box.scrollTop + box.clientHeight;
+    if (!isSeen) box.scrollTop = top - box.clientHeight / 3;
   }
 }
 
-// Shows the symbols of a program, each with a button where it may be a cell; the warnings of those that nobody defined, of all that was found in it.
+// Shows the symbols of a program, each with a button where it may be a cell; the warnings of undefined ones.
 export function showSymbols({ symbols }, found, memory) {
   const warnings = [...new Set(found.filter(({ code }) => code === "undefined-symbol").map(({ text }) => text))];
   const missing = new Set(warnings.map((text) => text.split(" ")[0].toUpperCase()));
   const row = ({ name, value, number }) => {
-    const show = { type: "button", "aria-label": `${name}: show the cells from there on`, click: () => memory.showFrom(name) };
-    const isCell = Number(number) >= 0 && Number(number) < 4000;
-    const [isWrong, head] = [missing.has(name), make("th", { scope: "row" }, isCell ? make("button", show, name) : name)];
-    return make("tr", { class: isWrong && "wrong" }, head, make("td", { class: "number" }, number), make("td", { class: "word" }, value), make("td", {}, isWrong ? "not defined" : ""));
+    const label = `${name}: show the cells from there on`;
+    const button = make("button", { type: "button", "aria-label": label, click: () => memory.showFrom(name) }, name);
+    const isCell = Number(number) >= 0 && Number(number) < CELLS;
+    const isWrong = missing.has(name);
+    const cells = [["number", number], ["word", value], ["", isWrong ? "not defined" : ""]];
+    const parts = cells.map(([kind, text]) => make("td", { class: kind }, text));
+    return make("tr", { class: isWrong && "wrong" }, make("th", { scope: "row" }, isCell ? button : name), ...parts);
   };
   $("no-symbols").hidden = symbols.length > 0;
   $("symbol-table").hidden = symbols.length === 0;

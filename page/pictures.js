@@ -1,6 +1,6 @@
 // Pictures of all changes: a strip of moments below the bars, and the map of time.
 
-import { $, counted, isPressed, mark, note, on, saved } from "./dom.js";
+import { $, all, between, counted, isPressed, mark, note, on, saved } from "./dom.js";
 import { fileOf, mapOf, stripOf } from "./svg.js";
 
 const COLUMNS = { strip: 60, map: 480 }; // at most
@@ -10,22 +10,31 @@ const MAX_ROWS = 120; // of the map
 function pairs(columns) {
   return Array.from({ length: Math.floor(columns.length / 2) }, (_, at) => {
     const sums = new Map();
-    for (const { cells } of [columns[2 * at], columns[2 * at + 1]]) for (const { cell, count } of cells) sums.set(cell, (sums.get(cell) || 0) + count);
+    const both = [...columns[2 * at].cells, ...columns[2 * at + 1].cells];
+    for (const { cell, count } of both) sums.set(cell, (sums.get(cell) || 0) + count);
     return { cells: [...sums].map(([cell, count]) => ({ cell, count })) };
   });
 }
 
-// One ask of the engine gives all of a picture; it is asked again only where the changes, or what is asked of them, are others.
+// One ask of the engine gives all of a picture; it is asked again only where the changes, or what is asked, are others.
+// `isOpen` says whether it is seen, `find` asks a session for what is drawn, `draw` draws what was found, or nothing.
 export class Picture {
-  // Of who extends it `isOpen` says whether it is seen, `find` asks a session for what is drawn, and `draw` draws what was found, or nothing.
-  constructor(store) {
+  constructor(/** @type {Store} */ store) {
     this.store = store;
+    store.on("forget", () => this.forget());
     this.forget();
   }
 
-  // Another program was opened.
+  get isOpen() { return false; }
+
+  async find(/** @type {Session} */ _) { return /** @type {any} */ (null); }
+
+  draw() {}
+
   forget() {
-    Object.assign(this, { of: "", changes: null, found: null });
+    this.of = /** @type {any} */ ("");
+    this.changes = null;
+    this.found = null;
     this.draw();
   }
 
@@ -40,7 +49,7 @@ export class Picture {
   async ask(of) {
     const { session } = this.store;
     if (this.of === of && this.changes === session.changes) return;
-    Object.assign(this, { of, changes: session.changes, found: null }); // what fails, or is stopped, is not asked for again
+    Object.assign(this, { of, changes: session.changes, found: null }); // what fails or is stopped is not asked again
     try {
       this.found = await this.find(session);
     } finally {
@@ -51,7 +60,7 @@ export class Picture {
 
 // The buttons that save and copy pictures as a file, of which the ids begin with a name.
 export function keepsPictures(store, name, what, selector) {
-  const file = () => fileOf([...document.querySelectorAll(selector)]);
+  const file = () => fileOf(all(selector));
   on(`${name}-save`, "click", () => saved(file(), "image/svg+xml", `${name}.svg`));
   on(`${name}-copy`, "click", () => store.emit("copy", file(), `The ${what}, as SVG,`));
 }
@@ -84,7 +93,6 @@ export class Strip extends Picture {
     this.look(shown.cells.join());
   }
 
-  // Another program was opened.
   forget() {
     this.shown = null;
     super.forget();
@@ -93,41 +101,43 @@ export class Strip extends Picture {
   async find(session) {
     const { cells } = this.shown;
     const count = Math.min(COLUMNS.strip, session.total + 1);
-    const moments = Array.from({ length: count }, (_, index) => Math.round((session.total * index) / Math.max(1, count - 1)));
+    const momentOf = (index) => Math.round((session.total * index) / Math.max(1, count - 1));
+    const moments = Array.from({ length: count }, (_, index) => momentOf(index));
     const found = await session.cellsAt(moments, cells);
     return found.map((words, index) => ({ moment: moments[index], cells, words: words.map(({ word }) => word) }));
   }
 
   draw() {
-    const { title, valueOf } = this.shown || {};
-    const columns = (this.found || []).map(({ moment, words }) => ({ moment, values: words.map(valueOf) }));
-    $("strip").replaceChildren(...(columns.length > 0 ? [stripOf({ title, cells: this.found[0].cells, columns, done: this.store.view.state.done })] : []));
+    $("strip").replaceChildren();
+    if (!this.found) return;
+    const { title, valueOf } = this.shown;
+    const columns = this.found.map(({ moment, words }) => ({ moment, values: words.map(valueOf) }));
+    $("strip").append(stripOf({ title, cells: this.found[0].cells, columns, done: this.store.view.state.done }));
   }
 }
 
-// Which lines were executed in the course of all changes: a row for each, a column for each stretch of changes, darker where it was executed oftener;
-// below them marks for what was written to units, and to the part of which somebody asked last who wrote it.
+// Which lines were executed: a row for each, a column for each stretch of changes, darker where it was oftener; below
+// them marks for what was written to units, and to the part of which somebody asked last who wrote it.
 export class TimeMap extends Picture {
-  constructor(store, listing) {
+  constructor(store, /** @type {Listing} */ listing) {
     super(store);
     this.listing = listing;
     store.on("view", () => this.show());
-    store.on("forget", () => this.forget());
     on("map-box", "toggle", () => this.show());
     on("map", "click", ({ target, clientX }) => {
       if (!this.found || !target.closest("svg")) return;
       const { left, width } = $("map").querySelector(".field").getBoundingClientRect();
       const { total } = this.found;
-      store.emit("slide", Math.max(0, Math.min(total, Math.round(((clientX - left) / width) * total))));
+      store.emit("slide", between(0, Math.round(((clientX - left) / width) * total), total));
     });
     keepsPictures(store, "map", "map", "#map svg");
   }
 
   get isOpen() { return $("map-box").open; }
 
-  // Another program was opened.
   forget() {
-    Object.assign(this, { part: "", known: null }); // of which is shown when it was written; what is known of a session
+    this.part = ""; // of which is shown when it was written
+    this.known = null; // what is known of a session
     super.forget();
   }
 
@@ -137,12 +147,11 @@ export class TimeMap extends Picture {
     this.show();
   }
 
-  // Shows the map, with a mark at the moment that is shown.
   show() {
     this.look(this.part);
   }
 
-  // A column is a stretch of changes, twice as long whenever there would be too many. Of those whose changes are as they were nothing is asked again.
+  // A column is twice as long whenever there would be too many. What is as it was is not asked again.
   async find(session) {
     const { total } = session;
     let { width, columns } = this.known && this.known.session === session ? this.known : { width: 1, columns: [] };
@@ -158,28 +167,36 @@ export class TimeMap extends Picture {
       const row = times.get(cell) || { cell, count: 0, first: at };
       times.set(cell, { ...row, count: row.count + count, last: at });
     }));
-    return { total, width, columns, marks: marks.sort((a, b) => a.number - b.number), rows: [...times.values()].sort((a, b) => a.cell - b.cell) };
+    const rows = [...times.values()].sort((a, b) => a.cell - b.cell);
+    return { total, width, columns, marks: marks.sort((a, b) => a.number - b.number), rows };
   }
 
   draw() {
     $("map").replaceChildren();
     if (!this.found) return;
-    const { total, width, columns, marks, rows: all } = this.found;
-    const { listing, store: { view } } = this;
-    const breaks = listing.breakCells;
-    const rows = all.slice(0, MAX_ROWS).map((row) => ({ ...row, line: listing.lineOf.get(row.cell), isBreak: breaks.includes(row.cell) }));
-    if (rows.length > 0) $("map").append(mapOf({ title: `Map of ${counted(total, "change")}`, text: this.textOf(rows), rows, width, columns, marks, total, done: view.state.done }));
-    note("map-more", rows.length === 0 ? "Nothing was done yet." : all.length > rows.length ? `These are the first ${MAX_ROWS} of ${counted(all.length, "instruction")}.` : "");
+    const { total, width, columns, marks, rows: found } = this.found;
+    const { breakCells, lineOf } = this.listing;
+    const furnish = (row) => ({ ...row, line: lineOf.get(row.cell), isBreak: breakCells.includes(row.cell) });
+    const rows = found.slice(0, MAX_ROWS).map(furnish);
+    const many = `These are the first ${MAX_ROWS} of ${counted(found.length, "instruction")}.`;
+    note("map-more", rows.length === 0 ? "Nothing was done yet." : found.length > rows.length ? many : "");
+    if (rows.length === 0) return;
+    const { done } = this.store.view.state;
+    const title = `Map of ${counted(total, "change")}`;
+    $("map").append(mapOf({ title, text: this.textOf(rows), rows, width, columns, marks, total, done }));
   }
 
-  // The map as a text.
   textOf(rows) {
     const { total, width, marks } = this.found;
     const end = (at) => Math.min(total, width * at);
-    const told = rows.map(({ cell, line, count, first, last }) => `${line ? `Line ${line}` : `Location ${cell}`}: ${counted(count, "time")}, between changes ${end(first) + 1} and ${end(last + 1)}.`);
+    const told = rows.map(({ cell, line, count, first, last }) => {
+      const place = line ? `Line ${line}` : `Location ${cell}`;
+      return `${place}: ${counted(count, "time")}, between changes ${end(first) + 1} and ${end(last + 1)}.`;
+    });
     const parts = [...new Set(marks.map(({ part }) => part))].map((part) => {
       const numbers = marks.filter((mark) => mark.part === part).map(({ number }) => number);
-      return `Written to ${part} by ${counted(numbers.length, "change")}, the first ${numbers[0]}, the last ${numbers[numbers.length - 1]}.`;
+      const changes = counted(numbers.length, "change");
+      return `Written to ${part} by ${changes}, the first ${numbers[0]}, the last ${numbers[numbers.length - 1]}.`;
     });
     return [...told, ...parts].join(" ");
   }

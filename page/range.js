@@ -1,6 +1,6 @@
 // A range of cells, whose ends a person writes as W-values: numbers, or symbols of the program.
 
-import { $, mark, note, on } from "./dom.js";
+import { $, mark, note } from "./dom.js";
 
 export const CELLS = 4000;
 
@@ -10,22 +10,23 @@ export function upTo(from, to) {
 }
 
 export class CellRange {
-  // The ids of its fields begin with `name`. It is asked for while `isWanted` says so, and `taken` is called when it is another range.
-  constructor(store, name, isWanted, taken) {
-    Object.assign(this, { store, isWanted, taken, fault: `${name}-fault`, fields: [$(`${name}-from`), $(`${name}-to`)] });
+  // The ids of its fields begin with `name`. It is asked for while it `isWanted`; `taken` hears of another range.
+  constructor(/** @type {Store} */ store, name, isWanted, taken) {
+    this.store = store;
+    this.isWanted = isWanted;
+    this.taken = taken;
+    this.fault = `${name}-fault`;
+    this.fields = [$(`${name}-from`), $(`${name}-to`)];
     this.cells = [];
-    for (const end of ["from", "to"]) on(`${name}-${end}`, "input", () => this.ask());
+    for (const field of this.fields) field.addEventListener("input", () => this.ask());
   }
 
   get ends() { return this.fields.map((field) => field.value.trim()); }
 
   set ends(ends) {
-    this.fields.forEach((field, index) => {
-      field.value = ends[index];
-    });
+    for (const [index, field] of this.fields.entries()) field.value = ends[index];
   }
 
-  // Asks the engine which cells the ends are.
   async ask() {
     if (!this.isWanted()) return;
     const { store, ends } = this;
@@ -39,10 +40,12 @@ export class CellRange {
       const isCell = numbers[index] >= 0 && numbers[index] < CELLS;
       mark(this.fields[index], "aria-invalid", !isCell);
       if (isCell) return [];
-      const what = `“${end || "nothing"}”`;
-      return [Number.isNaN(numbers[index]) ? `${what} has no value: write a number or a symbol of the program, as TABLE+1` : `${what} is ${numbers[index]}, and cells are 0 to 3999`];
+      const number = `is ${numbers[index]}, and cells are 0 to 3999`;
+      const none = "has no value: write a number or a symbol of the program, as TABLE+1";
+      return [`“${end || "nothing"}” ${Number.isNaN(numbers[index]) ? none : number}`];
     });
-    if (faults.length === 0 && numbers[0] > numbers[1]) faults.push(`the range ends at ${numbers[1]}, before it begins at ${numbers[0]}`);
+    const [from, to] = numbers;
+    if (faults.length === 0 && from > to) faults.push(`the range ends at ${to}, before it begins at ${from}`);
     note(this.fault, faults.length > 0 ? `Not shown: ${faults[0]}.` : "");
     if (faults.length > 0) return;
     this.cells = upTo(...numbers);

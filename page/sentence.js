@@ -4,7 +4,7 @@ import { counted, fourDigits } from "./dom.js";
 import { refusalOf } from "./machine.js";
 import { OPERATIONS, filled } from "./operations.js";
 
-export const ZERO = { word: "+ 00 00 00 00 00", number: "0", characters: "     ", text: "NOP" }; // what a cell holds that nobody wrote
+export const ZERO = { word: "+ 00 00 00 00 00", number: "0", characters: "     ", text: "NOP" }; // where nobody wrote
 export const COMPARED = { L: "less", E: "equal", G: "greater" };
 export const STEPS = 1000000; // the most steps of one command
 const LARGE = 10000000; // a number from here on is told as bytes
@@ -17,9 +17,11 @@ export function numberOf(word) {
 }
 
 // A word as people read it.
-const told = (word) => (/^[+-]( \d\d)+$/.test(word) && Math.abs(Number(numberOf(word))) < LARGE ? numberOf(word) : word);
+function told(word) {
+  const number = /^[+-]( \d\d)+$/.test(word) ? numberOf(word) : "";
+  return number !== "" && Math.abs(Number(number)) < LARGE ? number : word;
+}
 
-// The number of field F of a word.
 export function fieldOf(word, f) {
   const [left, right] = [f >> 3, f & 7];
   const [sign, ...bytes] = word.split(" ");
@@ -30,19 +32,22 @@ export function fieldOf(word, f) {
 export function instructionIn({ word, text }, registers) {
   const [sign, a, b, index, f] = word.split(" ");
   const row = OPERATIONS.get(text.split(" ")[0]);
-  const register = registers.find(({ name }) => name === `I${Number(index)}`);
+  const register = registers.find(({ name }) => name === `I${Number(index)}`) || { name: "", number: "0" };
   const address = (Number(a) * 64 + Number(b)) * (sign === "-" ? -1 : 1);
-  return { row, text, index: register ? register.name : "", m: address + (register ? Number(register.number) : 0), f: Number(f) };
+  return { row, text, index: register.name, m: address + Number(register.number), f: Number(f) };
 }
 
-// That at the location.
-export const instructionAt = ({ state: { location, registers }, wordIn }) => instructionIn(wordIn(location), registers);
+export function instructionAt(/** @type {View} */ { state: { location, registers }, wordIn }) {
+  return instructionIn(wordIn(location), registers);
+}
 
 // Whether a change was a command, and no step.
 export const isCommand = ({ text }) => /^(set|break|clear) /i.test(text);
 
 const fieldName = (f) => (f === 5 ? "" : `(${f >> 3}:${f & 7})`);
-const whereIs = (location, { lineOf }) => (lineOf.get(location) ? `line ${lineOf.get(location)}` : `location ${fourDigits(location)}`);
+function whereIs(location, { lineOf }) {
+  return lineOf.get(location) ? `line ${lineOf.get(location)}` : `location ${fourDigits(location)}`;
+}
 
 // An instruction at a location: its line, and operation and address as they are in the source, if they come from there.
 function named(location, text, listing) {
@@ -53,8 +58,7 @@ function named(location, text, listing) {
   return `${line || fourDigits(location)} ${isThere ? `${operation} ${isBare ? "" : address}`.trimEnd() : text}`;
 }
 
-// What the next step will do.
-function nextOf(view, listing) {
+function nextOf(/** @type {View} */ view, /** @type {Listing} */ listing) {
   const { location } = view.state;
   if (location > 3999) return "there is no cell 4000: a step would be a fault";
   const { row, text, m, f } = instructionAt(view);
@@ -72,8 +76,8 @@ function nextOf(view, listing) {
   return `${name}: ${filled(row.sentence, given)}`;
 }
 
-// What a change altered in one part of the machine, as the units are after it; a printer's new page is an output of it too.
-function alterationOf({ part, what, before, after, block }, units, isControl) {
+// What a change altered in one part of the machine, as the units are after it; a new page is an output too.
+function alterationOf(/** @type {Item} */ { part, what, before, after, block }, units, isControl) {
   if (part === "over") return `overflow goes ${after}`;
   if (part === "cmp") return `the comparison goes from ${COMPARED[before]} to ${COMPARED[after]}`;
   if (part.startsWith("unit ")) {
@@ -87,7 +91,7 @@ function alterationOf({ part, what, before, after, block }, units, isControl) {
 }
 
 // What the last change did, after which the machine is at a location; its line is that of where it was done.
-function didOf(change, { state: { location, cmp }, units }, listing) {
+function didOf(/** @type {Change} */ change, /** @type {View} */ { state: { location, cmp }, units }, listing) {
   const row = isCommand(change) ? undefined : OPERATIONS.get(change.text.split(" ")[0]);
   const parts = change.items.map((item) => alterationOf(item, units, row && row.name === "IOC")).filter(Boolean);
   if (row && row.uses === "jump") {
@@ -97,7 +101,8 @@ function didOf(change, { state: { location, cmp }, units }, listing) {
   if (row && row.name.startsWith("CMP") && parts.length === 0) parts.push(`the comparison stays ${COMPARED[cmp]}`);
   if (row && row.name === "HLT") parts.push("halts");
   const did = parts.join(", ") || "nothing is altered";
-  return isCommand(change) ? `${change.text}: ${did}` : `${named(change.location, change.text, listing)}: ${did} (${change.time} u)`;
+  const { location: from, text, time } = change;
+  return isCommand(change) ? `${text}: ${did}` : `${named(from, text, listing)}: ${did} (${time} u)`;
 }
 
 // What a refusal means, for who meets it first.
@@ -109,15 +114,15 @@ const MEANINGS = {
 // The fault that a command has met: the adapter gives it with the reply alone.
 const faultOf = (answer) => answer.body.result.trimEnd().split("\n").pop().split(": fault ")[1];
 
-// A conflict by its text, as `cell 2001 is altered while unit 18 prints it until 726`: the text, the cell, and which unit uses it until when.
+// A conflict by its text, as `cell 2001 is altered while unit 18 prints it until 726`.
 export function conflictOf(text) {
   const words = text.split(" ");
   return { text, cell: Number(words[1]), use: `unit ${words[6]} until ${words[words.length - 1]}` };
 }
 
-// What is told of a moment: `did`, `next`, whether it is of a fault, and `last`, what the last change did. `answer` is that to the command which led to
-// it from the view `before`; without one the moment is only looked at.
-export function toldOf({ answer, before, view, listing }) {
+// What is told of a moment: `did`, `next`, whether it is of a fault, and `last`, what the last change did. `answer` is
+// that to the command which led to it from the view `before`; without one the moment is only looked at.
+export function toldOf(/** @type {Shown} */ { answer, before, view, listing }) {
   const { state, change } = view;
   const was = before ? before.state.done : state.done;
   const at = whereIs(state.location, listing);
@@ -138,13 +143,12 @@ export function toldOf({ answer, before, view, listing }) {
   return { last, did: conflict + begin + wayOf(before, was, state, last, rows), next };
 }
 
-function haltedAt({ done, clock }, was) {
+function haltedAt(/** @type {State} */ { done, clock }, was) {
   const steps = was > 0 && done - was > 1 ? `, the last ${(done - was).toLocaleString("en")} now` : "";
   return `Halted after ${counted(done, "change")}, clock ${Number(clock).toLocaleString("en")} u${steps}.`;
 }
 
-// How many rows the units have written.
-const rowsIn = (view) => view.units.reduce((sum, { rows }) => sum + (rows ? rows.length : 0), 0);
+const rowsIn = (/** @type {View} */ view) => view.units.reduce((sum, { rows }) => sum + (rows ? rows.length : 0), 0);
 
 // The rows that were written, or taken back, between two views.
 function printed(before, view) {
@@ -154,11 +158,13 @@ function printed(before, view) {
 }
 
 // Which way was gone to a moment, from so many changes.
-function wayOf(before, was, { done, ahead }, last, rows) {
+function wayOf(/** @type {View} */ before, was, /** @type {State} */ { done, ahead }, last, rows) {
   if (done === was) return (done === 0 ? "At the start." : `Did ${last}.`) + rows;
   if (done === was - 1) return `Taken back: ${before.did}.${rows}`;
-  if (done < was) return `${counted(was - done, "change")} taken back.${rows} ${done === 0 ? "At the start." : `The last: ${last}.`}`;
+  const here = done === 0 ? "At the start." : `The last: ${last}.`;
+  if (done < was) return `${counted(was - done, "change")} taken back.${rows} ${here}`;
   if (done === was + 1) return `Did ${last}.${rows}`;
-  if (done === was + STEPS && ahead === 0 && before.state.ahead === 0) return `A million steps were done without a halt. Press Run to go on.${rows}`;
-  return `${counted(done - was, "change")} done.${rows} The last: ${last}.`;
+  const isRun = done === was + STEPS && ahead + before.state.ahead === 0;
+  if (isRun) return `A million steps were done without a halt. Press Run to go on.${rows}`;
+  return `${counted(done - was, "change")} done.${rows} ${here}`;
 }

@@ -1,8 +1,8 @@
-// A session: a program with its units, and the commands that were given to it, each with its reply. The engine holds the session; where it was lost,
-// or holds that of another text, it does the commands again. And how the buttons become commands.
+// A session: a program with its units, and the commands that were given to it, each with its reply. The engine holds
+// the session; where it was lost, or holds that of another text, it does the commands again.
 
 import { replyOf } from "./machine.js";
-import { STEPS, ZERO } from "./sentence.js";
+import { ZERO } from "./sentence.js";
 
 const MOST_WRITES = 1000; // that the engine tells at once
 const LONG = 200000; // changes after which the counts are left out while the slider is dragged
@@ -11,9 +11,10 @@ const WHERE = ["mix/state", { cells: [], nonzero: false }]; // how many changes 
 const repl = (expression) => ["evaluate", { expression, context: "repl" }];
 
 function openingOf({ deck, cards, source }) {
+  const texts = { sourceText: source, devicesText: deck, cardsText: cards };
   return [
     ["initialize", { adapterID: "mixrev", clientID: "page", linesStartAt1: true }],
-    ["launch", { program: "program.mixal", sourceText: source, devicesText: deck, cardsText: cards, stopOnEntry: true }],
+    ["launch", { program: "program.mixal", ...texts, stopOnEntry: true }],
     ["configurationDone", {}],
   ];
 }
@@ -21,10 +22,12 @@ function openingOf({ deck, cards, source }) {
 export class Session {
   // `blocks` gives the requests for blocks of tapes and disks, which are looked at too.
   constructor(machine, texts, blocks) {
-    Object.assign(this, { machine, texts, blocks });
+    this.machine = machine;
+    this.texts = texts;
+    this.blocks = blocks;
     this.launched = null; // the answer to the launch
-    this.log = []; // each command with its reply
-    this.state = { done: 0, ahead: 0 }; // that after the last command
+    this.log = /** @type {Logged[]} */ ([]); // each command with its reply
+    this.state = /** @type {Partial<State>} */ ({ done: 0, ahead: 0 }); // that after the last command
     this.at = 0; // so many changes are done in the engine
     this.known = { at: 0, times: new Map() }; // how often each cell was executed up to the last command
     this.changes = {}; // another object whenever the list of changes may be another one
@@ -38,7 +41,7 @@ export class Session {
   // Whether the last change was a HLT and nothing is ahead of it.
   get isHalted() { return this.ahead === 0 && this.state.halted; }
 
-  // The answers to requests, of which the first finds so many changes done.
+  /** @returns {Promise<any[]>} The answers to requests, of which the first finds so many changes done. */
   async ask(requests, at = this.done) {
     const isLost = this.machine.holder !== this;
     const way = isLost ? [...openingOf(this.texts), ...this.log.map(({ command }) => repl(command))] : [];
@@ -52,32 +55,38 @@ export class Session {
   // The answers to requests, and what the machine looks like after them.
   async see(requests, at = this.done, isDragged = false) {
     const blocks = this.blocks();
-    const answers = await this.ask([...requests, ["mix/state", { cells: [], nonzero: true }], ["mix/units", {}], ...blocks], at);
+    const looks = [["mix/state", { cells: [], nonzero: true }], ["mix/units", {}], ...blocks];
+    const answers = await this.ask([...requests, ...looks], at);
     const [state, units, ...found] = answers.slice(requests.length).map(({ body }) => body);
     this.at = state.done;
-    const words = blocks.flatMap(([, { unit, block }], index) => (found[index].units ? [[`${unit} ${block}`, found[index].units[0].block]] : []));
+    const held = blocks.flatMap(([, { unit, block }], index) => {
+      const { units: one } = found[index];
+      return one ? [[`${unit} ${block}`, one[0].block]] : [];
+    });
     const { change, times } = await this.lastOf(state.done, !(isDragged && at >= LONG));
     const cells = new Map(state.cells.map((cell) => [cell.cell, cell]));
-    return {
-      answers,
-      view: {
-        state, change, times, units: units.units, blocks: new Map(words),
-        wordIn: (cell) => cells.get(cell) || ZERO,
-        altered: new Set(state.altered), // parts, by the last change
-        before: new Map((change ? change.items : []).map(({ part, before }) => [part, before])), // what they held before it
-      },
+    const items = change ? change.items : [];
+    /** @type {View} */
+    const view = {
+      state, change, times, units: units.units, blocks: new Map(held),
+      wordIn: (cell) => cells.get(cell) || ZERO,
+      altered: new Set(state.altered),
+      before: new Map(items.map(({ part, before }) => [part, before])),
     };
+    return { answers, view };
   }
 
-  // The last of so many changes, and how often they executed each cell. These are counted on from the last command, or from the start if that is nearer.
+  // The last of so many changes, and how often they executed each cell: counted on from the last command, or the start.
   async lastOf(done, isCounted) {
     const { at, times } = done > this.known.at / 2 ? this.known : { at: 0, times: new Map() };
     const [from, until] = [Math.min(at, done), Math.max(at, done)];
     const isOther = isCounted && from < until;
-    const asked = [done > 0 && ["mix/change", { number: done }], isOther && ["mix/path", { columns: 1, from, until }]].filter(Boolean);
+    const asked = [];
+    if (done > 0) asked.push(["mix/change", { number: done }]);
+    if (isOther) asked.push(["mix/path", { columns: 1, from, until }]);
     const answers = asked.length > 0 ? await this.ask(asked, isOther ? until : done) : [];
     const sums = new Map(isCounted ? times : []);
-    const cells = isOther ? answers[answers.length - 1].body.columns[0].cells : [];
+    const cells = isOther ? answers.pop().body.columns[0].cells : [];
     for (const { cell, count } of cells) sums.set(cell, (sums.get(cell) || 0) + (done > at ? count : -count));
     return { change: done > 0 ? answers[0].body : null, times: sums };
   }
@@ -97,8 +106,7 @@ export class Session {
     return this.see([], at, isDragged);
   }
 
-  // Does commands one after another: the answer to the last of them, and what the machine looks like then. One that is only tried is not kept if it is
-  // refused.
+  // Does commands: the answer to the last one, and a view. One that is tried is not kept if it is refused.
   async act(commands, { from = this.done, isTried = false } = {}) {
     if (commands.length > 1) this.known = { at: 0, times: new Map() }; // these may alter what was done before
     const { answers, view } = await this.see(commands.map(repl), from);
@@ -115,7 +123,7 @@ export class Session {
     return { view, answer };
   }
 
-  // Goes to a moment by the slider. It takes the place of a slide before it, so that a way along the slider is one command.
+  // Goes to a moment by the slider. It takes the place of a slide before it, so that such a way is one command.
   async slide(moment) {
     const last = this.log[this.log.length - 1];
     const isSlide = last && last.slidFrom !== undefined;
@@ -126,24 +134,26 @@ export class Session {
     return found;
   }
 
-  // Where and why the program stops that runs from a moment, by `continue` or by `reverseContinue`, with breakpoints at some cells, and filters of
-  // exceptions. None of it is kept. Where a fault is next, `isFault` says so; of a step that conflicts, `conflict` is the text.
+  // Where and why the program stops that runs from a moment, with breakpoints at some cells, and filters of exceptions.
+  // None of it is kept. Where a fault is next, `isFault` says so; of a step that conflicts, `conflict` is the text.
   async stop(way, { cells, filters }, from = this.done) {
     const breakpoints = cells.map((cell) => ({ instructionReference: String(6 * cell) }));
-    let requests = [["setInstructionBreakpoints", { breakpoints }], ["setExceptionBreakpoints", { filters }]];
-    for (let at = from; ; at = this.at) {
-      const answers = await this.ask([...requests, [way, { threadId: 1 }], ["exceptionInfo", { threadId: 1 }], WHERE], at);
-      const [{ stopped: { reason, text } }, { success: isFault }, { body: { done } }] = answers.slice(requests.length);
+    const sets = [["setInstructionBreakpoints", { breakpoints }], ["setExceptionBreakpoints", { filters }]];
+    const goes = [[way, { threadId: 1 }], ["exceptionInfo", { threadId: 1 }], WHERE];
+    for (let [at, requests] = [from, [...sets, ...goes]]; ; [at, requests] = [this.at, goes]) {
+      const answers = await this.ask(requests, at);
+      const [{ stopped: { reason, text } }, { success: isFault }, { body: { done } }] = answers.slice(-3);
       this.at = done;
-      if (reason !== "pause" || way === "continue") return { done, reason, isFault, conflict: reason === "exception" && !isFault ? text : "" };
-      requests = [];
+      const conflict = reason === "exception" && !isFault ? text : "";
+      if (reason !== "pause" || way === "continue") return { done, reason, isFault, conflict };
     }
   }
 
   // The first of the moments ahead at which a condition of `until` holds; none where it holds at none of them.
   async next(conditions) {
-    const asked = conditions.flatMap((condition) => [repl(`forth until ${condition}`), WHERE, repl(`goto ${this.done}`)]);
-    const moments = (await this.ask(asked)).filter((_, index) => index % 3 === 1).map(({ body }) => body.done).filter((done) => done > this.done);
+    const back = repl(`goto ${this.done}`);
+    const answers = await this.ask(conditions.flatMap((condition) => [repl(`forth until ${condition}`), WHERE, back]));
+    const moments = conditions.map((_, index) => answers[3 * index + 1].body.done).filter((done) => done > this.done);
     return moments.length > 0 ? Math.min(...moments) : undefined;
   }
 
@@ -155,14 +165,14 @@ export class Session {
 
   // What cells hold after each of some numbers of changes.
   async cellsAt(moments, cells) {
-    const range = [cells[0], cells[cells.length - 1]];
-    const answers = await this.ask(moments.flatMap((moment) => [repl(`goto ${moment}`), ["mix/state", { cells: [range], nonzero: false }]]));
+    const look = ["mix/state", { cells: [[cells[0], cells[cells.length - 1]]], nonzero: false }];
+    const answers = await this.ask(moments.flatMap((moment) => [repl(`goto ${moment}`), look]));
     this.at = moments[moments.length - 1];
     return moments.map((_, index) => answers[2 * index + 1].body.cells);
   }
 
-  // What was executed in each stretch of `width` changes from number `from` on; and of each unit that has written a row, and of a part, the last changes
-  // that wrote it, the first one first.
+  // What was executed in each stretch of `width` changes from number `from` on; and of each unit that has written a
+  // row, and of a part, the last changes that wrote it, the first one first.
   async mapOf(from, width, part) {
     const { total } = this;
     const [{ body: { units } }] = await this.ask([["mix/units", {}]], total);
@@ -170,8 +180,10 @@ export class Session {
     const parts = [...written, ...(part ? [part] : [])];
     const count = Math.floor((total - from) / width);
     const until = from + count * width;
-    const path = [...(count > 0 ? [{ columns: count, from, until }] : []), ...(until < total ? [{ columns: 1, from: until, until: total }] : [])];
-    const answers = await this.ask([...path.map((given) => ["mix/path", given]), ...parts.map((part) => ["mix/writes", { part }])], total);
+    const whole = count > 0 ? [["mix/path", { columns: count, from, until }]] : [];
+    const rest = until < total ? [["mix/path", { columns: 1, from: until, until: total }]] : [];
+    const path = [...whole, ...rest];
+    const answers = await this.ask([...path, ...parts.map((part) => ["mix/writes", { part }])], total);
     const bodies = answers.map(({ body }) => body);
     const writes = bodies.slice(path.length).map((body, at) => ({ part: parts[at], writes: body.writes.reverse() }));
     return { columns: bodies.slice(0, path.length).flatMap(({ columns }) => columns), writes };
@@ -183,8 +195,8 @@ export class Session {
     return new Map(cells.map((cell, index) => [cell, answers[index].body.writes.length]));
   }
 
-  // Of a part: the changes around this moment that wrote it, the first one first, and whether there may be more before or behind them; the last one that
-  // is done, with its line; the first one that is ahead.
+  // Of a part: the changes around this moment that wrote it, the first one first, and whether there may be more before
+  // or behind them; the last one that is done, with its line; the first one that is ahead.
   async writesOf(part) {
     const { done, total } = this;
     const writesUpTo = async (ends) => {
@@ -192,46 +204,15 @@ export class Session {
       return answers.map(({ body }) => body.writes.reverse());
     };
     const [before, all] = await writesUpTo([done, total]);
-    // Of those ahead the last are known, and if these do not reach back to this moment, those of the next changes are asked for.
+    // Of those ahead the last are known; if these do not reach back to here, those of the next changes are asked for.
     const reaches = (writes) => writes.length < MOST_WRITES || writes[0].number <= done;
     const near = reaches(all) ? [] : await writesUpTo([done + MOST_WRITES, done + 32 * MOST_WRITES]);
     const ahead = [...near, all].filter(reaches).pop().filter(({ number }) => number > done);
     const last = before[before.length - 1];
-    const [change, line] = last ? await this.ask([["mix/change", { number: last.number }], repl("show last 1")], last.number) : [{}, {}];
-    return {
-      writes: [...before, ...ahead], isCut: [before.length === MOST_WRITES, !reaches(all)],
-      last: change.body, line: last ? line.body.result.trim() : "", next: ahead.length > 0 ? ahead[0].number : await this.next([part]),
-    };
+    const asked = last ? [["mix/change", { number: last.number }], repl("show last 1")] : [];
+    const [change, line] = last ? await this.ask(asked, last.number) : [{}, { body: { result: "" } }];
+    const next = ahead.length > 0 ? ahead[0].number : await this.next([part]);
+    const isCut = [before.length === MOST_WRITES, !reaches(all)];
+    return { writes: [...before, ...ahead], isCut, last: change.body, line: line.body.result.trim(), next };
   }
-}
-
-// The commands that a button asks for, one after another, each perhaps with the text of the conflict at which it ends. The page has breakpoints at some
-// cells, and filters of exceptions, none or `conflict`: the engine says where one is met, and what is kept are the steps. `over` is the cell behind the
-// instruction that is next, and `out` the one to which rJ leads.
-export async function* commandsOf(name, session, points) {
-  const { done, ahead } = session;
-  if (name === "step" || name === "beyond") yield [ahead > 0 ? "forth 1" : "step 1"];
-  if (name === "over" || name === "out") yield* runOf(session, { ...points, cells: [...points.cells, points[name]] });
-  if (name === "to-end" && ahead > 0) yield ["forth all"];
-  if (name === "back" && done > 0) yield ["back 1"];
-  if (name === "to-start" && done > 0) yield ["back all"];
-  if (name === "to-break" && done > 0) {
-    const end = await session.stop("reverseContinue", points);
-    yield [end.reason === "entry" ? "back all" : `back ${done - end.done}`, end.conflict];
-  }
-  if (name === "run") yield* runOf(session, points);
-}
-
-// Run does again what was taken back, up to a breakpoint, to a conflict, or to its end. Then it goes on, by one step more where it stops at a fault,
-// which is told then.
-async function* runOf(session, points) {
-  const { cells, filters } = points;
-  if (session.ahead > 0) {
-    const met = await session.next([...cells.map((cell) => `loc ${cell}`), ...filters]);
-    const before = met && filters.length > 0 ? await session.stop("reverseContinue", points, met) : {};
-    yield met ? [`forth ${met - session.done}`, before.done === met - 1 && before.conflict] : ["forth all"];
-    if (met || session.isHalted) return;
-  }
-  const end = cells.length + filters.length > 0 ? await session.stop("continue", points) : { done: session.done + STEPS };
-  yield [`run ${end.done - session.done + (end.isFault ? 1 : 0)}`, end.conflict];
 }

@@ -1,4 +1,4 @@
-// A bundle in the fragment of a link: compressed by the browser's own streams, and written in letters that a link may hold.
+// A bundle in the fragment of a link: compressed by the browser's streams, in letters that a link may hold.
 
 const MOST = 4194304; // bytes of what a link holds
 
@@ -17,17 +17,16 @@ async function through(stream, bytes, most = Infinity) {
   }
 }
 
-const bytesOf = (base64) => Uint8Array.from(atob(base64.replace(/-/g, "+").replace(/_/g, "/")), (letter) => letter.charCodeAt(0));
+const lettersIn = (base64) => atob(base64.replace(/-/g, "+").replace(/_/g, "/"));
+const bytesOf = (base64) => Uint8Array.from(lettersIn(base64), (letter) => letter.charCodeAt(0));
 
 const inflate = (base64, most) => through(new DecompressionStream("deflate-raw"), bytesOf(base64), most);
 
 function lettersOf(bytes) {
-  let text = "";
-  for (let at = 0; at < bytes.length; at += 4096) text += String.fromCharCode(...bytes.subarray(at, at + 4096));
+  const text = Array.from(bytes, (byte) => String.fromCharCode(byte)).join("");
   return btoa(text).replace(/\+/g, "-").replace(/\//g, "_").replace(/=+$/, "");
 }
 
-// The fragment of a bundle.
 export async function fragmentOf(bundle) {
   return `#mix=${lettersOf(await through(new CompressionStream("deflate-raw"), new TextEncoder().encode(bundle)))}`;
 }
@@ -41,6 +40,4 @@ export async function bundleIn(fragment) {
 // The bytes of one of the page's own blocks of data.
 export const bytesOfBlock = (id) => inflate(document.getElementById(id).textContent.trim());
 
-export async function textOfBlock(id) {
-  return new TextDecoder().decode(await bytesOfBlock(id));
-}
+export const textOfBlock = async (id) => new TextDecoder().decode(await bytesOfBlock(id));

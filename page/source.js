@@ -1,8 +1,8 @@
-// The text of the source in CodeMirror: the colours of the editors' grammar, the keys of a text in columns, finding, folding, completion.
+// The source in CodeMirror: the colours of the editors' grammar, keys for columns, finding, folding, completion.
 
 import { kindOf } from "./colours.js";
-import { $, on } from "./dom.js";
-import { OPERATIONS, PSEUDO, explained } from "./operations.js";
+import { $, all, furnished, on } from "./dom.js";
+import { explained, namesOfAll } from "./operations.js";
 
 const LIMITS = { lines: 20000, bytes: 1048576 }; // of a source
 const PASTED = 100; // letters; what is typed at once is less
@@ -13,9 +13,9 @@ const SHOWN_AROUND = 25; // lines beside those in view that are drawn too
 export function tooLarge(text) {
   const lines = text.split("\n").length - (text.endsWith("\n") ? 1 : 0);
   const bytes = text.length * 3 < LIMITS.bytes ? 0 : new TextEncoder().encode(text).length;
-  const over = Object.entries({ lines, bytes }).find(([name, count]) => count > LIMITS[name]);
-  if (!over) return "";
-  return `it has ${over[1].toLocaleString("en")} ${over[0]}, and a source has at most ${LIMITS[over[0]].toLocaleString("en")}`;
+  const [name, count] = Object.entries({ lines, bytes }).find(([each, found]) => found > LIMITS[each]) || ["", 0];
+  if (name === "") return "";
+  return `it has ${count.toLocaleString("en")} ${name}, and a source has at most ${LIMITS[name].toLocaleString("en")}`;
 }
 
 // The grammar as a mode of the editor.
@@ -51,7 +51,10 @@ function foldAt(cm, { line }) {
 }
 
 // Where the operation of a line begins; nothing where it has none.
-const operationAt = (text) => (isRemark(text) ? undefined : (/^\S*[ \t]+(?=\S)/.exec(text) || [""])[0].length || undefined);
+function operationAt(text) {
+  const [before] = (isRemark(text) ? null : /^\S*[ \t]+(?=\S)/.exec(text)) || [""];
+  return before.length || undefined;
+}
 
 // Begins a line at the column of the operation; what stands behind a label or before the operation is only broken.
 function newLine(cm) {
@@ -61,7 +64,8 @@ function newLine(cm) {
   let above = line;
   while (above > 0 && operationAt(cm.getLine(above)) === undefined) above -= 1;
   const column = operationAt(cm.getLine(above)) ?? FIELD_COLUMNS[1];
-  const isBroken = text.slice(ch).trim() !== "" && (isRemark(text.slice(ch).trim()) || ch <= (operationAt(text) ?? text.length));
+  const rest = text.slice(ch).trim();
+  const isBroken = rest !== "" && (isRemark(rest) || ch <= (operationAt(text) ?? text.length));
   if (isBlank) cm.replaceRange("", { line, ch: 0 }, { line, ch: text.length }, "+input");
   cm.replaceSelection(isBroken || (isRemark(text) && ch > 0) ? "\n" : `\n${" ".repeat(column)}`, "end", "+input");
   cm.scrollIntoView(null);
@@ -90,22 +94,25 @@ function columnBefore(cm) {
 }
 
 export class Source {
-  // `edited` is called after each edit with the changes, `refused` with the reason why a text was not taken, `drawn` when other lines are drawn,
-  // `said` gives what is said of a line, and `symbols` those of the program.
+  // `edited` is called after each edit with the changes, `refused` with the reason why a text was not taken, `drawn`
+  // when other lines are drawn, `said` gives what is said of a line, and `symbols` those of the program.
   constructor(grammar, { edited, refused, drawn, said, symbols }) {
     const { CodeMirror } = window;
     CodeMirror.defineMode("mixal", modeOf(grammar));
     const hints = (cm) => this.hints(cm, symbols());
-    const keys = { Enter: newLine, Tab: nextColumn, "Shift-Tab": columnBefore, "Ctrl-Space": (cm) => cm.showHint({ hint: hints, completeSingle: false }) };
+    const complete = (cm) => cm.showHint({ hint: hints, completeSingle: false });
+    const extraKeys = { Enter: newLine, Tab: nextColumn, "Shift-Tab": columnBefore, "Ctrl-Space": complete };
+    const gutters = ["beside", "CodeMirror-foldgutter"];
+    const off = { maxHighlightLength: 2000, smartIndent: false, electricChars: false, dragDrop: false };
     this.cm = CodeMirror($("listing"), {
-      mode: "mixal", theme: "mix", lineWrapping: true, gutters: ["beside", "CodeMirror-foldgutter"], foldGutter: { rangeFinder: foldAt }, extraKeys: keys, tabSize: 8,
-      viewportMargin: SHOWN_AROUND, screenReaderLabel: "Source", indentWithTabs: false, smartIndent: false, electricChars: false, undoDepth: 1000, dragDrop: false,
-      scrollbarStyle: "native", maxHighlightLength: 2000,
+      mode: "mixal", theme: "mix", lineWrapping: true, gutters, foldGutter: { rangeFinder: foldAt }, extraKeys,
+      tabSize: 8, viewportMargin: SHOWN_AROUND, screenReaderLabel: "Source", undoDepth: 1000, ...off,
     });
     const { cm } = this;
-    const input = cm.getInputField();
-    Object.assign(input, { id: "text", title: "Tab goes to the next column. After Escape it leaves the source." });
-    for (const [name, value] of [["keyshortcuts", "F9"], ["describedby", "wrong-text"]]) input.setAttribute(`aria-${name}`, value);
+    furnished(cm.getInputField(), {
+      id: "text", title: "Tab goes to the next column. After Escape it leaves the source.",
+      "aria-keyshortcuts": "F9", "aria-describedby": "wrong-text",
+    }, []);
     let leaves = false; // Escape was pressed last
     cm.on("keydown", (_, event) => {
       if (event.key === "Tab" && leaves) event.codemirrorIgnore = true;
@@ -122,11 +129,12 @@ export class Source {
     });
     cm.on("viewportChange", drawn);
     cm.on("update", () => {
-      for (const row of cm.getWrapperElement().querySelectorAll(".CodeMirror-gutter-wrapper[aria-hidden]")) row.removeAttribute("aria-hidden");
+      for (const row of all("#listing .CodeMirror-gutter-wrapper[aria-hidden]")) row.removeAttribute("aria-hidden");
     });
     on("listing", "mousemove", ({ clientX, clientY, target }) => {
       const { line, ch } = cm.coordsChar({ left: clientX, top: clientY }, "window");
-      const told = target.closest(".CodeMirror-line") ? said(line + 1) || explained(cm.getTokenAt({ line, ch: ch + 1 }).string) : "";
+      const word = () => cm.getTokenAt({ line, ch: ch + 1 }).string;
+      const told = target.closest(".CodeMirror-line") ? said(line + 1) || explained(word()) : "";
       if ($("listing").title !== told) $("listing").title = told;
     });
   }
@@ -143,7 +151,9 @@ export class Source {
   // Why a change would make too large a text.
   tooMuch({ from, to, text }) {
     const { cm } = this;
-    if (cm.lineCount() + text.length - 1 - (to.line - from.line) <= LIMITS.lines && text.every(({ length }) => length < PASTED) && text.length < PASTED) return "";
+    const lines = cm.lineCount() + text.length - 1 - (to.line - from.line);
+    const isTyped = text.length < PASTED && text.every(({ length }) => length < PASTED);
+    if (isTyped && lines <= LIMITS.lines) return "";
     const end = { line: cm.lineCount(), ch: 0 };
     return tooLarge(cm.getRange({ line: 0, ch: 0 }, from) + text.join("\n") + cm.getRange(to, end));
   }
@@ -161,7 +171,7 @@ export class Source {
     const before = cm.getLine(line).slice(0, ch);
     const [word] = /[A-Za-z0-9]*$/.exec(before);
     const isOperation = /^\S*[ \t]+[A-Za-z0-9]*$/.test(before);
-    const names = isOperation ? [...OPERATIONS.keys(), ...PSEUDO.keys()] : symbols;
+    const names = isOperation ? namesOfAll() : symbols;
     const list = names.filter((name) => name.startsWith(word.toUpperCase())).sort();
     const shown = isOperation ? list.map((name) => ({ text: name, displayText: explained(name) })) : list;
     return { list: shown, from: { line, ch: ch - word.length }, to: { line, ch } };
@@ -170,7 +180,8 @@ export class Source {
   // Scrolls so that a line is seen, with some lines around it.
   reveal(line) {
     const { cm } = this;
-    if (line > 0 && line <= cm.lineCount()) cm.scrollIntoView({ line: line - 1, ch: 0 }, Math.min(60, cm.getScrollInfo().clientHeight / 4));
+    const around = Math.min(60, cm.getScrollInfo().clientHeight / 4);
+    if (line > 0 && line <= cm.lineCount()) cm.scrollIntoView({ line: line - 1, ch: 0 }, around);
   }
 
   // Goes to a line, and to the first letter of what is wrong there.

@@ -1,7 +1,7 @@
-// What the page is about: the texts, the session of what they say, and the moment that is seen. What is asked for is done one after another, and who
-// has subscribed is told of what is new.
+// What the page is about: the texts, the session of what they say, and the moment that is seen. What is asked for is
+// done in its turn, and who has subscribed is told of what is new.
 
-import { counted, doAll } from "./dom.js";
+import { counted } from "./dom.js";
 import { Session } from "./session.js";
 
 const PAUSE = 200; // milliseconds without a key before a text is assembled
@@ -9,43 +9,54 @@ const SESSIONS = 5; // sessions of other texts that can come back
 const SLOW = 400; // milliseconds before a stop is offered
 
 export class Store {
-  // `read` gives the texts as they are now, and `blocks` the requests for blocks of tapes and disks, which are looked at too.
+  // `read` gives the texts as they are now, and `blocks` the requests for blocks of tapes and disks that are shown.
   constructor(machine, read, blocks) {
-    Object.assign(this, { machine, read, blocks });
+    this.machine = machine;
+    this.read = read;
+    this.blocks = blocks;
     this.subscribers = new Map();
-    this.session = null; // none while the texts are refused
-    this.view = null;
+    this.session = /** @type {Session} */ (null); // none while the texts are refused
+    this.view = /** @type {View} */ (null);
     this.refusal = ""; // why there is no session
     this.warning = ""; // of a program that is accepted
     this.kept = new Map(); // the last sessions of other texts in which something was done, by their texts
     this.assembled = ""; // the texts of the session or of the refusal
     this.timer = 0; // runs while a text is not assembled yet
-    this.last = Promise.resolve(); // of what is to be done
+    this.last = /** @type {Promise<any>} */ (Promise.resolve()); // of what is to be done
     this.left = 0; // so much still has to be done
     this.generation = 0;
   }
 
   // Calls `work` whenever something is new:
-  // - "texts": they are others; with what was found in them, the refusal or the program, and what the machine looks like
-  // - "program": it is accepted; "view": a moment is seen, with the answer that led to it and the view before; "forget": another program was opened
-  // - "status": what is told; "busy", "slow": whether it is; "failed": what went wrong
-  // - "ask": who wrote a part; "slide": to a moment; "toggle": a breakpoint; "edited": the source; "copy": a text, with its name
+  // - "texts": they are others; with what was found in them, the refusal or the program, and the first view
+  // - "program": it is accepted; "forget": another program was opened
+  // - "view": a moment is seen, with the answer that led to it and the view before
+  // - "tell": something; "busy", "slow": whether it is; "failed": what went wrong
+  // - "ask": who wrote a part; "slide": to a moment; "toggle": a breakpoint; "edited": the source; "copy": a named text
   on(what, work) {
     this.subscribers.set(what, [...(this.subscribers.get(what) || []), work]);
   }
 
   // Tells all who have subscribed, also where one of them has a fault, which is thrown then.
   emit(what, ...given) {
-    doAll((this.subscribers.get(what) || []).map((work) => () => work(...given)));
+    const faults = [];
+    for (const work of this.subscribers.get(what) || []) {
+      try {
+        work(...given);
+      } catch (fault) {
+        faults.push(fault);
+      }
+    }
+    if (faults.length > 0) throw faults[0];
   }
 
   tell(did, isFault = false, next = "") {
-    this.emit("status", did, isFault, next);
+    this.emit("tell", did, isFault, next);
   }
 
   get isBusy() { return this.left > 0 || this.timer !== 0; }
 
-  // Does something after all that was asked for before; what it gives, or nothing where it fails or was dropped. Whatever fails is told.
+  // Does something after all that was asked for before; what it gives, or nothing where it fails or was dropped.
   add(work) {
     const { generation } = this;
     this.left += 1;
@@ -93,7 +104,7 @@ export class Store {
     this.emit("busy", true);
   }
 
-  // A session of the texts as they are now. One of the last that were left for other texts comes back when its texts do.
+  // A session of the texts as they are now. One that was left for other texts comes back when its texts do.
   async assemble() {
     const texts = this.read();
     const key = JSON.stringify([texts.source, texts.deck, texts.cards]);
@@ -114,12 +125,13 @@ export class Store {
     this.session = session;
     this.emit("program", begun.program);
     this.show(begun.view);
-    if (back) this.tell(`The text is as it was, and what was done with it is back: ${counted(session.log.length, "command")}.`);
+    const done = counted(session.log.length, "command");
+    if (back) this.tell(`The text is as it was, and what was done with it is back: ${done}.`);
     else if (isLeft) this.tell("The text is another, so it begins anew. Undo the edit, and what was done comes back.");
     else if (this.warning) this.tell(this.warning);
   }
 
-  // Shows a moment of the machine, and why it is this one: `answer` is that to the command which led here from the moment of the view `before`.
+  // Shows a moment of the machine; `answer` is that to the command which led here from the moment of the view `before`.
   show(view, answer = null, before = null) {
     this.view = view;
     this.emit("view", view, answer, before);

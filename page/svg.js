@@ -1,5 +1,5 @@
-// Pictures of cells as SVG, which can be saved as they are: bars, a strip of moments, a map of time, and values over time. Their colours are those of
-// the light page; in the window the style of the page overrides them.
+// Pictures of cells as SVG, which can be saved as they are: bars, a strip of moments, a map of time, and values over
+// time. Their colours are those of the light page; in the window the style of the page overrides them.
 
 import { fourDigits, furnished } from "./dom.js";
 
@@ -8,18 +8,28 @@ const LETTER = 6.7; // the width of a letter
 const HIGH = 90; // of the highest bar
 const TOP = 30;
 const WIDE = 720; // of a strip and of a map
+const THICK = { "stroke-width": 2 };
+const BOLD = { "font-size": 11, "font-weight": "bold" };
 const COLOURS = { ink: "#24211c", soft: "#5e5648", bar: "#224a69", mark: "#96281c", written: "#f6d98a" };
 
 const shape = (name, given, ...children) => furnished(document.createElementNS(PLACE, name), given, children);
 
 const solid = (kind) => ({ class: kind, fill: COLOURS[kind] });
 const lined = (kind, colour, more) => ({ class: kind, fill: "none", stroke: COLOURS[colour], ...more });
-const label = (x, y, text, kind, more = {}) => shape("text", { x, y, ...solid(kind), "font-size": 10, "text-anchor": "middle", ...more }, text);
+const box = (x, y, width, height, more) => shape("rect", { x, y, width, height, ...more });
+const upright = (x, y2) => shape("line", { x1: x, x2: x, y1: 0, y2, ...lined("present", "mark", THICK) });
+const label = (x, y, text, kind, more = {}) => {
+  return shape("text", { x, y, ...solid(kind), "font-size": 10, "text-anchor": "middle", ...more }, text);
+};
 
 // A picture of a size, with its title and its text for those who do not see it.
 function picture({ id, title, text, width, height }, shapes) {
-  const box = { viewBox: `0 0 ${Math.round(width)} ${Math.round(height)}`, width, height, role: "img", "aria-labelledby": `${id}-title ${id}-desc`, "font-family": "ui-monospace, Menlo, Consolas, monospace" };
-  return shape("svg", box, shape("title", { id: `${id}-title` }, title), shape("desc", { id: `${id}-desc` }, text), ...shapes);
+  const given = {
+    viewBox: `0 0 ${Math.round(width)} ${Math.round(height)}`, width, height, role: "img",
+    "aria-labelledby": `${id}-title ${id}-desc`, "font-family": "ui-monospace, Menlo, Consolas, monospace",
+  };
+  const [named, told] = [shape("title", { id: `${id}-title` }, title), shape("desc", { id: `${id}-desc` }, text)];
+  return shape("svg", given, named, told, ...shapes);
 }
 
 // The largest and the least of some numbers and 0, and how high up a number is between both, in so many points.
@@ -34,12 +44,13 @@ function boxesOf(numbers, { x = 0, y, wide, high, end = Infinity }, shade) {
   return begins.flatMap((from, index) => {
     const opacity = shade(numbers[from]);
     const width = Math.min(((begins[index + 1] ?? numbers.length) - from) * wide, end - from * wide);
-    return opacity > 0 ? [shape("rect", { x: x + from * wide, y, width, height: high, "fill-opacity": String(opacity), ...solid(numbers[from] < 0 ? "mark" : "bar") })] : [];
+    const look = { "fill-opacity": String(opacity), ...solid(numbers[from] < 0 ? "mark" : "bar") };
+    return opacity > 0 ? [box(x + from * wide, y, width, high, look)] : [];
   });
 }
 
-// The bars: of each its `cell`, `value`, `text`, `isWritten`, and `was`, the value before the last change. `arrows` have a `name` and a `cell`, which
-// may be the one before the first bar or behind the last. `conflict` has the `cell` that a unit uses, and its `use`.
+// The bars: of each its `cell`, `value`, `text`, `isWritten`, and `was`, the value before the last change. `arrows`
+// have a `name` and a `cell`, perhaps one beside the bars. `conflict` has the `cell` that a unit uses, and its `use`.
 export function barsOf({ title, text, bars, arrows, conflict }) {
   const longest = LETTER * Math.max(...bars.map((bar) => bar.text.length));
   const pitch = Math.min(Math.max(32, longest + 6), Math.max(7, 880 / bars.length));
@@ -48,30 +59,34 @@ export function barsOf({ title, text, bars, arrows, conflict }) {
   const x = (cell) => (cell - bars[0].cell + 1.5) * pitch;
   const foot = TOP + HIGH + (least < 0 ? 28 : 14);
   const every = Math.ceil((4 * LETTER + 3) / pitch);
-  const bar = ({ cell, value, was, isWritten, text: told }, at) => {
-    const box = (of, more) => shape("rect", { x: x(cell) - pitch * 0.4, width: pitch * 0.8, y: Math.min(y(of), y(0)), height: Math.abs(y(of) - y(0)), ...more });
-    const parts = [box(value, { ...solid(isWritten ? "written" : "bar"), stroke: isWritten ? COLOURS.mark : "none", "stroke-width": 2 })];
-    if (was !== value) parts.push(box(was, lined("was", "soft", { "stroke-dasharray": "3 2" })));
+  const bar = ({ cell, value, was, isWritten, text: told }, index) => {
+    const [left, wide] = [x(cell) - pitch * 0.4, pitch * 0.8];
+    const high = (of, more) => box(left, Math.min(y(of), y(0)), wide, Math.abs(y(of) - y(0)), more);
+    const look = { ...solid(isWritten ? "written" : "bar"), stroke: isWritten ? COLOURS.mark : "none", ...THICK };
+    const parts = [high(value, look)];
+    if (was !== value) parts.push(high(was, lined("was", "soft", { "stroke-dasharray": "3 2" })));
     const above = Math.min(y(Math.max(0, value)), isWritten ? y(was) : Infinity);
-    if (isTold) parts.push(label(x(cell), value < 0 ? Math.max(y(value), y(was)) + 12 : above - 4, told, "ink", { "font-size": 11 }));
+    const at = value < 0 ? Math.max(y(value), y(was)) + 12 : above - 4;
+    if (isTold) parts.push(label(x(cell), at, told, "ink", { "font-size": 11 }));
     if (isWritten) parts.push(shape("circle", { cx: x(cell), cy: above - (isTold ? 18 : 6), r: 3, ...solid("mark") }));
-    if (at % every === 0) parts.push(label(x(cell), foot, fourDigits(cell), "soft"));
+    if (index % every === 0) parts.push(label(x(cell), foot, fourDigits(cell), "soft"));
     return shape("g", { "data-cell": cell }, ...parts);
   };
   const under = arrows.map(({ cell }, at) => arrows.slice(0, at).filter((other) => other.cell === cell).length);
   const arrow = ({ name, cell }, at) => {
     const tip = under[at] > 0 ? [] : [shape("path", { d: `M ${x(cell)} ${foot + 4} l 5 9 h -10 z`, ...solid("mark") })];
-    return shape("g", { "data-arrow": name }, ...tip, label(x(cell), foot + 25 + 12 * under[at], name, "mark", { "font-size": 11, "font-weight": "bold" }));
+    return shape("g", { "data-arrow": name }, ...tip, label(x(cell), foot + 25 + 12 * under[at], name, "mark", BOLD));
   };
-  const line = shape("line", { x1: pitch * 0.8, x2: (bars.length + 1.2) * pitch, y1: y(0), y2: y(0), ...lined("axis", "soft") });
+  const ends = { x1: pitch * 0.8, x2: (bars.length + 1.2) * pitch, y1: y(0), y2: y(0) };
+  const line = shape("line", { ...ends, ...lined("axis", "soft") });
   const width = Math.max(160, (bars.length + 2) * pitch);
   const height = foot + 30 + 12 * Math.max(0, ...under);
   const shapes = [...bars.map(bar), line, ...arrows.map(arrow)];
   if (!conflict) return picture({ id: "bars", title, text, width, height }, shapes);
   const half = (LETTER * conflict.use.length) / 2 + 6;
   const middle = Math.max(half, Math.min(width - half, x(conflict.cell)));
-  const frame = shape("rect", { x: x(conflict.cell) - pitch / 2, y: 1, width: pitch, height, ...lined("conflict", "mark", { "stroke-width": 2 }) });
-  const use = label(middle, height + 14, conflict.use, "mark", { "font-size": 11, "font-weight": "bold" });
+  const frame = box(x(conflict.cell) - pitch / 2, 1, pitch, height, lined("conflict", "mark", THICK));
+  const use = label(middle, height + 14, conflict.use, "mark", BOLD);
   return picture({ id: "bars", title, text, width, height: height + 20 }, [...shapes, frame, use]);
 }
 
@@ -79,20 +94,25 @@ export function barsOf({ title, text, bars, arrows, conflict }) {
 export function stripOf({ title, cells, columns, done }) {
   const [wide, high] = [Math.min(24, WIDE / columns.length), Math.max(3, Math.min(12, 160 / cells.length))];
   const most = Math.max(1, ...columns.flatMap(({ values }) => values.map(Math.abs)));
-  const shapes = cells.flatMap((_, row) => boxesOf(columns.map(({ values }) => values[row]), { y: 4 + row * high, wide, high }, (value) => Math.round((100 * Math.abs(value)) / most) / 100));
+  const shade = (value) => Math.round((100 * Math.abs(value)) / most) / 100;
+  const valuesAt = (row) => columns.map(({ values }) => values[row]);
+  const shapes = cells.flatMap((_, row) => boxesOf(valuesAt(row), { y: 4 + row * high, wide, high }, shade));
   const present = columns.reduce((best, { moment }, at) => (moment <= done ? at : best), 0);
   const height = 8 + cells.length * high;
-  shapes.push(shape("rect", { x: present * wide, y: 1, width: wide, height: height - 2, ...lined("present", "mark", { "stroke-width": 2 }) }));
+  shapes.push(box(present * wide, 1, wide, height - 2, lined("present", "mark", THICK)));
   const told = columns.slice(1).flatMap(({ moment, values }, at) => {
-    const altered = cells.flatMap((cell, row) => (values[row] === columns[at].values[row] ? [] : [`${cell}: ${values[row]}`]));
-    return altered.length > 0 ? [`By change ${moment}: ${altered.join(", ")}.`] : [];
+    const altered = [...values.keys()].filter((row) => values[row] !== columns[at].values[row]);
+    const texts = altered.map((row) => `${cells[row]}: ${values[row]}`);
+    return texts.length > 0 ? [`By change ${moment}: ${texts.join(", ")}.`] : [];
   });
   const text = [`At the start: ${columns[0].values.join(" ")}.`, ...told].join(" ");
-  return picture({ id: "strip", title: `${title}, at ${columns.length} moments`, text, width: columns.length * wide, height }, shapes);
+  const name = `${title}, at ${columns.length} moments`;
+  return picture({ id: "strip", title: name, text, width: columns.length * wide, height }, shapes);
 }
 
-// The map of time: `rows` have a `cell`, the `line` it comes from, and whether it `isBreak`; `columns` the `cells` that were executed in each
-// stretch of `width` changes, with how often; `marks` the `number` of a change that wrote a `part`, each part on a row of its own; `done` of `total` changes are done.
+// The map of time: `rows` have a `cell`, the `line` it comes from, and whether it `isBreak`; `columns` the `cells` that
+// were executed in each stretch of `width` changes, with how often; `marks` the `number` of a change that wrote a
+// `part`, each part on a row of its own; `done` of `total` changes are done.
 export function mapOf({ title, text, rows, width, columns, marks, total, done }) {
   const parts = [...new Set(marks.map(({ part }) => part))];
   const high = Math.max(3, Math.min(12, 300 / rows.length));
@@ -104,34 +124,39 @@ export function mapOf({ title, text, rows, width, columns, marks, total, done })
   const named = (y, name, kind) => label(left - 4, y, name, kind, { "text-anchor": "end" });
   const shapes = rows.flatMap(({ cell, line, isBreak }, row) => {
     const y = 4 + row * high;
-    const tint = isBreak ? [shape("rect", { x: left, y, width: WIDE, height: high, ...solid("mark"), "fill-opacity": ".15" })] : [];
-    const name = row % every === 0 ? [named(y + Math.min(high, 10), line ? String(line) : fourDigits(cell), isBreak ? "mark" : "soft")] : [];
-    return [...tint, ...boxesOf(counts.map((times) => shade(times.get(cell) || 0)), { x: left, y, wide: (WIDE * width) / total, high, end: WIDE }, (dark) => dark), ...name];
+    const tint = isBreak ? [box(left, y, WIDE, high, { ...solid("mark"), "fill-opacity": ".15" })] : [];
+    const name = named(y + Math.min(high, 10), line ? String(line) : fourDigits(cell), isBreak ? "mark" : "soft");
+    const place = { x: left, y, wide: (WIDE * width) / total, high, end: WIDE };
+    const boxes = boxesOf(counts.map((times) => shade(times.get(cell) || 0)), place, (dark) => dark);
+    return [...tint, ...boxes, ...(row % every === 0 ? [name] : [])];
   });
   const foot = 4 + rows.length * high;
   parts.forEach((part, row) => {
     const y = foot + 4 + row * 12;
-    const places = marks.filter((mark) => mark.part === part).map(({ number }) => Math.round(left + (number / total) * WIDE));
-    shapes.push(named(y + 9, part, "mark"), ...[...new Set(places)].map((x) => shape("path", { d: `M ${x} ${y} l 3 9 h -6 z`, ...solid("mark") })));
+    const own = marks.filter((mark) => mark.part === part);
+    const places = new Set(own.map(({ number }) => Math.round(left + (number / total) * WIDE)));
+    const tipAt = (x) => shape("path", { d: `M ${x} ${y} l 3 9 h -6 z`, ...solid("mark") });
+    shapes.push(named(y + 9, part, "mark"), ...[...places].map(tipAt));
   });
   const height = foot + 8 + parts.length * 12;
-  const present = left + (done / Math.max(1, total)) * WIDE;
-  shapes.push(shape("line", { x1: present, x2: present, y1: 0, y2: height, ...lined("present", "mark", { "stroke-width": 2 }) }));
-  shapes.push(shape("rect", { x: left, y: 2, width: WIDE, height: height - 4, ...lined("field axis", "soft") }));
+  shapes.push(upright(left + (done / Math.max(1, total)) * WIDE, height));
+  shapes.push(box(left, 2, WIDE, height - 4, lined("field axis", "soft")));
   return picture({ id: "map", title, text, width: left + WIDE + 4, height }, shapes);
 }
 
-// The values of a part over time: `writes` have the `number` of a change and the value `before` and `after` it; `done` of `total` changes are done. What is
+// The values of a part over time: `writes` have the `number` of a change and the value `before` and `after` it. What is
 // before the first of them, or behind the last, is drawn unless `isCut` says that there are more.
 export function valuesOf({ title, text, writes, isCut, total, done }) {
   const { most, least, y } = scaled(writes.flatMap(({ before, after }) => [before, after]), 6, 70);
   const x = (number) => 4 + (number / Math.max(1, total)) * 480;
-  const line = writes.map(({ number, after }) => `H ${Math.round(x(number))} V ${Math.round(y(after))}`).join(" ");
+  const line = writes.map(({ number, after }) => `H ${Math.round(x(number))} V ${Math.round(y(after))}`);
+  const begin = `M ${isCut[0] ? Math.round(x(writes[0].number)) : 4} ${Math.round(y(writes[0].before))}`;
+  const d = [begin, ...line, ...(isCut[1] ? [] : ["H 484"])].join(" ");
+  const told = (value, down) => label(488, y(value) + down, String(value), "soft", { "text-anchor": "start" });
   const shapes = [
     shape("line", { x1: 4, x2: 484, y1: y(0), y2: y(0), ...lined("axis", "soft", { "stroke-dasharray": "3 3" }) }),
-    shape("path", { d: `M ${isCut[0] ? Math.round(x(writes[0].number)) : 4} ${Math.round(y(writes[0].before))} ${line}${isCut[1] ? "" : " H 484"}`, ...lined("line", "bar", { "stroke-width": 1.5 }) }),
-    shape("line", { x1: x(done), x2: x(done), y1: 0, y2: 82, ...lined("present", "mark", { "stroke-width": 2 }) }),
-    ...(least < 0 ? [[most, 6], [least, 3]] : [[most, 6]]).map(([value, down]) => label(488, y(value) + down, String(value), "soft", { "text-anchor": "start" })),
+    shape("path", { d, ...lined("line", "bar", { "stroke-width": 1.5 }) }),
+    upright(x(done), 82), told(most, 6), ...(least < 0 ? [told(least, 3)] : []),
   ];
   return picture({ id: "values", title, text, width: 570, height: 82 }, shapes);
 }

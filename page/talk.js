@@ -5,7 +5,7 @@ import { $, make, note, on } from "./dom.js";
 const LETTERS_SHOWN = 200000; // letters of a reply that are shown
 
 export class Talk {
-  constructor(app) {
+  constructor(/** @type {App} */ app) {
     this.lines = []; // the commands of the script that are still to be done
     this.shown = [];
     this.typed = []; // what was typed, for the arrow keys
@@ -22,7 +22,9 @@ export class Talk {
     });
     on("command", "keydown", (event) => this.recall(event));
     app.store.on("view", () => this.show(app.store.session.log));
-    for (const [id, count] of [["script-next", 1], ["script-all", Infinity]]) on(id, "click", () => app.store.enqueue(() => app.actScript(this.first(count))));
+    for (const [id, count] of [["script-next", 1], ["script-all", Infinity]]) {
+      on(id, "click", () => app.store.enqueue(() => app.actScript(this.first(count))));
+    }
   }
 
   recall(event) {
@@ -54,20 +56,20 @@ export class Talk {
     $("script-lines").replaceChildren(...lines.map((line) => make("li", {}, line || " ")));
   }
 
-  // Shows the commands that were given, with their replies. Only what was typed is read out from here; the rest is told by the status.
+  // Shows the commands with their replies. Only what was typed is read out from here; the status tells the rest.
   show(log) {
     const box = $("log");
     const isMore = this.shown.every((entry, index) => entry === log[index]);
     if (!isMore) box.replaceChildren();
     const more = isMore ? log.slice(this.shown.length) : log;
-    box.append(...more.flatMap(({ command, reply }) => [make("p", {}, command), make("pre", {}, shortened(reply.slice(0, -1)))]));
+    for (const { command, reply } of more) {
+      const rest = `\n(${reply.length} letters; the file that is saved gives them all)`;
+      const isLong = reply.length > LETTERS_SHOWN;
+      const shown = isLong ? `${reply.slice(0, LETTERS_SHOWN)} …${rest}` : reply.slice(0, -1);
+      box.append(make("p", {}, command), make("pre", {}, shown));
+    }
     this.shown = [...log];
     if (more.length > 0) box.scrollTop = box.scrollHeight;
     setTimeout(() => box.setAttribute("aria-live", "off"));
   }
-}
-
-// A reply as it is shown: of a very long one the beginning.
-function shortened(reply) {
-  return reply.length > LETTERS_SHOWN ? `${reply.slice(0, LETTERS_SHOWN)} …\n(${reply.length} letters; the file that is saved gives them all)` : reply;
 }

@@ -4,11 +4,12 @@ import { $, on, put } from "./dom.js";
 import { choose } from "./place.js";
 
 const KEYS = {
-  F7: "back", F8: "step", F10: "over", "Control+F10": "out", "Shift+F7": "to-break", "Shift+F8": "run", "Control+F7": "to-start", "Control+F8": "to-end",
+  F7: "back", F8: "step", F10: "over", "Control+F10": "out",
+  "Shift+F7": "to-break", "Shift+F8": "run", "Control+F7": "to-start", "Control+F8": "to-end",
 };
 
 export class Time {
-  constructor(app) {
+  constructor(/** @type {App} */ app) {
     this.app = app;
     this.wanted = undefined; // the moment that the slider asks for
     this.others = {
@@ -42,8 +43,8 @@ export class Time {
     app.store.on("view", (view) => this.show(app.store.session, view.state));
   }
 
-  // Shows a moment while the slider is dragged; where more come than can be shown, the last. A key on the slider ends at once what it begins, so nothing
-  // is looked at before the events that come together are done.
+  // Shows a moment while the slider is dragged; where more come than can be shown, the last. A key on the slider ends
+  // at once what it begins, so nothing is looked at before the events that come together are done.
   async preview(moment) {
     const { store } = this.app;
     const isUnderWay = this.wanted !== undefined;
@@ -80,7 +81,8 @@ export class Time {
     }
     $("moment").size = Math.max(4, String(total).length);
     put($("total"), String(total));
-    $("slider").setAttribute("aria-valuetext", `change ${state.done} of ${total}, location ${state.location}, clock ${state.clock}`);
+    const where = `location ${state.location}, clock ${state.clock}`;
+    $("slider").setAttribute("aria-valuetext", `change ${state.done} of ${total}, ${where}`);
     for (const id of ["back", "to-break", "to-start"]) this.enable(id, done > 0);
     this.enable("to-end", ahead > 0);
     const isHalted = state.halted && ahead === 0;

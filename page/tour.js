@@ -1,16 +1,15 @@
-// A tour of six steps for who opens the page first: a card in the corner, and a frame around what it speaks of. It takes no key and no click from the
-// page, and goes away when something else is done before its second step. An address that ends in #no-tour, as it does after it was closed, opens
-// without it.
+// A tour of six steps for who opens the page first: a card in the corner, and a frame around what it speaks of. It
+// takes no key and no click from the page, and goes away when something else is done before its second step. An address
+// that ends in #no-tour, as it does after it was closed, opens without it.
 
-import { $, on, put } from "./dom.js";
+import { $, all, on, put } from "./dom.js";
 import { choose } from "./place.js";
 
 export const NO_TOUR = "#no-tour";
 
 export class Tour {
-  constructor(app) {
-    this.app = app;
-    this.steps = [...document.querySelectorAll("#tour-steps li")];
+  constructor() {
+    this.steps = all("#tour-steps li");
     this.at = 0;
     on("tour-open", "click", (event) => {
       event.stopPropagation();
@@ -34,29 +33,22 @@ export class Tour {
   // Shows a step; behind the last the tour is over.
   go(at) {
     const step = this.steps[at];
-    if (!step) {
-      this.close();
-      return;
-    }
+    if (!step) return this.close();
     this.at = at;
     $("tour").hidden = false;
     for (const other of this.steps) other.hidden = other !== step;
     put($("tour-title"), `Tour, ${at + 1} of ${this.steps.length}`);
     put($("tour-next"), at + 1 < this.steps.length ? "Next" : "Done");
     $("tour-back").disabled = at === 0;
-    this.frame(step.dataset);
-  }
-
-  frame({ part, tab }) {
-    for (const framed of document.querySelectorAll(".toured")) framed.classList.remove("toured");
+    const { part, tab } = step.dataset;
     if (tab) choose(tab);
-    if (!part) return;
+    for (const framed of all(".toured")) framed.classList.remove("toured");
     $(part).classList.add("toured");
     $(part).scrollIntoView({ block: "nearest" });
   }
 
   hide() {
-    this.frame({});
+    for (const framed of all(".toured")) framed.classList.remove("toured");
     if ($("tour").contains(document.activeElement)) $("step").focus();
     $("tour").hidden = true;
   }

@@ -1,4 +1,4 @@
-// Who wrote this? What the last change of a register, a cell or a flag was, all others, the ways there, and a field to set it.
+// Who wrote this? The last change of a register, a cell or a flag, all others, the ways there, and a field to set it.
 
 import { $, counted, fourDigits, make, note, on, put } from "./dom.js";
 import { refusalOf } from "./machine.js";
@@ -29,12 +29,16 @@ function allowedIn(part) {
   const others = { over: "Write on or off.", cmp: "Write L, E or G." };
   if (others[part]) return others[part];
   const isSmall = /^(I\d|J)$/.test(part);
-  return isSmall ? "Write a number of two bytes, -4095 to 4095 (rJ: 0 to 4095), or a symbol, as KEY+1." : "Write a number, as -5; a word, as + 00 00 00 01 36; five characters in quotes; or a symbol, as KEY+1.";
+  if (isSmall) return "Write a number of two bytes, -4095 to 4095 (rJ: 0 to 4095), or a symbol, as KEY+1.";
+  return "Write a number, as -5; a word, as + 00 00 00 01 36; five characters in quotes; or a symbol, as KEY+1.";
 }
 
 export class Who {
-  constructor(app) {
+  constructor(/** @type {App} */ app) {
     this.app = app;
+    this.part = ""; // what comes after `until` in a command
+    this.last = null; // the last change that wrote it
+    this.next = 0; // the next one
     on("who-back", "click", () => this.leave(this.last.number));
     on("who-before", "click", () => this.leave(this.last.number - 1));
     on("who-forth", "click", () => this.leave(this.next));
@@ -75,21 +79,33 @@ export class Who {
     $(!last ? "who-value" : last.number === done ? "who-before" : "who-back").focus();
   }
 
-  // The changes around this moment that wrote it, each to click on, and how many there are of them; and of a word its number as far as they tell it.
+  // The changes around this moment that wrote it, each to click on, how many there are, and their values as a curve.
   showWrites(name, writes, isCut, { done, total }) {
     const of = (value) => value.number ?? String(value);
     const here = writes.filter(({ number }) => number <= done).length - 1;
-    const items = writes.map(({ number, before, after }, at) => make("li", {}, make("button", { type: "button", "aria-current": at === here && "step", click: () => this.leave(number) }, `change ${number}: ${of(before)} → ${of(after)}`)));
-    $("who-writes").hidden = items.length < 2;
+    const items = writes.map(({ number, before, after }, at) => {
+      const given = { type: "button", "aria-current": at === here && "step", click: () => this.leave(number) };
+      return make("li", {}, make("button", given, `change ${number}: ${of(before)} → ${of(after)}`));
+    });
+    const isList = items.length > 1;
+    $("who-writes").hidden = !isList;
     $("who-writes").replaceChildren(...items);
-    const ahead = writes.length - 1 - here;
-    const counts = [[here + 1, isCut[0], "up to here"], [ahead, isCut[1], "after it"]].map(([count, isSome, where]) => `${isSome ? (where === "after it" ? "the next " : "the last ") : ""}${counted(count, "change")} ${where}`);
-    note("who-many", items.length < 2 ? "" : isCut.includes(true) ? `There are more: these are ${counts.join(", and ")}.` : `All ${counted(writes.length, "change")} that wrote it.`);
+    const before = `${isCut[0] ? "the last " : ""}${counted(here + 1, "change")} up to here`;
+    const after = `${isCut[1] ? "the next " : ""}${counted(writes.length - 1 - here, "change")} after it`;
+    const more = isCut.includes(true) && `There are more: these are ${before}, and ${after}.`;
+    note("who-many", isList ? more || `All ${counted(writes.length, "change")} that wrote it.` : "");
     $("who-values").replaceChildren();
-    if (items.length < 2 || writes[0].before.number === undefined) return;
-    const numbers = writes.map(({ number, before, after }) => ({ number, before: Number(before.number), after: Number(after.number) }));
-    const text = `${isCut[0] ? `Before change ${numbers[0].number}` : "At first"} ${numbers[0].before}; ${numbers.map(({ number, after }) => `by change ${number}: ${after}`).join(", ")}.`;
-    $("who-values").append(valuesOf({ title: `${name} over ${counted(total, "change")}`, text, writes: numbers, isCut, total, done }));
+    if (isList && writes[0].before.number !== undefined) this.draw(name, writes, isCut, { done, total });
+  }
+
+  draw(name, writes, isCut, { done, total }) {
+    const numberIn = ({ number }) => Number(number);
+    const numbers = writes.map((write) => ({ ...write, before: numberIn(write.before), after: numberIn(write.after) }));
+    const [first] = numbers;
+    const begin = `${isCut[0] ? `Before change ${first.number}` : "At first"} ${first.before}`;
+    const text = `${begin}; ${numbers.map(({ number, after }) => `by change ${number}: ${after}`).join(", ")}.`;
+    const title = `${name} over ${counted(total, "change")}`;
+    $("who-values").append(valuesOf({ title, text, writes: numbers, isCut, total, done }));
   }
 
   told(change) {

@@ -1,5 +1,5 @@
-// The engine in a thread of its own: it is given the module once, and then bytes of requests, and gives bytes of answers back, or tells what went
-// wrong. This follows the text of engine.js in the worker's program.
+// The engine in a thread of its own: it is given the module once, and then bytes of requests, and gives bytes of
+// answers back, or tells what went wrong. This follows the text of engine.js in the worker's program.
 
 let engine = null;
 
@@ -8,7 +8,7 @@ self.onmessage = async ({ data: { module, isNew, frames } }) => {
   try {
     const loaded = await engine;
     if (isNew) loaded.open();
-    if (frames) self.postMessage({ bytes: await loaded.ask(frames) });
+    if (frames) self.postMessage({ bytes: loaded.ask(frames) });
   } catch (fault) {
     if (frames) self.postMessage({ fault: fault.message });
   }

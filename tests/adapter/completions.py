@@ -12,8 +12,9 @@ sys.path.insert(0, os.path.dirname(os.path.abspath(__file__)))
 from client import Count
 from exact import DONE, GOOD, launch, texts, told
 
-# The text of a line, the column of the cursor, the words, and the column and the length of the word that they complete. The
-# symbols of the program get their values in this order: two by their lines, and LAST, which none defines, at END.
+# The text of a line, the column of the cursor, the words, and the column and the length of the word
+# that they complete. The symbols of the program get their values in this order: two by their lines,
+# and LAST, which none defines, at END.
 SYMBOLS = "LIST EQU 100\nLOOP LDA LIST\n STA LAST\n HLT\n END LOOP\n"
 COMMANDS = ["step", "run", "back", "forth", "goto", "set", "break", "clear", "show", "trace"]
 PARTS = ["A", "X", "I1", "I2", "I3", "I4", "I5", "I6", "J", "cell", "loc", "over", "cmp"]
@@ -32,7 +33,8 @@ COMPLETED = [
     ("break ", 7, ["line", *NAMES], 7, 0), ("clear li", 9, ["line", "LIST"], 7, 2), ("break line ", 12, [], 12, 0),
     ("show c", 7, ["cells", "clock", "changes", "code", "counts", "conflicts"], 6, 1), ("show cells ", 12, NAMES, 12, 0), ("show code LIST ", 16, NAMES, 16, 0),
     ("show values LIST LAST ", 23, [], 23, 0), ("show value L", 13, NAMES, 12, 1), ("show value 1+L", 15, [], 12, 3), ("show unit ", 11, [], 11, 0),
-    # a cursor within the text, before it and past its end; a tab; letters of two bytes after the cursor and before it
+    # a cursor within the text, before it and past its end; a tab; letters of two bytes after the
+    # cursor and before it
     ("show values", 3, ["show"], 1, 2), ("st", 0, COMMANDS, 1, 0), ("st", 99, ["step"], 1, 2), ("\tst", 4, ["step"], 2, 2), ("st\u00e9", 3, ["step"], 1, 2),
     ("\u00e9 st", 5, [], None, None)]
 

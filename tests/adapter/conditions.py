@@ -67,7 +67,8 @@ RUNS = [
     ([lines((6, None, "2"))], [(NEXT, "step", 1), (NEXT, "step", 2), *ons(SPOTS[2], END)]), ([lines((6, "0"))], [(NEXT, "step", 1), (NEXT, "step", 2), (ON, *END)]),
     # a condition and a hit count: only arrivals where it holds are counted
     ([lines((6, "rJ", "2"))], ons(SPOTS[2], END)), ([lines((6, "rJ", "1"))], ons(*SPOTS[1:], END)), ([lines((6, "0", "1"))], ons(END)),
-    # instructions, and both kinds at a cell, of which each counts for itself; a later breakpoint of a line beside one that does not stop
+    # instructions, and both kinds at a cell, of which each counts for itself; a later breakpoint of
+    # a line beside one that does not stop
     ([at_12(condition="rJ")], ons(("instruction breakpoint", 5), ("instruction breakpoint", 8), END)), ([at_12(hitCondition="3")], ons(("instruction breakpoint", 8), END)),
     ([at_12(condition="rJ"), lines((6, None, "3"))], ons(("instruction breakpoint", 5), ("breakpoint", 8), END)),
     ([at_12(), lines((6, "0"))], ons(*[("instruction breakpoint", n) for n in (2, 5, 8)], END)),
@@ -76,7 +77,8 @@ RUNS = [
     ([lines((12,))], [(ON, "breakpoint", 13), (OUT, "step", 15)]), ([lines((12,), (10, "0"))], [(ON, "breakpoint", 13), (OUT, "step", 15)]),
     ([lines((12,), (10, "1"))], [(ON, "breakpoint", 13), (OUT, "breakpoint", 15)]), ([lines((12,), (10, None, "2"))], [(ON, "breakpoint", 13), (OUT, "step", 15)]),
     ([lines((12,), (13, "0"))], [(ON, "breakpoint", 13), (OUT, "step", 15)]),
-    # data breakpoints and a halt end a run also beside one that does not stop: the step to cell 13 alters cell 103, and HLT leads to 17
+    # data breakpoints and a halt end a run also beside one that does not stop: the step to cell 13
+    # alters cell 103, and HLT leads to 17
     ([lines((7, "0")), ("setDataBreakpoints", {"breakpoints": [{"dataId": "cell 103"}]})], ons(("data breakpoint", 3), END)), ([lines((11, "0"))], ons(END)),
 ]
 
@@ -88,7 +90,8 @@ BAD_TEXTS = [({"condition": "NOWHERE"}, "no such condition"), ({"condition": "un
              ({"hitCondition": "000"}, "no such hit count"), ({"hitCondition": "-1"}, "no such hit count"), ({"hitCondition": ">=3"}, "no such hit count"),
              ({"hitCondition": "3 "}, "no such hit count"), ({"hitCondition": "1000000000000000000"}, "no such hit count"), ({"condition": "1", "hitCondition": "x"}, "no such hit count")]
 
-# A jump to itself, which comes to its cell with each step: a run pauses after a million of them, and goes on past as many breakpoints before that.
+# A jump to itself, which comes to its cell with each step: a run pauses after a million of them,
+# and goes on past as many breakpoints before that.
 LONG = [(lines((1, "0")), "pause", 1000000), (lines((1, None, "250000")), "breakpoint", 250000), (lines((1, "0"), (1, None, "1000001")), "pause", 1000000),
         (lines((1, None, "100000")), "breakpoint", 100000), (lines((1, None, "1000000")), "breakpoint", 1000000)]
 

@@ -27,7 +27,8 @@ DONE = ("configurationDone", {})
 ENDS = [(b"", b"", 0), (DISCONNECT, b"", 0), (b"hello\r\n\r\nContent-Length: 2\r\n\r\n{}", b"", 0), (b"Content-Length: 3\r\n\r\n{}", CUT, 2),
         (b"Content-Length: 999999999\r\n\r\n", LONG, 2), (b"Content-Length: 134217729\n\n", LONG, 2), (b"Content-Length: 2\r\n", CUT, 2)]
 
-# A frame, and what follows it: a request that follows the frame is heard, so the body ends where it is to.
+# A frame, and what follows it: a request that follows the frame is heard, so the body ends where it
+# is to.
 WHOLE = [(b"Content-Length: 2\r\n\r\n{}", b""), (b"Content-Length: 2\r\n\r\n{}", b"Content"), (b"content-length:3\n\nabc", b"d"),
          (b"Content-Type: x\r\nContent-Length: 0\r\n\r\n", b"rest"), (b"CONTENT-LENGTH: 1\r\nother\r\n\r\na", b"b"),
          (b"Content-Length: 9\r\nContent-Length: 1\r\n\r\na", b"b"), (b"hello\r\n\r\n", b"rest")]
@@ -44,17 +45,20 @@ LEADS = [("configurationDone", {}, 0, 0), ("stepBack", {}, 0, 0), ("next", {}, 1
          ("reverseContinue", {}, 0, 0), ("setVariable", {"variablesReference": 1, "name": "I1", "value": "4096"}, 0, 0),
          ("setVariable", {"variablesReference": 1, "name": "A", "value": "1"}, 0, 1)]
 
-# Steps of a face, one by one: the location, rA, and how many changes are done and stand ahead. What is refused leaves them.
+# Steps of a face, one by one: the location, rA, and how many changes are done and stand ahead. What
+# is refused leaves them.
 STEPS = [("stepBack", {}, 0, 0, (0, 0)), ("next", {}, 1, 5, (1, 0)), ("next", {}, 2, 12, (2, 0)), ("stepBack", {}, 1, 5, (1, 1)), ("next", {}, 2, 12, (2, 0)),
          ("restart", {}, 0, 0, (0, 2)), ("goto", {"targetId": 3}, 3, 0, (1, 0)),
          ("setVariable", {"variablesReference": 1, "name": "A", "value": "-7"}, 3, -7, (2, 0)),
          ("setVariable", {"variablesReference": 1, "name": "I1", "value": "4096"}, 3, -7, (2, 0)),
          ("evaluate", {"expression": "show changes", "context": "repl"}, 3, -7, (2, 0))]
 
-# What is told of the last four of them: a refusal by the machine, a reply, and the name of a part that can be watched.
+# What is told of the last four of them: a refusal by the machine, a reply, and the name of a part
+# that can be watched.
 TOLD = ['"message":"C5 refused by the machine: M7 index overflow"', '"result":"changes 2\\n"', '"dataId":"A"']
 
-# How many changes stand ahead after each command of the longest bundle of tests/runs/back_and_forth.t.
+# How many changes stand ahead after each command of the longest bundle of
+# tests/runs/back_and_forth.t.
 AHEAD = [0, 3, 1, 1, 1, 1, 0, 1, 0, 0, 4, 0, 0, 299999, 0, 300001, 0, 0, 0, 0, 1]
 FORTH = next(text for _, text, _ in bundles() if "forth 299999" in text)
 
@@ -77,13 +81,16 @@ VIEWS = [
     ("mix/state", {"nonzero": True}, '"registers":[{"characters":"    K","name":"A","number":"12","word":"+ 00 00 00 00 12"}'),
     ("mix/counts", {}, '{"cell":2,"count":"1","time":"2"}],"count":"3","time":"4"'),
     ("mix/change", {"number": 2}, '"items":[{"after":"+ 00 00 00 00 12","before":"+ 00 00 00 00 05","part":"A"}],"location":1,"number":2,"text":"INCA 7","time":"1"'),
-    # where the changes were done: each in a column, two in the first of two, and of a range that ends behind the last
+    # where the changes were done: each in a column, two in the first of two, and of a range that
+    # ends behind the last
     ("mix/path", {"columns": 3}, '"body":{"columns":[{"cells":[{"cell":0,"count":1}]},{"cells":[{"cell":1,"count":1}]},{"cells":[{"cell":2,"count":1}]}],"from":0,"until":3}'),
     ("mix/path", {"columns": 2}, '"columns":[{"cells":[{"cell":0,"count":1},{"cell":1,"count":1}]},{"cells":[{"cell":2,"count":1}]}]'),
     ("mix/path", {"columns": 2, "from": 1, "until": 5}, '"columns":[{"cells":[{"cell":1,"count":1},{"cell":2,"count":1}]},{"cells":[]}],"from":1,"until":5'),
     ("mix/path", {"columns": 1, "from": 3, "until": 3}, '"columns":[{"cells":[]}],"from":3,"until":3'), ("mix/path", {"columns": 0}, '"columns":[],"from":0,"until":3'),
     ("mix/path", {"columns": 501}, '"id":302'), ("mix/path", {}, '"id":302'), ("mix/path", {"columns": "3"}, '"id":302'),
-    # what was written: both words of rA, the last one first; of the first change alone; a cell; the clock and the location, which no condition names alone; a toggle that stays; no part, and a place
+    # what was written: both words of rA, the last one first; of the first change alone; a cell; the
+    # clock and the location, which no condition names alone; a toggle that stays; no part, and a
+    # place
     ("mix/writes", {"part": "A"}, '"body":{"writes":[{"after":%s,"before":%s,"number":2},{"after":%s,"before":%s,"number":1}]}' % (TWELVE, FIVE, FIVE, ZERO)),
     ("mix/writes", {"part": "A", "until": 1}, '"body":{"writes":[{"after":%s,"before":%s,"number":1}]}' % (FIVE, ZERO)),
     ("mix/writes", {"part": "A", "count": 1, "until": 9}, '"body":{"writes":[{"after":%s,"before":%s,"number":2}]}' % (TWELVE, FIVE)),
@@ -95,7 +102,8 @@ VIEWS = [
     ("mix/state", {"cells": [[0, 4000]]}, '"id":306'), ("mix/units", {"unit": 21}, '"id":306'),
     ("mix/check", {"source": " JUMP 0\n"}, '"body":{"diagnostics":[{"code":"A2","column":2,"endColumn":6,"line":1,"severity":"error","text":"'),
     ("mix/check", {}, '"id":302'), ("mix/check", {"source": 5}, '"id":302'),
-    # the lines that give words: neither that of EQU nor that of END; of one line, of none, of a range that ends before it begins, and of the longest
+    # the lines that give words: neither that of EQU nor that of END; of one line, of none, of a
+    # range that ends before it begins, and of the longest
     ("breakpointLocations", {"line": 1, "endLine": 9}, '"body":{"breakpoints":[{"line":2},{"line":3},{"line":4},{"line":5}]}'),
     ("breakpointLocations", {"line": 3}, '"body":{"breakpoints":[{"line":3}]}'), ("breakpointLocations", {"line": 1}, '"body":{"breakpoints":[]}'),
     ("breakpointLocations", {"line": 5, "endLine": 2}, '"body":{"breakpoints":[]}'), ("breakpointLocations", {"line": 5, "endLine": 5}, '"body":{"breakpoints":[{"line":5}]}'),
@@ -105,7 +113,8 @@ VIEWS = [
     ("breakpointLocations", {"line": 4, "endLine": 4000000000, "source": {"path": "/a/program.mixal"}}, '"body":{"breakpoints":[{"line":4},{"line":5}]}'),
     ("breakpointLocations", {"line": 2, "source": {"path": "another.program.mixal"}}, '"body":{"breakpoints":[]}'),
     ("breakpointLocations", {"endLine": 2}, '"id":302'), ("breakpointLocations", {"line": "2"}, '"id":302'),
-    # how breakpoints are told: of lines, of another source, of instructions, of data, and those of which there are none
+    # how breakpoints are told: of lines, of another source, of instructions, of data, and those of
+    # which there are none
     ("setBreakpoints", {"breakpoints": [{"line": 1}, {"line": 6}, {}]}, '"body":{"breakpoints":[{"instructionReference":"0x0000","line":2,"verified":true},'
      '{"message":"no word from this line on","verified":false},{"instructionReference":"0x0000","line":2,"verified":true}]}'),
     ("setBreakpoints", {"breakpoints": [{"line": 2}], "source": {"path": "another.program.mixal"}},
@@ -123,14 +132,16 @@ VIEWS = [
     ("setVariable", {"variablesReference": 1, "name": "cell", "value": "100 5"}, '"id":306'), ("setVariable", {"variablesReference": 1, "name": "loc", "value": "5"}, '"id":306'),
     ("setVariable", {"variablesReference": 2, "name": "A", "value": "5"}, '"id":306'), ("setVariable", {"variablesReference": 1000, "name": "0100", "value": "5"}, '"id":306'),
     ("setVariable", {"variablesReference": 3, "name": "16", "value": "5"}, '"id":306'), ("setVariable", {"variablesReference": 2, "name": "clock", "value": "5"}, '"id":202'),
-    # the same by expressions: a part is set, and shown as it is then; a W-value, as a symbol is, a unit, the clock, no value, and one that the machine refuses
+    # the same by expressions: a part is set, and shown as it is then; a W-value, as a symbol is, a
+    # unit, the clock, no value, and one that the machine refuses
     ("setExpression", {"expression": "cell A+1", "value": "7"}, '"body":{"value":"+ 00 00 00 00 07 = 7"}'), ("evaluate", {"expression": "cell 101"}, '"result":"+ 00 00 00 00 07 = 7"'),
     ("setExpression", {"expression": "rI2", "value": "-3"}, '"body":{"value":"- 00 03 = -3"}'), ("setExpression", {"expression": "over", "value": "on"}, '"body":{"value":"on"}'),
     ("setExpression", {"expression": "loc", "value": "1"}, '"body":{"value":"0001"}'), ("setExpression", {"expression": "A+1", "value": "7"}, '"id":306'),
     ("setExpression", {"expression": "A", "value": "7"}, '"id":306'), ("setExpression", {"expression": "a", "value": "7"}, '"id":306'),
     ("setExpression", {"expression": "unit 16", "value": "7"}, '"id":306'), ("setExpression", {"expression": "clock", "value": "7"}, '"id":202'),
     ("setExpression", {"expression": "rA"}, '"id":302'), ("setExpression", {"value": "7"}, '"id":302'), ("setExpression", {"expression": "I1", "value": "4096"}, '"id":205'),
-    # what would be watched: a part by its scope, or by what it is after `until`; no cell of another page, no location, no text without a name; no fault
+    # what would be watched: a part by its scope, or by what it is after `until`; no cell of another
+    # page, no location, no text without a name; no fault
     ("dataBreakpointInfo", {"variablesReference": 1001, "name": "0100"}, '"dataId":"cell 0100"'), ("dataBreakpointInfo", {"variablesReference": 3, "name": "16"}, '"dataId":"unit 16"'),
     ("dataBreakpointInfo", {"name": "cell A"}, '"dataId":"cell A"'), ("dataBreakpointInfo", {"variablesReference": 1000, "name": "0100"}, '"dataId":null'),
     ("dataBreakpointInfo", {"variablesReference": 2, "name": "loc"}, '"dataId":null'), ("dataBreakpointInfo", {"variablesReference": 1}, '"id":302'),
@@ -141,17 +152,20 @@ VIEWS = [
     ("setVariable", {"variablesReference": "1", "name": "A", "value": "1"}, '"id":302'), ("setVariable", {"variablesReference": 1, "name": 1, "value": "1"}, '"id":302'),
     ("setVariable", {"variablesReference": 1, "name": "A", "value": "1"}, '"success":true')]
 
-# Of two lines that give a word for the same cell a breakpoint stays on the second alone, since its word is there.
+# Of two lines that give a word for the same cell a breakpoint stays on the second alone, since its
+# word is there.
 TWICE = " NOP\n NOP\n ORIG 0\n NOP\n END 0\n"
 STAYS = '"body":{"breakpoints":[{"line":2},{"line":4}]}'
 
-# A line that is altered while it is printed, until 0 + 1 + 10: by changes 2 and 3; change 11 is behind it.
+# A line that is altered while it is printed, until 0 + 1 + 10: by changes 2 and 3; change 11 is
+# behind it.
 LINE = ' OUT 9(18)\n STZ 9\n STZ 10\n JBUS *(18)\n STZ 9\n HLT\n ORIG 9\n ALF "HULLO"\n END 0\n'
 DELAY = "%UNIT 18 delay 10\n"
 FIRST, SECOND = ['"body":{"allThreadsStopped":true,"description":"%s","reason":"exception","text":"%s","threadId":1},"event":"stopped"' % (text, text)
                  for text in ("cell 0009 is altered while unit 18 prints it until 11", "cell 0010 is altered while unit 18 prints it until 11")]
 HALT, WATCHED = '"reason":"halt"', '"reason":"data breakpoint"'
-# A request by its name and its arguments, a part of what it is told, the location after it, and how many changes are done.
+# A request by its name and its arguments, a part of what it is told, the location after it, and how
+# many changes are done.
 CONFLICTS = [
     ("continue", {}, HALT, 6, 12), ("reverseContinue", {}, '"reason":"entry"', 0, 0),
     ("setExceptionBreakpoints", {"filters": ["all", "conflict"]}, '"body":{"breakpoints":[{"message":"no such filter","verified":false},{"verified":true}]}', 0, 0),
@@ -168,10 +182,12 @@ CONFLICTS = [
 FILTER = '"exceptionBreakpointFilters":[{"default":false,"description":"A run stops at a step that uses a cell which a transfer under way forbids.",' \
     '"filter":"conflict","label":"Conflicts with a transfer under way"}]'
 
-# Texts to be checked: none, one with faults and a warning and a tab, labels, letters that are no characters of MIX, and one with nothing to say of.
+# Texts to be checked: none, one with faults and a warning and a tab, labels, letters that are no
+# characters of MIX, and one with nothing to say of.
 CHECKED = ["", " JUMP 0\n\tLDA\tX\n LDA Y\n END 0\n", "X EQU 1\nX EQU 2\nENTA 5\n ALF  TOO LONG\n", "* \u00c4\n \u00c4\tNOP \u00d6\n END 5000\n", SOURCE]
 
-# A program that types a row; after its launch and the stop at its entry these are asked for, and of what comes back these messages, each with its number.
+# A program that types a row; after its launch and the stop at its entry these are asked for, and of
+# what comes back these messages, each with its number.
 HI = " OUT 3(19)\n HLT\n ORIG 3\n ALF HI\n END 0\n"
 ASKED = [("next", 7), ("fly", 8), ("disconnect", 9)]
 SENT = ['{"command":"next","request_seq":7,"seq":%d,"success":true,"type":"response"}',

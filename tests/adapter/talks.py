@@ -84,7 +84,8 @@ def halts(talk, count):
     count.same("stepBack over the HLT", (talk.move("stepBack"), talk.state()), ("step", AFTER[15]))
     talk.move("next")
     count.same("the HLT again", talk.state(), AFTER[16])
-    # after the HLT stands SUB at 17: rJ is 20, so cell 19 gets 20, and the JMP at 19 leads to 20, the first cell of nothing: NOPs follow
+    # after the HLT stands SUB at 17: rJ is 20, so cell 19 gets 20, and the JMP at 19 leads to 20,
+    # the first cell of nothing: NOPs follow
     count.same("a step after the HLT", (talk.move("next"), talk.state()), ("step", (12, 18, 31)))
     talk.close()
     events = {message.get("event") for message in talk.messages}
@@ -164,7 +165,8 @@ def memory(talk, count):
     """Memory is read and written as six bytes a cell, and disassembled."""
     talk.launch(CALLS)
     reference = talk.page(12)[1]["memoryReference"]
-    # ENT1 3 is 0 3 0 2 49; STA 100,1 has the address 100 = 1*64 + 36, the index 1, F 5 and C 24; DEC1 1 is 0 1 0 1 49
+    # ENT1 3 is 0 3 0 2 49; STA 100,1 has the address 100 = 1*64 + 36, the index 1, F 5 and C 24;
+    # DEC1 1 is 0 1 0 1 49
     read = talk.body("readMemory", memoryReference=reference, offset=-6, count=18)
     count.same("readMemory", base64.b64decode(read["data"]), word_bytes("+ 00 03 00 02 49") + word_bytes("+ 01 36 01 05 24") + word_bytes("+ 00 01 00 01 49"))
     last = talk.page(3999)[1]["memoryReference"]

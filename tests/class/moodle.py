@@ -6,7 +6,8 @@ import shutil
 import zipfile
 
 NAMES = "Müller Jörg|Ada Lovelace|O’Brien Seán|Nguyễn Thị Ánh|de la Cruz José|Иванова Анна|山田 太郎|Smith-Jones Eve|Ångström Å|Abu_Bakr 2".split("|")
-# What a student may have handed in besides or instead, by what it means: another way to write the same text, or no source at all.
+# What a student may have handed in besides or instead, by what it means: another way to write the
+# same text, or no source at all.
 SAME = {
     "plain": lambda text: text.encode(),
     "mark": lambda text: codecs.BOM_UTF8 + text.encode(),

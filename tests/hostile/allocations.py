@@ -120,7 +120,8 @@ def rows(program, workers, quick=False):
             _, more = asking.run(lines(" END 0").ljust(size + 1, b"*"))
             differ = [pair for pair in zip(less, more) if pair[0] != pair[1]]
             count.same("what a read of %d bytes asks for, and of one more" % size, (differ, len(more)), ([(size, size + 1)], len(less)))
-        # many steps: each list is doubled, nothing else is asked for, and nothing is asked for again where it was asked for before
+        # many steps: each list is doubled, nothing else is asked for, and nothing is asked for
+        # again where it was asked for before
         (_, _, _), asked = asking.run(LOOP + b"%%SCRIPT\nrun %d\n" % STEPS)
         after = asked[asked.index(CELLS) + 1:]
         wanted = [4 * RUN, *grown(UNIT, MOST, (STEPS - 1) + MOST)]

@@ -11,7 +11,8 @@ from running import Count, bundle, folder
 
 # Twice, and a tenth for what is done once and for the lengths of numbers.
 MOST = 2.2
-# Numbers in replies are longer after many changes: so many instructions more are let through, where one for each of the changes would be a million.
+# Numbers in replies are longer after many changes: so many instructions more are let through, where
+# one for each of the changes would be a million.
 MORE = 5000
 # (the fewer changes are enough that lists lie in memory as they do after many)
 FEW, MANY = 10000, 1000000

@@ -15,7 +15,8 @@ STEP_BYTES = KEPT * VALUE_BYTES + COUNT_BYTES
 MORE = 4 << 20  # beside the journal: the script, and what the process has anyway
 
 
-# A small process that runs the program: the memory of a child is counted from that of its parent on.
+# A small process that runs the program: the memory of a child is counted from that of its parent
+# on.
 CHILD = """
 import os, sys
 program, bundle, output = sys.argv[1:]

@@ -1,11 +1,12 @@
 /* In front of the C library's: the allocation of the number REFUSED_ALLOCATION is refused, REFUSED_COUNT of them in all (1), and the file
    REFUSED_TO is then there. The bytes of each that is asked for are written to the file ASKED_TO, a line each; each read and each write of standard
    output to the file CALLED_TO, with what it gave. A read gives READ_MOST bytes at most, and the one of the number READ_FAILS fails; a write of
-   standard output takes WRITE_MOST, and the one of the number WRITE_FAILS fails. */
+   standard output takes WRITE_MOST, and the one of the number WRITE_FAILS fails. Each file that is opened to be read or written is told to OPENED_TO. */
 #define _GNU_SOURCE
 #include <dlfcn.h>
 #include <errno.h>
 #include <fcntl.h>
+#include <stdarg.h>
 #include <stdio.h>
 #include <stdlib.h>
 #include <unistd.h>
@@ -80,10 +81,10 @@ static long given(const char *name, long other) {
     return number ? atol(number) : other;
 }
 
-/* Whether a call of this number fails: errno says so. */
+/* Whether a call of this number fails: errno is FAILS_AS then, or EIO. */
 static int fails(const char *name, long number) {
     if (number != given(name, 0)) return 0;
-    errno = EIO;
+    errno = given("FAILS_AS", EIO);
     return 1;
 }
 
@@ -108,4 +109,21 @@ ssize_t write(int to, const void *from, size_t size) {
     if (!fails("WRITE_FAILS", ++writes)) gave = ((Write)dlsym(RTLD_NEXT, "write"))(to, from, at_most("WRITE_MOST", size));
     called("write", gave);
     return gave;
+}
+
+typedef int (*Open)(const char *, int, int);
+
+int open(const char *name, int flags, ...) {
+    static int file = -2;
+    Open next = (Open)dlsym(RTLD_NEXT, "open");
+    va_list more;
+    va_start(more, flags);
+    int mode = flags & (O_CREAT | O_TMPFILE) ? va_arg(more, int) : 0;
+    va_end(more);
+    if (file == -2) {
+        const char *to = getenv("OPENED_TO");
+        file = to ? next(to, O_CREAT | O_WRONLY | O_APPEND | O_CLOEXEC, 0600) : -1;
+    }
+    if (file >= 0) dprintf(file, "%s %s\n", flags & O_CREAT ? "written" : "read", name);
+    return next(name, flags, mode);
 }

@@ -72,7 +72,8 @@ def calls(program, place, count):
         with open(told) as file:
             return (answer.stdout, answer.stderr, answer.returncode), file.read().splitlines()
 
-    # nothing is there to be read yet, and the writer is still there: it is no end, and to try again would be to wait
+    # nothing is there to be read yet, and the writer is still there: it is no end, and to try again
+    # would be to wait
     ours, theirs = os.pipe2(os.O_NONBLOCK)
     count.same("a read that would block", run(ours), ((b"", T2, 2), ["read -1"]))
     os.write(theirs, TEXT)
@@ -119,7 +120,8 @@ STEPS = b" HLT\n END 0\n%SCRIPT\nstep\n"
 NO_END = b"line 1: A13 no END\n"
 # The files of the plans below; the folder is one that a system opens, but that cannot be read.
 FILES = {"read.mixal": READS, "refused.mixal": b"", "step.txt": b"step\n", "card.deck": b"%UNIT 16\nA CARD\n"}
-# Words, standard input, and then the status, what is written and what is told of a fault of the tool.
+# Words, standard input, and then the status, what is written and what is told of a fault of the
+# tool.
 PLANS = [
     ("", STEPS, 0, b"ran 1 to 0001 clock 10: halt\n", b""),
     ("dap", b"Content-Length: 2\r\n", 2, b"", b"T7 input cut"),

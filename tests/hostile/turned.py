@@ -32,11 +32,13 @@ LISTED = [
     (lines(" ORIG 3995", " LDA =3=", " LDA =3=", " JMP NOWHERE", " END 0"), 1, lines("line 5: A11 location outside 0 to 3999")),
     (lines("X EQU 1", "X EQU 2", " END 0"), 1, lines("line 2: A4 defined twice"))]
 
-# A source, its listing, bytes a write, the number of the write that fails, and how many bytes have been written.
+# A source, its listing, bytes a write, the number of the write that fails, and how many bytes have
+# been written.
 FAILED_LISTS = [(MAXIMUM, MAXIMUM_LISTED, 1 << 20, 1, 0), (MAXIMUM, MAXIMUM_LISTED, 5, 2, 5), (MAXIMUM, MAXIMUM_LISTED, 100, 5, 400),
                 (INSERTED, INSERTED_LISTED, 1, 225, 224), (b"", NO_END, 1 << 20, 1, 0), (b"", NO_END, 1, 19, 18)]
 
-# The reads, of a byte each, that fail of the second source: one for each byte, and one that finds the end.
+# The reads, of a byte each, that fail of the second source: one for each byte, and one that finds
+# the end.
 FAILED_READS = (1, 2, 20, 24, 25)
 
 # Rows of each unit, out of the order of their numbers; a page mark; a row of blanks; a halt.
@@ -53,7 +55,8 @@ LAST = lines(" ORIG 3999", " NOP", " END 3999")
 # A program that comes to the cell of a literal, which is JMP 5, and so to a cell that no line gave.
 LITERAL = lines(" LDA =1310759=", " END 0")
 
-# Source, deck, cards, words; what is printed, and what is told after the source's name of its end, where that is no halt.
+# Source, deck, cards, words; what is printed, and what is told after the source's name of its end,
+# where that is no halt.
 COPIED = (COPY, CARDS, None, ["--steps", "1000000000000000000"], b"ONE\n\nTHREE\n", b"1: M11 no block at 0000 clock 9\n")
 PRINTED = [
     (FOUR, b"", None, ["--steps", "7"], b"  XY\nAB\n\f\n  XY\nAB\n", b""),

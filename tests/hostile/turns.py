@@ -16,7 +16,8 @@ from turned import COPY, COPIED, FAILED_LISTS, FAILED_READS, INSERTED, LISTED, P
 ALL = 1 << 20  # more bytes than any of these runs reads or writes
 SIZES = (1, 7, ALL)
 
-# Bundles, what each writes, and its status: short commands; the first example; a program that types; a program that reads cards, and its deck.
+# Bundles, what each writes, and its status: short commands; the first example; a program that
+# types; a program that reads cards, and its deck.
 BUNDLES = [
     (bundle(lines(" ENTA 5", " STA 9", " HLT", " END 0"), lines("step 9", "back 1")),
      lines("ran 3 to 0003 clock 13: halt", "back 1 to 0002 clock 3"), 0),

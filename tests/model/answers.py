@@ -6,7 +6,8 @@ from expressions import address, expression, w_value
 from lines import read_line
 from texts import Fault
 
-# Kind L, E, W or A; here a word; op (C, normal F) for A, else None; names with a word each; text bytes.
+# Kind L, E, W or A; here a word; op (C, normal F) for A, else None; names with a word each; text
+# bytes.
 Request = namedtuple("Request", "kind here op names text")
 
 

@@ -15,8 +15,8 @@ SOURCE_LINES = 20000
 CELLS = 4000
 TWO_BYTES = 4096
 
-# One word of the program. `made` is ("word", word), or ("instruction", operand, C) where the second pass makes it. `line` is
-# 0 for a word put in before END, whose text is `text`.
+# One word of the program. `made` is ("word", word), or ("instruction", operand, C) where the second
+# pass makes it. `line` is 0 for a word put in before END, whose text is `text`.
 Entry = namedtuple("Entry", "line place made text")
 # A future reference: the line where it stands, and the symbol, or the digit of a dF.
 Reference = namedtuple("Reference", "line key")

@@ -16,7 +16,8 @@ SYMBOL = 10  # characters of the longest
 WHOLE = 5  # the field (0:5)
 EIGHT = ("+", 8)
 
-# The A-part is ("value", word), a name to come as ("name", symbol) or ("ahead", d), or ("literal", what stands between the `=`).
+# The A-part is ("value", word), a name to come as ("name", symbol) or ("ahead", d), or ("literal",
+# what stands between the `=`).
 Operand = namedtuple("Operand", "a index f")
 
 

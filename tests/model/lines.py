@@ -7,8 +7,8 @@ from operations import TABLE
 from texts import Fault
 from words import code_of, joined
 
-# LOC is None, ("name", symbol) or ("local", d). OP is ("machine", C, normal F), ("equ",), ("orig",), ("con",), ("end",)
-# or ("alf", word), which has no ADDRESS.
+# LOC is None, ("name", symbol) or ("local", d). OP is ("machine", C, normal F), ("equ",),
+# ("orig",), ("con",), ("end",) or ("alf", word), which has no ADDRESS.
 Line = namedtuple("Line", "loc op address")
 
 BLANKS = b" \t"

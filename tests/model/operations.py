@@ -5,11 +5,13 @@ from collections import Counter, namedtuple
 from tables import rows
 from texts import Fault
 
-# The register is the one that the operation names, if it names one. The kind is what operations on several registers
-# share: LD for LDA, LD1 and so on. Time is in u; a transfer may have to wait, and takes longer then.
+# The register is the one that the operation names, if it names one. The kind is what operations on
+# several registers share: LD for LDA, LD1 and so on. Time is in u; a transfer may have to wait, and
+# takes longer then.
 Operation = namedtuple("Operation", "name kind register time")
 
-# In the order of the codes: 8 is LDA, 9 to 14 are LD1 to LD6, 15 is LDX, and the same from 16, 24, 40, 48 and 56 on.
+# In the order of the codes: 8 is LDA, 9 to 14 are LD1 to LD6, 15 is LDX, and the same from 16, 24,
+# 40, 48 and 56 on.
 REGISTERS = ["A", "I1", "I2", "I3", "I4", "I5", "I6", "X"]
 
 NEEDS_FIELD = set(range(1, 5)) | set(range(8, 34)) | set(range(56, 64))

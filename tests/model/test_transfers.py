@@ -60,7 +60,8 @@ conflict_is("altered", READER, at(0, IN, (2015, 0, 5, 24)), steps(2), (2015, 16,
 conflict_is("the cell after the card", READER, at(0, IN, (2016, 0, 5, 8)), steps(2), None)
 conflict_is("its address entered", READER, at(0, IN, (2001, 0, 2, 48)), steps(2), None)
 
-# The instruction within the block: the card is read over the cells that follow, whose words are +0 then, a NOP
+# The instruction within the block: the card is read over the cells that follow, whose words are +0
+# then, a NOP
 conflict_is("the instruction", [(16, 10, "\n")], at(1990, (1991, 0, 16, 36)), steps(2), (1991, 16, 11))
 conflict_is("an instruction that is printed", PRINTER, at(2000, OUT, NOP), steps(2), None)
 conflict_is("jumped to", READER, at(0, IN, (2000, 0, 0, 39)), steps(2), None)

@@ -77,7 +77,8 @@ for source, deck, script, count in [
         ([" JMP *", " END 0"], [], ["run 1000"], 3000), ([" JMP *", " END 0"], [], ["run 1000", "back 999"], 3),
         ([" ENTA 5", " INCA 7", " STA 100", " HLT", " END 0"], [], ["step 4", "back 3", "forth 2"], 10),
         ([" ENTA 5", " INCA 7", " STA 100", " HLT", " END 0"], [], ["step 4", "back 3", "forth 2", "set A 1"], 11),
-        # two for the step, and: a tape's block, `until`, place; a disk's; the old length where it grows; rows; places
+        # two for the step, and: a tape's block, `until`, place; a disk's; the old length where it
+        # grows; rows; places
         ([" OUT 100(1)", " OUT 100(1)", " IOC 0(1)", " OUT 100(1)", " END"], [], ["step 2"], 10),
         ([" OUT 100(1)", " OUT 100(1)", " IOC 0(1)", " OUT 100(1)", " END"], [], ["step 4"], 118),
         ([" OUT 100(9)", " OUT 200(9)", " IN 300(9)", " IOC 0(9)", " END"], [], ["step 4"], 4 + 103 + 103 + 3),

@@ -12,7 +12,8 @@ MOST = 1000  # blocks or rows of a list
 UNITS = 21
 CELLS = 4000
 
-# What a kind of unit can do: a medium (tapes and disks) is read and written, an input list is read, an output list is written.
+# What a kind of unit can do: a medium (tapes and disks) is read and written, an input list is read,
+# an output list is written.
 Kind = namedtuple("Kind", "name size medium input output")
 TAPE = Kind("tape", 100, True, False, False)
 DISK = Kind("disk", 100, True, False, False)
@@ -25,7 +26,8 @@ KINDS = [TAPE] * 8 + [DISK] * 8 + [READER, PUNCH, PRINTER, TYPEWRITER, PAPER_TAP
 
 PAGE = "page"  # a page mark among the rows of the printer
 
-# `blocks` is the medium or the input list, `rows` the output list; a block is a tuple of words. The unit is busy before the time `until`.
+# `blocks` is the medium or the input list, `rows` the output list; a block is a tuple of words. The
+# unit is busy before the time `until`.
 Unit = namedtuple("Unit", "place blocks rows delay until")
 EMPTY = Unit(0, (), (), 0, 0)
 

@@ -2,7 +2,8 @@
 
 from tables import rows
 
-# A word is a pair (sign, magnitude): the sign "+" or "-", the magnitude below 64^5. So +0 and -0 are two words.
+# A word is a pair (sign, magnitude): the sign "+" or "-", the magnitude below 64^5. So +0 and -0
+# are two words.
 FULL = 64**5
 ZERO = ("+", 0)
 

@@ -21,8 +21,9 @@ DELAY = "%DEVICES\n%UNIT 18 delay 50\n"
 FIRST = "Conflict: cell 2001 is altered while unit 18 prints it until 51. "
 SECOND = "Conflict: cell 2000 is altered while unit 18 prints it until 105. "
 TWO = [(2001, "unit 18 until 51"), (2000, "unit 18 until 105")]
-MARKED = """return [...document.querySelectorAll('#cell-rows .conflict')].map((row) => [Number(row.dataset.cell), row.lastChild.textContent.split(', ').pop(),
-    row.querySelector('.unseen').textContent.includes('conflict'), row.getBoundingClientRect().height > 0])"""
+MARKED = """const edge = (e) => e.getBoundingClientRect(); const [note, box] = ['cells-use', 'cells-box'].map((id) => document.getElementById(id));
+    return [...document.querySelectorAll('#cell-rows .conflict')].map((row) => [Number(row.dataset.cell), note.textContent.split(': ').pop(),
+    row.querySelector('.unseen').textContent.includes('conflict'), edge(note).height > 0 && edge(row).height > 0 && edge(row.lastChild).right <= edge(box).right])"""
 NAMED = "return document.getElementById('conflicts').labels[0].textContent.trim()"
 # A button, the command that is kept, how the status begins, and the cell that is marked with its use.
 WAYS = [

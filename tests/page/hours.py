@@ -164,7 +164,7 @@ def main(program, place, minutes, seed="1"):
     native, count = Native(program), Count()
     end = time.monotonic() + 60 * float(minutes)
     number, done = int(seed), 0
-    address = place if place.startswith("http:") else pathlib.Path(place).resolve().as_uri()
+    address = pathlib.Path(place).resolve().as_uri()
     while time.monotonic() < end:
         with Page(address) as page:
             try:

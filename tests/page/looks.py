@@ -2,6 +2,7 @@
 import json
 import pathlib
 import re
+import shutil
 import subprocess
 import time
 
@@ -15,18 +16,23 @@ CONTROLS = {"button", "textbox", "slider", "combobox", "link", "checkbox", "sear
 
 
 def modules(count):
-    """Each module of JavaScript by itself."""
-    for path in sorted([*PAGE.glob("*.js"), *HERE.glob("*.js"), *HERE.glob("*.mjs")]):
+    """Each module of JavaScript by itself, their types, and those that need no page."""
+    paths = sorted([*PAGE.glob("*.js"), *HERE.glob("*.js"), *HERE.glob("*.mjs")])
+    for path in paths:
+        lines = path.read_text().splitlines()
+        count.row(f"{path.name}: at most 250 lines, in the page of 120 letters", len(lines) <= 250 and (path.parent != PAGE or max(map(len, lines)) <= 120))
+    if shutil.which("tsc"):
+        ran = subprocess.run(["tsc", "-p", PAGE], capture_output=True, text=True)
+        count.row("types", ran.returncode == 0, ran.stdout[-2000:])
+        paths = [path for path in paths if path.parent != PAGE]
+    else:
+        print("not run: types, since tsc is missing")
+    for path in paths:
         ran = subprocess.run(["node", "--check", "--input-type=module"], input=path.read_bytes(), capture_output=True)
         count.row(f"node --check {path.name}", ran.returncode == 0, ran.stderr.decode())
-        count.row(f"{path.name}: at most 250 lines", len(path.read_text().splitlines()) <= 250)
-
-
-def tables(count):
-    """The operations of the page against those of the program, its colours against the samples of the editors."""
-    ran = subprocess.run(["node", HERE / "tables.mjs"], capture_output=True, text=True)
+    ran = subprocess.run(["node", HERE / "pure.mjs"], capture_output=True, text=True)
     passed = int((re.search(r"^(\d+) passed, 0 failed$", ran.stdout, re.M) or [0, 0])[1])
-    count.row("tables", ran.returncode == 0 and passed > 400, ran.stdout[-2000:] + ran.stderr[-2000:])
+    count.row("modules that need no page", ran.returncode == 0 and passed > 1000, ran.stdout[-2000:] + ran.stderr[-2000:])
 
 
 def narrow(page, native, count):

@@ -3,7 +3,8 @@
 
 import assert from "node:assert/strict";
 import { readFileSync } from "node:fs";
-import { EngineFault, Talking } from "./talking.js";
+import { framesOf } from "../../page/machine.js";
+import { Talking } from "./talking.js";
 
 const module = readFileSync(process.argv[2] || new URL("../../page/out/small.wasm", import.meta.url));
 const engine = await Talking.load(module);
@@ -15,12 +16,8 @@ const repl = (expression) => ["evaluate", { expression, context: "repl" }];
 let calls = 0;
 
 function talk(requests) {
-  const frames = requests.map(([command, given], index) => {
-    const body = JSON.stringify({ seq: index + 1, type: "request", command, arguments: given });
-    return `Content-Length: ${body.length}\r\n\r\n${body}`;
-  });
   calls += 1;
-  const { status, bytes, errors } = engine.talk(writer.encode(frames.join("")));
+  const { status, bytes, errors } = engine.talk(framesOf(requests));
   return { status, sent: reader.decode(bytes), told: reader.decode(errors) };
 }
 
@@ -104,7 +101,7 @@ for (let lines = 1000; lines <= 600000; lines *= 2) {
     if (answer.status === 2) none += 1;
     else assert.match(answer.sent, lines < 16000 ? /ran 5 to/ : /ran 5 to|line \d+: A\d+/);
   } catch (fault) {
-    assert.ok(fault instanceof EngineFault && fault.kind === "memory", String(fault));
+    assert.equal(fault.message, "T1 out of memory");
     none += 1;
   }
   right();

@@ -25,7 +25,7 @@ function answer(frames) {
   try {
     return engine.talk(frames);
   } catch (fault) {
-    return { status: 255, bytes: new Uint8Array(0), errors: new TextEncoder().encode(`${fault.kind}: ${fault.message}`) };
+    return { status: 255, bytes: new Uint8Array(0), errors: new TextEncoder().encode(fault.message) };
   }
 }
 

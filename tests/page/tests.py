@@ -38,7 +38,7 @@ WALKS = range(1, 13)
 def main(words):
     browser = OTHERS.get(words[0], Page)
     program, place, *only = words[browser is not Page:]
-    address = place if place.startswith("http:") else pathlib.Path(place).resolve().as_uri()
+    address = pathlib.Path(place).resolve().as_uri()
     native, count = Native(program), Count()
 
     def open_page(**given):
@@ -67,17 +67,14 @@ def main(words):
         with open_page() as page:
             test(page, native, count, *more)
             count.same(f"{test.__name__}: the browser complains of nothing", page.errors(), [])
-            if browser is Page and not place.startswith("http:"):
+            if browser is Page:
                 looks.alone(page, native, count)
 
     row("modules", lambda: looks.modules(count))
-    row("tables", lambda: looks.tables(count))
     for test in USES:
         if browser is Page or test not in IN_CHROMIUM:
             row(test.__name__, lambda test=test: one(test))
-    if place.startswith("http:"):
-        print("not run: memory, since this page has another engine than its own")
-    elif browser is not Page:
+    if browser is not Page:
         print("not run: memory, names, requests and pictures, which ask Chromium itself")
     else:
         row("memory", lambda: one(looks.memory))

@@ -117,7 +117,7 @@ def many_writes(page, native, count):
     for moment, number in ((6000, 6000), (100, 99), (total, 9000)):
         page.slide(moment)
         page.tap(page.driver.find_element(By.CSS_SELECTOR, "#register-rows tr[data-key='I1'] button"))
-        page.wait(lambda: page.all("#who-writes button"))
+        page.wait(lambda: page.script("return Boolean(document.querySelector('#who-writes button'))"))  # not found: that would scroll to it
         rows = page.script("return [...document.querySelectorAll('#who-writes button')].map(b => [b.textContent, b.getAttribute('aria-current')])")
         every = [2, *range(3, 9001, 3)]
         value = {2: (0, 1), **{n: (n // 3, n // 3 + 1) for n in every[1:]}}

@@ -63,6 +63,8 @@ def lessons(page, native, count, which):
         number = max(at for at, title in enumerate(titles) if title.startswith(f"{int(name[:2])}. "))
         page.lesson(number)
         count.row(f"{name}: notes beside the listing", page.one("notes-text").is_displayed() and len(page.text("notes-text")) > 200, page.text("notes-text"))
+        answer = page.script("const box = document.getElementById('answer'); return [box.open, box.querySelectorAll('p').length > 0, box.textContent.includes('`')]")
+        count.same(f"{name}: the answer is shut, and has no marks of Markdown", answer, [False, True, False])
         page.click("script-all")
         count.same(f"{name}: its script", page.replies(), native.bundle((TOP / "course" / name / "lesson.mixal").read_text()))
 

@@ -1,0 +1,35 @@
+// How the buttons become commands.
+
+import { STEPS } from "./sentence.js";
+
+// The commands that a button asks for, one after another, each perhaps with the text of the conflict at which it ends.
+// There are breakpoints at `cells`, and `filters` of exceptions, none or `conflict`: the engine says where one is met,
+// and what is kept are the steps. `over` is the cell behind the next instruction, `out` the one to which rJ leads.
+export async function* commandsOf(name, session, points) {
+  const { done, ahead } = session;
+  if (name === "step" || name === "beyond") yield [ahead > 0 ? "forth 1" : "step 1"];
+  if (name === "over" || name === "out") yield* runOf(session, { ...points, cells: [...points.cells, points[name]] });
+  if (name === "to-end" && ahead > 0) yield ["forth all"];
+  if (name === "back" && done > 0) yield ["back 1"];
+  if (name === "to-start" && done > 0) yield ["back all"];
+  if (name === "to-break" && done > 0) {
+    const end = await session.stop("reverseContinue", points);
+    yield [end.reason === "entry" ? "back all" : `back ${done - end.done}`, end.conflict];
+  }
+  if (name === "run") yield* runOf(session, points);
+}
+
+// Run does again what was taken back, up to a breakpoint, to a conflict, or to its end. Then it goes on, by one step
+// more where it stops at a fault, which is told then.
+async function* runOf(session, points) {
+  const { cells, filters } = points;
+  if (session.ahead > 0) {
+    const met = await session.next([...cells.map((cell) => `loc ${cell}`), ...filters]);
+    const before = met && filters.length > 0 ? await session.stop("reverseContinue", points, met) : {};
+    yield met ? [`forth ${met - session.done}`, before.done === met - 1 && before.conflict] : ["forth all"];
+    if (met || session.isHalted) return;
+  }
+  const isWatched = cells.length + filters.length > 0;
+  const end = isWatched ? await session.stop("continue", points) : { done: session.done + STEPS };
+  yield [`run ${end.done - session.done + (end.isFault ? 1 : 0)}`, end.conflict];
+}

@@ -1,0 +1,63 @@
+// What the parts of the page hand to each other, for `tsc -p page`: what the engine tells (docs/DAP.md), and what is made
+// of it.
+
+type App = import("./app.js").App;
+type Store = import("./store.js").Store;
+type Session = import("./session.js").Session;
+type Listing = import("./listing.js").Listing;
+type Memory = import("./memory.js").Memory;
+
+interface Word { word: string; number: string; characters: string }
+interface Cell extends Word { cell: number; text: string }
+interface Register extends Word { name: string }
+interface State {
+  done: number; ahead: number; location: number; clock: string; over: boolean; cmp: "L" | "E" | "G"; halted: boolean;
+  registers: Register[]; cells: Cell[]; altered: string[];
+}
+interface Item { part: string; what?: string; before: string; after: string; block?: number }
+interface Change { number: number; location: number; text: string; time: string; items: Item[] }
+interface Unit {
+  unit: number; kind: string; place: number; blocks: number; delay: string; until: string;
+  rows?: string[]; pages?: number[]; unread?: string[]; block?: Word[];
+}
+interface Write { number: number; before: any; after: any }
+interface Program { rows: { cell: number; instruction: boolean; line?: number }[]; symbols: { name: string; value: string; number: string }[]; start: number }
+interface Found { line: number; column?: number; endColumn?: number; severity: string; code: string; text: string }
+interface Answer { success: boolean; body: any; message?: string; stopped?: { reason: string; text: string } }
+type Asked = [command: string, given: object]; // a request
+
+interface Texts { source: string; deck: string; cards: string; apart: number }
+interface Conflict { text: string; cell: number; use: string }
+interface Logged { command: string; reply: string; slidFrom?: number }
+
+// A moment of the machine, as all parts are shown it.
+interface View {
+  state: State;
+  change: Change | null; // the last one that is done
+  times: Map<number, number>; // how often cells were executed
+  units: Unit[];
+  blocks: Map<string, Word[]>; // those that are shown, as "8 0"
+  wordIn: (cell: number) => { word: string; number: string; characters: string; text: string };
+  altered: Set<string>; // parts, by the last change
+  before: Map<string, string>; // what they held before it
+  conflict?: Conflict; // at which the run stopped
+  did?: string; // the sentence of the last change
+}
+
+interface Shown { answer: Answer | null; before: View | null; view: View; listing: Listing }
+
+// What a bundle holds, to be opened.
+interface Opened { source: string; deck: string; done: string[]; left: string[]; breaks: number[]; bars: string; shown: string[]; lesson: string }
+interface Lesson { group: string; name: string; title: string; bundle: string; notes: string; answer: string; solution?: string }
+
+declare const Engine: typeof import("./engine.js").Engine; // in the worker's program, which follows the engine's
+
+// What the page asks of elements that it has found, and what the library of tsc does not know yet.
+interface Window { CodeMirror: any }
+interface Element { hidden: boolean; title: string; offsetTop: number; offsetHeight: number; drawn?: string }
+interface ChildNode { getBoundingClientRect(): DOMRect }
+interface Node { contains(other: EventTarget | null): boolean }
+interface EventTarget { closest(selector: string): any }
+interface Array<T> { findLast(test: (item: T) => boolean): T | undefined }
+declare class CompressionStream { constructor(format: string); readable: ReadableStream; writable: WritableStream }
+declare class DecompressionStream { constructor(format: string); readable: ReadableStream; writable: WritableStream }

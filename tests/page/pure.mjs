@@ -1,0 +1,105 @@
+// The modules of the page that need no page: node tests/page/pure.mjs [SEED]. The last line counts.
+import { readFileSync } from "node:fs";
+import { bundleOf, cardsApart, openedOf, placeOf, scriptOf, withCards } from "../../page/bundle.js";
+import { Grammar } from "../../page/colours.js";
+import { CARD, CHARACTERS, OPERATIONS, PSEUDO, explained, filled, takeTables } from "../../page/operations.js";
+import { upTo } from "../../page/range.js";
+import { conflictOf, fieldOf, numberOf } from "../../page/sentence.js";
+import { bundleIn, fragmentOf } from "../../page/share.js";
+import { tooLarge } from "../../page/source.js";
+import { barsOf, stripOf, valuesOf } from "../../page/svg.js";
+
+const read = (name) => readFileSync(new URL(`../../${name}`, import.meta.url), "utf8");
+const SEED = Number(process.argv[2]) || Math.floor(Date.now() / 86400000);
+let [passed, failed, state] = [0, 0, SEED];
+
+function row(name, ...given) {
+  const [found, wanted] = given.map((each) => JSON.stringify(each));
+  if (found !== wanted) console.log(`FAILED ${name}: ${found}, and ${wanted} was wanted`);
+  [passed, failed] = found === wanted ? [passed + 1, failed] : [passed, failed + 1];
+}
+
+// Park and Miller's numbers, below a bound.
+function drawn(below) {
+  state = (state * 48271) % 2147483647;
+  return state % below;
+}
+const some = (most, make) => Array.from({ length: drawn(most + 1) }, make);
+
+// What the tables say of operations, of each with its register. They are compared with the program by tests/tables.
+takeTables(read("docs/operations.tsv"), read("docs/characters.tsv"));
+const known = [...OPERATIONS.values()].filter(({ name }) => ["ST6", "SRC", "J5NP"].includes(name)).map(({ name, code, f, register }) => [name, code, f, register]);
+row("operations: a register, and an F that names it", [OPERATIONS.size, PSEUDO.size, CHARACTERS.length, known], [144, 5, 56, [["SRC", 6, 5, ""], ["ST6", 30, null, "rI6"], ["J5NP", 45, 5, "rI5"]]]);
+for (const { name, sentence } of CARD) row(`operations: the sentence of ${name}`, /[{}]|undefined/.test(filled(sentence, {})), false);
+row("operations: at the pointer", explained("dec2"), "DEC2: rI2 becomes rI2 - M. C = 50, F = 1, 1 u.");
+
+// The first letters of a name that has this colour in the samples of the editors.
+const COLOURS = {
+  L: "entity.name.label", O: "support.function.operation", P: "keyword.control.directive", N: "constant.numeric", S: "variable.other", h: "variable.language.location",
+  o: "keyword.operator", p: "punctuation", '"': "string", r: "comment", m: "keyword.control.marker", u: "keyword.other.unit", c: "keyword.other.command", "!": "invalid", " ": "",
+};
+const grammar = new Grammar(JSON.parse(read("editors/vscode/syntaxes/mixal.tmLanguage.json")));
+for (const group of read("editors/samples.txt").split("\n\n")) {
+  const rows = group.split("\n").filter((line) => line.startsWith("|")).map((line) => line.slice(1));
+  let open = null;
+  for (let at = 0; at + 1 < rows.length; at += 2) {
+    const [line, wanted] = [rows[at], rows[at + 1].padEnd(rows[at].length)];
+    const { names, open: after } = grammar.line(line, open);
+    open = after;
+    const isRight = (name, sign) => (sign === " " ? /^(meta|$)/.test(name) : name.startsWith(COLOURS[sign]));
+    const wrong = [...line].filter((letter, column) => !" \t".includes(letter) && !isRight(names[column], wanted[column]));
+    row(`colours: ${line}`, wrong, []);
+  }
+}
+
+// A word that is shown is a number again, and so is each of its fields: bytes L to R, with the sign where L is 0.
+for (const [word, number] of [["+ 00 00 00 00 12", "12"], ["- 00 00 00 00 00", "-0"], ["+ 46 61", "3005"], ["- 63 63 63 63 63", "-1073741823"]]) row(`number of ${word}`, numberOf(word), number);
+for (let round = 0; round < 200; round += 1) {
+  const [sign, magnitude, left, right] = ["+-"[drawn(2)], drawn(64 ** 5), drawn(6), drawn(6)];
+  const bytes = [4, 3, 2, 1, 0].map((place) => String(Math.floor(magnitude / 64 ** place) % 64).padStart(2, "0"));
+  const first = Math.max(left, 1);
+  const value = first > right ? 0 : Math.floor(magnitude / 64 ** (5 - right)) % 64 ** (right - first + 1);
+  if (left <= right) row(`field (${left}:${right}) of ${sign}${magnitude}`, fieldOf([sign, ...bytes].join(" "), 8 * left + right), `${sign === "-" && left === 0 ? "-" : ""}${value}`);
+}
+row("a conflict", conflictOf("cell 2001 is altered while unit 18 prints it until 726"), { text: "cell 2001 is altered while unit 18 prints it until 726", cell: 2001, use: "unit 18 until 726" });
+row("cells of a range", [upTo(3, 5), upTo(3998, 5000), upTo(5, 4)], [[3, 4, 5], [3998, 3999], []]);
+
+// What is put together comes apart again: bundles, what the page keeps in them, cards, links.
+const lineOf = () => ["step 4", " LDA X", "", "* a remark", "%UNIT 19", "äöü", "X"][drawn(7)];
+const textOf = (lines) => lines.map((line) => `${line}\n`).join("");
+for (let round = 0; round < 200; round += 1) {
+  const [source, cards] = [textOf(some(5, lineOf)), textOf(some(3, () => ["5", "", "A CARD"][drawn(3)]))];
+  const done = some(4, () => ["step 4", "", "* mine"][drawn(3)]);
+  const kept = { left: some(2, () => "run 5"), breaks: some(3, () => 1 + drawn(99)), bars: ["", "KEY KEY+N number"][drawn(2)], shown: ["", "map no-words"][drawn(2)], lesson: ["", "05_a/b"][drawn(2)] };
+  const deck = textOf(some(4, () => ["%UNIT 19 delay 10", "B", ""][drawn(3)]));
+  const bundle = bundleOf({ source, deck, script: scriptOf({ done, ...kept }) });
+  const { shown, ...opened } = openedOf(bundle, false);
+  row("a bundle", opened, { source, deck, done, left: kept.left, breaks: kept.breaks, bars: kept.bars, lesson: kept.lesson });
+  row("a bundle: what is shown", shown.join(" "), kept.shown);
+  row("a bundle that waits", openedOf(bundle, true).left, [...done, ...kept.left]);
+  const whole = withCards(deck, cards);
+  row("cards apart from a deck", cardsApart(whole).cards, cards);
+  row("cards in their deck again", withCards(cardsApart(whole).deck, cards), whole);
+  row("a link", await bundleIn(await fragmentOf(bundle)), bundle);
+}
+const DECK = "%UNIT 19\nA\n%UNIT 16\nB\nC\n%UNIT 18\n";
+row("where lines of a deck are seen", [2, 4, 5, 6].map((line) => placeOf(DECK, line, 2)), ["Deck, line 2", "Card 1", "Card 2", "Deck, line 4"]);
+row("a link that holds too much", await bundleIn(await fragmentOf("x".repeat(4194305))).catch(({ message }) => message), "it holds more than 4,194,304 bytes");
+for (const [text, isLarge] of [["\n".repeat(20000), false], ["\n".repeat(20001), true], ["x".repeat(1048576), false], ["é".repeat(524289), true]]) row(`a source of ${text.length} letters`, tooLarge(text) !== "", isLarge);
+
+// The pictures, with elements that hold what they are given.
+const element = (name) => ({ name, given: {}, inside: [], setAttribute(key, value) { this.given[key] = value; }, append(...more) { this.inside.push(...more); } });
+globalThis.document = { createElementNS: (_, name) => element(name) };
+const within = (shape, name) => [...(shape.name === name ? [shape.given] : []), ...(shape.inside || []).flatMap((each) => within(each, name))];
+const bars = [4, -2, 0].map((value, at) => ({ cell: 10 + at, value, text: String(value), isWritten: at === 1, was: at === 1 ? 8 : value }));
+const heights = within(barsOf({ title: "", text: "", bars, arrows: [] }), "rect").map(({ height }) => height);
+row("bars: of 8 to -2 in 90 points, and a dashed one for what was", heights, [36, 18, 72, 0]);
+const strip = within(stripOf({ title: "", cells: [1], columns: [5, 5, -10, 0].map((value, moment) => ({ moment, values: [value] })), done: 1 }), "rect");
+row("strip: a box for each run of a value, and the moment", strip.map(({ x, width, "fill-opacity": dark }) => [x, width, dark]), [[0, 48, "0.5"], [48, 24, "1"], [24, 24, undefined]]);
+const writes = [{ number: 50, before: 0, after: 7 }, { number: 100, before: 7, after: 14 }];
+const curve = (isCut) => within(valuesOf({ title: "", text: "", writes, isCut, total: 100, done: 0 }), "path")[0].d;
+row("values: from the start to the end, or what is known", [curve([false, false]), curve([true, true])], ["M 4 76 H 244 V 41 H 484 V 6 H 484", "M 244 76 H 244 V 41 H 484 V 6"]);
+
+console.log(`seed ${SEED}`);
+console.log(`${passed} passed, ${failed} failed`);
+process.exit(failed ? 1 : 0);

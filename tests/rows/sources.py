@@ -1,0 +1,136 @@
+"""Kinds of rows of sources: their words, symbols and faults."""
+import os
+import pty
+import re
+import subprocess
+
+from faces import bytes_of, shown
+
+
+def of_each(item):
+    """A kind of rows with a source, and what is asked of it one by one."""
+    def answer(program, fields, _):
+        return " ".join(item(program, bytes_of(fields[0]), asked) for asked in fields[1].split(" "))
+    return answer
+
+
+def shown_code(program, source, place):
+    """The word of a cell; the number and the text of the line that put it there, or that text alone if END inserted it."""
+    line, = program.replies(source, [f"show code {place} {place}"])
+    return line[6:22], line[43:48].strip(), line[50:] if len(line) > 41 else None
+
+
+def lines(program, source, place):
+    _, number, text = shown_code(program, source, place)
+    if text is None:
+        return "none,"
+    if number:
+        return f"{number} {shown(text.encode('latin-1'))},"
+    return f"literal [{text[1:-1]}]," if text.startswith("=") else f"symbol [{text}],"
+
+
+def instructions(program, source, place):
+    """A cell that is not executed is counted if its line is an instruction."""
+    counted = [line[24:28] for line in program.replies(source, ["show counts"])[:-1]]
+    return "none," if shown_code(program, source, place)[2] is None else "yes," if f"{int(place):04d}" in counted else "no,"
+
+
+def words(program, source, place):
+    word, _, text = shown_code(program, source, place)
+    return "none," if text is None else word + ","
+
+
+def cells(program, source, line):
+    reply, *more = program.replies(source, [f"break line {line}", "show breaks"])
+    return str(int(more[0].split()[1])) if reply == "ok" else "none"
+
+
+def definitions(program, source, symbol):
+    """At a terminal `list` shows the lines around a definition, the last of them the fourth after it."""
+    listed = talk(program, source + b"\n*" * 9, f"list {symbol}")
+    numbers = re.findall(r"(?m)^(?:\(mixrev\) )? {0,4}(\d+)[> ] ", listed.rpartition("quit")[2])
+    return str(int(numbers[-1]) - 4) if numbers else "none"
+
+
+def talk(program, source, line):
+    ours, theirs = pty.openpty()
+    child = subprocess.Popen([program.path, "debug", program.file("s", source)], stdin=theirs, stdout=theirs, stderr=theirs, cwd=program.folder)
+    os.close(theirs)
+    os.write(ours, f"{line}\nquit\n".encode())
+    written = b""
+    while True:
+        try:
+            part = os.read(ours, 4096)
+        except OSError:
+            break
+        if not part:
+            break
+        written += part
+    child.wait()
+    os.close(ours)
+    return written.decode("latin-1").replace("\r\n", "\n")
+
+
+def symbols(program, fields, _):
+    listed = [line.split(maxsplit=1) for line in program.replies(bytes_of(fields[0]), ["show symbols"])[1:]]
+    return " ".join(f"[{name}] {word}," for name, word in listed)
+
+
+def values(program, source, symbol):
+    found = program.value(symbol, source)
+    return (found[0] if found else "none") + ","
+
+
+def full(program, fields, wanted):
+    """How many words and future references there are is not shown: the contract of `assemble` counts them by its definition."""
+    source = "".join((" ORIG 0\n" if at % 3999 == 0 else "") + " JMP X\n" for at in range(int(fields[0]))).encode() + b" END 0\n"
+    told = []
+    for place in fields[1].split(" "):
+        line = shown_code(program, source, place)[1]
+        told.append(f"{place} line {line} from {cells(program, source, line)}")
+    return ", ".join([*wanted.split(", ")[:2], *told])
+
+
+def program_of(program, fields, wanted):
+    """The words of a listing, each after its location, and the start at its END. How many future references there are no listing says: the contract of
+    `assemble` counts them by its definition."""
+    listed = program.run(["list", program.file("s", bytes_of(fields[0]))])[0].decode("latin-1").split("\n")
+    told = [f"{int(line[:4])} {line[6:22]}" for line in listed if re.match(r"\d{4}  [+-]", line)]
+    start = next(int(line[:4]) for line in listed if re.match(r"\d{4} {18}", line))
+    return ", ".join([*told, f"start {start}", wanted.split(", ")[-1]])
+
+
+def fault(program, source):
+    line = program.run(["list", program.file("s", source)])[0].decode().strip()
+    found = re.fullmatch(r"line \d+: (A(\d+) (.*))", line)
+    return f"{line}; {found[1]}; {found[2]}; {found[3]}" if found else "no fault"
+
+
+def long_source(fields):
+    return bytes_of(fields[0]) * int(fields[1]) + bytes_of(fields[2])
+
+
+def faults(program, source):
+    """A source whose first lines are too many or too long has no other fault."""
+    return [f"{it['line']} {it['code']}," for it in program.found(source) if it["severity"] == "error"]
+
+
+def many_faults(program, fields, _):
+    found = faults(program, long_source(fields))
+    return f"{len(found)} {found[-1]}"
+
+
+def diagnoses(program, fields, _):
+    """The symbol of a warning begins its text."""
+    def about(it):
+        return "" if it["severity"] == "error" else f" [{it['text'].split()[0] if it['code'] == 'undefined-symbol' else ''}]"
+    return " ".join(f"{it['line']} {it['code']}{about(it)}," for it in program.found(bytes_of(fields[0])))
+
+
+KINDS = {"assembler lines": of_each(lines), "assembler instructions": of_each(instructions), "assembler words": of_each(words), "assembler cells": of_each(cells),
+         "assembler definitions": of_each(definitions), "assembler values": of_each(values), "assembler symbols": symbols,
+         "assembler backs": of_each(lambda program, source, digit: values(program, source, digit + "B")), "assembler full": full,
+         "assembler program": program_of, "assembler fault": lambda program, fields, _: fault(program, bytes_of(fields[0])),
+         "assembler long": lambda program, fields, _: fault(program, long_source(fields)),
+         "assembler faults": lambda program, fields, _: " ".join(faults(program, bytes_of(fields[0]))), "assembler many faults": many_faults,
+         "assembler diagnoses": diagnoses}
