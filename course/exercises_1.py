@@ -65,11 +65,14 @@ def smallest_factors(draw, n):
 
 
 def last_man(draw, n):
-    """A division for each man takes some 25u in any way; a circle takes 4u for each step along it, so more than 5 of these for each man."""
-    m, men, at = draw.number(2 if n < 11 else 7, 12), list(range(1, n + 1)), 0
-    while len(men) > 1:
-        at = (at + m - 1) % len(men)
-        del men[at]
+    """A division for each man takes some 25u in any way; a circle takes 4u for each step along it, so more than 5 of these for each man. The last man of
+    many is another one than of few."""
+    men = []
+    while not men or n >= 11 and men[0] <= n // 2:
+        m, men, at = draw.number(2 if n < 11 else 7, 12), list(range(1, n + 1)), 0
+        while len(men) > 1:
+            at = (at + m - 1) % len(men)
+            del men[at]
     return Case({"N": n, "M": m}, men, ("LAST",), (f"clock <= {26 * n + 20}",))
 
 
@@ -188,7 +191,7 @@ EXERCISES = [
     Exercise("10_rotation", "The table of N entries from TABLE+1 on is rotated K positions to the right.",
              rotation, (2, 3, 7, 20), (("ENT2 K", "ENT2 K-1"),)),
     Exercise("11_maximum", "At the halt rA has the largest of the N entries from TABLE+1 on, and rX the smallest.",
-             extremes, (1, 2, 12, 40), (("JLE  NEXT", "JGE  NEXT"),)),
+             extremes, (1, 2, 12, 90), (("JLE  NEXT", "JGE  NEXT"),)),
     Exercise("12_sieve", "For each k from 2 to N, TABLE+k gets the smallest prime factor of k, or 0 if k is prime.",
              smallest_factors, (2, 130, 140, 110, 150), (("JANZ 1F", "JAZ  1F"),)),
     Exercise("13_josephus", "LAST gets the number of the last of N men, of whom every M-th leaves the circle.", last_man, (1, 2, 11, 24), (("INCX M", "INCX M-1"),)),

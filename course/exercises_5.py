@@ -31,7 +31,7 @@ def three_increments(draw, n):
             firsts += sum(one < min(part[:at]) for at, one in enumerate(part) if at)
         for at, part in enumerate(parts):
             table[at::h] = sorted(part)
-    return Case({"N": n, "data": keys}, sorted(keys), ("KEY+1 KEY+N",), (f"clock <= {32 + 14 * taken + 10 * moves - 3 * firsts}",))
+    return Case({"N": n, "data": keys}, sorted(keys), ("KEY+1 KEY+N",), (f"clock = {32 + 14 * taken + 10 * moves - 3 * firsts}",))
 
 
 def keys_in_order(draw, n):
@@ -58,7 +58,7 @@ def selected(draw, n):
 def keys_of_two_words(draw, n):
     high, low = [draw.number(1, 1 + n // 3) for _ in range(n)], draw.distinct(n, 1, 999)
     order = sorted(range(n), key=lambda at: (high[at], low[at]))
-    return Case({"N": n, "high": high, "low": low}, [at + 1 for at in order], ("ORDER+1 ORDER+N",), (f"clock <= {25 * n * n.bit_length()}",), steps=100000)
+    return Case({"N": n, "high": high, "low": low}, [at + 1 for at in order], ("ORDER+1 ORDER+N",), (f"clock <= {35 * n * n.bit_length()}",), steps=400000)
 
 
 def keys_in_table(draw, n):
@@ -74,12 +74,12 @@ def last_two_digits(draw, n):
     order = sorted(range(1, n + 1), key=lambda k: keys[k - 1][1:])
     links = dict(zip([0, *order], [*order, 0]))
     return Case({"N": n, "data": ["        CON  %d(3:3),%d(4:4),%d(5:5)" % key for key in keys]}, [links[k] for k in range(n + 1)], ("LINK LINK+N",),
-                (f"clock <= {34 * n + 600}",))
+                (f"clock <= {50 * n + 700}",))
 
 
 def two_at_once(draw, n):
     keys = draw.distinct(n, 1, 999)
-    wanted = draw.one_of([*keys, 1000])
+    wanted = 1000 if n in (2, 40) else draw.one_of(keys)
     place = keys.index(wanted) + 1 if wanted in keys else 0
     return Case({"N": n, "WANTED": wanted, "data": keys}, [place], ("I1",), (f"clock <= {18 + (7 * (n + 1 - place) + 1) // 2}",))
 
@@ -183,7 +183,7 @@ def sorted_cards(draw, n):
 EXERCISES = [
     Exercise("50_insertion", "The N words from KEY+1 on are sorted by bytes 4 and 5 alone; words that agree in them keep their order.",
              stable_words, (2, 3, 8, 30), (("JLE  PLACE", "JL   PLACE"),)),
-    Exercise("51_shell", "The N keys from KEY+1 on are sorted by the increments 7, 3 and 1.", three_increments, (16, 25, 40), (("CON  3", "CON  9"),)),
+    Exercise("51_shell", "The program of the lesson is kept, with the increments 7, 3 and 1. The N keys from KEY+1 on are sorted.", three_increments, (16, 25, 40), (("CON  3", "CON  9"),)),
     Exercise("52_bubble", "The N keys from KEY+1 on, at least two, are sorted by selection, with at most N-1 exchanges.", selected, (2, 3, 9, 40),
              (("JGE  2F", "JLE  2F"), ("ENT3 0,2", "ENT3 0,1"))),
     Exercise("53_quicksort", "The program of the lesson is kept. Its N and its data are your keys, in increasing order.", keys_in_order, (8,), (), put=False),
@@ -191,7 +191,7 @@ EXERCISES = [
     Exercise("56_list_merge", "The N keys from KEY+1 on stay there. LINK leads to the smallest of them, LINK+k from key k to the next, the last to 0. "
              "TABLE+1 to TABLE+N get the keys in their order.", keys_in_table, (2, 4, 8, 16), (("STA  TABLE,2", "STA  TABLE-1,2"),)),
     Exercise("57_list_merge_sort", "ORDER+1 to ORDER+N get the numbers of the keys in ascending order. Key k is the word at HIGH+k, and if these agree that at "
-             "LOW+k. No two keys are equal.", keys_of_two_words, (3, 5, 16, 90), (("CMPX LOW,2", "CMPA LOW,2"), ("JL   FIRST", "NOP  FIRST"))),
+             "LOW+k. No two keys are equal.", keys_of_two_words, (3, 5, 16, 250), (("CMPX LOW,2", "CMPA LOW,2"), ("JL   FIRST", "NOP  FIRST"))),
     Exercise("58_radix", "LINK leads to the smallest of the N keys by bytes 4 and 5 alone, LINK+k from key k to the next, the last to 0; keys that agree keep "
              "their order.", last_two_digits, (1, 2, 8, 60), (("CMP6 =P=", "CMP6 =P+1="),)),
     Exercise("60_sequential_search", "At the halt rI1 has the position of WANTED among the N keys from KEY+1 on, or 0 if it is not there.",

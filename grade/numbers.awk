@@ -1,12 +1,14 @@
 # Compares the numbers that `show values` and its replies have, in the order of `cells`, with those of the file `wanted`, and the clock, the steps and
-# the counts with the file `limits`. What is wrong first is said on standard error, and the status is 1.
-function wrong(reason) { print reason >"/dev/stderr"; failed = 1; exit 1 }
+# the counts with the file `limits`. What is wrong first is said on standard error, and the status is 1. All is read even then: a program whose reader
+# has gone ends by a failed write, and gets no verdict.
+function wrong(reason) { if (!failed) print reason >"/dev/stderr"; failed = 1 }
 function compare(place, number) {
   gsub(/ /, "", number)
   at++
   if ((getline line <wanted) <= 0 || number != line) wrong("number " at " is not what is wanted: " place " holds " number)
 }
 BEGIN { while ((getline line <cells) > 0) named[line] }
+failed { next }
 /^ran / {
   count["steps"] = $2
   count["clock"] = $6 + 0
@@ -34,4 +36,5 @@ END {
     if (!(word[2] == "<=" && found <= limit || word[2] == ">=" && found >= limit || word[2] == "=" && found == limit))
       wrong(word[1] " is " found ", and not " word[2] " " limit)
   }
+  exit failed
 }
