@@ -70,8 +70,15 @@ def left(page, native, count):
         page.click("step")
         seen.append((page.script(MARKED), *page.script(marks)))
     count.same("left: the lines and the bows", seen, [([2], [1], []), ([5], [2], ["bow down"]), ([6], [5], []), ([7], [6], []), ([3], [7], ["bow up"])])
-    ends = page.script("const at = (s) => document.querySelector(s).getBoundingClientRect(); const [bow, from, to] = [at('.bow'), at('.left .line'), at('.at .line')]; return [bow.top - (to.top + to.bottom) / 2, bow.bottom - (from.top + from.bottom) / 2, bow.left >= to.left - 2 && bow.right < to.left + 20]")
-    count.row("left: the bow leads from one to the other", abs(ends[0]) < 3 and abs(ends[1]) < 3 and ends[2], ends)
+    for width, button in ((1280, None), (1280, "columns"), (1024, None), (1024, "columns"), (700, None), (375, None)):
+        page.size(width, 800)
+        if button:
+            page.click(button)
+        page.click("back")
+        page.click("step")
+        ends = page.script("const at = (s) => document.querySelector(s).getBoundingClientRect(); const [bow, from, to] = [at('.bow'), at('.left .line'), at('.at .line')]; return [bow.top - (to.top + to.bottom) / 2, bow.bottom - (from.top + from.bottom) / 2, bow.left >= to.left - 2 && bow.right < to.left + 20]")
+        count.row(f"left: the bow leads from one to the other, {width} {button}", abs(ends[0]) < 3 and abs(ends[1]) < 3 and ends[2], ends)
+    page.size(1280, 900)
     page.slide(4)
     count.row("left: a jump back says what the moment is", page.told().startswith("1 change taken back") or "Taken back" in page.told(), page.told())
     page.slide(1)
@@ -182,6 +189,13 @@ def focus(page, native, count):
     count.same("focus: back from who wrote it", page.script(ACTIVE), "rA: who wrote it?")
     stops = page.script("return document.querySelectorAll('#cell-rows button[tabindex=\"0\"]').length")
     count.same("focus: one cell is a stop of the tab key", stops, 1)
+    page.script("const n = document.querySelector('#register-rows .number'); getSelection().selectAllChildren(n); n.click(); getSelection().removeAllRanges()")
+    page.idle()
+    count.same("focus: a number that is marked, to be copied, asks nothing", page.one("who").is_displayed(), False)
+    page.click("new")
+    page.leave()
+    page.idle()
+    count.same("focus: a new program is to be typed", page.script(ACTIVE), "text")
 
 
 def setting(page, native, count):
