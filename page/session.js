@@ -203,7 +203,7 @@ export class Session {
       const answers = await this.ask(ends.map((until) => ["mix/writes", { part, until }]), total);
       return answers.map(({ body }) => body.writes.reverse());
     };
-    const [before, all] = await writesUpTo([done, total]);
+    const [before, all = before] = await writesUpTo(done < total ? [done, total] : [done]);
     // Of those ahead the last are known; if these do not reach back to here, those of the next changes are asked for.
     const reaches = (writes) => writes.length < MOST_WRITES || writes[0].number <= done;
     const near = reaches(all) ? [] : await writesUpTo([done + MOST_WRITES, done + 32 * MOST_WRITES]);

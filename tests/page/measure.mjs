@@ -1,5 +1,6 @@
 // What the engine takes on this machine, in time and in memory: `node tests/page/measure.mjs [MODULE]`. Each session
-// launches a program and does a million steps, and then goes to moments among them, as the slider does.
+// launches a program and does a million steps, and then goes to moments among them, as the slider does. Times are those
+// of the processor.
 
 import { readFileSync } from "node:fs";
 import { Engine } from "../../page/engine.js";
@@ -20,12 +21,17 @@ function opening(name) {
   return [["initialize", {}], ["launch", { sourceText, stopOnEntry: true }], ["configurationDone", {}]];
 }
 
+function work() {
+  const { user, system } = process.cpuUsage();
+  return (user + system) / 1000;
+}
+
 // Milliseconds of an ask, in whose messages a text has to stand.
 function timed(engine, requests, wanted) {
   const frames = framesOf(requests);
-  const began = performance.now();
+  const began = work();
   const text = reader.decode(engine.ask(frames));
-  const took = performance.now() - began;
+  const took = work() - began;
   if (!text.includes(wanted)) throw new Error(text.slice(-300));
   return took;
 }
@@ -38,10 +44,10 @@ function show(what, times) {
 for (const name of ["tight", "subroutine", "move"]) {
   const engine = await Engine.load(bytes);
   const millions = (count) => {
-    const began = performance.now();
+    const began = work();
     engine.open();
     timed(engine, [...opening(name), ...Array(count).fill(run), ...looks], `ran ${MILLION} `);
-    return performance.now() - began;
+    return work() - began;
   };
   const memory = () => console.log(`${name}: ${(engine.memory / 1048576).toFixed(0)} MiB`);
   const look = (moment) => timed(engine, [repl(`goto ${moment}`), ...looks, ["mix/change", { number: Math.max(1, moment) }]], "mix/state");
