@@ -86,7 +86,8 @@ def sort(page, native, count):
         heights = [height for _, _, height, _ in shown]
         if any(abs(height / max(heights) - key / max(keys)) > 0.01 for height, key in zip(heights, keys)):
             count.row(f"bars: heights as the keys at {moment}", False, (heights, keys))
-        # `LAST,1` and `LAST,2`, LAST being the cell behind the keys: the first instructions that use a key by these registers.
+        # `LAST,1` and `LAST,2`, LAST being the cell behind the keys: the first instructions that
+        # use a key by these registers.
         numbers, arrows = index_numbers(page), dict(page.script(ARROWS))
         places = {int(cell): float(x) for cell, x in page.script(PLACES)}
         for name in ("I1", "I2"):

@@ -3,8 +3,9 @@ its unit is busy for the delay after it."""
 from repairs import commands
 from uses import kept, natively
 
-# The OUT is over at 1, so the line is printed until 51. Change 4 begins at 3 and alters a cell of it; change 5 alters the cell behind it. The JBUS is
-# executed at 7 to 51, by changes 6 to 50, and change 51 is right. The second OUT is over at 55, and change 53 begins then; change 54 is the HLT.
+# The OUT is over at 1, so the line is printed until 51. Change 4 begins at 3 and alters a cell of
+# it; change 5 alters the cell behind it. The JBUS is executed at 7 to 51, by changes 6 to 50, and
+# change 51 is right. The second OUT is over at 55, and change 53 begins then; change 54 is the HLT.
 LINE = """ OUT 2000(18)
  ENTA 5
  ENT1 1
@@ -25,7 +26,8 @@ MARKED = """const edge = (e) => e.getBoundingClientRect(); const [note, box] = [
     return [...document.querySelectorAll('#cell-rows .conflict')].map((row) => [Number(row.dataset.cell), note.textContent.split(': ').pop(),
     row.querySelector('.unseen').textContent.includes('conflict'), edge(note).height > 0 && edge(row).height > 0 && edge(row.lastChild).right <= edge(box).right])"""
 NAMED = "return document.getElementById('conflicts').labels[0].textContent.trim()"
-# A button, the command that is kept, how the status begins, and the cell that is marked with its use.
+# A button, the command that is kept, how the status begins, and the cell that is marked with its
+# use.
 WAYS = [
     ("run", "run 4", FIRST, TWO[0]), ("run", "run 49", SECOND, TWO[1]), ("run", "run 1", "Halted after 54 changes", None),
     ("to-break", "back 2", SECOND + "2 changes taken back.", TWO[1]), ("step", "forth 1", "Did 9 STZ 2000:", None), ("to-break", "back 1", SECOND + "Taken back: 9 STZ 2000:", TWO[1]),

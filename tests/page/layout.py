@@ -3,8 +3,8 @@ is asked what stands at that place."""
 from selenium.webdriver.common.by import By
 
 SIZES = ((1280, 720), (1280, 800), (1440, 900), (1920, 1080), (1024, 768), (960, 600), (768, 1024), (375, 667), (320, 568), (640, 360))
-# Scrolls what a person can scroll, boxes with a scroll bar and the page, until the foot of an element is seen; then whether the element is what is
-# there.
+# Scrolls what a person can scroll, boxes with a scroll bar and the page, until the foot of an
+# element is seen; then whether the element is what is there.
 REACHED = """const element = arguments[0];
 const hides = (box) => /auto|scroll/.test(getComputedStyle(box).overflowY) && box.scrollHeight > box.clientHeight;
 for (let box = element.parentElement; box && box !== document.body; box = box.parentElement) {

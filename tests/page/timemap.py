@@ -6,7 +6,8 @@ from kept import SENT
 from selenium.webdriver.common.by import By
 from selenium.webdriver.common.keys import Keys
 
-# Three times through a loop of two lines; a row is printed each time. Each line that is executed is a change: ENT1, then OUT, DEC1, J1P three times, HLT.
+# Three times through a loop of two lines; a row is printed each time. Each line that is executed is
+# a change: ENT1, then OUT, DEC1, J1P three times, HLT.
 SOURCE = """LINE EQU 100
  ORIG 3000
 START ENT1 3

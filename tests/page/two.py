@@ -2,7 +2,8 @@
 from repairs import commands
 from uses import natively
 
-# The first character of a card, A = 1 or B = 2, and one more to cell 200; the card is printed. Six changes.
+# The first character of a card, A = 1 or B = 2, and one more to cell 200; the card is printed. Six
+# changes.
 FIRST = """START IN 100(16)
  LDA 100(1:1)
  INCA 1
