@@ -21,7 +21,7 @@ def stable_words(draw, n):
 
 def three_increments(draw, n):
     """The clock by the times in square brackets: each pass moves a key once for each larger one before it in its part."""
-    keys = draw.distinct(n, 1, 999)
+    keys = draw.distinct(n, 10, 999)
     table, taken, moves, firsts = list(keys), 0, 0, 0
     for h in (7, 3, 1):
         parts = [table[at::h] for at in range(h)]

@@ -15,7 +15,7 @@ let [passed, failed, state] = [0, 0, SEED];
 
 function row(name, ...given) {
   const [found, wanted] = given.map((each) => JSON.stringify(each));
-  if (found !== wanted) console.log(`FAILED ${name}: ${found}, and ${wanted} was wanted`);
+  if (found !== wanted) console.log(`FAILED ${name}: ${found}, and ${wanted} was wanted`.slice(0, 1000));
   [passed, failed] = found === wanted ? [passed + 1, failed] : [passed, failed + 1];
 }
 
