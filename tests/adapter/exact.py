@@ -75,7 +75,11 @@ VIEWS = [
     ("mix/state", {}, '"ahead":0,"altered":[],"cells":[],"clock":"0","cmp":"E","done":0,"halted":false,"location":0,"over":false'),
     ("mix/units", {}, '"kind":"card reader","place":0,"unit":16,"unread":["FIRST"," SECOND"]'),
     ("mix/units", {"unit": 16, "block": 1}, '"block":[{"characters":" SECO","number":'),
+    # a step that is told and not done
+    ("mix/next", {}, '"body":{"items":[{"after":"+ 00 00 00 00 05","before":"+ 00 00 00 00 00","part":"A"}],"location":0,"number":1,"text":"ENTA 5","time":"1"}'),
+    ("mix/state", {}, '"done":0,"halted":false,"location":0'),
     ("next", {}, '"reason":"step"'), ("next", {}, '"reason":"step"'), ("next", {}, '"reason":"step"'),
+    ("mix/next", {}, '"body":{"items":[],"location":3,"number":4,"text":"HLT","time":"10"}'),
     ("mix/state", {"cells": [[100, 100]]}, '"altered":["loc","clock","cell 100"],"cells":[{"cell":100,"characters":"    K","number":"12",'
      '"text":"LD4 0(0:0)","word":"+ 00 00 00 00 12"}],"clock":"4"'),
     ("mix/state", {"nonzero": True}, '"registers":[{"characters":"    K","name":"A","number":"12","word":"+ 00 00 00 00 12"}'),
@@ -150,7 +154,11 @@ VIEWS = [
     ("completions", {"text": "set A a", "column": 8}, '"body":{"targets":[{"label":"A","length":1,"start":7}]}'),
     # a text where a number is due, a number where a text is, and each as it is to be
     ("setVariable", {"variablesReference": "1", "name": "A", "value": "1"}, '"id":302'), ("setVariable", {"variablesReference": 1, "name": 1, "value": "1"}, '"id":302'),
-    ("setVariable", {"variablesReference": 1, "name": "A", "value": "1"}, '"success":true')]
+    ("setVariable", {"variablesReference": 1, "name": "A", "value": "1"}, '"success":true'),
+    # a step from a state that was set, and one that would be refused
+    ("mix/next", {}, '"body":{"items":[{"after":"+ 00 00 00 00 08","before":"+ 00 00 00 00 01","part":"A"}],"location":1,'),
+    ("setExpression", {"expression": "cell 1", "value": "197"}, '"success":true'),
+    ("mix/next", {}, '"body":{"description":"no such operation","exceptionId":"M1","location":1,')]
 
 # Requests with an argument that is missing or is something else, and the name of the first one.
 LINE_3 = {"breakpoints": [{"line": 3}]}

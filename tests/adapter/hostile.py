@@ -21,8 +21,7 @@ import schema
 from client import Count
 from frames import Untold, commands, frame, heard, request
 
-import parts  # of tests/model/
-import bundle as model
+import bundle as model  # of tests/model/
 
 SOURCE = os.path.join(HERE, "programs", "calls.mixal")
 TALK = [("initialize", {"adapterID": "mixrev", "linesStartAt1": True}), ("launch", {"program": SOURCE, "stopOnEntry": True}), ("configurationDone", {}),
@@ -137,7 +136,6 @@ def main():
     words.add_argument("--seed", default="0")
     words.add_argument("command", nargs="+")
     given = words.parse_args()
-    parts.only("all")
     count, compared = Count(), 0
     whole = b"".join(map(frame, BODIES + ENDING))
     cuts = range(len(whole) + 1)
