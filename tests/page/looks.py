@@ -30,7 +30,7 @@ def modules(count):
     for path in paths:
         ran = subprocess.run(["node", "--check", "--input-type=module"], input=path.read_bytes(), capture_output=True)
         count.row(f"node --check {path.name}", ran.returncode == 0, ran.stderr.decode())
-    ran = subprocess.run(["node", HERE / "pure.mjs"], capture_output=True, text=True)
+    ran = subprocess.run(["node", "--experimental-default-type=module", HERE / "pure.mjs"], capture_output=True, text=True)
     passed = int((re.search(r"^(\d+) passed, 0 failed$", ran.stdout, re.M) or [0, 0])[1])
     count.row("modules that need no page", ran.returncode == 0 and passed > 1000, ran.stdout[-2000:] + ran.stderr[-2000:])
 
