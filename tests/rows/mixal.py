@@ -123,13 +123,9 @@ def parts(program, fields, wanted):
 
 
 def part_fault_span(program, op, fields, wanted):
-    """If the whole ADDRESS is marked, it is seen that there is a fault, and no more."""
     text = b" %s %s" % (op, bytes_of(fields[0]))
-    begin = len(op) + 2
     found = first_fault(program, KNOWN + text + END, 4)
-    if not found or found["code"] not in OF_ADDRESS:
-        return "none"
-    return wanted if wanted != "none" and is_marked(text, found, begin, len(text)) else marks(text, found, wanted, begin)
+    return marks(text, found, wanted, len(op) + 2) if found and found["code"] in OF_ADDRESS else "none"
 
 
 KINDS = {"mixal line": line, "mixal long line": long_line, "mixal line with each byte": with_each_byte, "mixal ALF of each": alf_of_each, "span fault": fault_span,

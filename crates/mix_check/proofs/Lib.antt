@@ -1,2 +1,1 @@
-mod ReportLemmas
-mod ShownLemmas
+mod LineLemmas

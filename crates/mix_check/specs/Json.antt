@@ -51,7 +51,7 @@ meaning (AWarning warning) help = utf8_lossy (warning_subject warning ++ warning
 
 -- the text of a diagnostic of a source, with what helps to mend it
 abbrev pub meaning_of : List ℕ → Diagnostic → List ℕ
-meaning_of source d = meaning d.finding (help_of source d.line d.finding (shown_of source d))
+meaning_of source d = meaning d.finding (help_of source d)
 
 abbrev pub place_members : List ℕ → ℕ → Option Columns → List Token
 place_members name line columns =
@@ -71,7 +71,7 @@ json_line name d columns help = print (begin_object ∷ members name d columns h
 
 unfoldable pub json_diagnostic : List ℕ → List ℕ → Diagnostic → List ℕ
 json_diagnostic name source d =
-    json_line name d (option_map columns_of (shown_of source d)) (help_of source d.line d.finding (shown_of source d))
+    json_line name d (option_map columns_of (shown_of source d)) (help_of source d)
 
 -- ---- a source
 

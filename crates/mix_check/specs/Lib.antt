@@ -1,3 +1,4 @@
+pub mod Checked
 pub mod Foreign
 pub mod Help
 pub mod Json

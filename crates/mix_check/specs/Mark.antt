@@ -1,7 +1,8 @@
 -- How a line of a source is shown: the column of a byte, the line without control bytes, and a mark under some of its bytes.
-use Rattle.std.specs.Prelude.{ℕ, ◌+◌, ◌*◌, ◌-◌, ◌/◌, ◌==◌, ◌&&◌, ◌||◌, nat_lt, nat_le, Bool, List, [], ◌∷◌, ◌++◌, take, drop, if◌then◌else◌}
-use Rattle.mixal_text.specs.declared.span.Span.{Span}
-use Rattle.mixal_text.specs.Span.{is_new}
+use Rattle.std.specs.Prelude.{ℕ, ◌+◌, ◌*◌, ◌/◌, ◌==◌, ◌&&◌, ◌||◌, nat_lt, nat_le, Bool, List, [], ◌∷◌, ◌++◌, take, drop, if◌then◌else◌}
+use Rattle.mixal_text.specs.declared.misread.Span.{Span}
+use Rattle.mixal_text.specs.Parts.{is_new}
+use Rattle.mix_check.specs.Place.{bytes_at}
 
 -- ---- columns
 
@@ -48,7 +49,7 @@ signs_below sign (byte ∷ rest) = sign_below sign byte ++ signs_below sign rest
 -- the line below, with a mark under a span, or where that is empty under the place where it would be
 abbrev pub mark_below : List ℕ → Span → List ℕ
 mark_below line span =
-    signs_below 32 (take span.from line) ++ (94 ∷ (signs_below 94 (drop 1 (take (span.to - span.from) (drop span.from line))) ++ 10 ∷ []))
+    signs_below 32 (take span.from line) ++ (94 ∷ (signs_below 94 (drop 1 (bytes_at line span)) ++ 10 ∷ []))
 
 -- the line, and the mark below
 unfoldable pub marked : List ℕ → Span → List ℕ

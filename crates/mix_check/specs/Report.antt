@@ -39,7 +39,7 @@ with_shown name d help (Some place) =
     headline name d (Some (column_after (take place.1.from place.0))) help ++ marked place.0 place.1
 
 unfoldable pub diagnostic_text : List ℕ → List ℕ → Diagnostic → List ℕ
-diagnostic_text name source d = with_shown name d (help_of source d.line d.finding (shown_of source d)) (shown_of source d)
+diagnostic_text name source d = with_shown name d (help_of source d) (shown_of source d)
 
 -- ---- a source
 

@@ -1,77 +1,85 @@
 //! What is said after the text of a fault: what it is about, and what is allowed.
 
-ghost use Rattle.std.specs.Prelude.{◌≡◌, ◌≤◌, ◌++◌, IfOk, IfSome, List, OnOk, length, option_map, ℕ};
-ghost use Rattle.std.specs.Map.{lookup};
-ghost use Rattle.std.specs.Str.{bytes_eq};
-ghost use Rattle.mix_check.specs.Later.{line_of_symbol};
-ghost use Rattle.mix_check.specs.Help.{address_of, fault_help, help_of, or_piece, piece_of, piece_text, rule_text, subject, text_rule, text_subject};
+ghost use Rattle.std.specs.Prelude.{◌≡◌, ◌++◌, IfOk, OnOk, option_map};
+ghost use Rattle.mix_check.specs.Help.{finding_help, help_of, kind_help, misread_help, or_piece, piece_text, subject, text_help, text_rule};
+ghost use Rattle.mix_check.specs.Place.{piece_of, shown_of};
 
+use crate::checked::{Checked, piece_of};
 use crate::foreign::foreign_text;
-use crate::later::{late_help, twice_help};
+use crate::later::{late_help, late_rule, twice_help};
 use crate::mark::add_shown;
-use indexmap::IndexMap;
 use mixal_asm::{AsmKind, Diagnostic, Finding};
-use mixal_text::{Part, Span, Symbol, TextFault, part_span};
+use mixal_text::{Span, TextFault};
 use std::alloc::{AllocError, Global};
 
-/// What is said after the text of a fault, by what is shown of its line, and by the lines that define symbols.
+/// What is said after the text of a fault of a source, by what is shown of its line. A warning says all by itself.
 #[tactic(auto, unfolding(crate::specs::Help::help_of))]
 pub(crate) fn help_of(
     alloc: Global,
-    source: &[u8],
-    definitions: &IndexMap<Symbol, u32>,
+    source: &Checked<'_>,
     diagnostic: &Diagnostic,
     place: Option<(&[u8], Span)>,
 ) -> Result<Vec<u8>, AllocError>
-    requires order { IfSome place (λ p. p.1.from ≤ p.1.to) }
-    requires within { IfSome place (λ p. p.1.to ≤ length p.0.now) }
-    requires known { (name : List ℕ) → lookup (bytes_eq name) definitions.now.entries ≡ line_of_symbol source.now name }
-    ensures { IfOk result (λ help. help.items ≡ help_of source.now diagnostic.now.line diagnostic.now.finding (option_map (λ p. (p.0.now, p.1)) place.entry)) }
+    requires { option_map (λ p. (p.0.now, p.1)) place ≡ shown_of source.now diagnostic.now }
+    ensures { IfOk result (λ help. help.items ≡ help_of source.now diagnostic.now) }
 {
-    let line = diagnostic.line;
+    let piece = piece_of(place);
     match &diagnostic.finding {
-        Finding::Fault(AsmKind::Text(TextFault::UndefinedSymbol)) => {
-            late_help(alloc, source, definitions, line, address_of(place))
-        }
-        Finding::Fault(AsmKind::DefinedTwice) => {
-            twice_help(alloc, source, definitions, piece_of(place))
-        }
-        Finding::Fault(kind) => fault_help(alloc, *kind, piece_of(place)),
+        Finding::Fault(kind) => kind_help(alloc, source, diagnostic.line, *kind, piece),
         Finding::Warning(_) => Ok(Vec::new(alloc)),
     }
 }
 
-// The bytes that are marked, or none.
-fn piece_of<'s>(place: Option<(&'s [u8], Span)>) -> &'s [u8]
-    requires order { IfSome place (λ p. p.1.from ≤ p.1.to) }
-    requires within { IfSome place (λ p. p.1.to ≤ length p.0.now) }
-    ensures { result.now ≡ piece_of (option_map (λ p. (p.0.now, p.1)) place.entry) }
+// What is said at a line, by the bytes that are marked.
+fn kind_help(
+    alloc: Global,
+    source: &Checked<'_>,
+    line: u32,
+    kind: AsmKind,
+    piece: &[u8],
+) -> Result<Vec<u8>, AllocError>
+    ensures { IfOk result (λ help. help.items ≡ kind_help source.now line kind piece.now) }
 {
-    match place {
-        Some((line, span)) => &line[span.from..span.to],
-        None => &[],
+    match kind {
+        AsmKind::Text(misread) => misread_help(alloc, source, line, misread.fault, piece),
+        AsmKind::Inserted(fault) => text_help(alloc, fault, piece),
+        AsmKind::DefinedTwice => twice_help(alloc, source, piece),
+        AsmKind::AddressTooLarge => copied(alloc, ": it is -4095 to 4095"),
+        AsmKind::NoEnd => copied(alloc, ": the last line of a program is END"),
+        AsmKind::SourceTooLong => copied(alloc, ": at most 20000 lines and 1048576 bytes"),
+        AsmKind::LocationOutOfRange | AsmKind::StartOutOfRange => Ok(Vec::new(alloc)),
     }
 }
 
-// The ADDRESS of the line, or none.
-fn address_of<'s>(place: Option<(&'s [u8], Span)>) -> &'s [u8]
-    ensures { result.now ≡ address_of (option_map (λ p. (p.0.now, p.1)) place.entry) }
+fn misread_help(
+    alloc: Global,
+    source: &Checked<'_>,
+    line: u32,
+    fault: TextFault,
+    piece: &[u8],
+) -> Result<Vec<u8>, AllocError>
+    ensures { IfOk result (λ help. help.items ≡ misread_help source.now line fault piece.now) }
 {
-    match place {
-        Some((line, _)) => {
-            let span = part_span(line, Part::Address);
-            &line[span.from..span.to]
-        }
-        None => &[],
+    match fault {
+        TextFault::UndefinedSymbol => late_help(alloc, source, line, piece),
+        _ => text_help(alloc, fault, piece),
     }
 }
 
-fn fault_help(alloc: Global, kind: AsmKind, piece: &[u8]) -> Result<Vec<u8>, AllocError>
-    ensures { IfOk result (λ help. help.items ≡ fault_help kind piece.now) }
+fn text_help(alloc: Global, fault: TextFault, piece: &[u8]) -> Result<Vec<u8>, AllocError>
+    ensures { IfOk result (λ help. help.items ≡ text_help fault piece.now) }
 {
     let mut help = Vec::new(alloc);
-    add_subject(&mut help, kind, piece)?;
-    help.extend_from_slice(rule_text(kind).as_bytes())?;
+    add_subject(&mut help, fault, piece)?;
+    help.extend_from_slice(text_rule(fault).as_bytes())?;
+    Ok(help)
+}
+
+fn copied(alloc: Global, text: &str) -> Result<Vec<u8>, AllocError>
+    ensures { IfOk result (λ help. help.items ≡ text.now) }
+{
+    let mut help = Vec::new(alloc);
+    help.extend_from_slice(text.as_bytes())?;
     Ok(help)
 }
 
@@ -99,17 +107,8 @@ fn add_known(help: &mut Vec<u8>, known: &'static str, piece: &[u8]) -> Result<()
 }
 
 // Appends what a fault is about.
-fn add_subject(help: &mut Vec<u8>, kind: AsmKind, piece: &[u8]) -> Result<(), AllocError>
-    ensures { OnOk result (help.new.items ≡ help.old.items ++ subject kind piece.now) }
-{
-    match kind {
-        AsmKind::Text(fault) => add_text_subject(help, fault, piece),
-        _ => Ok(()),
-    }
-}
-
-fn add_text_subject(help: &mut Vec<u8>, fault: TextFault, piece: &[u8]) -> Result<(), AllocError>
-    ensures { OnOk result (help.new.items ≡ help.old.items ++ text_subject fault piece.now) }
+fn add_subject(help: &mut Vec<u8>, fault: TextFault, piece: &[u8]) -> Result<(), AllocError>
+    ensures { OnOk result (help.new.items ≡ help.old.items ++ subject fault piece.now) }
 {
     match fault {
         TextFault::BadByte => add_known(help, foreign_text(piece), piece),
@@ -122,18 +121,6 @@ fn add_text_subject(help: &mut Vec<u8>, fault: TextFault, piece: &[u8]) -> Resul
 }
 
 // What is allowed where a fault is, if its text does not say so.
-fn rule_text(kind: AsmKind) -> &'static str
-    ensures { result.now ≡ rule_text kind }
-{
-    match kind {
-        AsmKind::Text(fault) => text_rule(fault),
-        AsmKind::AddressTooLarge => ": it is -4095 to 4095",
-        AsmKind::NoEnd => ": the last line of a program is END",
-        AsmKind::SourceTooLong => ": at most 20000 lines and 1048576 bytes",
-        AsmKind::DefinedTwice | AsmKind::LocationOutOfRange | AsmKind::StartOutOfRange => "",
-    }
-}
-
 fn text_rule(fault: TextFault) -> &'static str
     ensures { result.now ≡ text_rule fault }
 {
@@ -150,9 +137,7 @@ fn text_rule(fault: TextFault) -> &'static str
         TextFault::NoSuchLocalSymbol => {
             ": for a dB the LOC of a line before is dH, and for a dF that of a line after it"
         }
-        TextFault::BadByte
-        | TextFault::NoSuchOperation
-        | TextFault::BadExpression
-        | TextFault::UndefinedSymbol => "",
+        TextFault::UndefinedSymbol => late_rule(),
+        TextFault::BadByte | TextFault::NoSuchOperation | TextFault::BadExpression => "",
     }
 }

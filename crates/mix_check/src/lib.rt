@@ -2,16 +2,16 @@
 //! and a mark; or as one JSON object a line.
 #![tactic(auto)]
 
+mod checked;
 mod foreign;
 mod help;
 mod later;
 mod mark;
 mod objects;
-mod place;
 mod report;
-mod span;
 mod values;
 
+pub use checked::Checked;
 pub use objects::add_json_report;
 pub use report::add_report;
-pub use values::{code, columns, meaning, severity};
+pub use values::{code, severity};

@@ -1,9 +1,10 @@
 //! How a line of a source is shown: the column of a byte, the line without control bytes, and a mark under some of its bytes.
 
 ghost use Rattle.std.specs.Prelude.{◌≡◌, ◌<◌, ◌≤◌, ◌+◌, ◌^◌, ◌++◌, OnOk, drop, length};
-ghost use Rattle.mixal_text.specs.Span.{is_new};
+ghost use Rattle.mixal_text.specs.Parts.{is_new};
 ghost use Rattle.mix_check.specs.Mark.{column_after, is_control, mark_below, marked, place_after, shown, shown_byte, sign_below, signs_below};
 
+use crate::checked::{before, bytes_at};
 use mixal_text::Span;
 use std::alloc::AllocError;
 
@@ -47,8 +48,6 @@ fn is_new(byte: u8) -> bool
 /// Appends a line, and below it a mark under some of its bytes. Control characters are shown as question marks.
 #[tactic(auto, unfolding(crate::specs::Mark::marked))]
 pub(crate) fn add_marked(text: &mut Vec<u8>, line: &[u8], span: Span) -> Result<(), AllocError>
-    requires order { span.from ≤ span.to }
-    requires within { span.to ≤ length line.now }
     ensures { OnOk result (text.new.items ≡ text.old.items ++ marked line.now span) }
 {
     add_shown(text, line)?;
@@ -85,13 +84,11 @@ fn is_control(before: u8, byte: u8) -> bool
 }
 
 fn add_mark(text: &mut Vec<u8>, line: &[u8], span: Span) -> Result<(), AllocError>
-    requires order { span.from ≤ span.to }
-    requires within { span.to ≤ length line.now }
     ensures { OnOk result (text.new.items ≡ text.old.items ++ mark_below line.now span) }
 {
-    add_signs(text, b' ', &line[..span.from])?;
+    add_signs(text, b' ', before(line, span.from))?;
     text.push(b'^')?;
-    add_signs(text, b'^', after_first(&line[span.from..span.to]))?;
+    add_signs(text, b'^', after_first(bytes_at(line, span)))?;
     text.push(b'\n')?;
     Ok(())
 }

@@ -1,22 +1,22 @@
 //! What there is to say of a source, as one JSON object a line.
 
 ghost use Rattle.std.specs.Prelude.{◌≡◌, ◌++◌, IfOk, OnOk};
-ghost use Rattle.mix_check.specs.Json.{column_members, json_line, json_report, meaning_members, number_member, place_members, text_member};
+ghost use Rattle.mix_check.specs.Json.{column_members, json_diagnostic, json_line, json_report, meaning_members, number_member, place_members, text_member};
 ghost use Rattle.mix_check.specs.Report.{has_faults};
 
+use crate::checked::Checked;
 use crate::help::help_of;
-use crate::place::{rest_at, shown_first, whole};
 use crate::report::has_fault;
 use crate::values::{code, columns_of, meaning_with, severity};
 use json::Writer;
 use mix_refused::Memory;
-use mixal_asm::{Diagnostic, Finding, Role, diagnose, first_mentions};
+use mixal_asm::{Diagnostic, Finding, diagnose};
 use std::alloc::{AllocError, Global};
 
 /// Appends what there is to say of a source to a text as `add_report` does, but as JSON, and says whether it has a fault: of each
 /// fault and of each warning one object a line, with its file, its line, the column of its first byte and that of what follows its
 /// last byte, its severity, its number or name, and its text (1.3.2). A fault that is about no part of a line, as A13, has no columns.
-#[tactic(auto, unfolding(crate::specs::Json::json_report, crate::specs::Json::json_diagnostic))]
+#[tactic(auto, unfolding(crate::specs::Json::json_report))]
 pub fn add_json_report(
     alloc: Global,
     name: &str,
@@ -27,19 +27,40 @@ pub fn add_json_report(
     ensures faulty { IfOk result (λ faulty. faulty ≡ has_faults source.now) }
 {
     let diagnostics = diagnose(alloc, source)?;
-    let definitions = first_mentions(alloc, Role::Definition, source)?;
-    let mut rest = whole(source);
-    for diagnostic in diagnostics.iter() {
-        rest = rest_at(source, rest, diagnostic.line);
-        let place = shown_first(rest.text, diagnostic);
-        let help = help_of(alloc, source, &definitions, diagnostic, place)?;
-        let columns = columns_of(place);
-        add_line(alloc, name, diagnostic, columns, help.as_slice(), text)?;
+    let mut checked = Checked::of(alloc, source)?;
+    let mut rest = &diagnostics[..];
+    while let [diagnostic, more @ ..] = rest {
+        add_object(alloc, name, &mut checked, diagnostic, text)?;
+        rest = more;
     }
     Ok(has_fault(&diagnostics))
 }
 
-// Appends the object of a diagnostic, and a line feed.
+// Appends the object of a diagnostic of a source.
+#[tactic(auto, unfolding(crate::specs::Json::json_diagnostic))]
+fn add_object(
+    alloc: Global,
+    name: &str,
+    source: &mut Checked<'_>,
+    diagnostic: &Diagnostic,
+    text: &mut Vec<u8>,
+) -> Result<(), Memory>
+    ensures text { OnOk result (text.new.items ≡ text.old.items ++ json_diagnostic name.now source.old diagnostic.now) }
+    ensures same { source.new ≡ source.old }
+{
+    let place = source.shown(diagnostic);
+    let help = help_of(alloc, source, diagnostic, place)?;
+    add_line(
+        alloc,
+        name,
+        diagnostic,
+        columns_of(place),
+        help.as_slice(),
+        text,
+    )
+}
+
+// The same, by its columns and what helps to mend it.
 #[tactic(auto, unfolding(crate::specs::Json::json_line))]
 fn add_line(
     alloc: Global,

@@ -4,13 +4,13 @@ ghost use Rattle.std.specs.Prelude.{◌≡◌, ◌≤◌, [], ◌++◌, IfOk, If
 ghost use Rattle.std.specs.List.{list_any};
 ghost use Rattle.mixal_asm.specs.Diagnose.{is_warning};
 ghost use Rattle.mixal_asm.specs.declared.diagnostic.Finding.TheVariants.{Warning as AWarning};
-ghost use Rattle.mix_check.specs.Report.{column_text, error_text, finding_text, has_faults, headline, place_text, report, with_shown};
+ghost use Rattle.mix_check.specs.Report.{column_text, diagnostic_text, error_text, finding_text, has_faults, headline, place_text, report, with_shown};
 
+use crate::checked::{Checked, before};
 use crate::help::help_of;
 use crate::mark::{add_marked, column_after};
-use crate::place::{rest_at, shown_first, whole};
 use mix_refused::Memory;
-use mixal_asm::{AsmKind, Diagnostic, Finding, Role, Warning, diagnose, first_mentions};
+use mixal_asm::{AsmKind, Diagnostic, Finding, Warning, diagnose};
 use mixal_text::Span;
 use std::alloc::Global;
 
@@ -18,7 +18,7 @@ use std::alloc::Global;
 /// undefined symbol`, of each warning `FILE:LINE:COLUMN: warning: X is defined nowhere: .. [undefined-symbol]`, the line, and a mark
 /// under what that is about (1.3.2). The columns are counted from 1, with tab stops at each eighth. A fault that is about no part of
 /// a line, as A13, has neither a column nor the line. Control characters of the source are shown as question marks.
-#[tactic(auto, unfolding(crate::specs::Report::report, crate::specs::Report::diagnostic_text))]
+#[tactic(auto, unfolding(crate::specs::Report::report))]
 pub fn add_report(
     alloc: Global,
     name: &str,
@@ -29,15 +29,30 @@ pub fn add_report(
     ensures faulty { IfOk result (λ faulty. faulty ≡ has_faults source.now) }
 {
     let diagnostics = diagnose(alloc, source)?;
-    let definitions = first_mentions(alloc, Role::Definition, source)?;
-    let mut rest = whole(source);
-    for diagnostic in diagnostics.iter() {
-        rest = rest_at(source, rest, diagnostic.line);
-        let place = shown_first(rest.text, diagnostic);
-        let help = help_of(alloc, source, &definitions, diagnostic, place)?;
-        add_diagnostic(alloc, name, diagnostic, place, help.as_slice(), text)?;
+    let mut checked = Checked::of(alloc, source)?;
+    let mut rest = &diagnostics[..];
+    while let [diagnostic, more @ ..] = rest {
+        add_diagnostic(alloc, name, &mut checked, diagnostic, text)?;
+        rest = more;
     }
     Ok(has_fault(&diagnostics))
+}
+
+// Appends a diagnostic of a source.
+#[tactic(auto, unfolding(crate::specs::Report::diagnostic_text))]
+fn add_diagnostic(
+    alloc: Global,
+    name: &str,
+    source: &mut Checked<'_>,
+    diagnostic: &Diagnostic,
+    text: &mut Vec<u8>,
+) -> Result<(), Memory>
+    ensures text { OnOk result (text.new.items ≡ text.old.items ++ diagnostic_text name.now source.old diagnostic.now) }
+    ensures same { source.new ≡ source.old }
+{
+    let place = source.shown(diagnostic);
+    let help = help_of(alloc, source, diagnostic, place)?;
+    add_with_shown(alloc, name, diagnostic, place, help.as_slice(), text)
 }
 
 /// Whether one of some diagnostics is a fault.
@@ -47,8 +62,8 @@ pub(crate) fn has_fault(diagnostics: &[Diagnostic]) -> bool
     diagnostics.iter().any(|diagnostic| matches!(diagnostic.finding, Finding::Fault(_)))
 }
 
-// Appends a diagnostic, by what is shown of its line and what helps to mend it.
-fn add_diagnostic(
+// The same, by what is shown of its line and what helps to mend it.
+fn add_with_shown(
     alloc: Global,
     name: &str,
     diagnostic: &Diagnostic,
@@ -56,14 +71,12 @@ fn add_diagnostic(
     help: &[u8],
     text: &mut Vec<u8>,
 ) -> Result<(), Memory>
-    requires order { IfSome place (λ p. p.1.from ≤ p.1.to) }
-    requires within { IfSome place (λ p. p.1.to ≤ length p.0.now) }
     requires bound { IfSome place (λ p. length p.0.now ≤ 1048576) }
     ensures { OnOk result (text.new.items ≡ text.old.items ++ with_shown name.now diagnostic.now help.now (option_map (λ p. (p.0.now, p.1)) place.entry)) }
 {
     match place {
         Some((line, span)) => {
-            let column = column_after(&line[..span.from]);
+            let column = column_after(before(line, span.from));
             add_headline(alloc, name, diagnostic, Some(column), help, text)?;
             add_marked(text, line, span)?;
             Ok(())

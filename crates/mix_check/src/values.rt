@@ -2,37 +2,47 @@
 
 ghost use Rattle.std.specs.Prelude.{◌≡◌, ◌≤◌, ◌++◌, IfOk, IfSome, length, option_map, string_bytes};
 ghost use Rattle.std.specs.Str.Lossy.{utf8_lossy};
-ghost use Rattle.mix_check.specs.Help.{help_of};
 ghost use Rattle.mix_check.specs.Json.{code, columns_of, meaning, meaning_of, severity};
 ghost use Rattle.mix_check.specs.Place.{shown_of};
 
+use crate::checked::{Checked, before};
 use crate::help::help_of;
 use crate::mark::column_after;
-use crate::place::shown_of;
 use mix_refused::Memory;
-use mixal_asm::{Diagnostic, Finding, Role, first_mentions};
+use mixal_asm::{Diagnostic, Finding};
 use mixal_text::Span;
 use std::alloc::{AllocError, Global};
 
-/// The column of the first byte that a diagnostic of a source is about, and that of what follows the last one, counted from 1 with
-/// tab stops at each eighth; none where it is about no part of a line, as A13.
-pub fn columns(source: &[u8], diagnostic: &Diagnostic) -> Option<(u64, u64)>
-    ensures { result ≡ option_map columns_of (shown_of source.now diagnostic.now) }
-{
-    columns_of(shown_of(source, diagnostic))
+impl<'s> Checked<'s> {
+    /// The column of the first byte that a diagnostic is about, and that of what follows the last one, counted from 1 with tab stops
+    /// at each eighth; none where it is about no part of a line, as A13.
+    pub fn columns(&mut self, diagnostic: &Diagnostic) -> Option<(u64, u64)>
+        ensures is { result ≡ option_map columns_of (shown_of self.old diagnostic.now) }
+        ensures same { self.new ≡ self.old }
+    {
+        columns_of(self.shown(diagnostic))
+    }
+
+    /// The text of a diagnostic, with what helps to mend it, as characters.
+    pub fn meaning(&mut self, alloc: Global, diagnostic: &Diagnostic) -> Result<String, Memory>
+        ensures is { IfOk result (λ s. string_bytes s ≡ meaning_of self.old diagnostic.now) }
+        ensures same { self.new ≡ self.old }
+    {
+        let place = self.shown(diagnostic);
+        let help = help_of(alloc, self, diagnostic, place)?;
+        Ok(meaning_with(alloc, &diagnostic.finding, help.as_slice())?)
+    }
 }
 
-/// The same of what is shown of a line.
+/// The columns of what is shown of a line.
 pub(crate) fn columns_of(place: Option<(&[u8], Span)>) -> Option<(u64, u64)>
-    requires order { IfSome place (λ p. p.1.from ≤ p.1.to) }
-    requires within { IfSome place (λ p. p.1.to ≤ length p.0.now) }
-    requires bound { IfSome place (λ p. length p.0.now ≤ 1048576) }
+    requires { IfSome place (λ p. length p.0.now ≤ 1048576) }
     ensures { result ≡ option_map columns_of (option_map (λ p. (p.0.now, p.1)) place.entry) }
 {
     match place {
         Some((line, span)) => Some((
-            column_after(&line[..span.from]),
-            column_after(&line[..span.to]),
+            column_after(before(line, span.from)),
+            column_after(before(line, span.to)),
         )),
         None => None,
     }
@@ -55,29 +65,6 @@ pub fn code(alloc: Global, finding: &Finding) -> Result<String, AllocError>
     match finding {
         Finding::Fault(kind) => format!(in alloc; "A{}", kind.number()),
         Finding::Warning(warning) => String::from_str(alloc, warning.name()),
-    }
-}
-
-/// The text of a diagnostic of a source, with what helps to mend it, as characters. For a fault all lines of the source are read.
-pub fn meaning(alloc: Global, source: &[u8], diagnostic: &Diagnostic) -> Result<String, Memory>
-    ensures { IfOk result (λ s. string_bytes s ≡ meaning_of source.now diagnostic.now) }
-{
-    let help = help_in(alloc, source, diagnostic)?;
-    Ok(meaning_with(alloc, &diagnostic.finding, help.as_slice())?)
-}
-
-// What helps to mend a diagnostic of a source: of a warning nothing, since its text says that.
-#[tactic(auto, unfolding(crate::specs::Help::help_of))]
-fn help_in(alloc: Global, source: &[u8], diagnostic: &Diagnostic) -> Result<Vec<u8>, Memory>
-    ensures { IfOk result (λ help. help.items ≡ help_of source.now diagnostic.now.line diagnostic.now.finding (shown_of source.now diagnostic.now)) }
-{
-    match diagnostic.finding {
-        Finding::Fault(_) => {
-            let definitions = first_mentions(alloc, Role::Definition, source)?;
-            let place = shown_of(source, diagnostic);
-            Ok(help_of(alloc, source, &definitions, diagnostic, place)?)
-        }
-        Finding::Warning(_) => Ok(Vec::new(alloc)),
     }
 }
 

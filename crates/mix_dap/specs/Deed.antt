@@ -5,7 +5,7 @@ use Rattle.std.specs.Option.{option_map, option_or}
 use Rattle.std.specs.Str.{bytes_eq}
 use Rattle.mixal_text.specs.Steps.{◌>>=◌}
 use Rattle.mixal_text.specs.WValue.{w_value_of}
-use Rattle.mixal_text.specs.declared.fault.TextFault.{TextFault}
+use Rattle.mixal_text.specs.declared.misread.Misread.{Misread}
 use Rattle.mix_word.specs.Register.{register_named}
 use Rattle.mix_word.specs.Word.{WordValue, plus}
 use Rattle.mix_word.specs.declared.register.Reg.{Reg}
@@ -119,7 +119,7 @@ abbrev pub part_meant : SessionState → List ℕ → Option Part
 part_meant s text = option_or (option_map part.Register (register_written text)) (option_or (flag_named text) (option_and_then unless_unit (part_named s text)))
 
 -- what an expression is worth: the word of a W-value, or else what the part that it names holds
-abbrev pub worth_by : Result WordValue TextFault → Option Part → Option Worth
+abbrev pub worth_by : Result WordValue Misread → Option Part → Option Worth
 worth_by (Ok word) meant = Some (worth.Word word)
 worth_by (Err fault) meant = option_map worth.Held meant
 

@@ -1,6 +1,5 @@
 -- What is said of a source shows in its first bytes, one more than it may have.
-use Rattle.std.proofs.Common.{◌≡◌, ℕ, Bool, true, false, not, ◌≤◌, cond, ltb, List, [], ◌++◌, length, take, flat_map, Option, None, Some, option_map, refl, sym, ap, ◌∙◌, arith}
-use Rattle.std.specs.Prelude.{slice_get}
+use Rattle.std.proofs.Common.{◌≡◌, ℕ, Bool, true, false, not, ◌≤◌, cond, ltb, List, [], ◌++◌, length, take, flat_map, None, refl, ap, ◌∙◌, arith}
 use Rattle.std.specs.List.{list_any}
 use Rattle.std.proofs.lemmas.Bool.{ltb-false}
 use Rattle.std.proofs.lemmas.List.{take_all}
@@ -10,35 +9,18 @@ use Rattle.mixal_asm.specs.Faults.{faults_of, faults_from, max_faults}
 use Rattle.mixal_asm.specs.declared.diagnostic.Diagnostic.{Diagnostic}
 use Rattle.mixal_asm.specs.declared.fault.AsmFault.{AsmFault}
 use Rattle.mixal_asm.specs.declared.fault.AsmKind.TheVariants.{SourceTooLong}
-use Rattle.mix_check.specs.Help.{fault_help, help_of, piece_of}
-use Rattle.mix_check.specs.Json.{columns_of, json_line, json_diagnostic, json_report}
-use Rattle.mix_check.specs.Place.{Shown, shown_in}
-use Rattle.mix_check.specs.Report.{diagnostic_text, has_faults, report, with_shown}
+use Rattle.mix_check.specs.Help.{help_of}
+use Rattle.mix_check.specs.Json.{json_diagnostic, json_report}
+use Rattle.mix_check.specs.Report.{diagnostic_text, has_faults, report}
 use Rattle.mix_run.specs.Check.{report_of}
 use Rattle.mix_run.proofs.Truncation.{limited-take}
 
--- the one fault of a source that is too long
+-- the one fault of a source that is too long: it is about no part of a line, and what helps to mend it names no line of the source
 abbrev too_long : AsmFault
-too_long = record { line = 1; kind = SourceTooLong }
+too_long = record { line = 1; at = None; kind = SourceTooLong }
 
 abbrev long_source : Diagnostic
 long_source = of_fault too_long
-
-abbrev nowhere : Option Shown
-nowhere = None
-
--- it is about no part of a line
-shown_nowhere : (line : Option (List ℕ)) → shown_in long_source.finding line ≡ nowhere
-shown_nowhere None = refl
-shown_nowhere (Some line) = go (ltb 1048576 (length line))
-  where
-    go : (b : Bool) → cond b nowhere nowhere ≡ nowhere
-    go true = refl
-    go false = refl
-
--- what helps to mend it names no line of the source
-abbrev mend : Option Shown → List ℕ
-mend place = fault_help SourceTooLong (piece_of place)
 
 faults_of-take : (source : List ℕ) → faults_of (take 1048577 source) ≡ faults_of source
 unfolding faults_of
@@ -67,17 +49,11 @@ said-take say same source = ap (flat_map (say (take 1048577 source))) (diagnosti
 
 report-take : (name source : List ℕ) → report name (take 1048577 source) ≡ report name source
 unfolding report diagnostic_text help_of
-report-take name source =
-    said-take (diagnostic_text name)
-    (λ s t. ap (λ place. with_shown name long_source (mend place) place)
-    (shown_nowhere (slice_get (lines s) 0) ∙ sym (shown_nowhere (slice_get (lines t) 0)))) source
+report-take name source = said-take (diagnostic_text name) (λ s t. refl) source
 
 json_report-take : (name source : List ℕ) → json_report name (take 1048577 source) ≡ json_report name source
 unfolding json_report json_diagnostic help_of
-json_report-take name source =
-    said-take (json_diagnostic name)
-    (λ s t. ap (λ place. json_line name long_source (option_map columns_of place) (mend place))
-    (shown_nowhere (slice_get (lines s) 0) ∙ sym (shown_nowhere (slice_get (lines t) 0)))) source
+json_report-take name source = said-take (json_diagnostic name) (λ s t. refl) source
 
 report_of-take : (json : Bool) (name source : List ℕ)
     → report_of json (record { name = name; text = take 1048577 source }) ≡ report_of json (record { name = name; text = source })

@@ -6,7 +6,7 @@ use Rattle.mix_word.specs.Uses.{unit_count}
 use Rattle.mixal_text.specs.Names.{NamesValue}
 use Rattle.mixal_text.specs.Expression.{whole_expression}
 use Rattle.mixal_text.specs.WValue.{w_value_of}
-use Rattle.mixal_text.specs.declared.fault.TextFault.{TextFault}
+use Rattle.mixal_text.specs.declared.misread.Misread.{Misread}
 use Rattle.mixal_text.specs.Steps.{◌>>=◌}
 use Rattle.mix_session.specs.Keyword.{keyword_named}
 use Rattle.mix_session.specs.declared.fault.Refusal.{Refusal}
@@ -47,7 +47,7 @@ abbrev pub number_in : List ℕ → Result ℕ Refusal
 number_in word = ok_or (decimal_number word) BadArgument
 
 -- what an expression or a W-value gives; any of its faults is a bad argument
-abbrev pub or_bad : {A : Type 0} → Result A TextFault → Result A Refusal
+abbrev pub or_bad : {A : Type 0} → Result A Misread → Result A Refusal
 or_bad (Ok x) = Ok x
 or_bad (Err fault) = Err BadArgument
 

@@ -45,17 +45,17 @@ one_more old new at rest symbol noted =
 -- ---- what mentions with the same first lines warn of
 
 same_undefined : (u v d e : List (List ℕ × ℕ)) → ((symbol : List ℕ) → first_line u symbol ≡ first_line v symbol)
-    → ((symbol : List ℕ) → first_line d symbol ≡ first_line e symbol) → (n : ℕ) (used : Option (List ℕ))
-    → undefined_at u d n used ≡ undefined_at v e n used
-same_undefined u v d e uses definitions n None = refl
-same_undefined u v d e uses definitions n (Some symbol) = rw (uses symbol, definitions symbol) refl
+    → ((symbol : List ℕ) → first_line d symbol ≡ first_line e symbol) → (n : ℕ) (text : List ℕ) (used : Option (List ℕ))
+    → undefined_at u d n text used ≡ undefined_at v e n text used
+same_undefined u v d e uses definitions n text None = refl
+same_undefined u v d e uses definitions n text (Some symbol) = rw (uses symbol, definitions symbol) refl
 
 same_line : (u v d e : List (List ℕ × ℕ)) → ((symbol : List ℕ) → first_line u symbol ≡ first_line v symbol)
     → ((symbol : List ℕ) → first_line d symbol ≡ first_line e symbol) → (n : ℕ) (text : List ℕ)
     → line_warnings u d n text ≡ line_warnings v e n text
 unfolding line_warnings
 same_line u v d e uses definitions n text =
-    ap (with_slips n text) (same_undefined u v d e uses definitions n (symbol_used text))
+    ap (with_slips n text) (same_undefined u v d e uses definitions n text (symbol_used text))
 
 pub same_warnings : (u v d e : List (List ℕ × ℕ)) → ((symbol : List ℕ) → first_line u symbol ≡ first_line v symbol)
     → ((symbol : List ℕ) → first_line d symbol ≡ first_line e symbol) → (n : ℕ) (texts : List (List ℕ))

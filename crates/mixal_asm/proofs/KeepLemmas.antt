@@ -13,7 +13,7 @@ use Rattle.mixal_asm.specs.declared.row.Shows.{Shows}
 use Rattle.mixal_asm.specs.declared.row.Shows.TheVariants as shows
 use Rattle.mixal_asm.specs.declared.key.Key.{Key}
 use Rattle.mixal_asm.specs.declared.key.Key.TheVariants as key
-use Rattle.mixal_asm.specs.PassOne.{Before, with_name, with_loc, with_word, with_instruction, with_address, instruction, with_line, number_after, name_of, is_awaited, names_at, of_text, location_of, locals_in, machine_line, equ_line, orig_line, con_line, alf_line}
+use Rattle.mixal_asm.specs.PassOne.{Before, with_name, with_loc, with_word, with_instruction, with_address, instruction, with_line, number_after, name_of, is_awaited, names_at, of_address, location_of, locals_in, machine_line, equ_line, orig_line, con_line, alf_line}
 use Rattle.mixal_asm.specs.Draft.{HasNoLiteral, IsReady}
 use Rattle.mixal_asm.proofs.LineLemmas.{no_literal_loc}
 
@@ -94,7 +94,7 @@ pub machine_next : (b last : Before) (text : List ℕ) (loc : Option Label) (cod
 unfolding machine_line
 machine_next b last text loc code f address is none =
     let named = bind_ok (with_loc b loc (plus b.here)) _ last is in
-    let operand = bind_ok (of_text (address_of (names_at b.names named.0.names) (plus named.0.here) f address)) _ last named.2 in
+    let operand = bind_ok (of_address text (address_of (names_at b.names named.0.names) (plus named.0.here) f address)) _ last named.2 in
     let next = bind_ok (with_instruction named.0 (instruction code operand.0) operand.0.a) _ last operand.2 in
     let kept = instruction_kept named.0 next.0 (instruction code operand.0) operand.0.a next.1 in
     rowed b next.0 last (number_after b) text (shows.Word (length b.emitted)) (kept.rows ∙ loc_rows b named.0 loc (plus b.here) named.1)
@@ -103,7 +103,7 @@ machine_next b last text loc code f address is none =
 pub equ_next : (b last : Before) (text : List ℕ) (loc : Option Label) (address : List ℕ) → equ_line b text loc address ≡ Ok last → HasNoLiteral b.names → IsNext b last
 unfolding equ_line
 equ_next b last text loc address is none =
-    let value = bind_ok (of_text (w_value_of (names_at b.names b.names) (plus b.here) address)) _ last is in
+    let value = bind_ok (of_address text (w_value_of (names_at b.names b.names) (plus b.here) address)) _ last is in
     let named = bind_ok (with_loc b loc value.0) _ last value.2 in
     rowed b named.0 last (number_after b) text (shows.Value value.0) (loc_rows b named.0 loc value.0 named.1)
     (no_literal_loc b named.0 loc value.0 named.1 none) named.2
@@ -112,7 +112,7 @@ pub orig_next : (b last : Before) (text : List ℕ) (loc : Option Label) (addres
 unfolding orig_line
 orig_next b last text loc address is none =
     let named = bind_ok (with_loc b loc (plus b.here)) _ last is in
-    let value = bind_ok (of_text (w_value_of (names_at b.names named.0.names) (plus named.0.here) address)) _ last named.2 in
+    let value = bind_ok (of_address text (w_value_of (names_at b.names named.0.names) (plus named.0.here) address)) _ last named.2 in
     let here = bind_ok (location_of value.0) _ last value.2 in
     rowed b (record named.0 { here = here.0 }) last (number_after b) text shows.Nothing (loc_rows b named.0 loc (plus b.here) named.1)
     (no_literal_loc b named.0 loc (plus b.here) named.1 none) here.2
@@ -121,7 +121,7 @@ pub con_next : (b last : Before) (text : List ℕ) (loc : Option Label) (address
 unfolding con_line
 con_next b last text loc address is none =
     let named = bind_ok (with_loc b loc (plus b.here)) _ last is in
-    let value = bind_ok (of_text (w_value_of (names_at b.names named.0.names) (plus named.0.here) address)) _ last named.2 in
+    let value = bind_ok (of_address text (w_value_of (names_at b.names named.0.names) (plus named.0.here) address)) _ last named.2 in
     let next = bind_ok (with_word named.0 value.0 None) _ last value.2 in
     let kept = word_kept named.0 next.0 value.0 None next.1 in
     rowed b next.0 last (number_after b) text (shows.Word (length b.emitted)) (kept.rows ∙ loc_rows b named.0 loc (plus b.here) named.1)

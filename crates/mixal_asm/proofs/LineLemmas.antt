@@ -18,22 +18,26 @@ use Rattle.mixal_text.specs.Address.{OperandValue, address_of}
 use Rattle.mixal_asm.specs.declared.fault.AsmKind.{AsmKind}
 use Rattle.mixal_asm.specs.declared.row.Shows.TheVariants as shows
 use Rattle.mixal_asm.specs.declared.scope.OwnLocal.{OwnLocal}
-use Rattle.mixal_asm.specs.PassOne.{Before, Line, with_name, name_of, is_awaited, with_loc, names_at, of_text, with_word, with_line, number_after, con_line, orig_line, location_of, machine_line, with_instruction, instruction}
+use Rattle.mixal_asm.specs.PassOne.{Before, Line, with_name, name_of, is_awaited, with_loc, names_at, of_address, with_word, with_line, number_after, con_line, orig_line, location_of, machine_line, with_instruction, instruction}
 use Rattle.std.specs.List.{list_any}
 use Rattle.std.proofs.Common.{map}
 use Rattle.mixal_text.specs.declared.fault.TextFault.TheVariants.{NoSuchLocalSymbol}
-use Rattle.mixal_asm.specs.declared.fault.AsmKind.TheVariants.{Text}
+use Rattle.mixal_asm.specs.declared.fault.AsmKind.TheVariants.{Text, Inserted}
 use Rattle.mixal_asm.specs.declared.words.Emitted.{Emitted}
 use Rattle.mixal_asm.specs.PassOne.{NamesSoFar}
 use Rattle.mixal_asm.specs.Assembly.{is_unmet, first_uses, end_value, start_of, program_at, ended, words_of, finished_word, answer_of, answer_of_line}
-use Rattle.mixal_text.specs.declared.fault.TextFault.{TextFault}
+use Rattle.mixal_text.specs.declared.misread.Misread.{Misread}
 use Rattle.mixal_text.specs.Line.{LineValue, line_of}
 use Rattle.mixal_asm.specs.Chain.{Held, emitted_of}
 use Rattle.mixal_asm.specs.Draft.{scope_value, shown_word, HasNoLiteral, held_by}
 
+-- an answer is refused with the same fault
+pub refused_as : {A : Type 0} (answer : Result A AsmKind) (kind other : AsmKind) → kind ≡ other → Err other ≡ answer → Err kind ≡ answer
+refused_as answer kind other same is = rw same is
+
 pub con_is : (b named : Before) (text : List ℕ) (loc : Option Label) (address : List ℕ) (here : WordValue) (own : Option OwnLocal) (read : Result WordValue AsmKind)
     → here ≡ plus b.here → with_loc b loc here ≡ Ok named → scope_value named.names own ≡ names_at b.names named.names
-    → read ≡ of_text (w_value_of (scope_value named.names own) (plus named.here) address)
+    → read ≡ of_address text (w_value_of (scope_value named.names own) (plus named.here) address)
     → con_line b text loc address
     ≡ (read >>= λ value. shown_word (Line (number_after b) text) (length b.emitted) (with_word named value None))
 unfolding con_line
@@ -41,7 +45,7 @@ con_is b named text loc address here own read is_here ok scope is = rw (is, scop
 
 pub orig_is : (b named : Before) (text : List ℕ) (loc : Option Label) (address : List ℕ) (here : WordValue) (own : Option OwnLocal) (read : Result WordValue AsmKind)
     → here ≡ plus b.here → with_loc b loc here ≡ Ok named → scope_value named.names own ≡ names_at b.names named.names
-    → read ≡ of_text (w_value_of (scope_value named.names own) (plus named.here) address)
+    → read ≡ of_address text (w_value_of (scope_value named.names own) (plus named.here) address)
     → orig_line b text loc address
     ≡ (read >>= λ value. location_of value >>= λ to. Ok (with_line (record named { here = to }) (number_after b) text shows.Nothing))
 unfolding orig_line
@@ -50,7 +54,7 @@ orig_is b named text loc address here own read is_here ok scope is = rw (is, sco
 pub machine_is : (b named : Before) (text : List ℕ) (loc : Option Label) (code f : ℕ) (address : List ℕ) (here : WordValue) (own : Option OwnLocal)
     (read : Result OperandValue AsmKind)
     → here ≡ plus b.here → with_loc b loc here ≡ Ok named → scope_value named.names own ≡ names_at b.names named.names
-    → of_text (address_of (scope_value named.names own) (plus named.here) f address) ≡ read
+    → of_address text (address_of (scope_value named.names own) (plus named.here) f address) ≡ read
     → machine_line b text loc code f address
     ≡ (read >>= λ operand. shown_word (Line (number_after b) text) (length b.emitted) (with_instruction named (instruction code operand) operand.a))
 unfolding machine_line
@@ -99,14 +103,14 @@ no_literal_loc b named (Some loc) value ok none =
 pub ended_is : (b named : Before) (number : ℕ) (text : List ℕ) (loc : Option Label) (address : List ℕ) (here : WordValue) (own : Option OwnLocal) (read : Result WordValue AsmKind)
     → list_any (is_unmet b.names loc) (first_uses b.emitted) ≡ false → here ≡ plus b.here → with_loc b loc here ≡ Ok named
     → scope_value named.names own ≡ names_at b.names named.names
-    → read ≡ end_value (scope_value named.names own) (plus named.here) address
+    → read ≡ end_value (scope_value named.names own) (plus named.here) text address
     → ended b number text loc address
     ≡ (read >>= λ value. start_of value >>= λ start. Ok (program_at (with_line named number text shows.Start) start))
 unfolding ended
 ended_is b named number text loc address here own read met is_here ok scope is = rw (met, is, scope, ← is_here, ok) refl
 
 pub ended_fault : (b : Before) (number : ℕ) (text : List ℕ) (loc : Option Label) (address : List ℕ)
-    → list_any (is_unmet b.names loc) (first_uses b.emitted) ≡ true → ended b number text loc address ≡ Err (Text NoSuchLocalSymbol)
+    → list_any (is_unmet b.names loc) (first_uses b.emitted) ≡ true → ended b number text loc address ≡ Err (Inserted NoSuchLocalSymbol)
 unfolding ended
 ended_fault b number text loc address unmet = rw unmet refl
 
@@ -126,7 +130,7 @@ pub answer_is : (b : Before) (text : List ℕ) (line : LineValue) → nat_le 200
 unfolding answer_of
 answer_is b text line below is = rw (below, is) refl
 
-pub answer_fault : (b : Before) (text : List ℕ) (fault : TextFault) → nat_le 20000 (length b.rows) ≡ false → line_of text ≡ Err fault
-    → answer_of b text ≡ Err (Text fault)
+pub answer_fault : (b : Before) (text : List ℕ) (misread : Misread) → nat_le 20000 (length b.rows) ≡ false → line_of text ≡ Err misread
+    → answer_of b text ≡ Err (Text misread)
 unfolding answer_of
-answer_fault b text fault below is = rw (below, is) refl
+answer_fault b text misread below is = rw (below, is) refl

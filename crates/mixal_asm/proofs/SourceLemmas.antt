@@ -13,12 +13,12 @@ nothing_in [] empty = refl
 nothing_in (byte ∷ text) empty = absurd (omega (arith, eqb-true _ _ empty))
 
 pub no_end : (source rest : List ℕ) (first b : Before) → program_from first (lines source) ≡ program_from b (lines rest)
-    → (length rest == 0) ≡ true → program_from first (lines source) ≡ fault_at (number_after b) NoEnd
+    → (length rest == 0) ≡ true → program_from first (lines source) ≡ fault_at (number_after b) [] NoEnd
 no_end source rest first b leads empty =
     leads ∙ ap (λ (text : List ℕ). program_from b (lines text)) (nothing_in rest empty) ∙ ap (λ (ls : List (List ℕ)). program_from b ls) lines-nil
 
 -- the same where some lines are mended
 pub no_end_with : (told : List AsmFault) (source rest : List ℕ) (first b : Before) → program_with told first (lines source) ≡ program_with told b (lines rest)
-    → (length rest == 0) ≡ true → program_with told first (lines source) ≡ fault_at (number_after b) NoEnd
+    → (length rest == 0) ≡ true → program_with told first (lines source) ≡ fault_at (number_after b) [] NoEnd
 no_end_with told source rest first b leads empty =
     leads ∙ ap (λ (text : List ℕ). program_with told b (lines text)) (nothing_in rest empty) ∙ ap (λ (ls : List (List ℕ)). program_with told b ls) lines-nil

@@ -5,6 +5,7 @@ use Rattle.std.specs.Str.{bytes_eq}
 use Rattle.mix_word.specs.Word.{WordValue, plus, zero_word}
 use Rattle.mix_lines.specs.Lines.{lines}
 use Rattle.mixal_text.specs.declared.fault.TextFault.TheVariants.{NoSuchLocalSymbol}
+use Rattle.mixal_text.specs.declared.misread.Misread.{Misread}
 use Rattle.mixal_text.specs.declared.label.Label.{Label}
 use Rattle.mixal_text.specs.declared.label.Label.TheVariants as label
 use Rattle.mixal_text.specs.declared.op.Op.{Op}
@@ -14,22 +15,28 @@ use Rattle.mixal_text.specs.Names.{NamesValue}
 use Rattle.mixal_text.specs.Line.{LineValue, Remark, Code, line_of}
 use Rattle.mixal_text.specs.WValue.{w_value_of}
 use Rattle.mixal_asm.specs.declared.fault.AsmKind.{AsmKind}
-use Rattle.mixal_asm.specs.declared.fault.AsmKind.TheVariants.{Text, DefinedTwice, NoEnd, StartOutOfRange, SourceTooLong}
+use Rattle.mixal_asm.specs.declared.fault.AsmKind.TheVariants.{Inserted, DefinedTwice, NoEnd, StartOutOfRange, SourceTooLong}
 use Rattle.mixal_asm.specs.declared.fault.AsmFault.{AsmFault}
 use Rattle.mixal_asm.specs.declared.key.Key.{Key}
 use Rattle.mixal_asm.specs.declared.key.Key.TheVariants.{Name, Local, Literal}
 use Rattle.mixal_asm.specs.declared.words.Emitted.{Emitted}
 use Rattle.mixal_asm.specs.declared.row.Shows.TheVariants as shows
 use Rattle.mixal_asm.specs.Key.{same_key}
+use Rattle.mixal_asm.specs.Place.{kind_span}
 use Rattle.mixal_asm.specs.Program.{ProgramValue}
-use Rattle.mixal_asm.specs.PassOne.{Before, NamesSoFar, OfLiteral, OfName, at_first, value_of, is_defined, name_of, is_taken, names_at, with_name, with_loc, with_word, with_row, with_line, number_after, of_text, with_address, machine_line, equ_line, orig_line, con_line, alf_line}
+use Rattle.mixal_asm.specs.PassOne.{Before, NamesSoFar, OfLiteral, OfName, at_first, value_of, is_defined, name_of, is_taken, names_at, with_name, with_loc, with_word, with_row, with_line, number_after, of_text, of_address, with_address, machine_line, equ_line, orig_line, con_line, alf_line}
 
 -- ---- the lines that are inserted before END
+
+-- a fault of a literal, at END
+abbrev pub of_literal : {A : Type 0} → Result A Misread → Result A AsmKind
+of_literal (Ok x) = Ok x
+of_literal (Err misread) = Err (Inserted misread.fault)
 
 -- a literal, as a CON line at the location
 abbrev pub literal_line : Before → ℕ → List ℕ → Result Before AsmKind
 literal_line b j text = do
-  value ← of_text (w_value_of (names_at b.names b.names) (plus b.here) text)
+  value ← of_literal (w_value_of (names_at b.names b.names) (plus b.here) text)
   placed ← with_name b (Literal j) (plus b.here)
   next ← with_word placed value None
   Ok (with_row next (OfLiteral text) (shows.Word (length b.emitted)))
@@ -88,9 +95,9 @@ is_unmet names loc (Local d n) = not (is_defined names (Local d n)) && not (is_l
 is_unmet names loc (Literal j) = false
 
 -- the value of the ADDRESS of END, which is 0 where it is left out
-abbrev pub end_value : NamesValue → WordValue → List ℕ → Result WordValue AsmKind
-end_value names here [] = Ok zero_word
-end_value names here (byte ∷ rest) = of_text (w_value_of names here (byte ∷ rest))
+abbrev pub end_value : NamesValue → WordValue → List ℕ → List ℕ → Result WordValue AsmKind
+end_value names here line [] = Ok zero_word
+end_value names here line (byte ∷ rest) = of_address line (w_value_of names here (byte ∷ rest))
 
 -- the start: field (4:5) of that value
 abbrev pub start_of : WordValue → Result ℕ AsmKind
@@ -148,10 +155,10 @@ inserted loc b = do
 -- what END does with its LOC and its ADDRESS, where those lines stand before it
 unfoldable pub ended : Before → ℕ → List ℕ → Option Label → List ℕ → Result ProgramValue AsmKind
 ended b number text loc address =
-    if list_any (is_unmet b.names loc) (first_uses b.emitted) then Err (Text NoSuchLocalSymbol)
+    if list_any (is_unmet b.names loc) (first_uses b.emitted) then Err (Inserted NoSuchLocalSymbol)
     else (do
       named ← with_loc b loc (plus b.here)
-      value ← end_value (names_at b.names named.names) (plus named.here) address
+      value ← end_value (names_at b.names named.names) (plus named.here) text address
       start ← start_of value
       Ok (program_at (with_line named number text shows.Start) start))
 
@@ -205,22 +212,22 @@ answer_of b text =
       line ← of_text (line_of text)
       answer_of_line b text line)
 
--- a fault at a line
-abbrev pub fault_at : ℕ → AsmKind → Result ProgramValue AsmFault
-fault_at number kind = Err (record { line = number; kind = kind })
+-- a fault at a line, at the bytes that it is about
+abbrev pub fault_at : ℕ → List ℕ → AsmKind → Result ProgramValue AsmFault
+fault_at number text kind = Err (record { line = number; at = kind_span text kind; kind = kind })
 
 -- a line's answer, and what the lines after it give
-abbrev pub program_after : ℕ → Result Answer AsmKind → (Before → Result ProgramValue AsmFault) → Result ProgramValue AsmFault
-program_after number (Err kind) rest = fault_at number kind
-program_after number (Ok (Done program)) rest = Ok program
-program_after number (Ok (More b)) rest = rest b
+abbrev pub program_after : ℕ → List ℕ → Result Answer AsmKind → (Before → Result ProgramValue AsmFault) → Result ProgramValue AsmFault
+program_after number text (Err kind) rest = fault_at number text kind
+program_after number text (Ok (Done program)) rest = Ok program
+program_after number text (Ok (More b)) rest = rest b
 
 abbrev pub program_from : Before → List (List ℕ) → Result ProgramValue AsmFault
-program_from b [] = fault_at (number_after b) NoEnd
-program_from b (text ∷ more) = program_after (number_after b) (answer_of b text) (λ next. program_from next more)
+program_from b [] = fault_at (number_after b) [] NoEnd
+program_from b (text ∷ more) = program_after (number_after b) text (answer_of b text) (λ next. program_from next more)
 
 -- a source as a program, or its first fault. What follows END is ignored
 unfoldable pub assembly : List ℕ → Result ProgramValue AsmFault
 assembly source =
-    if nat_lt max_source_bytes (length source) then fault_at 1 SourceTooLong
+    if nat_lt max_source_bytes (length source) then fault_at 1 [] SourceTooLong
     else program_from at_first (lines source)

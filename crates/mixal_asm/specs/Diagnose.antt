@@ -9,6 +9,7 @@ use Rattle.mixal_text.specs.declared.label.Label.{Label}
 use Rattle.mixal_text.specs.declared.slips.Slip.{Slip}
 use Rattle.mixal_text.specs.declared.slips.Slip.TheVariants.{OperationAsLabel, AlfCut, BlankInAddress, NoField}
 use Rattle.mixal_text.specs.Line.{is_end_op, loc_of_line, op_of_line}
+use Rattle.mixal_text.specs.Parts.{part_span}
 use Rattle.mixal_text.specs.Slips.{has_slip, symbol_used}
 use Rattle.mixal_asm.specs.declared.fault.AsmFault.{AsmFault}
 use Rattle.mixal_asm.specs.declared.diagnostic.Diagnostic.{Diagnostic}
@@ -18,6 +19,7 @@ use Rattle.mixal_asm.specs.declared.diagnostic.Warning.{Warning}
 use Rattle.mixal_asm.specs.declared.diagnostic.Warning.TheVariants as warning
 use Rattle.mixal_asm.specs.declared.mentions.Role.{Role}
 use Rattle.mixal_asm.specs.declared.mentions.Role.TheVariants as role
+use Rattle.mixal_asm.specs.Place.{warning_part}
 use Rattle.mixal_asm.specs.Source.{is_that, symbol_of_loc}
 use Rattle.mixal_asm.specs.Assembly.{max_source_bytes}
 use Rattle.mixal_asm.specs.Faults.{faults_of}
@@ -62,21 +64,22 @@ first_mention source r symbol =
 
 -- ---- warnings
 
-abbrev pub warning_at : ℕ → Warning → List Diagnostic
-warning_at n w = record { line = n; finding = finding.Warning w } ∷ []
+-- a warning of a line, at the bytes that it is about
+abbrev pub warning_at : ℕ → List ℕ → Warning → List Diagnostic
+warning_at n text w = record { line = n; at = Some (part_span text (warning_part w)); finding = finding.Warning w } ∷ []
 
 -- a symbol that this line is the first to use, and that is the LOC of no line
-abbrev pub undefined_at : List (List ℕ × ℕ) → List (List ℕ × ℕ) → ℕ → Option (List ℕ) → List Diagnostic
-undefined_at uses definitions n None = []
-undefined_at uses definitions n (Some symbol) =
-    if is_that n (first_line uses symbol) && is_none (first_line definitions symbol) then warning_at n (warning.UndefinedSymbol symbol) else []
+abbrev pub undefined_at : List (List ℕ × ℕ) → List (List ℕ × ℕ) → ℕ → List ℕ → Option (List ℕ) → List Diagnostic
+undefined_at uses definitions n text None = []
+undefined_at uses definitions n text (Some symbol) =
+    if is_that n (first_line uses symbol) && is_none (first_line definitions symbol) then warning_at n text (warning.UndefinedSymbol symbol) else []
 
 -- a slip, if the line has it
-abbrev pub slip_if : ℕ → Bool → Slip → List Diagnostic
-slip_if n has slip = if has then warning_at n (warning.Slip slip) else []
+abbrev pub slip_if : ℕ → List ℕ → Bool → Slip → List Diagnostic
+slip_if n text has slip = if has then warning_at n text (warning.Slip slip) else []
 
 abbrev pub slip_at : ℕ → List ℕ → Slip → List Diagnostic
-slip_at n text slip = slip_if n (has_slip text slip) slip
+slip_at n text slip = slip_if n text (has_slip text slip) slip
 
 -- what comes first, and then the slips of a line
 abbrev pub with_slips : ℕ → List ℕ → List Diagnostic → List Diagnostic
@@ -85,7 +88,7 @@ with_slips n text first =
 
 -- the warnings of a line, by the symbols that lines use and define
 unfoldable pub line_warnings : List (List ℕ × ℕ) → List (List ℕ × ℕ) → ℕ → List ℕ → List Diagnostic
-line_warnings uses definitions n text = with_slips n text (undefined_at uses definitions n (symbol_used text))
+line_warnings uses definitions n text = with_slips n text (undefined_at uses definitions n text (symbol_used text))
 
 abbrev pub warnings_from : List (List ℕ × ℕ) → List (List ℕ × ℕ) → ℕ → List (List ℕ) → List Diagnostic
 warnings_from uses definitions n [] = []
@@ -110,7 +113,7 @@ abbrev pub goes_after : AsmFault → Diagnostic → Bool
 goes_after fault d = nat_lt fault.line d.line || (fault.line == d.line && is_warning d.finding)
 
 abbrev pub of_fault : AsmFault → Diagnostic
-of_fault fault = record { line = fault.line; finding = finding.Fault fault.kind }
+of_fault fault = record { line = fault.line; at = fault.at; finding = finding.Fault fault.kind }
 
 abbrev pub with_fault : List Diagnostic → AsmFault → List Diagnostic
 with_fault ds fault = insert ds (position_or_len (goes_after fault) ds) (of_fault fault)

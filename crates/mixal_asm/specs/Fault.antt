@@ -2,11 +2,12 @@
 use Rattle.std.specs.Prelude.{ℕ, List, ◌++◌, codes, decimal}
 use Rattle.mixal_text.specs.Fault.{fault_number, fault_text}
 use Rattle.mixal_asm.specs.declared.fault.AsmKind.{AsmKind}
-use Rattle.mixal_asm.specs.declared.fault.AsmKind.TheVariants.{Text, DefinedTwice, AddressTooLarge, LocationOutOfRange, NoEnd, StartOutOfRange, SourceTooLong}
+use Rattle.mixal_asm.specs.declared.fault.AsmKind.TheVariants.{Text, Inserted, DefinedTwice, AddressTooLarge, LocationOutOfRange, NoEnd, StartOutOfRange, SourceTooLong}
 use Rattle.mixal_asm.specs.declared.fault.AsmFault.{AsmFault}
 
 abbrev pub kind_number : AsmKind → ℕ
-kind_number (Text fault) = fault_number fault
+kind_number (Text misread) = fault_number misread.fault
+kind_number (Inserted fault) = fault_number fault
 kind_number DefinedTwice = 4
 kind_number AddressTooLarge = 9
 kind_number LocationOutOfRange = 11
@@ -15,7 +16,8 @@ kind_number StartOutOfRange = 15
 kind_number SourceTooLong = 16
 
 abbrev pub kind_text : AsmKind → List ℕ
-kind_text (Text fault) = fault_text fault
+kind_text (Text misread) = fault_text misread.fault
+kind_text (Inserted fault) = fault_text fault
 kind_text DefinedTwice = codes "defined twice"
 kind_text AddressTooLarge = codes "address beyond two bytes"
 kind_text LocationOutOfRange = codes "location outside 0 to 3999"

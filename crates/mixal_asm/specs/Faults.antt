@@ -52,9 +52,9 @@ answer_with told b text = if is_mended told (number_after b) then mended_answer 
 
 -- the program, or the first fault that is left, as of a source (Assembly)
 abbrev pub program_with : List AsmFault → Before → List (List ℕ) → Result ProgramValue AsmFault
-program_with told b [] = fault_at (number_after b) NoEnd
+program_with told b [] = fault_at (number_after b) [] NoEnd
 program_with told b (text ∷ more) =
-    program_after (number_after b) (answer_with told b text) (λ next. program_with told next more)
+    program_after (number_after b) text (answer_with told b text) (λ next. program_with told next more)
 
 -- ---- the faults
 
@@ -85,5 +85,5 @@ max_faults = 100
 -- the faults of a source: none if it is a program; else its first, and then those of the source with that line mended
 unfoldable pub faults_of : List ℕ → List AsmFault
 faults_of source =
-    if nat_lt max_source_bytes (length source) then record { line = 1; kind = SourceTooLong } ∷ []
+    if nat_lt max_source_bytes (length source) then record { line = 1; at = None; kind = SourceTooLong } ∷ []
     else faults_from max_faults [] (lines source)

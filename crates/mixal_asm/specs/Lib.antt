@@ -1,4 +1,5 @@
 pub mod Fault
+pub mod Place
 pub mod Key
 pub mod PassOne
 pub mod Program

@@ -4,9 +4,12 @@ use Rattle.std.specs.List.{list_any}
 use Rattle.std.specs.Map.{lookup}
 use Rattle.mix_word.specs.declared.word.Sign.TheVariants.{Plus}
 use Rattle.mix_word.specs.Word.{WordValue, plus, natural_of, word_of_parts, parts_of}
-use Rattle.mixal_text.specs.declared.fault.TextFault.{TextFault}
+use Rattle.mixal_text.specs.declared.misread.Misread.{Misread}
+use Rattle.mixal_text.specs.declared.parts.Part.TheVariants as part
 use Rattle.mixal_text.specs.declared.label.Label.{Label}
 use Rattle.mixal_text.specs.declared.label.Label.TheVariants as label
+use Rattle.mixal_text.specs.Misread.{misread}
+use Rattle.mixal_text.specs.Parts.{part_span}
 use Rattle.mixal_text.specs.Steps.{◌>>=◌}
 use Rattle.mixal_text.specs.Names.{NamesValue}
 use Rattle.mixal_text.specs.Part.{up_to}
@@ -126,10 +129,19 @@ number_after b = length b.rows + 1
 
 -- ---- instructions
 
--- a fault of a line's text as a fault of its line
-abbrev pub of_text : {A : Type 0} → Result A TextFault → Result A AsmKind
+-- a fault of a line's text
+abbrev pub of_text : {A : Type 0} → Result A Misread → Result A AsmKind
 of_text (Ok x) = Ok x
-of_text (Err fault) = Err (Text fault)
+of_text (Err misread) = Err (Text misread)
+
+-- a fault of the ADDRESS of a line, whose bytes are counted from the beginning of the line
+abbrev pub in_line : List ℕ → Misread → Misread
+in_line line m =
+    misread m.fault ((part_span line part.Address).from + m.at.from) ((part_span line part.Address).from + m.at.to)
+
+abbrev pub of_address : {A : Type 0} → List ℕ → Result A Misread → Result A AsmKind
+of_address line (Ok x) = Ok x
+of_address line (Err m) = Err (Text (in_line line m))
 
 -- an instruction whose address is +0 so far
 abbrev pub instruction : ℕ → OperandValue → WordValue
@@ -155,13 +167,13 @@ with_instruction b word (Literal text) =
 unfoldable pub machine_line : Before → List ℕ → Option Label → ℕ → ℕ → List ℕ → Result Before AsmKind
 machine_line b text loc code f address = do
   named ← with_loc b loc (plus b.here)
-  operand ← of_text (address_of (names_at b.names named.names) (plus named.here) f address)
+  operand ← of_address text (address_of (names_at b.names named.names) (plus named.here) f address)
   next ← with_instruction named (instruction code operand) operand.a
   Ok (with_line next (number_after b) text (shows.Word (length b.emitted)))
 
 unfoldable pub equ_line : Before → List ℕ → Option Label → List ℕ → Result Before AsmKind
 equ_line b text loc address = do
-  value ← of_text (w_value_of (names_at b.names b.names) (plus b.here) address)
+  value ← of_address text (w_value_of (names_at b.names b.names) (plus b.here) address)
   named ← with_loc b loc value
   Ok (with_line named (number_after b) text (shows.Value value))
 
@@ -172,14 +184,14 @@ location_of value = ok_or (option_and_then (up_to 4000) (natural_of value)) Loca
 unfoldable pub orig_line : Before → List ℕ → Option Label → List ℕ → Result Before AsmKind
 orig_line b text loc address = do
   named ← with_loc b loc (plus b.here)
-  value ← of_text (w_value_of (names_at b.names named.names) (plus named.here) address)
+  value ← of_address text (w_value_of (names_at b.names named.names) (plus named.here) address)
   here ← location_of value
   Ok (with_line (record named { here = here }) (number_after b) text shows.Nothing)
 
 unfoldable pub con_line : Before → List ℕ → Option Label → List ℕ → Result Before AsmKind
 con_line b text loc address = do
   named ← with_loc b loc (plus b.here)
-  value ← of_text (w_value_of (names_at b.names named.names) (plus named.here) address)
+  value ← of_address text (w_value_of (names_at b.names named.names) (plus named.here) address)
   next ← with_word named value None
   Ok (with_line next (number_after b) text (shows.Word (length b.emitted)))
 

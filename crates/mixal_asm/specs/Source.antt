@@ -6,7 +6,7 @@ use Rattle.std.specs.List.{filter_map, last_or}
 use Rattle.std.specs.Map.{lookup}
 use Rattle.std.specs.Str.{bytes_eq}
 use Rattle.mix_word.specs.Word.{WordValue}
-use Rattle.mixal_text.specs.declared.fault.TextFault.{TextFault}
+use Rattle.mixal_text.specs.declared.misread.Misread.{Misread}
 use Rattle.mixal_text.specs.declared.label.Label.{Label}
 use Rattle.mixal_text.specs.declared.label.Label.TheVariants as label
 use Rattle.mixal_text.specs.declared.op.Op.{Op}
@@ -62,7 +62,7 @@ abbrev pub says_instruction : LineValue → Bool
 says_instruction Remark = false
 says_instruction (Code loc op address) = is_machine op
 
-abbrev pub is_instruction_read : Result LineValue TextFault → Bool
+abbrev pub is_instruction_read : Result LineValue Misread → Bool
 is_instruction_read (Ok line) = says_instruction line
 is_instruction_read (Err fault) = false
 
@@ -100,7 +100,7 @@ abbrev pub symbol_of_line : LineValue → Option (List ℕ)
 symbol_of_line Remark = None
 symbol_of_line (Code loc op address) = symbol_of_loc loc
 
-abbrev pub symbol_of_read : Result LineValue TextFault → Option (List ℕ)
+abbrev pub symbol_of_read : Result LineValue Misread → Option (List ℕ)
 symbol_of_read (Ok line) = symbol_of_line line
 symbol_of_read (Err fault) = None
 

@@ -3,6 +3,7 @@ ghost use Rattle.std.specs.Prelude.{◌≡◌, ◌<◌, length, true, false, Ok,
 ghost use Rattle.mix_refused.specs.Refused.{IfFault};
 ghost use Rattle.mixal_text.specs.Line.{HasBytes, value_of_line};
 ghost use Rattle.mixal_asm.specs.PassOne.{at_first, number_after};
+ghost use Rattle.mixal_asm.specs.Place.{kind_span};
 ghost use Rattle.mixal_asm.specs.Assembly.{answer_of, answer_of_line, waiting_in};
 ghost use Rattle.mixal_asm.specs.Draft.{HasNoLiteral, IsReady, WaitsFor, answer_at};
 ghost use Rattle.mixal_asm.specs.Fed.{answer_of_fed};
@@ -52,7 +53,7 @@ impl<'s> Assembler<'s> {
     /// refusal drops the assembler.
     pub fn line(self, text: &'s [u8]) -> Result<Fed<'s>, Refused<AsmFault>>
         ensures ok { IfOk result (λ fed. answer_of self.entry text.now ≡ Ok (answer_of_fed fed)) }
-        ensures fault { IfFault result (λ fault. (fault.line ≡ number_after self.entry) × (answer_of self.entry text.now ≡ Err fault.kind)) }
+        ensures fault { IfFault result (λ fault. (fault.line ≡ number_after self.entry) × ((fault.at ≡ kind_span text.now fault.kind) × (answer_of self.entry text.now ≡ Err fault.kind))) }
     {
         let alloc = self.alloc;
         let mut draft = self.draft;
@@ -77,13 +78,13 @@ pub(crate) fn add_line<'s>(
 ) -> Result<Option<Place>, Refused<AsmFault>>
     requires { IsReady draft.old }
     ensures ok { IfOk result (λ end. answer_of draft.old text.now ≡ Ok (answer_at draft.new end)) }
-    ensures fault { IfFault result (λ fault. (fault.line ≡ number_after draft.old) × (answer_of draft.old text.now ≡ Err fault.kind)) }
+    ensures fault { IfFault result (λ fault. (fault.line ≡ number_after draft.old) × ((fault.at ≡ kind_span text.now fault.kind) × (answer_of draft.old text.now ≡ Err fault.kind))) }
     ensures ready { IfOk result (λ end. WaitsFor end draft.new) }
 {
     let number = draft.number();
     match answer(draft, text) {
         Ok(end) => Ok(end),
-        Err(Refused::Fault(kind)) => Err(Refused::Fault(AsmFault { line: number, kind })),
+        Err(Refused::Fault(kind)) => Err(Refused::Fault(AsmFault::of(number, text, kind))),
         Err(Refused::Memory) => Err(Refused::Memory),
     }
 }
@@ -104,7 +105,7 @@ pub(crate) fn answer<'s>(
     }
     match read_line(text) {
         Ok(line) => answer_line(draft, text, line),
-        Err(fault) => Err(Refused::Fault(AsmKind::Text(fault))),
+        Err(misread) => Err(Refused::Fault(AsmKind::Text(misread))),
     }
 }
 

@@ -5,14 +5,14 @@ ghost use Rattle.mix_lines.specs.Lines.{lines};
 ghost use Rattle.mixal_asm.specs.Diagnose.{diagnostics_of, first_line, goes_after, is_warning, line_warnings, slip_if, undefined_at, up_to_end, warning_at, warnings_from, warnings_in, warnings_of, with_fault, with_faults};
 ghost use Rattle.mixal_asm.specs.Source.{is_that};
 
-use crate::diagnostic::{Diagnostic, Finding, Warning};
+use crate::diagnostic::{Diagnostic, Finding, Warning, warning_part};
 use crate::fault::AsmFault;
 use crate::faults::faults_of;
 use crate::mentions::{Role, mentions, next_line};
 use crate::source::MAX_SOURCE_BYTES;
 use indexmap::IndexMap;
 use mix_refused::Memory;
-use mixal_text::{Slip, Symbol, survey_of};
+use mixal_text::{Slip, Symbol, part_span, survey_of};
 use std::alloc::Global;
 
 /// What there is to say of a source (1.3.2), in the order of its lines: its faults, as `faults_of` has them, and before a later line
@@ -48,6 +48,7 @@ fn put_fault(list: &mut Vec<Diagnostic>, fault: AsmFault) -> Result<(), Memory>
         at,
         Diagnostic {
             line: fault.line,
+            at: fault.at,
             finding: Finding::Fault(fault.kind),
         },
     )?;
@@ -135,16 +136,23 @@ fn add_line_warnings(
     ensures { OnOk result (list.new.items ≡ list.old.items ++ line_warnings uses.now.entries definitions.now.entries number line.now) }
 {
     let survey = survey_of(line);
-    add_undefined(list, uses, definitions, number, survey.used)?;
+    add_undefined(list, uses, definitions, number, line, survey.used)?;
     add_slip(
         list,
         number,
+        line,
         survey.operation_as_label,
         Slip::OperationAsLabel,
     )?;
-    add_slip(list, number, survey.alf_cut, Slip::AlfCut)?;
-    add_slip(list, number, survey.blank_in_address, Slip::BlankInAddress)?;
-    add_slip(list, number, survey.no_field, Slip::NoField)
+    add_slip(list, number, line, survey.alf_cut, Slip::AlfCut)?;
+    add_slip(
+        list,
+        number,
+        line,
+        survey.blank_in_address,
+        Slip::BlankInAddress,
+    )?;
+    add_slip(list, number, line, survey.no_field, Slip::NoField)
 }
 
 // A symbol that a line is the first to use, and that is the LOC of no line.
@@ -153,14 +161,15 @@ fn add_undefined(
     uses: &IndexMap<Symbol, u32>,
     definitions: &IndexMap<Symbol, u32>,
     number: u32,
+    line: &[u8],
     used: Option<Symbol>,
 ) -> Result<(), Memory>
-    ensures { OnOk result (list.new.items ≡ list.old.items ++ undefined_at uses.now.entries definitions.now.entries number used) }
+    ensures { OnOk result (list.new.items ≡ list.old.items ++ undefined_at uses.now.entries definitions.now.entries number line.now used) }
 {
     match used {
         Some(symbol) => {
             if is_first(uses, &symbol, number) && !definitions.contains_key(&symbol) {
-                push_warning(list, number, Warning::UndefinedSymbol(symbol))?;
+                push_warning(list, number, line, Warning::UndefinedSymbol(symbol))?;
             }
             Ok(())
         }
@@ -179,20 +188,33 @@ fn is_first(uses: &IndexMap<Symbol, u32>, symbol: &Symbol, number: u32) -> bool
 }
 
 // A slip, if the line has it.
-fn add_slip(list: &mut Vec<Diagnostic>, number: u32, has: bool, slip: Slip) -> Result<(), Memory>
-    ensures { OnOk result (list.new.items ≡ list.old.items ++ slip_if number has slip) }
+fn add_slip(
+    list: &mut Vec<Diagnostic>,
+    number: u32,
+    line: &[u8],
+    has: bool,
+    slip: Slip,
+) -> Result<(), Memory>
+    ensures { OnOk result (list.new.items ≡ list.old.items ++ slip_if number line.now has slip) }
 {
     if has {
-        push_warning(list, number, Warning::Slip(slip))?;
+        push_warning(list, number, line, Warning::Slip(slip))?;
     }
     Ok(())
 }
 
-fn push_warning(list: &mut Vec<Diagnostic>, line: u32, warning: Warning) -> Result<(), Memory>
-    ensures { OnOk result (list.new.items ≡ list.old.items ++ warning_at line warning) }
+fn push_warning(
+    list: &mut Vec<Diagnostic>,
+    number: u32,
+    line: &[u8],
+    warning: Warning,
+) -> Result<(), Memory>
+    ensures { OnOk result (list.new.items ≡ list.old.items ++ warning_at number line.now warning) }
 {
+    let at = part_span(line, warning_part(&warning));
     list.push(Diagnostic {
-        line,
+        line: number,
+        at: Some(at),
         finding: Finding::Warning(warning),
     })?;
     Ok(())

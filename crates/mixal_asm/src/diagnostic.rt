@@ -1,9 +1,10 @@
 //! What there is to say of a source: a fault, or a warning of what is allowed and hardly meant.
 ghost use Rattle.std.specs.Prelude.{◌≡◌};
+ghost use Rattle.mixal_asm.specs.Place.{slip_part, warning_part};
 ghost use Rattle.mixal_asm.specs.Diagnose.{slip_name, slip_text, warning_name, warning_subject, warning_text};
 
 use crate::fault::AsmKind;
-use mixal_text::{Slip, Symbol};
+use mixal_text::{Part, Slip, Span, Symbol};
 
 /// What is allowed in a source and hardly meant (1.3.2).
 #[derive(Drop)]
@@ -21,10 +22,12 @@ pub enum Finding {
     Warning(Warning),
 }
 
-/// What there is to say of a line of a source (1.3.2), by its number, counted from 1.
+/// What there is to say of a line of a source (1.3.2), by its number, counted from 1, and the bytes of the line that it is about,
+/// if it is about some.
 #[derive(Drop)]
 pub struct Diagnostic {
     pub line: u32,
+    pub at: Option<Span>,
     pub finding: Finding,
 }
 
@@ -57,6 +60,25 @@ impl Warning {
             Warning::UndefinedSymbol(_) => " is defined nowhere: END makes a cell of 0 for it",
             Warning::Slip(slip) => slip_text(*slip),
         }
+    }
+}
+
+/// The part of its line that a warning is about.
+pub(crate) fn warning_part(warning: &Warning) -> Part
+    ensures { result ≡ warning_part warning.now }
+{
+    match warning {
+        Warning::UndefinedSymbol(_) => Part::Address,
+        Warning::Slip(slip) => slip_part(*slip),
+    }
+}
+
+fn slip_part(slip: Slip) -> Part
+    ensures { result ≡ slip_part slip }
+{
+    match slip {
+        Slip::OperationAsLabel => Part::Label,
+        Slip::AlfCut | Slip::BlankInAddress | Slip::NoField => Part::Address,
     }
 }
 

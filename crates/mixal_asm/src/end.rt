@@ -53,13 +53,13 @@ impl<'s> Draft<'s> {
     ghost use Rattle.mixal_asm.specs.Draft.{HasNoLiteral, scope_value, passes};
 
     // The value of the ADDRESS of END, which is 0 where it is left out.
-    fn read_end(&self, own: Option<OwnLocal>, address: &[u8]) -> Result<Word, AsmKind>
-        ensures { result ≡ end_value (scope_value self.now.names own) (plus self.now.here) address.now }
+    fn read_end(&self, own: Option<OwnLocal>, line: &[u8], address: &[u8]) -> Result<Word, AsmKind>
+        ensures { result ≡ end_value (scope_value self.now.names own) (plus self.now.here) line.now address.now }
     {
         if address.is_empty() {
             Ok(Word::ZERO)
         } else {
-            self.read_value(own, address)
+            self.read_value(own, line, address)
         }
     }
 
@@ -97,10 +97,10 @@ impl<'s> Draft<'s> {
         ensures fault { IfFault result (λ kind. ended self.old number text.now loc.now address.now ≡ Err kind) }
     {
         if self.has_unmet(loc) {
-            return Err(Refused::Fault(AsmKind::Text(TextFault::NoSuchLocalSymbol)));
+            return Err(Refused::Fault(AsmKind::Inserted(TextFault::NoSuchLocalSymbol)));
         }
         let own = self.label(loc, self.here_word())?;
-        let value = self.read_end(own, address)?;
+        let value = self.read_end(own, text, address)?;
         let start = start_of(value)?;
         self.add_row(Source::Line(number, self.kept(text)?), Shows::Start)?;
         Ok(start)

@@ -2,16 +2,19 @@
 ghost use Rattle.std.specs.Prelude.{◌≡◌, Some};
 ghost use Rattle.mix_refused.specs.declared.refused.Refused.TheVariants.{Fault};
 ghost use Rattle.mixal_asm.specs.Fault.{kind_number, kind_text, kind_line, asm_fault_line};
+ghost use Rattle.mixal_asm.specs.Place.{inserted_part, kind_span, location_part};
 
 use mix_refused::Refused;
-use mixal_text::TextFault;
+use mixal_text::{Misread, Mnemonic, Part, Span, TextFault, line_op, part_span};
 use std::fmt;
 
 /// Why a source is refused (1.3.2), in the order of the numbers, but for those of a line's text, which come first here.
 #[derive(Clone, Copy)]
 pub enum AsmKind {
-    /// A1 to A3, A5 to A8, A10, A12, A14: a fault of a line's text. A14 is also a dF that no later dH meets.
-    Text(TextFault),
+    /// A1 to A3, A5 to A8, A10, A12, A14: a fault of a line's text, with its bytes.
+    Text(Misread),
+    /// A5 to A8, A10, A14 at END: a fault of a literal, or A14, a dF that no dH meets.
+    Inserted(TextFault),
     /// A4: a symbol that a line before has defined.
     DefinedTwice,
     /// A9: an address whose magnitude is 4096 or more, at the line of the instruction, or of the name that it waits for.
@@ -32,7 +35,8 @@ impl AsmKind {
         ensures { result ≡ kind_number self }
     {
         match self {
-            AsmKind::Text(fault) => fault.number(),
+            AsmKind::Text(misread) => misread.fault.number(),
+            AsmKind::Inserted(fault) => fault.number(),
             AsmKind::DefinedTwice => 4,
             AsmKind::AddressTooLarge => 9,
             AsmKind::LocationOutOfRange => 11,
@@ -47,7 +51,8 @@ impl AsmKind {
         ensures { result.now ≡ kind_text self }
     {
         match self {
-            AsmKind::Text(fault) => fault.text(),
+            AsmKind::Text(misread) => misread.fault.text(),
+            AsmKind::Inserted(fault) => fault.text(),
             AsmKind::DefinedTwice => "defined twice",
             AsmKind::AddressTooLarge => "address beyond two bytes",
             AsmKind::LocationOutOfRange => "location outside 0 to 3999",
@@ -75,11 +80,57 @@ impl fmt::Display for AsmKind {
     }
 }
 
-/// The first fault of a source, at its line, counted from 1.
+/// A fault of a source, at its line, counted from 1, and at the bytes of that line that it is about; A13 and A16 are about none.
 #[derive(Clone, Copy)]
 pub struct AsmFault {
     pub line: u32,
+    pub at: Option<Span>,
     pub kind: AsmKind,
+}
+
+impl AsmFault {
+    /// A fault of a line with this text.
+    pub(crate) fn of(line: u32, text: &[u8], kind: AsmKind) -> AsmFault
+        ensures { result ≡ record { line = line; at = kind_span text.now kind; kind = kind } }
+    {
+        AsmFault {
+            line,
+            at: kind_span(text, kind),
+            kind,
+        }
+    }
+}
+
+// The bytes of a line that a fault is about, if it is about some.
+fn kind_span(line: &[u8], kind: AsmKind) -> Option<Span>
+    ensures { result ≡ kind_span line.now kind }
+{
+    match kind {
+        AsmKind::Text(misread) => Some(misread.at),
+        AsmKind::Inserted(fault) => Some(part_span(line, inserted_part(fault))),
+        AsmKind::DefinedTwice => Some(part_span(line, Part::Label)),
+        AsmKind::AddressTooLarge | AsmKind::StartOutOfRange => Some(part_span(line, Part::Address)),
+        AsmKind::LocationOutOfRange => Some(part_span(line, location_part(line_op(line)))),
+        AsmKind::NoEnd | AsmKind::SourceTooLong => None,
+    }
+}
+
+fn inserted_part(fault: TextFault) -> Part
+    ensures { result ≡ inserted_part fault }
+{
+    match fault {
+        TextFault::NoSuchLocalSymbol => Part::Operation,
+        _ => Part::Statement,
+    }
+}
+
+fn location_part(op: Result<Mnemonic, TextFault>) -> Part
+    ensures { result ≡ location_part op }
+{
+    match op {
+        Ok(Mnemonic::Orig) => Part::Address,
+        _ => Part::Operation,
+    }
 }
 
 /// `line 2: A13 no END`.

@@ -1,12 +1,12 @@
 //! All faults of a source (1.3.2).
-ghost use Rattle.std.specs.Prelude.{◌≡◌, ◌==◌, ◌&&◌, ◌<◌, ◌≤◌, length, Ok, Err, IfOk, OnOk};
+ghost use Rattle.std.specs.Prelude.{◌≡◌, [], ◌==◌, ◌&&◌, ◌<◌, ◌≤◌, length, Ok, Err, IfOk, OnOk};
 ghost use Rattle.std.specs.List.{list_any};
 ghost use Rattle.mix_refused.specs.Refused.{IfFault};
 ghost use Rattle.mix_lines.specs.Lines.{lines};
 ghost use Rattle.mixal_asm.specs.PassOne.{at_first};
 ghost use Rattle.mixal_asm.specs.Assembly.{program_at};
 ghost use Rattle.mixal_asm.specs.Draft.{IsReady};
-ghost use Rattle.mixal_asm.specs.Faults.{is_told, untold, program_with, faults_of};
+ghost use Rattle.mixal_asm.specs.Faults.{is_told, untold, program_with, faults_from, faults_of};
 
 use crate::draft::Draft;
 use crate::fault::{AsmFault, AsmKind};
@@ -28,15 +28,24 @@ pub const MAX_FAULTS: usize = 100;
 pub fn faults_of(alloc: Global, text: &[u8]) -> Result<Vec<AsmFault>, Memory>
     ensures faults { IfOk result (λ faults. faults.items ≡ faults_of text.now) }
 {
-    let mut told = Vec::new(alloc);
     if text.len() > MAX_SOURCE_BYTES {
+        let mut told = Vec::new(alloc);
         told.push(AsmFault {
             line: 1,
+            at: None,
             kind: AsmKind::SourceTooLong,
         })?;
         return Ok(told);
     }
-    let mut left = MAX_FAULTS;
+    faults_up_to(alloc, text, MAX_FAULTS)
+}
+
+// At most so many of them, of a source that is not too long.
+fn faults_up_to(alloc: Global, text: &[u8], most: usize) -> Result<Vec<AsmFault>, Memory>
+    ensures { IfOk result (λ faults. faults.items ≡ faults_from most [] (lines text.now)) }
+{
+    let mut told = Vec::new(alloc);
+    let mut left = most;
     while left > 0 {
         match next_fault(alloc, text, &told)? {
             None => return Ok(told),

@@ -38,7 +38,7 @@ impl<'s> Draft<'s> {
         ensures others { (symbol : List ℕ) → OnOk result (value_of self.new.names (Name symbol) ≡ value_of self.old.names (Name symbol)) }
     {
         let count = self.word_count();
-        let value = self.read_value(None, text)?;
+        let value = self.read_literal(text)?;
         self.define(Key::Literal(j), self.here_word())?;
         self.emit_shown(Source::Literal(self.kept(text)?), count, value)
     }

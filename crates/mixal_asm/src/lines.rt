@@ -138,7 +138,7 @@ impl<'s> Draft<'s> {
         let number = self.number();
         let count = self.word_count();
         let own = self.label(loc, self.here_word())?;
-        let operand = self.read_operand(own, Op::Machine { code, f }, address)?;
+        let operand = self.read_operand(own, Op::Machine { code, f }, text, address)?;
         let word = instruction_word(code, operand.index, operand.f);
         self.instruction_shown(
             Source::Line(number, self.kept(text)?),
@@ -162,7 +162,7 @@ impl<'s> Draft<'s> {
         ensures fault { IfFault result (λ kind. equ_line self.old text.now loc.now address.now ≡ Err kind) }
     {
         let number = self.number();
-        let value = self.read_value(None, address)?;
+        let value = self.read_value(None, text, address)?;
         self.label(loc, value)?;
         self.add_row(Source::Line(number, self.kept(text)?), Shows::Value(value))?;
         Ok(())
@@ -183,7 +183,7 @@ impl<'s> Draft<'s> {
     {
         let number = self.number();
         let own = self.label(loc, self.here_word())?;
-        let value = self.read_value(own, address)?;
+        let value = self.read_value(own, text, address)?;
         let here = location_of(value)?;
         self.go_to(here);
         self.add_row(Source::Line(number, self.kept(text)?), Shows::Nothing)?;
@@ -206,7 +206,7 @@ impl<'s> Draft<'s> {
         let number = self.number();
         let count = self.word_count();
         let own = self.label(loc, self.here_word())?;
-        let value = self.read_value(own, address)?;
+        let value = self.read_value(own, text, address)?;
         self.emit_shown(Source::Line(number, self.kept(text)?), count, value)
     }
 

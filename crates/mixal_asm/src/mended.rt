@@ -4,6 +4,7 @@ ghost use Rattle.std.specs.List.{list_any};
 ghost use Rattle.mix_refused.specs.Refused.{IfFault};
 ghost use Rattle.mixal_text.specs.Line.{HasBytes, loc_of_line, value_of_line};
 ghost use Rattle.mixal_asm.specs.PassOne.{number_after};
+ghost use Rattle.mixal_asm.specs.Place.{kind_span};
 ghost use Rattle.mixal_asm.specs.Draft.{HasNoLiteral, IsReady, WaitsFor, answer_at};
 ghost use Rattle.mixal_asm.specs.Faults.{kept_loc, plain_line, mended_line, mended_answer, is_mended, answer_with};
 
@@ -22,13 +23,13 @@ pub(crate) fn add_line_with<'s>(
 ) -> Result<Option<Place>, Refused<AsmFault>>
     requires { IsReady draft.old }
     ensures ok { IfOk result (λ end. answer_with told.now draft.old text.now ≡ Ok (answer_at draft.new end)) }
-    ensures fault { IfFault result (λ fault. (fault.line ≡ number_after draft.old) × (answer_with told.now draft.old text.now ≡ Err fault.kind)) }
+    ensures fault { IfFault result (λ fault. (fault.line ≡ number_after draft.old) × ((fault.at ≡ kind_span text.now fault.kind) × (answer_with told.now draft.old text.now ≡ Err fault.kind))) }
     ensures ready { IfOk result (λ end. WaitsFor end draft.new) }
 {
     let number = draft.number();
     match answer_with(draft, told, number, text) {
         Ok(end) => Ok(end),
-        Err(Refused::Fault(kind)) => Err(Refused::Fault(AsmFault { line: number, kind })),
+        Err(Refused::Fault(kind)) => Err(Refused::Fault(AsmFault::of(number, text, kind))),
         Err(Refused::Memory) => Err(Refused::Memory),
     }
 }

@@ -1,7 +1,8 @@
 //! A whole source (1.3.2).
-ghost use Rattle.std.specs.Prelude.{◌≡◌, Ok, Err, IfOk};
+ghost use Rattle.std.specs.Prelude.{◌≡◌, [], Ok, Err, IfOk};
 ghost use Rattle.mix_refused.specs.Refused.{IfFault};
 ghost use Rattle.mix_lines.specs.Lines.{lines};
+ghost use Rattle.mixal_asm.specs.Place.{kind_span};
 ghost use Rattle.mixal_asm.specs.Assembly.{assembly, program_from, program_at};
 ghost use Rattle.mixal_asm.specs.Draft.{IsReady};
 
@@ -49,9 +50,9 @@ fn add_lines<'s>(draft: &mut Draft<'s>, text: &'s [u8]) -> Result<Place, Refused
     Err(fault_at(draft.number(), AsmKind::NoEnd))
 }
 
-/// A fault at a line.
+/// A fault at a line, of which nothing is there.
 pub(crate) fn fault_at(line: u32, kind: AsmKind) -> Refused<AsmFault>
-    ensures { result ≡ Refused.Fault (record { line = line; kind = kind }) }
+    ensures { result ≡ Refused.Fault (record { line = line; at = kind_span [] kind; kind = kind }) }
 {
-    Refused::Fault(AsmFault { line, kind })
+    Refused::Fault(AsmFault::of(line, &[], kind))
 }

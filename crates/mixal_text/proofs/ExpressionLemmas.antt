@@ -1,10 +1,11 @@
--- How the terms of a text follow one after the other, and what is left of an expression after each.
-use Rattle.std.proofs.Common.{Bool, true, false, ◌≡◌, ℕ, zero, suc, ◌+◌, ◌-◌, ◌≤◌, List, [], ◌∷◌, length, drop, Option, Some, None, Result, Ok, Err, refl, sym, ◌∙◌, ap, cond, add-zero, arith}
+-- How the terms of a text follow one after the other, and how an expression at a place is worked out.
+use Rattle.std.proofs.Common.{Bool, true, false, ◌≡◌, ℕ, zero, suc, ◌+◌, ◌-◌, ◌≤◌, List, [], ◌∷◌, length, drop, Option, Some, None, Result, Ok, Err, refl, sym, ◌∙◌, ap, cond, arith}
 use Rattle.std.specs.Prelude.{◌==◌}
 use Rattle.std.specs.List.{before_first, position_or_len}
 use Rattle.std.proofs.lemmas.List.{length-drop, length-take}
 use Rattle.mix_word.specs.Word.{WordValue}
-use Rattle.mixal_text.specs.declared.fault.TextFault.{TextFault}
+use Rattle.mixal_text.specs.declared.misread.Misread.{Misread}
+use Rattle.mixal_text.specs.Misread.{or_at}
 use Rattle.mixal_text.specs.declared.operator.Operator.{Operator}
 use Rattle.mixal_text.specs.declared.operator.Operator.TheVariants.{Add, Subtract, Multiply, Divide, Fraction, Field}
 use Rattle.mix_word.specs.declared.word.Sign.{Sign}
@@ -13,7 +14,7 @@ use Rattle.mixal_text.specs.Steps.{◌>>=◌}
 use Rattle.mixal_text.specs.Names.{NamesValue}
 use Rattle.mixal_text.specs.Operator.{operator_at, operator_length, outcome_of}
 use Rattle.mixal_text.specs.Atom.{is_other, atom_in, atom_value}
-use Rattle.mixal_text.specs.Expression.{Term, sign_at, sign_length, term_length, terms_length, terms_from, terms_in, terms_of, expression_in, value_after_sign, value_of_terms, value_of_expression, expression_of}
+use Rattle.mixal_text.specs.Expression.{Term, sign_at, sign_length, term_length, terms_from, terms_in, terms_of, expression_in, value_after_sign, operated_at, terms_at, expression_at}
 
 -- ---- lengths
 
@@ -106,123 +107,141 @@ terms_of-more (byte ∷ rest) operator some =
     rw some (ap (λ (more : List Term). term_at operator text ∷ more)
     (terms_in-enough (length rest) (length (after_term operator text)) (after_term operator text) shorter (omega arith)))
 
--- ---- what is left of an expression
+-- ---- an expression at a place is worked out one term after the other
 
--- the answer, where a value and so many bytes stand before what is left
-unfoldable pub ending : NamesValue → WordValue → WordValue → List ℕ → ℕ → Result (WordValue × ℕ) TextFault
-ending names here value rest used = do
-  last ← value_of_terms names here value (terms_of rest)
-  Ok (last, used + terms_length (terms_of rest))
+-- the outcome of a term, and what is left after it
+abbrev through : NamesValue → WordValue → ℕ → ℕ → List ℕ → Result WordValue Misread → Result (WordValue × ℕ) Misread
+through names here start place rest (Ok next) = terms_at names here start place next (terms_of rest)
+through names here start place rest (Err misread) = Err misread
 
-pub ending-none : (names : NamesValue) (here value : WordValue) (rest : List ℕ) (used : ℕ) → operator_at rest ≡ None
-    → ending names here value rest used ≡ Ok (value, used)
-unfolding ending value_of_terms
-ending-none names here value rest used none = rw (terms_of-none rest none) (rw add-zero refl)
+step : (names : NamesValue) (here : WordValue) (start place : ℕ) (value : WordValue) (operator : Operator) (rest : List ℕ)
+    → operator_at rest ≡ Some operator → (outcome : Result WordValue Misread)
+    → operated_at names here start place value (term_at operator rest) ≡ outcome
+    → terms_at names here start place value (terms_of rest)
+    ≡ through names here start (place + term_length (term_at operator rest)) (after_term operator rest) outcome
+unfolding terms_at
+step names here start place value operator rest some (Ok next) o = rw (terms_of-more rest operator some) (rw o refl)
+step names here start place value operator rest some (Err misread) o = rw (terms_of-more rest operator some) (rw o refl)
 
--- the answer of a term and what is left after it
-abbrev through : NamesValue → WordValue → List ℕ → ℕ → Result WordValue TextFault → Result (WordValue × ℕ) TextFault
-through names here rest used (Ok next) = ending names here next rest used
-through names here rest used (Err fault) = Err fault
-
-through-step : (names : NamesValue) (here value : WordValue) (operator : Operator) (atom rest : List ℕ) (used : ℕ)
-    → (operand : Result WordValue TextFault) → atom_value names here atom ≡ operand
-    → (outcome : Result WordValue TextFault) → (operand >>= outcome_of operator value) ≡ outcome
-    → (let term : Term = record { operator = operator; atom = atom } in
-    (value_of_terms names here value (term ∷ terms_of rest) >>= λ last. Ok (last, used + (term_length term + terms_length (terms_of rest)))) ≡ through names here rest (used + (operator_length operator + length atom)) outcome)
-unfolding ending value_of_terms
-through-step names here value operator atom rest used (Err fault) e (Ok next) o = cc
-through-step names here value operator atom rest used (Err fault) e (Err other) o = rw e (let same : fault ≡ other = cc in rw same refl)
-through-step names here value operator atom rest used (Ok operand) e (Ok next) o =
-    let total : used + (operator_length operator + length atom + terms_length (terms_of rest)) ≡ used + (operator_length operator + length atom) + terms_length (terms_of rest) = omega arith in
-    rw (e, o, total) refl
-through-step names here value operator atom rest used (Ok operand) e (Err fault) o = rw (e, o) refl
-
-pub ending-step : (names : NamesValue) (here value : WordValue) (operator : Operator) (rest : List ℕ) (used : ℕ)
-    → operator_at rest ≡ Some operator
-    → (outcome : Result WordValue TextFault)
-    → (atom_value names here (atom_in (drop (operator_length operator) rest)) >>= outcome_of operator value) ≡ outcome
-    → ending names here value rest used
-    ≡ through names here (after_term operator rest) (used + (operator_length operator + length (atom_in (drop (operator_length operator) rest)))) outcome
-unfolding ending
-ending-step names here value operator rest used some outcome o =
-    rw (terms_of-more rest operator some)
-    (through-step names here value operator (atom_in (drop (operator_length operator) rest)) (after_term operator rest) used (atom_value names here (atom_in (drop (operator_length operator) rest))) refl outcome o)
-
--- the first value of an expression, and what is left after it
-pub ending-first : (names : NamesValue) (here : WordValue) (text : List ℕ)
+begin : (names : NamesValue) (here : WordValue) (start : ℕ) (text : List ℕ)
     → (let body = drop (sign_length (sign_at text)) text in
-    let rest = drop (length (atom_in body)) body in
-    (first : Result WordValue TextFault) → atom_value names here (atom_in body) ≡ first
-    → expression_of names here text
-    ≡ through names here rest (sign_length (sign_at text) + length (atom_in body)) (first >>= λ value. Ok (value_after_sign (sign_at text) value)))
-unfolding ending expression_of value_of_expression expression_in
-ending-first names here text (Ok value) e = rw e refl
-ending-first names here text (Err fault) e = rw e refl
+    let place = start + (sign_length (sign_at text) + length (atom_in body)) in
+    (first : Result WordValue Misread) → or_at (atom_value names here (atom_in body)) (start + sign_length (sign_at text)) place ≡ first
+    → expression_at names here start text
+    ≡ through names here start place (drop (length (atom_in body)) body) (first >>= λ value. Ok (value_after_sign (sign_at text) value)))
+unfolding expression_at expression_in
+begin names here start text (Ok value) e = rw e refl
+begin names here start text (Err misread) e = rw e refl
 
--- ---- the steps as the code takes them
+-- ---- where the parts lie
 
-pub first-refused : (names : NamesValue) (here : WordValue) (text unsigned atom : List ℕ) (fault : TextFault)
-    → unsigned ≡ drop (sign_length (sign_at text)) text → atom ≡ atom_in unsigned
-    → Err fault ≡ atom_value names here atom → Err fault ≡ expression_of names here text
-first-refused names here text unsigned atom fault u a e =
-    let refused : atom_value names here (atom_in (drop (sign_length (sign_at text)) text)) ≡ Err fault = rw (← u, ← a) (sym e) in
-    sym (ending-first names here text (Err fault) refused)
-
-pub first-taken : (names : NamesValue) (here : WordValue) (text : List ℕ) (sign : Option Sign) (unsigned atom rest : List ℕ) (value signed : WordValue)
-    → sign ≡ sign_at text → unsigned ≡ drop (sign_length (sign_at text)) text → atom ≡ atom_in unsigned
+first-places : (start : ℕ) (text unsigned rest : List ℕ) → unsigned ≡ drop (sign_length (sign_at text)) text
     → rest ≡ drop (length (atom_in unsigned)) unsigned
-    → Ok value ≡ atom_value names here atom → signed ≡ value_after_sign sign value
-    → (expression_of names here text ≡ ending names here signed rest (length text - length rest)) × (length rest ≤ length text)
-first-taken names here text sign unsigned atom rest value signed s u a r e w =
+    → (start + (length text - length unsigned) ≡ start + sign_length (sign_at text))
+    × ((start + (length text - length rest) ≡ start + (sign_length (sign_at text) + length (atom_in (drop (sign_length (sign_at text)) text))))
+    × (length rest ≤ length text))
+first-places start text unsigned rest u r =
     let body = drop (sign_length (sign_at text)) text in
-    let taken : atom_value names here (atom_in body) ≡ Ok value = rw (← u, ← a) (sym e) in
     let within = sign-within text in
     let most = atom-within body in
     let shorter = length-drop (sign_length (sign_at text)) text in
     let shortest = length-drop (length (atom_in body)) body in
     let left : rest ≡ drop (length (atom_in body)) body = rw (← u) r in
-    let used : length text - length rest ≡ sign_length (sign_at text) + length (atom_in body) = omega (arith, ap length left) in
-    (rw (used, left, w, s) (ending-first names here text (Ok value) taken), omega (arith, ap length left))
+    (omega (arith, ap length u), (omega (arith, ap length left), omega (arith, ap length left)))
 
-pub term-refused : (names : NamesValue) (here : WordValue) (text : List ℕ) (value : WordValue) (rest : List ℕ)
-    → expression_of names here text ≡ ending names here value rest (length text - length rest)
-    → (operator : Operator) → operator_at rest ≡ Some operator → (second atom : List ℕ)
-    → second ≡ drop (operator_length operator) rest → atom ≡ atom_in second
-    → (fault : TextFault) → Err fault ≡ atom_value names here atom → Err fault ≡ expression_of names here text
-term-refused names here text value rest now operator some second atom d a fault e =
-    let outcome : (atom_value names here (atom_in (drop (operator_length operator) rest)) >>= outcome_of operator value) ≡ Err fault = rw (← d, ← a, ← e) refl in
-    sym (now ∙ ending-step names here value operator rest (length text - length rest) some (Err fault) outcome)
-
-pub outcome-refused : (names : NamesValue) (here : WordValue) (text : List ℕ) (value : WordValue) (rest : List ℕ)
-    → expression_of names here text ≡ ending names here value rest (length text - length rest)
-    → (operator : Operator) → operator_at rest ≡ Some operator → (second atom : List ℕ)
-    → second ≡ drop (operator_length operator) rest → atom ≡ atom_in second
-    → (operand : WordValue) → Ok operand ≡ atom_value names here atom
-    → (fault : TextFault) → Err fault ≡ outcome_of operator value operand → Err fault ≡ expression_of names here text
-outcome-refused names here text value rest now operator some second atom d a operand e fault o =
-    let outcome : (atom_value names here (atom_in (drop (operator_length operator) rest)) >>= outcome_of operator value) ≡ Err fault = rw (← d, ← a, ← e) (sym o) in
-    sym (now ∙ ending-step names here value operator rest (length text - length rest) some (Err fault) outcome)
-
-pub term-taken : (names : NamesValue) (here : WordValue) (text : List ℕ) (value : WordValue) (rest : List ℕ)
-    → expression_of names here text ≡ ending names here value rest (length text - length rest) → length rest ≤ length text
-    → (operator : Operator) → operator_at rest ≡ Some operator → operator_length operator ≤ length rest
-    → (second atom after : List ℕ) → second ≡ drop (operator_length operator) rest → atom ≡ atom_in second
+term-places : (start : ℕ) (text rest second after : List ℕ) (operator : Operator) → length rest ≤ length text
+    → operator_length operator ≤ length rest → second ≡ drop (operator_length operator) rest
     → after ≡ drop (length (atom_in second)) second
-    → (operand : WordValue) → Ok operand ≡ atom_value names here atom
-    → (next : WordValue) → Ok next ≡ outcome_of operator value operand
-    → (expression_of names here text ≡ ending names here next after (length text - length after)) × (length after ≤ length text)
-term-taken names here text value rest now most operator some fits second atom after d a r operand e next o =
+    → (start + (length text - length second) ≡ start + (length text - length rest) + operator_length operator)
+    × ((start + (length text - length after) ≡ start + (length text - length rest) + (operator_length operator + length (atom_in (drop (operator_length operator) rest))))
+    × (length after ≤ length text))
+term-places start text rest second after operator most fits d r =
     let body = drop (operator_length operator) rest in
-    let outcome : (atom_value names here (atom_in body) >>= outcome_of operator value) ≡ Ok next = rw (← d, ← a, ← e) (sym o) in
     let within = atom-within body in
     let shorter = length-drop (operator_length operator) rest in
     let shortest = length-drop (length (atom_in body)) body in
     let left : after ≡ drop (length (atom_in body)) body = rw (← d) r in
-    let used : length text - length after ≡ length text - length rest + (operator_length operator + length (atom_in body)) = omega (arith, ap length left) in
-    (rw (used, left) (now ∙ ending-step names here value operator rest (length text - length rest) some (Ok next) outcome), omega (arith, ap length left))
+    (omega (arith, ap length d), (omega (arith, ap length left), omega (arith, ap length left)))
 
-pub terms-done : (names : NamesValue) (here : WordValue) (text : List ℕ) (value : WordValue) (rest : List ℕ)
-    → expression_of names here text ≡ ending names here value rest (length text - length rest)
-    → operator_at rest ≡ None → Ok (value, length text - length rest) ≡ expression_of names here text
-terms-done names here text value rest now none =
-    sym (now ∙ ending-none names here value rest (length text - length rest) none)
+-- ---- the steps as the code takes them
+
+pub first-refused : (names : NamesValue) (here : WordValue) (start : ℕ) (text unsigned atom rest : List ℕ) (from to : ℕ) (misread : Misread)
+    → unsigned ≡ drop (sign_length (sign_at text)) text → atom ≡ atom_in unsigned
+    → rest ≡ drop (length (atom_in unsigned)) unsigned
+    → from ≡ start + (length text - length unsigned) → to ≡ start + (length text - length rest)
+    → Err misread ≡ or_at (atom_value names here atom) from to → Err misread ≡ expression_at names here start text
+first-refused names here start text unsigned atom rest from to misread u a r f t e =
+    let places = first-places start text unsigned rest u r in
+    let refused : or_at (atom_value names here (atom_in (drop (sign_length (sign_at text)) text))) (start + sign_length (sign_at text)) (start + (sign_length (sign_at text) + length (atom_in (drop (sign_length (sign_at text)) text)))) ≡ Err misread =
+    rw (← places.0, ← places.1.0, ← f, ← t, ← u, ← a) (sym e) in
+    sym (begin names here start text (Err misread) refused)
+
+pub first-taken : (names : NamesValue) (here : WordValue) (start : ℕ) (text : List ℕ) (sign : Option Sign) (unsigned atom rest : List ℕ) (from to : ℕ) (value signed : WordValue)
+    → sign ≡ sign_at text → unsigned ≡ drop (sign_length (sign_at text)) text → atom ≡ atom_in unsigned
+    → rest ≡ drop (length (atom_in unsigned)) unsigned
+    → from ≡ start + (length text - length unsigned) → to ≡ start + (length text - length rest)
+    → Ok value ≡ or_at (atom_value names here atom) from to → signed ≡ value_after_sign sign value
+    → (expression_at names here start text ≡ terms_at names here start (start + (length text - length rest)) signed (terms_of rest)) × (length rest ≤ length text)
+first-taken names here start text sign unsigned atom rest from to value signed s u a r f t e w =
+    let places = first-places start text unsigned rest u r in
+    let body = drop (sign_length (sign_at text)) text in
+    let left : rest ≡ drop (length (atom_in body)) body = rw (← u) r in
+    let taken : or_at (atom_value names here (atom_in body)) (start + sign_length (sign_at text)) (start + (sign_length (sign_at text) + length (atom_in body))) ≡ Ok value =
+    rw (← places.0, ← places.1.0, ← f, ← t, ← u, ← a) (sym e) in
+    (rw (places.1.0, left, w, s) (begin names here start text (Ok value) taken), places.1.1)
+
+pub term-refused : (names : NamesValue) (here : WordValue) (start : ℕ) (text : List ℕ) (value : WordValue) (rest : List ℕ)
+    → expression_at names here start text ≡ terms_at names here start (start + (length text - length rest)) value (terms_of rest) → length rest ≤ length text
+    → (operator : Operator) → operator_at rest ≡ Some operator → operator_length operator ≤ length rest
+    → (second atom after : List ℕ) → second ≡ drop (operator_length operator) rest → atom ≡ atom_in second
+    → after ≡ drop (length (atom_in second)) second
+    → (from to : ℕ) → from ≡ start + (length text - length second) → to ≡ start + (length text - length after)
+    → (misread : Misread) → Err misread ≡ or_at (atom_value names here atom) from to → Err misread ≡ expression_at names here start text
+term-refused names here start text value rest now most operator some fits second atom after d a r from to f t misread e =
+    let places = term-places start text rest second after operator most fits d r in
+    let outcome : operated_at names here start (start + (length text - length rest)) value (term_at operator rest) ≡ Err misread =
+    rw (← places.0, ← places.1.0, ← f, ← t, ← d, ← a, ← e) refl in
+    sym (now ∙ step names here start (start + (length text - length rest)) value operator rest some (Err misread) outcome)
+
+pub outcome-refused : (names : NamesValue) (here : WordValue) (start : ℕ) (text : List ℕ) (value : WordValue) (rest : List ℕ)
+    → expression_at names here start text ≡ terms_at names here start (start + (length text - length rest)) value (terms_of rest) → length rest ≤ length text
+    → (operator : Operator) → operator_at rest ≡ Some operator → operator_length operator ≤ length rest
+    → (second atom after : List ℕ) → second ≡ drop (operator_length operator) rest → atom ≡ atom_in second
+    → after ≡ drop (length (atom_in second)) second
+    → (from to : ℕ) → from ≡ start + (length text - length second) → to ≡ start + (length text - length after)
+    → (operand : WordValue) → Ok operand ≡ or_at (atom_value names here atom) from to
+    → (misread : Misread) → Err misread ≡ or_at (outcome_of operator value operand) start to → Err misread ≡ expression_at names here start text
+outcome-refused names here start text value rest now most operator some fits second atom after d a r from to f t operand e misread o =
+    let places = term-places start text rest second after operator most fits d r in
+    let outcome : operated_at names here start (start + (length text - length rest)) value (term_at operator rest) ≡ Err misread =
+    rw (← places.0, ← places.1.0, ← f, ← t, ← d, ← a, ← e) (sym o) in
+    sym (now ∙ step names here start (start + (length text - length rest)) value operator rest some (Err misread) outcome)
+
+pub term-taken : (names : NamesValue) (here : WordValue) (start : ℕ) (text : List ℕ) (value : WordValue) (rest : List ℕ)
+    → expression_at names here start text ≡ terms_at names here start (start + (length text - length rest)) value (terms_of rest) → length rest ≤ length text
+    → (operator : Operator) → operator_at rest ≡ Some operator → operator_length operator ≤ length rest
+    → (second atom after : List ℕ) → second ≡ drop (operator_length operator) rest → atom ≡ atom_in second
+    → after ≡ drop (length (atom_in second)) second
+    → (from to : ℕ) → from ≡ start + (length text - length second) → to ≡ start + (length text - length after)
+    → (operand : WordValue) → Ok operand ≡ or_at (atom_value names here atom) from to
+    → (next : WordValue) → Ok next ≡ or_at (outcome_of operator value operand) start to
+    → (expression_at names here start text ≡ terms_at names here start (start + (length text - length after)) next (terms_of after)) × (length after ≤ length text)
+term-taken names here start text value rest now most operator some fits second atom after d a r from to f t operand e next o =
+    let places = term-places start text rest second after operator most fits d r in
+    let body = drop (operator_length operator) rest in
+    let left : after ≡ drop (length (atom_in body)) body = rw (← d) r in
+    let outcome : operated_at names here start (start + (length text - length rest)) value (term_at operator rest) ≡ Ok next =
+    rw (← places.0, ← places.1.0, ← f, ← t, ← d, ← a, ← e) (sym o) in
+    (rw (places.1.0, left) (now ∙ step names here start (start + (length text - length rest)) value operator rest some (Ok next) outcome), places.1.1)
+
+done : (names : NamesValue) (here : WordValue) (start place : ℕ) (value : WordValue) (rest : List ℕ) → operator_at rest ≡ None
+    → terms_at names here start place value (terms_of rest) ≡ Ok (value, place)
+unfolding terms_at
+done names here start place value rest none = rw (terms_of-none rest none) refl
+
+pub terms-done : (names : NamesValue) (here : WordValue) (start : ℕ) (text : List ℕ) (value : WordValue) (rest : List ℕ)
+    → expression_at names here start text ≡ terms_at names here start (start + (length text - length rest)) value (terms_of rest)
+    → operator_at rest ≡ None → (last : ℕ) → last ≡ start + (length text - length rest)
+    → Ok (value, last) ≡ expression_at names here start text
+terms-done names here start text value rest now none last l =
+    rw l (sym (now ∙ done names here start (start + (length text - length rest)) value rest none))

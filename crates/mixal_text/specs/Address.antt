@@ -1,25 +1,26 @@
 -- The ADDRESS of a symbolic operation (1.3.2): A-part, index and F, each of which may be left out.
-use Rattle.std.specs.Prelude.{◌≡◌, ℕ, ◌==◌, Bool, List, [], ◌∷◌, length, drop, is_none, Option, Some, None, unwrap_or, Result, Ok, Err, ◌||◌, if◌then◌else◌}
+use Rattle.std.specs.Prelude.{◌≡◌, ℕ, ◌+◌, ◌-◌, ◌==◌, Bool, List, [], ◌∷◌, length, drop, is_none, Option, Some, None, unwrap_or, Result, Ok, Err, ◌||◌, if◌then◌else◌}
 use Rattle.std.specs.List.{list_any, before_first, after_first}
 use Rattle.mix_word.specs.Word.{WordValue, zero_word}
-use Rattle.mixal_text.specs.declared.fault.TextFault.{TextFault}
 use Rattle.mixal_text.specs.declared.fault.TextFault.TheVariants.{BadExpression}
 use Rattle.mixal_text.specs.declared.local.Direction.{Direction}
 use Rattle.mixal_text.specs.declared.local.Direction.TheVariants.{Here, Backward, Forward}
 use Rattle.mixal_text.specs.declared.local.Local.{Local}
+use Rattle.mixal_text.specs.declared.misread.Misread.{Misread}
 use Rattle.mixal_text.specs.declared.op.Op.{Op}
 use Rattle.mixal_text.specs.declared.op.Op.TheVariants.{Machine, Equ, Orig, Con, Alf, End}
 use Rattle.mixal_text.specs.declared.addresses.APart.{APart}
 use Rattle.mixal_text.specs.declared.addresses.APart.TheVariants as part
 use Rattle.mixal_text.specs.declared.addresses.Operand.{Operand}
+use Rattle.mixal_text.specs.Misread.{misread, or_at}
 use Rattle.mixal_text.specs.Steps.{◌>>=◌}
 use Rattle.mixal_text.specs.Local.{local_of}
 use Rattle.mixal_text.specs.Symbol.{symbol_of}
 use Rattle.mixal_text.specs.Names.{NamesValue}
 use Rattle.mixal_text.specs.Operator.{operator_at}
 use Rattle.mixal_text.specs.Atom.{atom_in}
-use Rattle.mixal_text.specs.Expression.{expression_of, whole_expression}
-use Rattle.mixal_text.specs.Part.{is_open, is_comma, from_first, up_to, part_or_fault, nothing_left, part_in_brackets}
+use Rattle.mixal_text.specs.Expression.{expression_at, whole_expression}
+use Rattle.mixal_text.specs.Part.{is_open, is_comma, from_first, up_to, part_or_fault, left_over, left_at, brackets_at}
 
 -- an A-part: a value, or a future reference to a symbol or to dF, or a literal
 pub data APartValue : Type 0 where
@@ -64,53 +65,55 @@ reference_with names atom rest =
     if is_none (operator_at rest) then reference_of names (local_of atom) (symbol_of atom) else None
 
 -- a future reference, after which nothing may be left, or else a value
-abbrev pub reference_or_value : NamesValue → WordValue → List ℕ → Option APartValue → Result APartValue TextFault
-reference_or_value names here text (Some reference) = nothing_left (drop (length (atom_in text)) text) reference
+abbrev pub reference_or_value : NamesValue → WordValue → List ℕ → Option APartValue → Result APartValue Misread
+reference_or_value names here text (Some reference) =
+    left_at (length (atom_in text)) (drop (length (atom_in text)) text) reference
 reference_or_value names here text None = do
   value ← whole_expression names here text
   Ok (Value value)
 
 -- an A-part that is no literal; where it is left out it is +0
-unfoldable pub a_part_of : NamesValue → WordValue → List ℕ → Result APartValue TextFault
+unfoldable pub a_part_of : NamesValue → WordValue → List ℕ → Result APartValue Misread
 a_part_of names here [] = Ok (Value zero_word)
 a_part_of names here (byte ∷ rest) =
     let text : List ℕ = byte ∷ rest in
     reference_or_value names here text (reference_with names (atom_in text) (drop (length (atom_in text)) text))
 
--- ---- the index and the whole ADDRESS
+-- ---- the index and the whole ADDRESS. What stands at a place has its bytes counted from there
 
 -- an index: a comma and an expression, from 0 to 6; where it is left out it is 0
-unfoldable pub index_of : NamesValue → WordValue → List ℕ → Result ℕ TextFault
-index_of names here [] = Ok 0
-index_of names here (byte ∷ text) =
+unfoldable pub index_at : NamesValue → WordValue → ℕ → List ℕ → Result ℕ Misread
+index_at names here place [] = Ok 0
+index_at names here place (byte ∷ text) =
     if is_comma byte then (do
-      value ← expression_of names here text
-      index ← part_or_fault (up_to 6) value.0
-      nothing_left (drop value.1 text) index)
-    else Err BadExpression
+      value ← expression_at names here (place + 1) text
+      index ← or_at (part_or_fault (up_to 6) value.0) (place + 1) value.1
+      left_at value.1 (drop (value.1 - (place + 1)) text) index)
+    else Err (left_over place (byte ∷ text))
 
 -- an A-part, and after it the index up to the opening bracket and F from 0 to 63; where F is left out it is the normal one
-unfoldable pub operand_of : NamesValue → WordValue → ℕ → APartValue → List ℕ → Result OperandValue TextFault
-operand_of names here normal_f a rest = do
-  index ← index_of names here (before_first is_open rest)
-  f ← part_in_brackets (up_to 63) names here (from_first is_open rest)
+unfoldable pub operand_at : NamesValue → WordValue → ℕ → APartValue → ℕ → List ℕ → Result OperandValue Misread
+operand_at names here normal_f a place rest = do
+  index ← index_at names here place (before_first is_open rest)
+  f ← brackets_at (up_to 63) names here (place + length (before_first is_open rest)) (from_first is_open rest)
   Ok record { a = a; index = index; f = unwrap_or f normal_f }
 
--- a literal =W-value=, which goes up to the next equals sign, by what stands after the first
-unfoldable pub literal_operand_of : NamesValue → WordValue → ℕ → List ℕ → Result OperandValue TextFault
+-- a literal =W-value=, which goes up to the next equals sign, by what stands after the first. One that does not end is at fault
+-- with that sign
+unfoldable pub literal_operand_of : NamesValue → WordValue → ℕ → List ℕ → Result OperandValue Misread
 literal_operand_of names here normal_f text =
     if list_any is_equals text
-    then operand_of names here normal_f (Literal (before_first is_equals text)) (after_first is_equals text)
-    else Err BadExpression
+    then operand_at names here normal_f (Literal (before_first is_equals text)) (length (before_first is_equals text) + 2) (after_first is_equals text)
+    else Err (misread BadExpression 0 (length text + 1))
 
 -- an operand whose A-part is no literal, and goes up to the first comma or opening bracket
-unfoldable pub plain_operand_of : NamesValue → WordValue → ℕ → List ℕ → Result OperandValue TextFault
+unfoldable pub plain_operand_of : NamesValue → WordValue → ℕ → List ℕ → Result OperandValue Misread
 plain_operand_of names here normal_f text = do
   a ← a_part_of names here (before_first is_delimiter text)
-  operand_of names here normal_f a (from_first is_delimiter text)
+  operand_at names here normal_f a (length (before_first is_delimiter text)) (from_first is_delimiter text)
 
 -- the operand that an ADDRESS says, where F is `normal_f` if it is left out
-unfoldable pub address_of : NamesValue → WordValue → ℕ → List ℕ → Result OperandValue TextFault
+unfoldable pub address_of : NamesValue → WordValue → ℕ → List ℕ → Result OperandValue Misread
 address_of names here normal_f [] = plain_operand_of names here normal_f []
 address_of names here normal_f (byte ∷ rest) =
     if is_equals byte then literal_operand_of names here normal_f rest

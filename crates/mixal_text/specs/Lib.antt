@@ -1,5 +1,6 @@
 pub mod Steps
 pub mod Fault
+pub mod Misread
 pub mod Local
 pub mod Symbol
 pub mod Names
@@ -14,9 +15,7 @@ pub mod Words
 pub mod WrittenF
 pub mod Valued
 pub mod Alf
+pub mod Parts
 pub mod Line
-pub mod Span
 pub mod Address
-pub mod ExpressionSpan
-pub mod AddressSpan
 pub mod Slips

@@ -4,6 +4,7 @@ use Rattle.std.specs.List.{list_all, before_first, after_first}
 use Rattle.std.specs.Char.{is_ascii_digit}
 use Rattle.mix_lines.specs.Lines.{is_blank, begins_with}
 use Rattle.mixal_text.specs.declared.fault.TextFault.{TextFault}
+use Rattle.mixal_text.specs.declared.misread.Misread.{Misread}
 use Rattle.mixal_text.specs.declared.label.Label.{Label}
 use Rattle.mixal_text.specs.declared.label.Label.TheVariants as label
 use Rattle.mixal_text.specs.declared.op.Mnemonic.{Mnemonic}
@@ -12,9 +13,10 @@ use Rattle.mixal_text.specs.declared.op.Op.TheVariants.{Machine, Equ, Orig, Con,
 use Rattle.mixal_text.specs.declared.slips.Slip.{Slip}
 use Rattle.mixal_text.specs.declared.slips.Slip.TheVariants.{OperationAsLabel, AlfCut, BlankInAddress, NoField}
 use Rattle.mixal_text.specs.Words.{is_nonblank, after_blanks, after_word}
+use Rattle.mixal_text.specs.Op.{op_of}
 use Rattle.mixal_text.specs.Symbol.{symbol_of}
 use Rattle.mixal_text.specs.Alf.{is_quote, alf_start}
-use Rattle.mixal_text.specs.Line.{LineValue, Remark, Code, loc_of_line, op_of, line_of}
+use Rattle.mixal_text.specs.Line.{LineValue, Remark, Code, loc_of_line, line_of}
 use Rattle.mixal_text.specs.Address.{is_delimiter}
 use Rattle.mixal_text.specs.WrittenF.{has_refused_f}
 
@@ -28,7 +30,7 @@ symbol_used_by Con address = None
 symbol_used_by (Alf word) address = None
 symbol_used_by End address = None
 
-abbrev pub symbol_in : Result LineValue TextFault → Option (List ℕ)
+abbrev pub symbol_in : Result LineValue Misread → Option (List ℕ)
 symbol_in (Err fault) = None
 symbol_in (Ok Remark) = None
 symbol_in (Ok (Code loc code address)) = symbol_used_by code address
@@ -91,12 +93,12 @@ is_alf Con = false
 is_alf (Alf word) = true
 is_alf End = false
 
-abbrev pub has_cut_alf : Result LineValue TextFault → List ℕ → Bool
+abbrev pub has_cut_alf : Result LineValue Misread → List ℕ → Bool
 has_cut_alf (Err fault) rest = false
 has_cut_alf (Ok Remark) rest = false
 has_cut_alf (Ok (Code loc code address)) rest = is_alf code && alf_is_cut (after_blanks rest) rest
 
-abbrev pub has_cut_address : Result LineValue TextFault → List ℕ → Bool
+abbrev pub has_cut_address : Result LineValue Misread → List ℕ → Bool
 has_cut_address (Err fault) rest = false
 has_cut_address (Ok Remark) rest = false
 has_cut_address (Ok (Code loc code address)) rest = address_is_cut address rest

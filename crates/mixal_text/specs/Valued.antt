@@ -1,7 +1,7 @@
 -- What of an ADDRESS needs the values of its symbols at its own line (1.3.2).
 use Rattle.std.specs.Prelude.{ℕ, ◌||◌, Bool, true, false, List, [], ◌∷◌, is_some, Option, Some, None, Result, Ok, Err, if◌then◌else◌}
 use Rattle.std.specs.List.{before_first}
-use Rattle.mixal_text.specs.declared.fault.TextFault.{TextFault}
+use Rattle.mixal_text.specs.declared.misread.Misread.{Misread}
 use Rattle.mixal_text.specs.declared.local.Direction.{Direction}
 use Rattle.mixal_text.specs.declared.local.Direction.TheVariants.{Here, Backward, Forward}
 use Rattle.mixal_text.specs.declared.local.Local.{Local}
@@ -40,7 +40,7 @@ valued_by Con address = address
 valued_by (Alf word) address = address
 valued_by End address = address
 
-abbrev pub valued_in : Result LineValue TextFault → List ℕ
+abbrev pub valued_in : Result LineValue Misread → List ℕ
 valued_in (Err fault) = []
 valued_in (Ok Remark) = []
 valued_in (Ok (Code loc code address)) = valued_by code address

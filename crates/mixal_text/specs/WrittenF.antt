@@ -1,5 +1,5 @@
 -- An F that an ADDRESS gives in numbers, and that a step refuses whatever the machine holds (1.3.1, 1.3.2).
-use Rattle.std.specs.Prelude.{ℕ, ◌==◌, ◌&&◌, ◌||◌, nat_lt, not, Bool, true, false, List, [], ◌∷◌, is_none, is_some, Option, Some, None, Result, Ok, Err, if◌then◌else◌}
+use Rattle.std.specs.Prelude.{ℕ, ◌==◌, ◌&&◌, ◌||◌, nat_lt, not, Bool, false, List, [], ◌∷◌, is_none, is_some, Option, Some, None, Result, Ok, Err, if◌then◌else◌}
 use Rattle.std.specs.List.{list_any, after_first}
 use Rattle.mix_word.specs.declared.operation.Operation.{Operation}
 use Rattle.mix_word.specs.declared.decoding.Decoded.{Decoded}
@@ -8,11 +8,11 @@ use Rattle.mix_word.specs.Word.{zero_word}
 use Rattle.mix_word.specs.Field.{field_of}
 use Rattle.mix_word.specs.Uses.{needs, unit_count}
 use Rattle.mix_word.specs.Table.{decode_of}
-use Rattle.mixal_text.specs.declared.fault.TextFault.{TextFault}
+use Rattle.mixal_text.specs.declared.misread.Misread.{Misread}
 use Rattle.mixal_text.specs.declared.op.Op.{Op}
 use Rattle.mixal_text.specs.declared.op.Op.TheVariants.{Machine, Equ, Orig, Con, Alf, End}
 use Rattle.mixal_text.specs.Names.{NamesValue}
-use Rattle.mixal_text.specs.Part.{is_open, from_first, up_to, part_in_brackets}
+use Rattle.mixal_text.specs.Part.{is_open, from_first, up_to, brackets_at}
 use Rattle.mixal_text.specs.Address.{is_equals, is_delimiter}
 use Rattle.mixal_text.specs.Line.{LineValue, Remark, Code}
 
@@ -30,14 +30,14 @@ no_names = record { value = λ symbol. None; back = λ digit. None }
 abbrev pub is_asterisk : ℕ → Bool
 is_asterisk byte = byte == 42
 
-abbrev pub f_or_none : Result (Option ℕ) TextFault → Option ℕ
+abbrev pub f_or_none : Result (Option ℕ) Misread → Option ℕ
 f_or_none (Ok f) = f
 f_or_none (Err fault) = None
 
 -- the F in brackets, if it has neither a symbol nor an asterisk
 abbrev pub f_in : List ℕ → Option ℕ
 f_in brackets =
-    if list_any is_asterisk brackets then None else f_or_none (part_in_brackets (up_to 63) no_names zero_word brackets)
+    if list_any is_asterisk brackets then None else f_or_none (brackets_at (up_to 63) no_names zero_word 0 brackets)
 
 unfoldable pub written_f : List ℕ → Option ℕ
 written_f address = f_in (from_first is_open (after_a_part address))
@@ -71,7 +71,7 @@ op_refuses Con address = false
 op_refuses (Alf word) address = false
 op_refuses End address = false
 
-abbrev pub has_refused_f : Result LineValue TextFault → Bool
+abbrev pub has_refused_f : Result LineValue Misread → Bool
 has_refused_f (Err fault) = false
 has_refused_f (Ok Remark) = false
 has_refused_f (Ok (Code loc code address)) = op_refuses code address

@@ -1,15 +1,17 @@
 //! The ADDRESS of a symbolic operation (1.3.2): A-part, index and F.
-ghost use Rattle.std.specs.Prelude.{◌≡◌, ◌<◌, ◌≤◌, IfOk, IfSome, MatchResult, Ok, Err};
-ghost use Rattle.mixal_text.specs.Part.{part_in_brackets, up_to};
-ghost use Rattle.mixal_text.specs.Address.{IsFuture, IsMachine, a_part_of, address_of, f_of, index_of, literal_operand_of, operand_of, plain_operand_of, value_of_a_part, value_of_operand};
+ghost use Rattle.std.specs.Prelude.{◌≡◌, ◌<◌, ◌≤◌, ◌+◌, ◌^◌, IfErr, IfOk, IfSome, MatchResult, Ok, Err, length};
+ghost use Rattle.mixal_text.specs.Misread.{IsWithin};
+ghost use Rattle.mixal_text.specs.Part.{brackets_at, up_to};
+ghost use Rattle.mixal_text.specs.Address.{IsFuture, IsMachine, a_part_of, address_of, f_of, index_at, literal_operand_of, operand_at, plain_operand_of, value_of_a_part, value_of_operand};
 
 use crate::atom::split_atom;
-use crate::cut::{after_close, equals_in, split_at_bracket, split_at_delimiter};
-use crate::expressions::{expression, whole_expression};
+use crate::cut::{after_close, equals_in, split_at_bracket, split_at_close, split_at_delimiter};
+use crate::expressions::{expression_at, whole_expression};
 use crate::fault::TextFault;
+use crate::misread::{Misread, Span, or_at};
 use crate::names::Names;
 use crate::op::Op;
-use crate::part::{nothing_left, number_up_to, value_before_close};
+use crate::part::{closed_at, left_at, left_over, number_up_to};
 use crate::references::reference;
 use crate::symbol::Symbol;
 use mix_word::Word;
@@ -35,20 +37,23 @@ pub struct Operand<'a> {
 /// The operand of a symbolic operation (1.3.2), which `op` has to be: A-part, index after a comma, and F in brackets, each
 /// of which may be left out for +0, 0 and the normal F. The asterisk stands for `here`. The first fault from the left is
 /// the answer: those of an expression, A10 for an index over 6 or an F over 63, and A5 where something is missing or left over.
+/// The fault is at an atom, at all of an expression up to the operation that cannot be done, at the index or the F, or at what is
+/// left over; where something is missing, its bytes are none.
 #[tactic(auto, unfolding(crate::specs::Address::address_of))]
 pub fn address<'a, N: Names>(
     text: &'a [u8],
     op: Op,
     names: &N,
     here: Word,
-) -> Result<Operand<'a>, TextFault>
+) -> Result<Operand<'a>, Misread>
     requires { IsMachine op }
     ensures operand { MatchResult result
         (λ operand. address_of (N.names names.now) here (f_of op) text.now ≡ Ok (value_of_operand operand))
-        (λ fault. address_of (N.names names.now) here (f_of op) text.now ≡ Err fault) }
+        (λ misread. address_of (N.names names.now) here (f_of op) text.now ≡ Err misread) }
     ensures index { IfOk result (λ operand. operand.index ≤ 6) }
     ensures future { IfOk result (λ operand. IsFuture (N.names names.now) (value_of_a_part operand.a)) }
     ensures f { f_of op < 64 → IfOk result (λ operand. operand.f < 64) }
+    ensures within { IfErr result (λ misread. IsWithin 0 (length text.now) misread.at) }
 {
     let normal_f = normal_f(op);
     match text {
@@ -73,23 +78,36 @@ fn literal_operand<'a, N: Names>(
     normal_f: u8,
     names: &N,
     here: Word,
-) -> Result<Operand<'a>, TextFault>
+) -> Result<Operand<'a>, Misread>
+    requires { length text.now + 1 < 2 ^ 64 }
     ensures operand { MatchResult result
         (λ operand. literal_operand_of (N.names names.now) here normal_f text.now ≡ Ok (value_of_operand operand))
-        (λ fault. literal_operand_of (N.names names.now) here normal_f text.now ≡ Err fault) }
+        (λ misread. literal_operand_of (N.names names.now) here normal_f text.now ≡ Err misread) }
     ensures index { IfOk result (λ operand. operand.index ≤ 6) }
     ensures future { IfOk result (λ operand. IsFuture (N.names names.now) (value_of_a_part operand.a)) }
     ensures f { normal_f < 64 → IfOk result (λ operand. operand.f < 64) }
+    ensures within { IfErr result (λ misread. IsWithin 0 (length text.now + 1) misread.at) }
 {
     match equals_in(text) {
-        Some(end) => operand_with(
-            APart::Literal(&text[..end]),
-            &text[end + 1..],
-            normal_f,
-            names,
-            here,
-        ),
-        None => Err(TextFault::BadExpression),
+        Some(end) => {
+            let literal = &text[..end];
+            let a = APart::Literal(literal);
+            operand_at(
+                a,
+                literal.len() + 2,
+                &text[end + 1..],
+                normal_f,
+                names,
+                here,
+            )
+        }
+        None => Err(Misread {
+            fault: TextFault::BadExpression,
+            at: Span {
+                from: 0,
+                to: text.len() + 1,
+            },
+        }),
     }
 }
 
@@ -99,84 +117,99 @@ fn plain_operand<'a, N: Names>(
     normal_f: u8,
     names: &N,
     here: Word,
-) -> Result<Operand<'a>, TextFault>
+) -> Result<Operand<'a>, Misread>
     ensures operand { MatchResult result
         (λ operand. plain_operand_of (N.names names.now) here normal_f text.now ≡ Ok (value_of_operand operand))
-        (λ fault. plain_operand_of (N.names names.now) here normal_f text.now ≡ Err fault) }
+        (λ misread. plain_operand_of (N.names names.now) here normal_f text.now ≡ Err misread) }
     ensures index { IfOk result (λ operand. operand.index ≤ 6) }
     ensures future { IfOk result (λ operand. IsFuture (N.names names.now) (value_of_a_part operand.a)) }
     ensures f { normal_f < 64 → IfOk result (λ operand. operand.f < 64) }
+    ensures within { IfErr result (λ misread. IsWithin 0 (length text.now) misread.at) }
 {
     let (text, rest) = split_at_delimiter(text);
     let a = a_part(text, names, here)?;
-    operand_with(a, rest, normal_f, names, here)
+    operand_at(a, text.len(), rest, normal_f, names, here)
 }
 
-#[tactic(auto, unfolding(crate::specs::Address::operand_of))]
-fn operand_with<'a, N: Names>(
+// An operand by its A-part, and by what follows that from a place on.
+#[tactic(auto, unfolding(crate::specs::Address::operand_at))]
+fn operand_at<'a, N: Names>(
     a: APart<'a>,
+    place: usize,
     rest: &[u8],
     normal_f: u8,
     names: &N,
     here: Word,
-) -> Result<Operand<'a>, TextFault>
-    requires { IsFuture (N.names names.now) (value_of_a_part a) }
+) -> Result<Operand<'a>, Misread>
+    requires future { IsFuture (N.names names.now) (value_of_a_part a) }
+    requires fits { place + length rest.now < 2 ^ 64 }
     ensures operand { MatchResult result
-        (λ operand. operand_of (N.names names.now) here normal_f (value_of_a_part a.entry) rest.now ≡ Ok (value_of_operand operand))
-        (λ fault. operand_of (N.names names.now) here normal_f (value_of_a_part a.entry) rest.now ≡ Err fault) }
+        (λ operand. operand_at (N.names names.now) here normal_f (value_of_a_part a.entry) place rest.now ≡ Ok (value_of_operand operand))
+        (λ misread. operand_at (N.names names.now) here normal_f (value_of_a_part a.entry) place rest.now ≡ Err misread) }
     ensures index { IfOk result (λ operand. operand.index ≤ 6) }
     ensures future { IfOk result (λ operand. IsFuture (N.names names.now) (value_of_a_part operand.a)) }
     ensures f { normal_f < 64 → IfOk result (λ operand. operand.f < 64) }
+    ensures within { IfErr result (λ misread. IsWithin place (place + length rest.now) misread.at) }
 {
     let (text, brackets) = split_at_bracket(rest);
-    let index = index(text, names, here)?;
-    let f = f_in_brackets(brackets, names, here)?.unwrap_or(normal_f);
+    let index = index_at(place, text, names, here)?;
+    let f = f_at(place + text.len(), brackets, names, here)?.unwrap_or(normal_f);
     Ok(Operand { a, index, f })
 }
 
-#[tactic(auto, using(crate::proofs::PartLemmas::cuts), unfolding(crate::specs::Address::index_of))]
-fn index<N: Names>(text: &[u8], names: &N, here: Word) -> Result<u8, TextFault>
-    ensures value { result ≡ index_of (N.names names.now) here text.now }
+#[tactic(auto, using(crate::proofs::PartLemmas::cuts), unfolding(crate::specs::Address::index_at))]
+fn index_at<N: Names>(place: usize, text: &[u8], names: &N, here: Word) -> Result<u8, Misread>
+    requires { place + length text.now < 2 ^ 64 }
+    ensures value { result ≡ index_at (N.names names.now) here place text.now }
     ensures bound { IfOk result (λ index. index ≤ 6) }
+    ensures within { IfErr result (λ misread. IsWithin place (place + length text.now) misread.at) }
 {
     match text {
         [] => Ok(0),
         [b',', text @ ..] => {
-            let (value, used) = expression(text, names, here)?;
-            let index = number_up_to(6, value)?;
-            nothing_left(&text[used..])?;
+            let from = place + 1;
+            let (value, end) = expression_at(from, text, names, here)?;
+            let index = or_at(number_up_to(6, value), from, end)?;
+            left_at(end, &text[end - from..])?;
             Ok(index)
         }
-        _ => Err(TextFault::BadExpression),
+        _ => Err(left_over(place, text)),
     }
 }
 
-#[tactic(auto, unfolding(crate::specs::Part::part_in_brackets))]
-pub(crate) fn f_in_brackets<N: Names>(
+/// The F in brackets with which a text ends that stands at a place, or none.
+#[tactic(auto, unfolding(crate::specs::Part::brackets_at))]
+pub(crate) fn f_at<N: Names>(
+    place: usize,
     text: &[u8],
     names: &N,
     here: Word,
-) -> Result<Option<u8>, TextFault>
-    ensures value { result ≡ part_in_brackets (up_to 63) (N.names names.now) here text.now }
+) -> Result<Option<u8>, Misread>
+    requires { place + length text.now < 2 ^ 64 }
+    ensures value { result ≡ brackets_at (up_to 63) (N.names names.now) here place text.now }
     ensures bound { IfOk result (λ f. IfSome f (λ n. n < 64)) }
+    ensures within { IfErr result (λ misread. IsWithin place (place + length text.now) misread.at) }
 {
     match text {
         [] => Ok(None),
         [_, text @ ..] => {
-            let value = value_before_close(text, names, here)?;
-            let f = number_up_to(63, value)?;
-            nothing_left(after_close(text))?;
+            let from = place + 1;
+            let value = closed_at(from, text, names, here)?;
+            let to = from + split_at_close(text).0.len();
+            let f = or_at(number_up_to(63, value), from, to)?;
+            left_at(to + 1, after_close(text))?;
             Ok(Some(f))
         }
     }
 }
 
 #[tactic(auto, unfolding(crate::specs::Address::a_part_of))]
-fn a_part<'a, N: Names>(text: &[u8], names: &N, here: Word) -> Result<APart<'a>, TextFault>
+fn a_part<'a, N: Names>(text: &[u8], names: &N, here: Word) -> Result<APart<'a>, Misread>
     ensures is { MatchResult result
         (λ a. a_part_of (N.names names.now) here text.now ≡ Ok (value_of_a_part a))
-        (λ fault. a_part_of (N.names names.now) here text.now ≡ Err fault) }
+        (λ misread. a_part_of (N.names names.now) here text.now ≡ Err misread) }
     ensures future { IfOk result (λ a. IsFuture (N.names names.now) (value_of_a_part a)) }
+    ensures within { IfErr result (λ misread. IsWithin 0 (length text.now) misread.at) }
 {
     if text.is_empty() {
         return Ok(APart::Value(Word::ZERO));
@@ -184,7 +217,7 @@ fn a_part<'a, N: Names>(text: &[u8], names: &N, here: Word) -> Result<APart<'a>,
     let (atom, rest) = split_atom(text);
     match reference(atom, rest, names) {
         Some(reference) => {
-            nothing_left(rest)?;
+            left_at(atom.len(), rest)?;
             Ok(reference)
         }
         None => Ok(APart::Value(whole_expression(text, names, here)?)),

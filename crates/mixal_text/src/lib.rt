@@ -2,31 +2,29 @@
 //! Each is read from borrowed bytes, and no call takes memory.
 #![tactic(auto)]
 
-mod address_span;
 mod addresses;
 mod alf;
 mod atom;
 mod cut;
-mod expression_span;
 mod expressions;
 mod fault;
 mod label;
 mod line;
 mod local;
+mod misread;
 mod names;
 mod op;
 mod operator;
 mod part;
+mod parts;
 mod references;
 mod slips;
-mod span;
 mod symbol;
 mod valued;
 mod w_values;
 mod words;
 mod written_f;
 
-pub use address_span::{address_fault_span, w_value_fault_span};
 pub use addresses::{APart, Operand, address};
 pub use atom::split_run;
 pub use expressions::{expression, whole_expression};
@@ -34,10 +32,11 @@ pub use fault::TextFault;
 pub use label::Label;
 pub use line::{Line, line_is_end, line_loc, line_op, read_line};
 pub use local::{Direction, Local};
+pub use misread::{Misread, Span};
 pub use names::Names;
 pub use op::{Mnemonic, Op, is_without_operand};
+pub use parts::{Part, part_span};
 pub use slips::{Slip, Survey, survey_of, symbol_used};
-pub use span::{Part, Span, fault_span, part_span};
 pub use symbol::Symbol;
 pub use valued::valued_part;
 pub use w_values::w_value;

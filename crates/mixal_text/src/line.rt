@@ -1,15 +1,19 @@
 //! Lines (1.3.2): LOC, OP and ADDRESS, parted by blanks.
-ghost use Rattle.std.specs.Prelude.{◌≡◌, IfOk, MatchResult, Ok, Err, is_some};
+ghost use Rattle.std.specs.Prelude.{◌≡◌, IfErr, IfOk, MatchResult, Ok, Err, is_some, length};
 ghost use Rattle.std.specs.List.{list_all};
 ghost use Rattle.std.specs.Char.{is_ascii_alphabetic};
 ghost use Rattle.mix_lines.specs.Lines.{begins_with};
 ghost use Rattle.mixal_text.specs.Words.{first_word};
-ghost use Rattle.mixal_text.specs.Line.{HasBytes, IsOfBytes, are_characters, is_end_op, loc_of, op_of, loc_of_line, op_of_line, address_after, with_address, line_from, line_of, value_of_line};
+ghost use Rattle.mixal_text.specs.Misread.{IsWithin};
+ghost use Rattle.mixal_text.specs.Op.{address_after, are_characters, op_of};
+ghost use Rattle.mixal_text.specs.Line.{HasBytes, IsOfBytes, is_end_op, loc_of, loc_of_line, op_of_line, part_at, with_address, line_from, line_of, value_of_line};
 
 use crate::alf::alf_word;
 use crate::fault::TextFault;
 use crate::label::Label;
+use crate::misread::Misread;
 use crate::op::{Mnemonic, Op, is_without_operand};
+use crate::parts::{Part, part_misread};
 use crate::words::{are_blanks, skip_blanks, split_word};
 use mix_lines::is_comment;
 use mix_word::{Operation, code_of};
@@ -28,22 +32,34 @@ pub enum Line<'a> {
 /// Reads a line without its line end (1.3.2). Spaces and tabs are blanks; a line that begins with an asterisk or has
 /// nothing but blanks is a remark, and so is what stands after ADDRESS. The first fault is the answer: of LOC A1 for a
 /// byte that is no MIX character, and A3 for what is no label; of OP A1, and A2 for a name of no operation; of ADDRESS A1,
-/// where ALF has A12 before it.
+/// where ALF has A12 before it. The bytes at fault are that character, or else the whole part.
 #[tactic(auto, unfolding(crate::specs::Line::line_of))]
-pub fn read_line(text: &[u8]) -> Result<Line<'_>, TextFault>
+pub fn read_line(text: &[u8]) -> Result<Line<'_>, Misread>
     ensures line { MatchResult result
         (λ line. line_of text.now ≡ Ok (value_of_line line))
-        (λ fault. line_of text.now ≡ Err fault) }
+        (λ misread. line_of text.now ≡ Err misread) }
     ensures bytes { IfOk result HasBytes }
+    ensures within { IfErr result (λ misread. IsWithin 0 (length text.now) misread.at) }
 {
     if is_comment(text) || are_blanks(text) {
         return Ok(Line::Remark);
     }
     let (label, rest) = split_word(text);
-    let loc = read_loc(label)?;
+    let loc = part_at(text, Part::Label, read_loc(label))?;
     let (name, rest) = split_word(skip_blanks(rest));
-    let mnemonic = read_op(name)?;
-    code_line(loc, mnemonic, rest)
+    let mnemonic = part_at(text, Part::Operation, read_op(name))?;
+    part_at(text, Part::Address, code_line(loc, mnemonic, rest))
+}
+
+// A part of a line that was read, or its fault at the bytes of that part.
+fn part_at<T: Drop>(line: &[u8], part: Part, read: Result<T, TextFault>) -> Result<T, Misread>
+    ensures is { result ≡ part_at line.now part read }
+    ensures within { IfErr result (λ misread. IsWithin 0 (length line.now) misread.at) }
+{
+    match read {
+        Ok(value) => Ok(value),
+        Err(fault) => Err(part_misread(line, part, fault)),
+    }
 }
 
 /// The LOC of a line, whatever follows it (1.3.2). A1 is a byte that is no MIX character, and A3 what is no label.
@@ -68,7 +84,7 @@ pub fn line_is_end(text: &[u8]) -> bool
 }
 
 // No name of another length, or with another first letter, has to be looked for among the operations.
-#[tactic(auto, unfolding(crate::specs::Line::op_of, crate::specs::Op::mnemonic_of))]
+#[tactic(auto, unfolding(crate::specs::Op::op_of, crate::specs::Op::mnemonic_of))]
 fn is_end_name(name: &[u8]) -> bool
     ensures { result ≡ is_end_op (op_of name.now) }
 {
@@ -100,7 +116,7 @@ pub(crate) fn read_loc(text: &[u8]) -> Result<Option<Label>, TextFault>
     }
 }
 
-#[tactic(auto, unfolding(crate::specs::Line::op_of))]
+#[tactic(auto, unfolding(crate::specs::Op::op_of))]
 pub(crate) fn read_op(name: &[u8]) -> Result<Mnemonic, TextFault>
     ensures { result ≡ op_of name.now }
 {

@@ -1,29 +1,39 @@
 //! The numbers that stand beside an expression (1.3.2): an index, an F, a field.
-ghost use Rattle.std.specs.Prelude.{◌≡◌, ◌≤◌, IfOk, MatchResult, Err, []};
+ghost use Rattle.std.specs.Prelude.{◌≡◌, ◌≤◌, ◌<◌, ◌+◌, ◌^◌, IfErr, IfOk, MatchResult, Err, [], length};
+ghost use Rattle.std.specs.List.{after_first, before_first};
 ghost use Rattle.mix_word.specs.Field.{field_of};
-ghost use Rattle.mixal_text.specs.Part.{up_to, part_or_fault, value_before_close, nothing_left};
+ghost use Rattle.mixal_text.specs.Misread.{IsWithin};
+ghost use Rattle.mixal_text.specs.Part.{closed_at, is_close, left_at, left_over, up_to, part_or_fault};
 
-use crate::cut::close_in;
-use crate::expressions::whole_expression;
+use crate::cut::split_at_close;
+use crate::expressions::whole_at;
 use crate::fault::TextFault;
+use crate::misread::{Misread, Span};
 use crate::names::Names;
 use mix_word::{Field, Word};
 
-/// The value of an expression that a closing bracket ends. No bracket is A5.
-#[tactic(auto, using(crate::proofs::PartLemmas::cuts), unfolding(crate::specs::Part::value_before_close))]
-pub(crate) fn value_before_close<N: Names>(
+/// The value of an expression that a closing bracket ends. No bracket is A5 at the end.
+#[tactic(auto, unfolding(crate::specs::Part::closed_at))]
+pub(crate) fn closed_at<N: Names>(
+    place: usize,
     text: &[u8],
     names: &N,
     here: Word,
-) -> Result<Word, TextFault>
-    ensures { result ≡ value_before_close (N.names names.now) here text.now }
+) -> Result<Word, Misread>
+    requires { place + length text.now < 2 ^ 64 }
+    ensures is { result ≡ closed_at (N.names names.now) here place text.now }
+    ensures within { IfErr result (λ misread. IsWithin place (place + length text.now) misread.at) }
+    ensures closed { IfOk result (λ _. length (before_first is_close text.now) + 1 + length (after_first is_close text.now) ≤ length text.now) }
 {
-    match close_in(text) {
-        Some(end) => whole_expression(&text[..end], names, here),
-        None => {
-            whole_expression(text, names, here)?;
-            Err(TextFault::BadExpression)
-        }
+    let (inside, after) = split_at_close(text);
+    let value = whole_at(place, inside, names, here)?;
+    let end = place + inside.len();
+    match after {
+        [] => Err(Misread {
+            fault: TextFault::BadExpression,
+            at: Span { from: end, to: end },
+        }),
+        [_, ..] => Ok(value),
     }
 }
 
@@ -49,12 +59,29 @@ pub(crate) fn number_up_to(limit: u8, value: Word) -> Result<u8, TextFault>
 }
 
 /// That a text is empty; what is left over is A5.
-pub(crate) fn nothing_left(text: &[u8]) -> Result<(), TextFault>
-    ensures { MatchResult result (λ _. text.now ≡ []) (λ fault. nothing_left text.now text.now ≡ Err fault) }
+pub(crate) fn left_at(place: usize, text: &[u8]) -> Result<(), Misread>
+    requires { place + length text.now < 2 ^ 64 }
+    ensures is { MatchResult result
+        (λ _. text.now ≡ [])
+        (λ misread. left_at place text.now text.now ≡ Err misread) }
+    ensures within { IfErr result (λ misread. IsWithin place (place + length text.now) misread.at) }
 {
-    if text.is_empty() {
-        Ok(())
-    } else {
-        Err(TextFault::BadExpression)
+    match text {
+        [] => Ok(()),
+        [_, ..] => Err(left_over(place, text)),
+    }
+}
+
+/// What is left over.
+pub(crate) fn left_over(place: usize, text: &[u8]) -> Misread
+    requires { place + length text.now < 2 ^ 64 }
+    ensures { result ≡ left_over place text.now }
+{
+    Misread {
+        fault: TextFault::BadExpression,
+        at: Span {
+            from: place,
+            to: place + text.len(),
+        },
     }
 }

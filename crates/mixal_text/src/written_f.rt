@@ -3,7 +3,7 @@ ghost use Rattle.std.specs.Prelude.{◌≡◌};
 ghost use Rattle.std.specs.List.{list_any};
 ghost use Rattle.mixal_text.specs.WrittenF.{after_a_part, f_in, has_needs, is_asterisk, no_names, op_refuses, refuses, takes_f, written_f};
 
-use crate::addresses::f_in_brackets;
+use crate::addresses::f_at;
 use crate::cut::{equals_in, split_at_bracket, split_at_delimiter};
 use crate::names::Names;
 use crate::op::Op;
@@ -77,7 +77,7 @@ fn f_in(brackets: &[u8]) -> Option<u8>
     if has_asterisk(brackets) {
         return None;
     }
-    match f_in_brackets(brackets, &NoNames, Word::ZERO) {
+    match f_at(0, brackets, &NoNames, Word::ZERO) {
         Ok(f) => f,
         Err(_) => None,
     }

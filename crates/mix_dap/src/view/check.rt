@@ -9,7 +9,7 @@ ghost use Rattle.mix_dap.specs.List.{Shows};
 use crate::fault::Fault;
 use crate::list::{add, list_alone};
 use dap_message::{Fields, Request};
-use mix_check::{code, columns, meaning, severity};
+use mix_check::{Checked, code, severity};
 use mix_refused::{Memory, Refused};
 use mixal_asm::{Diagnostic, diagnose};
 use serde_json::Value;
@@ -36,19 +36,25 @@ fn check(alloc: Global, source: &[u8]) -> Result<Value, Memory>
 fn all_shown(alloc: Global, source: &[u8], diagnostics: &[Diagnostic]) -> Result<Vec<Value>, Memory>
     ensures { IfOk result (λ list. map view list.items ≡ map (diagnostic_shown source.now) diagnostics.now) }
 {
+    let mut checked = Checked::of(alloc, source)?;
     let mut list = Vec::new(alloc);
     for diagnostic in diagnostics {
-        add(&mut list, diagnostic_shown(alloc, source, diagnostic)?)?;
+        add(&mut list, diagnostic_shown(alloc, &mut checked, diagnostic)?)?;
     }
     Ok(list)
 }
 
-fn diagnostic_shown(alloc: Global, source: &[u8], diagnostic: &Diagnostic) -> Result<Value, Memory>
-    ensures { IfOk result (λ v. view v ≡ diagnostic_shown source.now diagnostic.now) }
+fn diagnostic_shown(
+    alloc: Global,
+    source: &mut Checked<'_>,
+    diagnostic: &Diagnostic,
+) -> Result<Value, Memory>
+    ensures shown { IfOk result (λ v. view v ≡ diagnostic_shown source.old diagnostic.now) }
+    ensures same { source.new ≡ source.old }
 {
     let mut body = Fields::new(alloc);
     body.number("line", u64::from(diagnostic.line))?;
-    put_columns(&mut body, columns(source, diagnostic))?;
+    put_columns(&mut body, source.columns(diagnostic))?;
     put_meaning(alloc, &mut body, source, diagnostic)?;
     Ok(body.done())
 }
@@ -68,13 +74,14 @@ fn put_columns(body: &mut Fields, columns: Option<(u64, u64)>) -> Result<(), Mem
 fn put_meaning(
     alloc: Global,
     body: &mut Fields,
-    source: &[u8],
+    source: &mut Checked<'_>,
     diagnostic: &Diagnostic,
 ) -> Result<(), Memory>
-    ensures { OnOk result (members_in body.new ≡ put_meaning source.now diagnostic.now (members_in body.old)) }
+    ensures meaning { OnOk result (members_in body.new ≡ put_meaning source.old diagnostic.now (members_in body.old)) }
+    ensures same { source.new ≡ source.old }
 {
     let finding = &diagnostic.finding;
     body.text("severity", severity(finding))?;
     body.text("code", code(alloc, finding)?.as_str())?;
-    body.text("text", meaning(alloc, source, diagnostic)?.as_str())
+    body.text("text", source.meaning(alloc, diagnostic)?.as_str())
 }

@@ -4,4 +4,7 @@ use Rattle.mix_dap.specs.Check.{diagnostic_shown}
 use Rattle.mix_dap.proofs.view.check.all_shown.Given as goal
 
 abbrev pub invariant-loop-diagnostic : goal.invariant-loop-diagnostic
-invariant-loop-diagnostic l = map view l.list.items ≡ map (diagnostic_shown l.source) (take l.diagnostic-index l.diagnostics)
+invariant-loop-diagnostic l = record {
+  shown : map view l.list.items ≡ map (diagnostic_shown l.source) (take l.diagnostic-index l.diagnostics);
+  checked : l.checked ≡ l.source;
+}

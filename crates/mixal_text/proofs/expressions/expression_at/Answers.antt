@@ -1,6 +1,6 @@
 use Rattle.std.proofs.lemmas.Result.{err_from_is_err_and}
-use Rattle.mixal_text.proofs.ExpressionSpanLemmas.{first-refused, first-taken, term-refused, outcome-refused, term-taken, terms-done}
-use Rattle.mixal_text.proofs.expression_span.expression_at.Goals as goal
+use Rattle.mixal_text.proofs.ExpressionLemmas.{first-refused, first-taken, term-refused, outcome-refused, term-taken, terms-done}
+use Rattle.mixal_text.proofs.expressions.expression_at.Goals as goal
 
 pub returns-in_err-first-clause-value : goal.returns-in_err-first-clause-value
 returns-in_err-first-clause-value g c =

@@ -1,23 +1,19 @@
--- Where in a line its parts stand, and which bytes of a refused line are at fault (1.3.2).
-use Rattle.std.specs.Prelude.{ℕ, ◌+◌, ◌-◌, ◌≤◌, nat_lt, nat_le, Bool, not, ◌||◌, List, [], ◌∷◌, length, take, drop, is_none, Option, Some, None, Result, Ok, Err, if◌then◌else◌}
+-- Where in a line its parts stand, and which bytes of a part are at fault (1.3.2).
+use Rattle.std.specs.Prelude.{ℕ, ◌+◌, ◌-◌, nat_lt, nat_le, Bool, not, ◌||◌, List, [], ◌∷◌, length, take, drop, is_none, Result, Ok, Err, if◌then◌else◌}
 use Rattle.std.specs.List.{before_first, after_first, position_or_len}
 use Rattle.mix_word.specs.Characters.{character_code}
 use Rattle.mix_lines.specs.Lines.{is_blank}
 use Rattle.mixal_text.specs.declared.fault.TextFault.{TextFault}
 use Rattle.mixal_text.specs.declared.fault.TextFault.TheVariants.{BadByte}
-use Rattle.mixal_text.specs.declared.label.Label.{Label}
 use Rattle.mixal_text.specs.declared.op.Mnemonic.{Mnemonic}
 use Rattle.mixal_text.specs.declared.op.Mnemonic.TheVariants.{Machine, Equ, Orig, Con, Alf, End}
-use Rattle.mixal_text.specs.declared.span.Span.{Span}
-use Rattle.mixal_text.specs.declared.span.Part.{Part}
-use Rattle.mixal_text.specs.declared.span.Part.TheVariants as part
+use Rattle.mixal_text.specs.declared.misread.Span.{Span}
+use Rattle.mixal_text.specs.declared.misread.Misread.{Misread}
+use Rattle.mixal_text.specs.declared.parts.Part.{Part}
+use Rattle.mixal_text.specs.declared.parts.Part.TheVariants as part
 use Rattle.mixal_text.specs.Words.{after_blanks, first_word, after_word}
 use Rattle.mixal_text.specs.Alf.{is_quote, alf_start}
-use Rattle.mixal_text.specs.Line.{LineValue, loc_of, op_of, address_after, line_of}
-
--- a span between two places
-abbrev pub IsWithin : ℕ → ℕ → Span → Type 0
-IsWithin from to span = (from ≤ span.from) × ((span.from ≤ span.to) × (span.to ≤ to))
+use Rattle.mixal_text.specs.Op.{op_of, address_after}
 
 -- where a part of a text stands that begins what is left of the text
 abbrev pub span_in : List ℕ → List ℕ → List ℕ → Span
@@ -69,16 +65,7 @@ part_span text part.Operation = operation_span text
 part_span text part.Address = address_span text
 part_span text part.Statement = joined (operation_span text) (address_span text)
 
--- ---- the fault of a line
-
--- the first part that cannot be read
-abbrev pub refused_part : Result (Option Label) TextFault → Result Mnemonic TextFault → Part
-refused_part (Err fault) code = part.Label
-refused_part (Ok loc) (Err fault) = part.Operation
-refused_part (Ok loc) (Ok code) = part.Address
-
-unfoldable pub first_refused : List ℕ → Part
-first_refused text = refused_part (loc_of (before_first is_blank text)) (op_of (first_word (after_first is_blank text)))
+-- ---- the bytes at fault in a part
 
 -- neither a MIX character nor a tab
 abbrev pub is_bad : ℕ → Bool
@@ -107,10 +94,6 @@ abbrev pub narrowed : List ℕ → TextFault → Span → Span
 narrowed text BadByte span = bad_span text span
 narrowed text _ span = span
 
-abbrev pub span_of_fault : List ℕ → Result LineValue TextFault → Option Span
-span_of_fault text (Ok line) = None
-span_of_fault text (Err fault) = Some (narrowed text fault (part_span text (first_refused text)))
-
--- the bytes that are at fault in a line which is refused
-unfoldable pub span_of : List ℕ → Option Span
-span_of text = span_of_fault text (line_of text)
+-- a fault of a part of a line
+abbrev pub part_misread : List ℕ → Part → TextFault → Misread
+part_misread text p fault = record { fault = fault; at = narrowed text fault (part_span text p) }

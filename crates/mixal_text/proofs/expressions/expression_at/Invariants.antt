@@ -1,7 +1,6 @@
 use Rattle.std.proofs.Common.{◌≡◌, ◌+◌, ◌-◌, ◌≤◌, length}
-use Rattle.mixal_text.specs.Expression.{terms_of}
-use Rattle.mixal_text.specs.ExpressionSpan.{expression_at, terms_at}
-use Rattle.mixal_text.proofs.expression_span.expression_at.Given as goal
+use Rattle.mixal_text.specs.Expression.{expression_at, terms_at, terms_of}
+use Rattle.mixal_text.proofs.expressions.expression_at.Given as goal
 
 abbrev pub invariant-loop-operator : goal.invariant-loop-operator
 invariant-loop-operator g l =

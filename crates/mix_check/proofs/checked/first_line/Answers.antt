@@ -1,7 +1,7 @@
 -- An empty text has no first line.
 use Rattle.std.proofs.Common.{ap, sym, ◌∙◌, List, ℕ, slice_get}
-use Rattle.mix_check.proofs.ReportLemmas.{no_lines}
-use Rattle.mix_check.proofs.place.first_line.Goals as goal
+use Rattle.mix_check.proofs.LineLemmas.{no_lines}
+use Rattle.mix_check.proofs.checked.first_line.Goals as goal
 
 pub returns-then-is_empty : goal.returns-then-is_empty
 returns-then-is_empty c =

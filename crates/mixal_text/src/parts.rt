@@ -1,24 +1,19 @@
-//! Where in a line its parts stand, and which bytes of a refused line are at fault (1.3.2).
-ghost use Rattle.std.specs.Prelude.{◌≡◌, ◌≤◌, ◌-◌, IfSome, length, position};
+//! Where in a line its parts stand, and which bytes of a part are at fault (1.3.2).
+ghost use Rattle.std.specs.Prelude.{◌≡◌, ◌≤◌, ◌-◌, length, position};
 ghost use Rattle.std.specs.List.{before_first, position_or_len};
 ghost use Rattle.mixal_text.specs.Words.{after_blanks};
 ghost use Rattle.mixal_text.specs.Alf.{is_quote};
-ghost use Rattle.mixal_text.specs.Span.{span_in, alf_text, alf_piece, address_span_by, address_span, operation_span, part_span, first_refused, bad_span, character_length, is_bad, is_new, joined, narrowed, span_of};
+ghost use Rattle.mixal_text.specs.Misread.{IsWithin};
+ghost use Rattle.mixal_text.specs.Parts.{span_in, alf_text, alf_piece, address_span_by, address_span, operation_span, part_misread, part_span, bad_span, character_length, is_bad, is_new, joined, narrowed};
 
 use crate::alf::{alf_start, quote_in};
 use crate::fault::TextFault;
-use crate::line::{address_after, first_word, read_line, read_loc, read_op};
+use crate::line::{address_after, first_word, read_op};
+use crate::misread::{Misread, Span};
 use crate::op::Mnemonic;
 use crate::words::{skip_blanks, split_word};
 use mix_lines::is_blank;
 use mix_word::code_of;
-
-/// Some bytes of a text, from the number of the first to the number after the last.
-#[derive(Clone, Copy)]
-pub struct Span {
-    pub from: usize,
-    pub to: usize,
-}
 
 /// A part of a line (1.3.2): LOC, OP, ADDRESS, or OP and ADDRESS.
 #[derive(Clone, Copy)]
@@ -31,7 +26,7 @@ pub enum Part {
 
 /// Where a part stands in a line without its line end (1.3.2). The span of a part that is left out is empty and says where it
 /// would stand; that of ALF's ADDRESS are the characters that it takes.
-#[tactic(auto, unfolding(crate::specs::Span::part_span))]
+#[tactic(auto, unfolding(crate::specs::Parts::part_span))]
 pub fn part_span(line: &[u8], part: Part) -> Span
     ensures is { result ≡ part_span line.now part }
     ensures order { result.from ≤ result.to }
@@ -45,17 +40,14 @@ pub fn part_span(line: &[u8], part: Part) -> Span
     }
 }
 
-/// The bytes with which a line is at fault that `read_line` refuses: a character that is none of MIX, or else LOC, OP or
-/// ADDRESS. None where the line is not refused.
-#[tactic(auto, unfolding(crate::specs::Span::span_of))]
-pub fn fault_span(line: &[u8]) -> Option<Span>
-    ensures is { result ≡ span_of line.now }
-    ensures order { IfSome result (λ span. span.from ≤ span.to) }
-    ensures within { IfSome result (λ span. span.to ≤ length line.now) }
+/// A fault of a part of a line, at the bytes at fault: a character that is none of MIX, or else the whole part.
+pub(crate) fn part_misread(line: &[u8], part: Part, fault: TextFault) -> Misread
+    ensures is { result ≡ part_misread line.now part fault }
+    ensures within { IsWithin 0 (length line.now) result.at }
 {
-    match read_line(line) {
-        Ok(_) => None,
-        Err(fault) => Some(narrowed(line, fault, part_span(line, first_refused(line)))),
+    Misread {
+        fault,
+        at: narrowed(line, fault, part_span(line, part)),
     }
 }
 
@@ -83,7 +75,7 @@ fn operation_span(line: &[u8]) -> Span
     span_in(line, rest, split_word(rest).0)
 }
 
-#[tactic(auto, unfolding(crate::specs::Span::address_span))]
+#[tactic(auto, unfolding(crate::specs::Parts::address_span))]
 fn address_span(line: &[u8]) -> Span
     ensures is { result ≡ address_span line.now }
     ensures after { (operation_span line.now).from ≤ result.from }
@@ -94,7 +86,7 @@ fn address_span(line: &[u8]) -> Span
     address_span_by(read_op(name), line, rest)
 }
 
-#[tactic(auto, unfolding(crate::specs::Span::address_span_by))]
+#[tactic(auto, unfolding(crate::specs::Parts::address_span_by))]
 fn address_span_by(mnemonic: Result<Mnemonic, TextFault>, line: &[u8], rest: &[u8]) -> Span
     requires { length rest.now ≤ length line.now }
     ensures is { result ≡ address_span_by mnemonic line.now rest.now }
@@ -151,21 +143,6 @@ fn joined(first: Span, second: Span) -> Span
         }
     } else {
         first
-    }
-}
-
-// The first part of a line that cannot be read.
-#[tactic(auto, unfolding(crate::specs::Span::first_refused))]
-fn first_refused(line: &[u8]) -> Part
-    ensures { result ≡ first_refused line.now }
-{
-    let (label, rest) = split_word(line);
-    match read_loc(label) {
-        Err(_) => Part::Label,
-        Ok(_) => match read_op(first_word(rest)) {
-            Err(_) => Part::Operation,
-            Ok(_) => Part::Address,
-        },
     }
 }
 

@@ -1,0 +1,17 @@
+-- Of an empty text no line is left.
+use Rattle.std.proofs.Common.{◌≡◌, ◌∙◌, ℕ, ◌==◌, true, List, [], ◌∷◌, length, drop, refl, sym, ap, arith}
+use Rattle.std.proofs.Math.Seq.{drop-nil}
+use Rattle.std.proofs.lemmas.Bool.{eqb-true}
+use Rattle.mix_lines.specs.Lines.{lines, lines-nil}
+
+nothing_in : (text : List ℕ) → true ≡ (length text == 0) → text ≡ []
+nothing_in [] empty = refl
+nothing_in (byte ∷ text) empty = absurd (omega (arith, eqb-true _ _ (sym empty)))
+
+pub no_lines : (text : List ℕ) → true ≡ (length text == 0) → lines text ≡ []
+no_lines text empty = ap lines (nothing_in text empty) ∙ lines-nil
+
+-- as many lines as there are more to pass
+pub nothing_left : (text : List ℕ) (n : ℕ) (rest : List (List ℕ)) → true ≡ (length text == 0) → drop n (lines text) ≡ rest → lines text ≡ rest
+nothing_left text n rest empty left =
+    no_lines text empty ∙ sym (drop-nil n) ∙ sym (ap (λ (ls : List (List ℕ)). drop n ls) (no_lines text empty)) ∙ left
