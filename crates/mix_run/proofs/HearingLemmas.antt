@@ -26,10 +26,10 @@ use Rattle.mix_run.specs.Stretch.{in_session, joined, silent, talk_of, typed_lin
 use Rattle.mix_run.specs.Talk.{AnswersRead, Talks, is_too_long, is_whole, max_line_bytes}
 use Rattle.mix_run.specs.declared.fault.ToolFault.{ToolFault}
 use Rattle.mix_run.specs.declared.fault.ToolFault.TheVariants as faults
-use Rattle.mix_run.specs.Person.{kind_of}
+use Rattle.mix_person.specs.Person.{kind_of}
 use Rattle.mix_run.specs.declared.talk.heard.Heard.{Heard}
-use Rattle.mix_run.specs.declared.talk.person.Line.{Line}
-use Rattle.mix_run.specs.declared.talk.person.Line.TheVariants as line_kind
+use Rattle.mix_person.specs.declared.person.Line.{Line}
+use Rattle.mix_person.specs.declared.person.Line.TheVariants as line_kind
 use Rattle.mix_run.specs.declared.talk.aside.Talker.{Talker}
 use Rattle.mix_run.specs.declared.talk.aside.Talker.TheVariants as talkers
 use Rattle.mix_run.proofs.StretchLemmas.{Answered-as, Answered-begun, Answered-nothing, Answered-over, Answered-then, joined-end, talk-append, talk-one, then-more}

@@ -6,7 +6,6 @@ mod DrawnLemmas
 mod HearingLemmas
 mod KeepLemmas
 mod MapLemmas
-mod PersonLemmas
 mod PlainLemmas
 mod PrintLemmas
 mod PrintOutputLemmas

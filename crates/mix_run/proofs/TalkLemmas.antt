@@ -21,9 +21,9 @@ use Rattle.mix_run.specs.Recall.{RecallState, meant, meant_by, recalled, recalle
 use Rattle.mix_run.specs.Saves.{saves, saves_by, saves_of}
 use Rattle.mix_run.specs.Asked.{after_lines, answers, asked, is_over, is_end, is_quit, recalled_all}
 use Rattle.mix_run.specs.Talk.{is_too_long, is_whole, max_line_bytes}
-use Rattle.mix_run.specs.Person.{kind_of, person_line}
-use Rattle.mix_run.specs.declared.talk.person.Line.{Line}
-use Rattle.mix_run.specs.declared.talk.person.Line.TheVariants as line_kind
+use Rattle.mix_person.specs.Person.{kind_of, person_line}
+use Rattle.mix_person.specs.declared.person.Line.{Line}
+use Rattle.mix_person.specs.declared.person.Line.TheVariants as line_kind
 use Rattle.mix_run.specs.declared.talk.aside.Talker.{Talker}
 use Rattle.mix_run.specs.declared.talk.aside.Talker.TheVariants as talkers
 use Rattle.mix_run.proofs.RunLemmas.{both-accepted, both-assoc}

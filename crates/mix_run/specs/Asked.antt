@@ -5,10 +5,10 @@ use Rattle.mix_lines.specs.Lines.{words}
 use Rattle.mix_session.specs.Session.{SessionState, effect_in}
 use Rattle.mix_session.specs.Command.{after}
 use Rattle.mix_run.specs.Output.{Replies, replies}
-use Rattle.mix_run.specs.Person.{kind_of}
+use Rattle.mix_person.specs.Person.{kind_of}
 use Rattle.mix_run.specs.Recall.{RecallState, meant, recalled}
-use Rattle.mix_run.specs.declared.talk.person.Line.{Line}
-use Rattle.mix_run.specs.declared.talk.person.Line.TheVariants as line_kind
+use Rattle.mix_person.specs.declared.person.Line.{Line}
+use Rattle.mix_person.specs.declared.person.Line.TheVariants as line_kind
 use Rattle.mix_run.specs.declared.talk.aside.Talker.{Talker}
 use Rattle.mix_run.specs.declared.talk.aside.Talker.TheVariants.{Program, Person}
 

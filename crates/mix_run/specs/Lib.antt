@@ -10,7 +10,6 @@ pub mod Keep
 pub mod Map
 pub mod Opening
 pub mod Output
-pub mod Person
 pub mod Print
 pub mod PrintOutput
 pub mod PrintSteps

@@ -6,13 +6,13 @@ use Rattle.mix_session.specs.Session.{SessionState, request_in}
 use Rattle.mix_session.specs.declared.fault.Refusal.{Refusal}
 use Rattle.mix_session.specs.declared.request.Request.{Request}
 use Rattle.mix_session.specs.declared.request.Request.TheVariants as ask
-use Rattle.mix_run.specs.Person.{kind_of, person_line, watched_in, condition_in}
+use Rattle.mix_person.specs.Person.{kind_of, person_line, watched_in, condition_in}
 use Rattle.mix_run.specs.declared.talk.aside.After.{After}
 use Rattle.mix_run.specs.declared.talk.aside.After.TheVariants as after
 use Rattle.mix_run.specs.declared.talk.aside.Talker.{Talker}
 use Rattle.mix_run.specs.declared.talk.aside.Talker.TheVariants.{Program, Person}
-use Rattle.mix_run.specs.declared.talk.person.Line.{Line}
-use Rattle.mix_run.specs.declared.talk.person.Line.TheVariants as line_kind
+use Rattle.mix_person.specs.declared.person.Line.{Line}
+use Rattle.mix_person.specs.declared.person.Line.TheVariants as line_kind
 
 -- the line of a script that a blank line stands for: the last one that took steps, or changes back; an empty one before that. And what is watched, from
 -- its `until` on, and how many conditions that are; empty, where nothing is. And the lines of a script that show what is displayed after each stop. And

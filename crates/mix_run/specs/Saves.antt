@@ -6,10 +6,10 @@ use Rattle.mix_session.specs.Session.{SessionState}
 use Rattle.mix_run.specs.Bundle.{OriginValue, bundle_of}
 use Rattle.mix_run.specs.Opening.{Saved}
 use Rattle.mix_run.specs.Output.{max_bundle_bytes}
-use Rattle.mix_run.specs.Person.{kind_of, name_in}
+use Rattle.mix_person.specs.Person.{kind_of, name_in}
 use Rattle.mix_run.specs.Recall.{RecallState, meant, recalled}
-use Rattle.mix_run.specs.declared.talk.person.Line.{Line}
-use Rattle.mix_run.specs.declared.talk.person.Line.TheVariants as line_kind
+use Rattle.mix_person.specs.declared.person.Line.{Line}
+use Rattle.mix_person.specs.declared.person.Line.TheVariants as line_kind
 use Rattle.mix_run.specs.declared.talk.aside.Talker.{Talker}
 use Rattle.mix_run.specs.declared.talk.aside.Talker.TheVariants.{Program, Person}
 

@@ -23,18 +23,14 @@ ghost use Rattle.mix_stream.specs.Stream.{ConsumesAtMost, CountsFailure};
 mod answer;
 mod aside;
 mod file;
-mod follows;
 mod heard;
-mod help;
 mod input;
 mod listing;
 mod opened;
 mod pending;
-mod person;
 mod recall;
 mod reload;
 mod save;
-mod shown;
 mod source;
 
 use crate::fault::ToolFault;

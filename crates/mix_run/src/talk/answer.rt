@@ -16,9 +16,9 @@ use crate::fault::ToolFault;
 use crate::opener::Opener;
 use crate::talk::aside::{Talker, after_reply, help, tell};
 use crate::talk::listing::list;
-use crate::talk::person::{Line, kind_of};
 use crate::talk::recall::Recall;
 use crate::talk::source::refuse_in_file;
+use mix_person::{Line, kind_of};
 use mix_session::{Session, Told};
 use mix_stream::Out;
 

@@ -6,9 +6,9 @@ ghost use Rattle.mix_run.specs.Recall.{after_read, after_request};
 ghost use Rattle.mix_session.specs.Session.{request_in};
 
 use crate::beside::tell_report;
-use crate::talk::help::{form_of, help_on};
 use mix_lines::{Words, split_line};
 use mix_machine::Place;
+use mix_person::{form_of, help_on};
 use mix_refused::Memory;
 use mix_session::{Answer, Request, Session, Told, Topic};
 use mix_stream::{Out, write_all};

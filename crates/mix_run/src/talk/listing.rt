@@ -1,9 +1,9 @@
 //! The lines of the source around a line, which `list` shows to a person.
 
 use crate::talk::aside::{say, say_bytes};
-use crate::talk::help::form_of;
 use mix_lines::{Words, number, split_line};
 use mix_machine::Place;
+use mix_person::form_of;
 use mix_refused::Memory;
 use mix_session::Session;
 use mix_stream::Out;

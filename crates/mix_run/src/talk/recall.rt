@@ -7,15 +7,14 @@ ghost use Rattle.mix_session.specs.Session.{request_in};
 ghost use Rattle.mix_lines.specs.Lines.{words};
 ghost use Rattle.mix_run.specs.Bundle.{bundle_of};
 ghost use Rattle.mix_run.specs.Opening.{noted};
-ghost use Rattle.mix_run.specs.Person.{condition_in, name_in, person_line, watched_in};
+ghost use Rattle.mix_person.specs.Person.{condition_in, name_in, person_line, watched_in};
 ghost use Rattle.mix_run.specs.Saves.{saves_under};
 
 use crate::bundle::Origin;
 use crate::opener::Opener;
 use crate::talk::aside::{After, say, tell_shown};
-use crate::talk::help::form_of;
-use crate::talk::person::person_line;
 use crate::talk::save::save;
+use mix_person::{form_of, person_line};
 use mix_refused::Memory;
 use mix_session::{Conditions, Request, Session};
 use mix_stream::Out;

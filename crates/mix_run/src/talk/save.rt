@@ -4,14 +4,14 @@ ghost use Rattle.std.specs.Prelude.{◌≡◌, OnOk, Some};
 ghost use Rattle.mix_lines.specs.Lines.{words};
 ghost use Rattle.mix_run.specs.Bundle.{bundle_of};
 ghost use Rattle.mix_run.specs.Opening.{noted};
-ghost use Rattle.mix_run.specs.Person.{name_in};
+ghost use Rattle.mix_person.specs.Person.{name_in};
 ghost use Rattle.mix_run.specs.Saves.{saves_under};
 
 use crate::bundle::{MAX_BUNDLE_BYTES, Origin, bundle_of};
 use crate::opener::{Opener, Unsaved};
 use crate::talk::aside::say;
-use crate::talk::file::{name_in, tell_file, tell_not_opened, tell_too_long};
-use crate::talk::help::form_of;
+use crate::talk::file::{tell_file, tell_not_opened, tell_too_long};
+use mix_person::{form_of, name_in};
 use mix_refused::{Memory, Refused};
 use mix_stream::Out;
 use std::alloc::Global;

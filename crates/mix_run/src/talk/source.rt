@@ -3,15 +3,14 @@
 ghost use Rattle.std.specs.Prelude.{◌≡◌, ℕ, List, Some, IfOk, IfSome, is_some};
 ghost use Rattle.mix_lines.specs.Lines.{lines, words};
 ghost use Rattle.mix_run.specs.Opening.{Files};
-ghost use Rattle.mix_run.specs.Person.{name_in};
+ghost use Rattle.mix_person.specs.Person.{name_in};
 ghost use Rattle.mix_run.specs.Sources.{is_source, lines_under, stands_for};
 
 use crate::opener::{Opener, Unread};
 use crate::run::MAX_SCRIPT_BYTES;
 use crate::talk::aside::{Talker, say};
-use crate::talk::file::{name_in, tell_file, tell_not_opened, tell_too_long};
-use crate::talk::help::form_of;
-use crate::talk::person::{Line, kind_of};
+use crate::talk::file::{tell_file, tell_not_opened, tell_too_long};
+use mix_person::{Line, form_of, kind_of, name_in};
 use mix_refused::{Memory, Refused};
 use mix_stream::Out;
 use std::alloc::Global;

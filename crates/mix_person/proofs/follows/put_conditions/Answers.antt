@@ -1,8 +1,8 @@
 -- One word more is put, after a blank.
 use Rattle.std.proofs.Common.{◌++◌, true}
-use Rattle.mix_run.specs.Person.{plain_words, spaced}
-use Rattle.mix_run.proofs.PersonLemmas.{put_next}
-use Rattle.mix_run.proofs.talk.follows.put_conditions.Goals as goal
+use Rattle.mix_person.specs.Person.{plain_words, spaced}
+use Rattle.mix_person.proofs.PersonLemmas.{put_next}
+use Rattle.mix_person.proofs.follows.put_conditions.Goals as goal
 
 pub loop-word-preserved : goal.loop-word-preserved
 loop-word-preserved c =

@@ -143,7 +143,7 @@ const NONE: &str = "There is no help on that; help alone names the commands.\n";
 const NO_COMMAND: &str = "help lists the commands\n";
 
 /// The help on a word, or on all where there is none.
-pub(crate) fn help_on(word: Option<&[u8]>) -> &'static str {
+pub fn help_on(word: Option<&[u8]>) -> &'static str {
     match word {
         None => ALL,
         Some(word) => {
@@ -158,7 +158,7 @@ pub(crate) fn help_on(word: Option<&[u8]>) -> &'static str {
 }
 
 /// What the command of this name takes; of no command, where to look for one.
-pub(crate) fn form_of(word: Option<&[u8]>) -> &'static str {
+pub fn form_of(word: Option<&[u8]>) -> &'static str {
     if let Some(word) = word {
         for (name, form, _) in &TOPICS {
             if word.eq_ignore_ascii_case(name.as_bytes()) {

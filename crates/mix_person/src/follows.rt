@@ -2,13 +2,13 @@
 
 ghost use Rattle.std.specs.Prelude.{◌≡◌, ◌++◌, ◌∷◌, [], OnOk, codes, if◌then◌else◌};
 ghost use Rattle.std.specs.Str.{str_eq_ignore_ascii_case};
-ghost use Rattle.mix_run.specs.Person.{after_of, changes_of, is_register, limit_of, most_until, one_of, plain, plain_conditions, plain_first, plain_words, printed, range_of, shown, spaced, steps_of, until_of};
+ghost use Rattle.mix_person.specs.Person.{after_of, changes_of, is_register, limit_of, most_until, one_of, plain, plain_conditions, plain_first, plain_words, printed, range_of, shown, spaced, steps_of, until_of};
 
-use crate::talk::person::{PersonWord, is_beginning};
-use crate::talk::shown::{put_printed, put_shown, put_topic};
+use crate::person::{PersonWord, is_beginning};
+use crate::shown::{put_printed, put_shown, put_topic};
 use mix_lines::Words;
-use mix_machine::Reg;
 use mix_refused::Memory;
+use mix_word::Reg;
 
 /// A word is appended, after a blank.
 pub(crate) fn put(text: &mut Vec<u8>, word: &[u8]) -> Result<(), Memory>

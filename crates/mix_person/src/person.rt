@@ -1,10 +1,10 @@
 //! What a person types at a prompt, read as the line of a script that it stands for.
 
-ghost use Rattle.std.specs.Prelude.{◌≡◌, IfOk, codes};
+ghost use Rattle.std.specs.Prelude.{◌≡◌, IfOk, codes, option_map};
 ghost use Rattle.mix_lines.specs.Lines.{words};
-ghost use Rattle.mix_run.specs.Person.{all_words, command_of, is_beginning, kind_of, kind_of_word, line_begun, line_of_words, name_of, person_line, word_begun};
+ghost use Rattle.mix_person.specs.Person.{all_words, command_of, is_beginning, kind_of, kind_of_word, line_begun, line_of_words, name_in, name_of, person_line, word_begun};
 
-use crate::talk::follows::put_after;
+use crate::follows::put_after;
 use mix_lines::Words;
 use mix_refused::Memory;
 use std::alloc::Global;
@@ -12,7 +12,7 @@ use std::alloc::Global;
 /// What a person's line is: a command, a question for help, a listing of the source, what is watched, displayed, saved, sourced or reloaded, or the
 /// end of the talk.
 #[derive(Clone, Copy)]
-pub(crate) enum Line {
+pub enum Line {
     Command,
     Help,
     Listing,
@@ -143,7 +143,7 @@ fn word_begun(word: &[u8]) -> Option<PersonWord>
 
 /// The line of a script that a person's line stands for, which is `again` for a blank line; with what is watched.
 #[tactic(auto, unfolding(crate::specs::Person::person_line))]
-pub(crate) fn person_line(
+pub fn person_line(
     alloc: Global,
     again: &[u8],
     watch: &[u8],
@@ -185,12 +185,26 @@ fn kind_of_word(word: Option<PersonWord>, words: &Words) -> Line
 }
 
 /// What a person's line is.
-pub(crate) fn kind_of(line: &[u8]) -> Line
+pub fn kind_of(line: &[u8]) -> Line
     ensures { result ≡ kind_of (words line.now) }
 {
     let mut words = Words::of(line);
     match words.next() {
         None => Line::Command,
         Some(word) => kind_of_word(word_begun(word), &words),
+    }
+}
+
+/// The name of the file in a line that saves or sources it, if it has one and no word more.
+pub fn name_in(line: &[u8]) -> Option<&[u8]>
+    ensures { option_map (λ n. n.now) result ≡ name_in (words line.now) }
+{
+    let mut words = Words::of(line);
+    match words.next() {
+        None => None,
+        Some(_) => match words.next() {
+            None => None,
+            Some(name) => { if words.is_end() { Some(name) } else { None } }
+        },
     }
 }

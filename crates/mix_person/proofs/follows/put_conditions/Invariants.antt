@@ -1,6 +1,6 @@
 use Rattle.std.proofs.Common.{◌≡◌, ◌++◌, length, true}
-use Rattle.mix_run.specs.Person.{plain_words, spaced}
-use Rattle.mix_run.proofs.talk.follows.put_conditions.Given as goal
+use Rattle.mix_person.specs.Person.{plain_words, spaced}
+use Rattle.mix_person.proofs.follows.put_conditions.Given as goal
 
 -- what was put so far, and the words that are left, are all of them
 abbrev pub invariant-loop-word : goal.invariant-loop-word

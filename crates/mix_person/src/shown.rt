@@ -1,9 +1,9 @@
 //! What follows a person's `show`, `print`, `x` and `where`, as the words of a line of a script after `show`.
 
 ghost use Rattle.std.specs.Prelude.{◌≡◌, ◌++◌, ◌∷◌, [], OnOk, codes};
-ghost use Rattle.mix_run.specs.Person.{is_one_of, last_of, printed, printed_as, range_of, shown, shown_as, spaced};
+ghost use Rattle.mix_person.specs.Person.{is_one_of, last_of, printed, printed_as, range_of, shown, shown_as, spaced};
 
-use crate::talk::follows::{is_register, plain, put, put_two, put_with_all};
+use crate::follows::{is_register, plain, put, put_two, put_with_all};
 use mix_lines::Words;
 use mix_refused::Memory;
 

@@ -1,7 +1,7 @@
 -- The words of a person's conditions, one after the other.
 use Rattle.std.proofs.Common.{◌≡◌, ◌∙◌, ◌++◌, ℕ, Bool, List, [], ◌∷◌, codes, refl, ap, append-nil, append_assoc, if◌then◌else◌}
 use Rattle.std.specs.Str.{str_eq_ignore_ascii_case}
-use Rattle.mix_run.specs.Person.{plain, plain_words, spaced}
+use Rattle.mix_person.specs.Person.{plain, plain_words, spaced}
 
 -- one word more is put
 pub put_next : (is_first : Bool) (word : List ℕ) (rest words : List (List ℕ)) (text next whole put : List ℕ) (goes : Bool) → words ≡ word ∷ rest →
