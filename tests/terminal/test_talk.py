@@ -31,12 +31,12 @@ def test_person(aside, ran):
     lines = [("s", "step"), ("n", "step"), ("ba", "back 1"), ("F", "forth 1"), ("next 1", "step 1"), ("b 3", "break 3"), ("r", "run 1000000"), ("cl 3", "clear 3"),
              ("back u A", "back until A"), ("c", "run 1000000"), ("ba al", "back al"), ("ba all", "back all"), ("RUN until cell 100", "run 1000000 until cell 100"),
              ("run 5 un loc 1", "run 5 until loc 1"), ("g 1", "goto 1"), ("se A 7", "set A 7"), ("t", "trace"), ("continue 1", "run 1"), ("sh regs", "show regs"),
-             ("  s \t 1", "step 1"), ("* s", "* s"), ("s * s", "step * s"), ("S", "step"), ("stepp", "stepp"), ("", "step"), ("ba u cell 100", "back until cell 100"),
-             ("show clock", "show clock"), (" \t", "back until cell 100"), ("run x", "run x"), ("", "back until cell 100"),
+             ("  s \t 1", "step 1"), ("* s", "* s"), ("s * s", "step * s"), ("S", ""), ("stepp", "stepp"), ("", "stepp"), ("ba u cell 100", "back until cell 100"),
+             ("show clock", "show clock"), (" \t", "show clock"), ("run x", "run x"), ("", "run x"), ("help", ""), ("", ""),
              ("set rA 5", "set A 5"), ("set Ri1 -7", "set I1 -7"), ("set cell 3 rA", "set cell 3 rA"), ("back until rA", "back until A"), ("u rX", "run 1000000 until X"),
-             ("run 3 u rJ", "run 3 until J"), ("p", "show values"), ("p A", "show values"), ("print rI1", "show values"), ("print over", "show regs"),
+             ("run 3 u rJ", "run 3 until J"), ("p", "show values"), ("p A", ""), ("print rI1", ""), ("print over", ""), ("p clock", "show clock"),
              ("p 5+3", "show value 5+3"), ("p FOO", "show value FOO"), ("print cell 100", "show values 100 100"), ("print 1 2", "show value 1 2"),
-             ("show A", "show values"), ("show LOC", "show regs"), ("show", "show"), ("show clock", "show clock"), ("show last", "show last 1"),
+             ("show A", ""), ("show LOC", ""), ("show", "show"), ("show clock", "show clock"), ("show last", "show last 1"),
              ("show cell 2", "show values 2 2"), ("show cells 1", "show cells 1 1"), ("show cells 1 3", "show cells 1 3"), ("show code 1", "show code 1 1"),
              ("show values 0", "show values 0 0"), ("show unit 3", "show unit 3"), ("where", "show code"), ("w", "show code"), ("where 2", "show code 2 2"),
              ("x 100", "show values 100 100"), ("x 0 2", "show values 0 2"), ("break FOO", "break FOO"), ("goto START", "goto START"),
@@ -47,8 +47,10 @@ def test_person(aside, ran):
              ("c", "run 1000000 until A or X or cell 100 or I1 or over or cmp or I2 or loc 3"), ("watch J", ""),
              ("back", "back until A or X or cell 100 or I1 or over or cmp or I2 or loc 3"), ("u rX or rA", "run 1000000 until X or A"), ("back all", "back all"),
              ("run 2 until X", "run 2 until X"), ("delete", ""), ("ba", "back 1"), ("watch FOO BAR", ""), ("ba", "back 1"), ("watch cell 100", ""), ("b 3", "break 3"),
-             ("back all", "back all"), ("run", "run 1000000 until cell 100"), ("", "back all"), ("forth break", "forth break"), ("delete 1", "delete 1"),
-             ("d", ""), ("F", "forth 1"), ("display A", ""), ("n", "step"), ("di FOO BAR", ""), ("undisplay 1", "undisplay 1"), ("und", ""), ("un A", "run 1000000 until A")]
+             ("back all", "back all"), ("run", "run 1000000 until cell 100"), ("", "run 1000000 until cell 100"), ("forth break", "forth break"), ("delete 1", "delete 1"),
+             ("d", ""), ("F", "forth 1"), ("display A", ""), ("n", ""), ("back all", "back all"), ("n", "step"), ("rs", "back 1"), ("RN 1", "back 1"), ("si", "step"),
+             ("advance 2", "run 1000000 until loc 2"), ("nexti 1", "step 1"), ("REVERSE-NEXT 2", "back 2"),
+             ("show writes rA", "show writes A"), ("show writes cell 100", "show writes cell 100"), ("di FOO BAR", ""), ("undisplay 1", "undisplay 1"), ("und", ""), ("un A", "run 1000000 until A")]
     terminal, output = aside()
     for line, _ in lines:
         terminal.said(line.replace("\t", " "))
@@ -66,8 +68,9 @@ def test_listed(aside, folder):
 
     terminal, output = aside("list.mixal")
     form = "list takes the number of a line, a symbol, or nothing\n"
-    for line, reply in (("list", around(2, 2)), ("l 9", around(9, 2)), ("list done", around(11, 2)), ("list 99", ""), ("list FOO", form), ("list 1 2", form),
-                        ("set loc DONE", ""), ("LIST", around(11, 11)), ("set loc 3000", ""), ("list", around(1, 0))):
+    end = "the source has 12 lines\n"
+    for line, reply in (("list", around(2, 2)), ("p A", 'A  + 00 00 00 00 00           0  "     "\n'), ("l", around(12, 2)), ("list", end), ("list", around(2, 2)), ("l 9", around(9, 2)),
+                        ("list done", around(11, 2)), ("list", end), ("list 99", end), ("list FOO", form), ("list 1 2", form), ("set loc DONE", ""), ("LIST", around(11, 11)), ("set loc 3000", ""), ("list", around(1, 0))):
         assert terminal.said(line) == reply
     assert terminal.end("exit\n") == 0 and output() == "ok\n" * 2
 
@@ -79,9 +82,37 @@ def test_displayed(aside):
     none, twelve = (f"0100 {here[n]}" for n in (0, 12))
     for line, reply in (("display cell 100", none), ("step 2", f"{ADDED}{THIRD}{none}"), ("display FOO BAR", "display takes a register, cell E or a word W, as print does\n"),
                         ("set X 1", ""), ("s", f"{STORED.replace('3', '4', 1)}{FOURTH}{twelve}"), ("di *", here[3]), ("back 1", f"{THIRD}{none}{here[2]}"),
-                        ("back x", "back takes a number, all, break or until COND\n"), ("", f"{THIRD}{none}{here[2]}"), ("undisplay", ""), ("trace", FOURTH)):
+                        ("back x", "back takes a number, all, break or until COND\n"), ("", "back takes a number, all, break or until COND\n"), ("undisplay", ""), ("display rX", f"X  {here[1]}"),
+                        ("di over", "over off\n"), ("forth 1", f"{STORED.replace('3', '4', 1)}{FOURTH}X  {here[1]}over off\n"), ("undisplay", ""), ("back 1", THIRD), ("trace", FOURTH)):
         assert terminal.said(line) == reply
     assert terminal.end("exit\n") == 3
+
+
+def test_halted(talk):
+    """After a halt no step is done without a number: what is behind HLT may be data."""
+    halted = "The program has halted: back all begins anew, step 1 goes on behind HLT.\n"
+    nop = "{:7}  {:04}  NOP                  1u\n{:04}  + 00 00 00 00 00  NOP\n"
+    terminal = talk()
+    for line, reply in (("run", f"ran 4 to 0004 clock 14: halt\n{HALTED}{AFTER}"), ("run", halted), ("", halted), ("s", halted), ("", halted), ("t", halted), ("c", halted),
+                        ("until A", halted), ("watch A", "watching A\n"), ("r", halted), ("delete", ""), ("show clock", "clock 14\n"), ("n", halted),
+                        ("step 1", f"ran 1 to 0005 clock 15: limit\n{nop.format(5, 4, 5)}"), ("s", f"ran 1 to 0006 clock 16: limit\n{nop.format(6, 5, 6)}"),
+                        ("back 2", f"back 2 to 0004 clock 14\n{AFTER}"), ("s", halted), ("set X 1", "ok\n"), ("s", f"ran 1 to 0005 clock 15: limit\n{nop.format(6, 4, 5)}"),
+                        ("back 3", f"back 3 to 0003 clock 4\n{FOURTH}"), ("s", f"ran 1 to 0004 clock 14: halt\n{HALTED}{AFTER}"), ("back all", f"back 4 to 0000 clock 0\n{FIRST}"),
+                        ("run 2", f"ran 2 to 0002 clock 2: limit\n{ADDED}{THIRD}")):
+        assert terminal.said(line) == reply
+    assert terminal.end() == 0
+
+
+def test_symbols_first(talk, folder):
+    """A symbol comes before a register's name, and what is watched is said; with its r a register is always meant."""
+    (folder / "x.mixal").write_text("X CON 7\nGO LDA X\n INCA 1\n STA X\n LDX 0\n HLT\n END GO\n")
+    terminal = talk("x.mixal")
+    seven, none = (f'{name:3}+ 00 00 00 00 {n:02} {n:11}  "    {letter}"\n' for name, n, letter in (("A", 7, "G"), ("X", 0, " ")))
+    for line, reply in (("p X", none.removeprefix("X  ")), ("p rX", none), ("watch X", "watching cell X\n"), ("wa rX or rA", "watching cell X or X or A\n"),
+                        ("run", "ran 1 to 0002"), ("p A", seven), ("delete", ""), ("back all", "back 1"), ("run until X", "ran 3 to 0004"), ("show writes X", "    3  0003  STA 0"),
+                        ("back until rX", "? C6")):
+        assert reply in terminal.said(line)
+    assert terminal.end() == 3
 
 
 def test_newcomer(talk):

@@ -1,14 +1,26 @@
 -- The words of a person's conditions, one after the other.
-use Rattle.std.proofs.Common.{◌≡◌, ◌∙◌, ◌++◌, ℕ, Bool, List, [], ◌∷◌, codes, refl, ap, append-nil, append_assoc, if◌then◌else◌}
+use Rattle.std.proofs.Common.{◌≡◌, ◌∙◌, ◌++◌, ℕ, Bool, true, List, [], ◌∷◌, codes, length, eqb, refl, sym, ap, append_assoc, arith}
+use Rattle.std.proofs.lemmas.Bool.{eqb-true}
 use Rattle.std.specs.Str.{str_eq_ignore_ascii_case}
-use Rattle.mix_person.specs.Person.{plain, plain_words, spaced}
+use Rattle.mixal_text.specs.Names.{NamesValue}
+use Rattle.mix_person.specs.Person.{condition_words, spaced, words_in}
 
--- one word more is put
-pub put_next : (is_first : Bool) (word : List ℕ) (rest words : List (List ℕ)) (text next whole put : List ℕ) (goes : Bool) → words ≡ word ∷ rest →
-    put ≡ (if is_first then plain word else word) → goes ≡ str_eq_ignore_ascii_case word (codes "or") → next ≡ text ++ spaced (put ∷ []) →
-    text ++ spaced (plain_words is_first words) ≡ whole → next ++ spaced (plain_words goes rest) ≡ whole
-put_next is_first word rest words text next whole put goes words_are put_is goes_is next_is so_far =
-    let tail = spaced (plain_words goes rest) in
-    let end : spaced (put ∷ []) ++ tail ≡ spaced (put ∷ plain_words goes rest) = ap (λ w. 32 ∷ (w ++ tail)) (append-nil put) in
-    let here : spaced (put ∷ plain_words goes rest) ≡ spaced (plain_words is_first words) = rw (words_are, put_is, goes_is) refl in
-    ap (λ t. t ++ tail) next_is ∙ append_assoc text (spaced (put ∷ [])) tail ∙ ap (λ t. text ++ t) (end ∙ here) ∙ so_far
+-- some words, and some after them
+pub spaced_append : (a b : List (List ℕ)) → spaced (a ++ b) ≡ spaced a ++ spaced b
+spaced_append [] b = refl
+spaced_append (word ∷ a) b = ap (λ t. 32 ∷ t) (ap (λ t. word ++ t) (spaced_append a b) ∙ sym (append_assoc word (spaced a) (spaced b)))
+
+-- the next one is put
+pub put_next : (names : NamesValue) (is_first goes : Bool) (word : List ℕ) (rest words : List (List ℕ)) (text next whole : List ℕ) → words ≡ word ∷ rest →
+    goes ≡ str_eq_ignore_ascii_case word (codes "or") → next ≡ text ++ spaced (words_in names is_first word) →
+    text ++ spaced (condition_words names is_first words) ≡ whole → next ++ spaced (condition_words names goes rest) ≡ whole
+put_next names is_first goes word rest words text next whole words_are goes_is next_is so_far =
+    let put = words_in names is_first word in
+    let left = condition_words names goes rest in
+    let here : spaced (put ++ left) ≡ spaced (condition_words names is_first words) = rw (words_are, goes_is) refl in
+    ap (λ t. t ++ spaced left) next_is ∙ append_assoc text (spaced put) (spaced left) ∙ ap (λ t. text ++ t) (sym (spaced_append put left) ∙ here) ∙ so_far
+
+-- a list of length 0
+pub nil-from_length : (xs : List ℕ) → true ≡ eqb (length xs) 0 → xs ≡ []
+nil-from_length [] e = refl
+nil-from_length (x ∷ xs) e = absurd (omega (arith, eqb-true (length (x ∷ xs)) 0 (sym e)))

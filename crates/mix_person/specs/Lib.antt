@@ -1,1 +1,2 @@
+pub mod Aside
 pub mod Person

@@ -1,14 +1,15 @@
 //! What follows the first word of a person's line, as the words of the line of a script that it stands for.
 
-ghost use Rattle.std.specs.Prelude.{◌≡◌, ◌++◌, ◌∷◌, [], OnOk, codes, if◌then◌else◌};
-ghost use Rattle.std.specs.Str.{str_eq_ignore_ascii_case};
-ghost use Rattle.mix_person.specs.Person.{after_of, changes_of, is_register, limit_of, most_until, one_of, plain, plain_conditions, plain_first, plain_words, printed, range_of, shown, spaced, steps_of, until_of};
+ghost use Rattle.std.specs.Prelude.{◌≡◌, ◌++◌, ◌∷◌, [], OnOk, codes};
+ghost use Rattle.mix_person.specs.Person.{after_of, changes_of, conditions, count_of, limit_of, most_until, one_of, plain_first, spaced, steps_of, until_of};
 
-use crate::person::{PersonWord, is_beginning};
+use crate::conditions::put_conditions;
+use crate::names::plain;
 use crate::shown::{put_printed, put_shown, put_topic};
+use crate::word::{PersonWord, is_beginning};
 use mix_lines::Words;
 use mix_refused::Memory;
-use mix_word::Reg;
+use mixal_text::Names;
 
 /// A word is appended, after a blank.
 pub(crate) fn put(text: &mut Vec<u8>, word: &[u8]) -> Result<(), Memory>
@@ -29,31 +30,6 @@ fn put_all(text: &mut Vec<u8>, words: &mut Words) -> Result<(), Memory>
     Ok(())
 }
 
-/// Whether a word is the name of a register.
-pub(crate) fn is_register(word: &[u8]) -> bool
-    ensures { result ≡ is_register word.now }
-{
-    Reg::ALL
-        .iter()
-        .any(|r| word.eq_ignore_ascii_case(r.name().as_bytes()))
-}
-
-/// The name of a register without the r that the book puts before it.
-pub(crate) fn plain(word: &[u8]) -> &[u8]
-    ensures { result.now ≡ plain word.now }
-{
-    match word.split_first() {
-        None => word,
-        Some((first, name)) => {
-            if (*first == b'r' || *first == b'R') && is_register(name) {
-                name
-            } else {
-                word
-            }
-        }
-    }
-}
-
 // The words that are left, of which the first may be a register.
 fn put_plain(text: &mut Vec<u8>, words: &mut Words) -> Result<(), Memory>
     ensures { OnOk result (text.new.items ≡ text.old.items ++ spaced (plain_first words.old)) }
@@ -67,35 +43,14 @@ fn put_plain(text: &mut Vec<u8>, words: &mut Words) -> Result<(), Memory>
     }
 }
 
-// The first word of a condition may be a register; any other is as it is.
-fn first_plain(is_first: bool, word: &[u8]) -> &[u8]
-    ensures { result.now ≡ (if is_first then plain word.now else word.now) }
-{
-    if is_first { plain(word) } else { word }
-}
-
-// Whether a word is `or`, in capitals or small letters.
-fn is_or(word: &[u8]) -> bool
-    ensures { result ≡ str_eq_ignore_ascii_case word.now (codes "or") }
-{
-    word.eq_ignore_ascii_case(b"or")
-}
-
-// The words that are left, conditions with `or` between them, of each of which the first may be a register.
-fn put_conditions(text: &mut Vec<u8>, words: &mut Words) -> Result<(), Memory>
-    ensures { OnOk result (text.new.items ≡ text.old.items ++ spaced (plain_conditions words.old)) }
-{
-    let mut is_first = true;
-    while let Some(word) = words.next() {
-        put(text, first_plain(is_first, word))?;
-        is_first = is_or(word);
-    }
-    Ok(())
-}
-
 // A word, read as `until` where it begins that, and the words after it.
-fn put_until(text: &mut Vec<u8>, word: &[u8], words: &mut Words) -> Result<(), Memory>
-    ensures { OnOk result (text.new.items ≡ text.old.items ++ spaced (until_of word.now ∷ plain_conditions words.old)) }
+fn put_until<N: Names>(
+    text: &mut Vec<u8>,
+    names: &N,
+    word: &[u8],
+    words: &mut Words,
+) -> Result<(), Memory>
+    ensures { OnOk result (text.new.items ≡ text.old.items ++ spaced (until_of word.now ∷ conditions (N.names names.now) words.old)) }
 {
     put(
         text,
@@ -105,7 +60,7 @@ fn put_until(text: &mut Vec<u8>, word: &[u8], words: &mut Words) -> Result<(), M
             word
         },
     )?;
-    put_conditions(text, words)
+    put_conditions(text, names, words)
 }
 
 // What is watched, from its `until` on.
@@ -126,45 +81,60 @@ fn put_one(text: &mut Vec<u8>, watch: &[u8]) -> Result<(), Memory>
     }
 }
 
-fn put_changes(text: &mut Vec<u8>, watch: &[u8], words: &mut Words) -> Result<(), Memory>
-    ensures { OnOk result (text.new.items ≡ text.old.items ++ changes_of watch.now words.old) }
+fn put_changes<N: Names>(
+    text: &mut Vec<u8>,
+    names: &N,
+    watch: &[u8],
+    words: &mut Words,
+) -> Result<(), Memory>
+    ensures { OnOk result (text.new.items ≡ text.old.items ++ changes_of (N.names names.now) watch.now words.old) }
 {
     match words.next() {
         None => put_one(text, watch),
-        Some(word) => put_until(text, word, words),
+        Some(word) => put_until(text, names, word, words),
     }
 }
 
-fn put_limit(text: &mut Vec<u8>, watch: &[u8], words: &mut Words) -> Result<(), Memory>
-    ensures { OnOk result (text.new.items ≡ text.old.items ++ limit_of watch.now words.old) }
+fn put_limit<N: Names>(
+    text: &mut Vec<u8>,
+    names: &N,
+    watch: &[u8],
+    words: &mut Words,
+) -> Result<(), Memory>
+    ensures { OnOk result (text.new.items ≡ text.old.items ++ limit_of (N.names names.now) watch.now words.old) }
 {
     match words.next() {
         None => put_watch(text, watch),
-        Some(word) => put_until(text, word, words),
+        Some(word) => put_until(text, names, word, words),
     }
 }
 
 // As many steps as one command may do, until a condition is met, or one of several.
-fn put_most_until(text: &mut Vec<u8>, words: &mut Words) -> Result<(), Memory>
-    ensures { OnOk result (text.new.items ≡ text.old.items ++ most_until words.old) }
+fn put_most_until<N: Names>(text: &mut Vec<u8>, names: &N, words: &mut Words) -> Result<(), Memory>
+    ensures { OnOk result (text.new.items ≡ text.old.items ++ most_until (N.names names.now) words.old) }
 {
     put(text, b"1000000")?;
     put(text, b"until")?;
-    put_conditions(text, words)
+    put_conditions(text, names, words)
 }
 
-fn put_steps(text: &mut Vec<u8>, watch: &[u8], words: &mut Words) -> Result<(), Memory>
-    ensures { OnOk result (text.new.items ≡ text.old.items ++ steps_of watch.now words.old) }
+fn put_steps<N: Names>(
+    text: &mut Vec<u8>,
+    names: &N,
+    watch: &[u8],
+    words: &mut Words,
+) -> Result<(), Memory>
+    ensures { OnOk result (text.new.items ≡ text.old.items ++ steps_of (N.names names.now) watch.now words.old) }
 {
     let Some(word) = words.next() else {
         put(text, b"1000000")?;
         return put_watch(text, watch);
     };
     if is_beginning(word, b"until") {
-        put_most_until(text, words)
+        put_most_until(text, names, words)
     } else {
         put(text, word)?;
-        put_limit(text, watch, words)
+        put_limit(text, names, watch, words)
     }
 }
 
@@ -189,24 +159,45 @@ pub(crate) fn put_two(
     put_with_all(text, other, words)
 }
 
+// As many steps as one command may do, until a location.
+fn put_until_loc(text: &mut Vec<u8>, words: &mut Words) -> Result<(), Memory>
+    ensures { OnOk result (text.new.items ≡ text.old.items ++ spaced (codes "1000000" ∷ codes "until" ∷ codes "loc" ∷ words.old)) }
+{
+    put(text, b"1000000")?;
+    put_two(text, b"until", b"loc", words)
+}
+
+// One change, where nothing is said.
+fn put_count(text: &mut Vec<u8>, words: &mut Words) -> Result<(), Memory>
+    ensures { OnOk result (text.new.items ≡ text.old.items ++ count_of words.old) }
+{
+    match words.next() {
+        None => put_one(text, b""),
+        Some(word) => put_with_all(text, word, words),
+    }
+}
+
 /// The words that follow the command, each after a blank.
-pub(crate) fn put_after(
+pub(crate) fn put_after<N: Names>(
     text: &mut Vec<u8>,
+    names: &N,
     watch: &[u8],
     word: PersonWord,
     words: &mut Words,
 ) -> Result<(), Memory>
-    ensures { OnOk result (text.new.items ≡ text.old.items ++ after_of watch.now word words.old) }
+    ensures { OnOk result (text.new.items ≡ text.old.items ++ after_of (N.names names.now) watch.now word words.old) }
 {
     match word {
-        PersonWord::Run | PersonWord::Continue => put_steps(text, watch, words),
-        PersonWord::Until | PersonWord::Watch => put_most_until(text, words),
-        PersonWord::Back | PersonWord::Forth => put_changes(text, watch, words),
+        PersonWord::Run | PersonWord::Continue => put_steps(text, names, watch, words),
+        PersonWord::Until | PersonWord::Watch => put_most_until(text, names, words),
+        PersonWord::Back | PersonWord::Forth => put_changes(text, names, watch, words),
         PersonWord::Set => put_plain(text, words),
-        PersonWord::Show => put_shown(text, words),
-        PersonWord::Print | PersonWord::Display => put_printed(text, words),
+        PersonWord::Show => put_shown(text, names, words),
+        PersonWord::Print | PersonWord::Display => put_printed(text, names, words),
         PersonWord::Where => put_topic(text, b"code", words),
         PersonWord::Examine => put_topic(text, b"values", words),
+        PersonWord::Advance => put_until_loc(text, words),
+        PersonWord::ReverseStep => put_count(text, words),
         _ => put_all(text, words),
     }
 }

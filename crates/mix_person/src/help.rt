@@ -1,4 +1,6 @@
-//! What the word `help` tells a person of the commands.
+//! What the word `help` says of the commands.
+
+use crate::elsewhere::typed_here;
 
 const ALL: &str = "\
 step, run, trace     go on, step by step; run stops at breakpoints, trace shows each step
@@ -6,25 +8,27 @@ back, forth, goto    take changes back, do them again, go to a numbered state
 set, break, clear    change the machine, set a breakpoint, take one away
 show                 shows the machine, its code, its past, counts
 quit                 ends the session
-Beginnings will do: s for step, b for break, ba for back, u for until; n is step too, c is run.
+A command may be shortened: s is step, b break, ba back, u until; n is step too, c is run.
 back and forth alone take 1, run alone 1000000. Who wrote cell 100? run, then back until cell 100.
-watch COND stops run, back and forth at that from now on; delete forgets all.
+watch COND makes run, back and forth stop there from now on; delete ends that.
 print shows a register, cell E or a word W; list shows the source, where what comes next.
 display shows what print shows after each stop; undisplay ends that.
 save FILE saves what was done, as a bundle: mixrev < FILE does it again.
 source FILE does the lines of FILE, as if they were typed.
 reload reads the source again, and does there what was done so far.
-help COMMAND explains one, as help back. A blank line repeats the last step or back.
+help COMMAND explains one, as help back. A blank line repeats the last command.
 ";
 
 const STEP: &str = "\
 step             does one step
 step N           does N steps, 1 to 1000000, fewer if a halt or a fault comes
+After a halt, step and run without a number do nothing. rs takes one step back.
 ";
 
 const RUN: &str = "\
 run N            does N steps, 1 to 1000000, fewer if a halt, a fault or a breakpoint comes
 run N until COND also stops when a step reaches COND, and shows that step
+advance E is run until loc E.
 ";
 
 const TRACE: &str = "\
@@ -79,7 +83,7 @@ show conflicts   each change done that conflicts with a transfer under way, and 
 show clock, show breaks, show changes, show symbols
 ";
 
-const SHOW_TAKES: &str = "\
+pub(crate) const SHOW_TAKES: &str = "\
 show takes regs, all, cells E E, unit N, code, value W, values, last N, writes COND, diff N,
 counts, conflicts, clock, breaks, changes or symbols
 ";
@@ -92,11 +96,12 @@ quit             ends the session, as the end of the input does
 ";
 
 const PRINT: &str = "\
-print A          shows the registers; print alone does too
+print A          shows rA; print over, cmp, loc, clock that; print alone the registers
 print cell E     shows cell E as bytes, as a number and in characters; x E does too
-print W          shows the word W in the same way; a symbol is its cell
+print W          shows the word W in the same way; a symbol is its location
+If a symbol has a register's name, print X and watch X mean the symbol, and rX the register.
 where            shows what comes next, as show code
-list             shows the lines of the source around what comes next
+list             shows the lines of the source around what comes next; again those after them
 list LINE        shows those around a line, or around the line of a symbol
 ";
 
@@ -104,11 +109,11 @@ const WATCH: &str = "\
 watch COND       run stops there too from now on, back and forth alone go up to it: until COND
 delete           nothing is watched any more
 Each watch adds to what is watched, up to eight conditions. COND is as after until; help until
-says more.
+says more. A symbol alone is its cell.
 ";
 
 const DISPLAY: &str = "\
-display A        shows the registers now, and after each stop from now on
+display A        shows rA now, and after each stop from now on
 display cell E   shows cell E, and display W a word, in the same way: as print does
 undisplay        nothing is displayed any more
 ";
@@ -166,19 +171,10 @@ pub fn form_of(word: Option<&[u8]>) -> &'static str {
             }
         }
     }
-    form_elsewhere(word)
-}
-
-// What stands here for a command that other debuggers have.
-fn form_elsewhere(word: Option<&[u8]>) -> &'static str {
-    if let Some(word) = word {
-        for (name, form) in &ELSEWHERE {
-            if word.eq_ignore_ascii_case(name.as_bytes()) {
-                return form;
-            }
-        }
+    match word.and_then(typed_here) {
+        Some(form) => form,
+        None => NO_COMMAND,
     }
-    NO_COMMAND
 }
 
 // Each word that there is help on: what it takes, as a refusal says it, and the help.
@@ -192,7 +188,7 @@ static TOPICS: [(&str, &str, &str); 25] = [
     ("goto", "goto takes a number\n", GOTO),
     ("set", "set takes REG W, cell E W, loc E, over on, over off or cmp L, E, G\n", SET),
     ("break", "break takes E, a cell, or line N\n", BREAK),
-    ("clear", "clear takes E, a cell, or line N\n", BREAK),
+    ("clear", "clear takes E, a cell, or line N: one at a time; show breaks lists them\n", BREAK),
     ("show", SHOW_TAKES, SHOW),
     ("quit", NO_COMMAND, QUIT),
     ("until", NO_COMMAND, UNTIL),
@@ -209,37 +205,4 @@ static TOPICS: [(&str, &str, &str); 25] = [
     ("source", "source takes the name of a file\n", SOURCE),
     ("reload", "reload takes nothing\n", RELOAD),
     ("help", NO_COMMAND, ALL),
-];
-
-const FROM_A_SHELL: &str = "mixrev debug SOURCE opens a source; quit ends this session\n";
-
-const SHOWS_REGISTERS: &str =
-    "print shows the registers, print A too; show regs has the toggle and the indicator\n";
-
-const GOES_BACK: &str = "back takes a number, all, break or until COND\n";
-
-const GOES_ON: &str = "run takes a number, 1 to 1000000, until COND, both or nothing\n";
-
-const SHOWS_CELLS: &str = "print cell E shows a cell, x E E cells\n";
-
-const SETS: &str =
-    "set REG W sets a register, set cell E W a cell, set over on the toggle, set cmp L\n";
-
-const BREAKS: &str = "break takes E, a cell, or line N; watch takes COND\n";
-
-const SHOWS_PAST: &str =
-    "show last N shows what the last N changes altered; trace N shows each step\n";
-
-// The commands of other debuggers, and what to type here.
-#[rattlefmt::skip]
-static ELSEWHERE: [(&str, &str); 44] = [
-    ("load", FROM_A_SHELL), ("file", FROM_A_SHELL), ("start", GOES_ON), ("info", SHOW_TAKES), ("i", SHOW_TAKES),
-    ("preg", SHOWS_REGISTERS), ("pflags", SHOWS_REGISTERS), ("pc", SHOWS_REGISTERS), ("pstat", SHOWS_REGISTERS), ("pall", "show all shows everything in use\n"),
-    ("pmem", SHOWS_CELLS), ("psym", "show symbols shows them all, print SYMBOL one\n"), ("weval", "print takes W, a word\n"), ("w2d", "print takes W, a word\n"),
-    ("sreg", SETS), ("smem", SETS), ("scmp", SETS), ("sover", SETS), ("ssym", SETS), ("jump", "set loc E sets the location; goto takes a number of changes\n"),
-    ("sbp", BREAKS), ("sbpa", BREAKS), ("sbpr", BREAKS), ("sbpm", BREAKS), ("sbpc", BREAKS), ("sbpo", BREAKS), ("tbreak", BREAKS),
-    ("cbp", "clear takes E, a cell, or line N\n"), ("cbpa", "clear takes E, a cell, or line N\n"), ("cabp", "clear takes E, a cell, or line N\n"),
-    ("strace", SHOWS_PAST), ("pbt", SHOWS_PAST), ("sbt", SHOWS_PAST), ("bt", SHOWS_PAST), ("backtrace", SHOWS_PAST),
-    ("stime", "show clock shows the time\n"), ("ptime", "show clock shows the time\n"), ("finish", GOES_ON), ("reverse-step", GOES_BACK), ("reverse-continue", GOES_BACK),
-    ("rs", GOES_BACK), ("rc", GOES_BACK), ("undo", GOES_BACK), ("pline", "list takes the number of a line, a symbol, or nothing\n"),
 ];

@@ -1,12 +1,14 @@
 //! What a person types at a prompt, read as the line of a script that it stands for.
 
-ghost use Rattle.std.specs.Prelude.{◌≡◌, IfOk, codes, option_map};
+ghost use Rattle.std.specs.Prelude.{◌≡◌, IfOk, option_map};
 ghost use Rattle.mix_lines.specs.Lines.{words};
-ghost use Rattle.mix_person.specs.Person.{all_words, command_of, is_beginning, kind_of, kind_of_word, line_begun, line_of_words, name_in, name_of, person_line, word_begun};
+ghost use Rattle.mix_person.specs.Person.{kind_of, kind_of_word, line_begun, line_of_words, name_in, person_line};
 
 use crate::follows::put_after;
+use crate::word::{PersonWord, word_begun};
 use mix_lines::Words;
 use mix_refused::Memory;
+use mixal_text::Names;
 use std::alloc::Global;
 
 /// What a person's line is: a command, a question for help, a listing of the source, what is watched, displayed, saved, sourced or reloaded, or the
@@ -26,130 +28,16 @@ pub enum Line {
     Quit,
 }
 
-/// A word that a person may begin a line with.
-#[derive(Clone, Copy)]
-pub(crate) enum PersonWord {
-    Step,
-    Next,
-    Run,
-    Trace,
-    Break,
-    Back,
-    Forth,
-    Goto,
-    Continue,
-    Clear,
-    Set,
-    Show,
-    Quit,
-    Help,
-    Question,
-    Print,
-    Listing,
-    Where,
-    Watch,
-    Delete,
-    Display,
-    Until,
-    Undisplay,
-    Examine,
-    Exit,
-    Save,
-    Source,
-    Reload,
-}
-
-// In this order: of several that begin in the same way, the first one is meant.
-#[rattlefmt::skip]
-fn all_words() -> &'static [PersonWord]
-    ensures { result.now ≡ all_words }
-{
-    &[
-        PersonWord::Step, PersonWord::Next, PersonWord::Run, PersonWord::Trace, PersonWord::Break, PersonWord::Back, PersonWord::Forth,
-        PersonWord::Goto, PersonWord::Continue, PersonWord::Clear, PersonWord::Set, PersonWord::Show, PersonWord::Quit, PersonWord::Help,
-        PersonWord::Question, PersonWord::Print, PersonWord::Listing, PersonWord::Where, PersonWord::Watch,
-        PersonWord::Delete, PersonWord::Display, PersonWord::Until, PersonWord::Undisplay, PersonWord::Examine, PersonWord::Exit,
-        PersonWord::Save, PersonWord::Source, PersonWord::Reload,
-    ]
-}
-
-impl PersonWord {
-    fn name(self) -> &'static str
-        ensures { result.now ≡ name_of self }
-    {
-        match self {
-            PersonWord::Step => "step",
-            PersonWord::Next => "next",
-            PersonWord::Run => "run",
-            PersonWord::Trace => "trace",
-            PersonWord::Break => "break",
-            PersonWord::Back => "back",
-            PersonWord::Forth => "forth",
-            PersonWord::Goto => "goto",
-            PersonWord::Continue => "continue",
-            PersonWord::Clear => "clear",
-            PersonWord::Set => "set",
-            PersonWord::Show => "show",
-            PersonWord::Quit => "quit",
-            PersonWord::Help => "help",
-            PersonWord::Question => "?",
-            PersonWord::Print => "print",
-            PersonWord::Listing => "list",
-            PersonWord::Where => "where",
-            PersonWord::Watch => "watch",
-            PersonWord::Delete => "delete",
-            PersonWord::Display => "display",
-            PersonWord::Until => "until",
-            PersonWord::Undisplay => "undisplay",
-            PersonWord::Examine => "x",
-            PersonWord::Exit => "exit",
-            PersonWord::Save => "save",
-            PersonWord::Source => "source",
-            PersonWord::Reload => "reload",
-        }
-    }
-
-    // The command that it stands for.
-    fn command(self) -> &'static str
-        ensures { result.now ≡ command_of self }
-    {
-        match self {
-            PersonWord::Next => "step",
-            PersonWord::Continue | PersonWord::Until | PersonWord::Watch => "run",
-            PersonWord::Question => "help",
-            PersonWord::Print | PersonWord::Where | PersonWord::Examine | PersonWord::Display =>
-                "show",
-            PersonWord::Exit => "quit",
-            _ => self.name(),
-        }
-    }
-}
-
-/// Whether a word is a beginning of a name, in capitals or small letters.
-pub(crate) fn is_beginning(word: &[u8], name: &[u8]) -> bool
-    ensures { result ≡ is_beginning word.now name.now }
-{
-    word.len() <= name.len() && word.eq_ignore_ascii_case(&name[..word.len()])
-}
-
-fn word_begun(word: &[u8]) -> Option<PersonWord>
-    ensures { result ≡ word_begun word.now }
-{
-    all_words()
-        .iter()
-        .copied()
-        .find(|known| is_beginning(word, known.name().as_bytes()))
-}
-
-/// The line of a script that a person's line stands for, which is `again` for a blank line; with what is watched.
+/// The line of a script that a person's line stands for, which is `again` for a blank line; with what is watched. Names are those of the program.
 #[tactic(auto, unfolding(crate::specs::Person::person_line))]
-pub fn person_line(
+pub fn person_line<N: Names>(
     alloc: Global,
+    names: &N,
     again: &[u8],
     watch: &[u8],
     line: &[u8],
 ) -> Result<Vec<u8>, Memory>
-    ensures { IfOk result (λ text. text.items ≡ person_line again.now watch.now line.now) }
+    ensures { IfOk result (λ text. text.items ≡ person_line (N.names names.now) again.now watch.now line.now) }
 {
     let mut text = Vec::new(alloc);
     let mut words = Words::of(line);
@@ -159,7 +47,7 @@ pub fn person_line(
             None => text.extend_from_slice(line)?,
             Some(known) => {
                 text.extend_from_slice(known.command().as_bytes())?;
-                put_after(&mut text, watch, known, &mut words)?;
+                put_after(&mut text, names, watch, known, &mut words)?;
             }
         },
     }

@@ -1,11 +1,13 @@
 //! What follows a person's `show`, `print`, `x` and `where`, as the words of a line of a script after `show`.
 
 ghost use Rattle.std.specs.Prelude.{◌≡◌, ◌++◌, ◌∷◌, [], OnOk, codes};
-ghost use Rattle.mix_person.specs.Person.{is_one_of, last_of, printed, printed_as, range_of, shown, shown_as, spaced};
+ghost use Rattle.mix_person.specs.Person.{is_one_of, is_part, last_of, part_of, printed, printed_as, range_of, shown, shown_alone, shown_as, spaced, words_printed, writes_of};
 
-use crate::follows::{is_register, plain, put, put_two, put_with_all};
+use crate::follows::{put, put_two, put_with_all};
+use crate::names::{is_register, is_symbol, plain};
 use mix_lines::Words;
 use mix_refused::Memory;
+use mixal_text::Names;
 
 fn put_last(text: &mut Vec<u8>, word: &[u8], words: &mut Words) -> Result<(), Memory>
     ensures { OnOk result (text.new.items ≡ text.old.items ++ spaced (last_of word.now words.old)) }
@@ -61,11 +63,30 @@ fn put_topic_from(
 }
 
 fn is_flag(word: &[u8]) -> bool
-    ensures { result ≡ is_one_of (codes "over" ∷ codes "cmp" ∷ codes "loc" ∷ []) word.now }
+    ensures { result ≡ is_one_of (codes "over" ∷ codes "cmp" ∷ codes "loc" ∷ codes "clock" ∷ []) word.now }
 {
     word.eq_ignore_ascii_case(b"over")
         || word.eq_ignore_ascii_case(b"cmp")
         || word.eq_ignore_ascii_case(b"loc")
+        || word.eq_ignore_ascii_case(b"clock")
+}
+
+fn is_part(word: &[u8]) -> bool
+    ensures { result ≡ is_part word.now }
+{
+    is_register(plain(word)) || is_flag(word)
+}
+
+// A part of the machine, unless it is a symbol; else a word by a W-value.
+fn put_part<N: Names>(text: &mut Vec<u8>, names: &N, word: &[u8]) -> Result<(), Memory>
+    ensures { OnOk result (text.new.items ≡ text.old.items ++ spaced (part_of (N.names names.now) word.now)) }
+{
+    if is_part(word) && !is_symbol(names, word) {
+        put(text, plain(word))
+    } else {
+        put(text, b"value")?;
+        put(text, word)
+    }
 }
 
 fn has_range(word: &[u8]) -> bool
@@ -76,19 +97,6 @@ fn has_range(word: &[u8]) -> bool
         || word.eq_ignore_ascii_case(b"code")
 }
 
-fn put_word_printed(text: &mut Vec<u8>, word: &[u8]) -> Result<(), Memory>
-    ensures { OnOk result (text.new.items ≡ text.old.items ++ spaced (printed_as word.now [])) }
-{
-    if is_register(plain(word)) {
-        put(text, b"values")
-    } else if is_flag(word) {
-        put(text, b"regs")
-    } else {
-        put(text, b"value")?;
-        put(text, word)
-    }
-}
-
 // Words of which there are two or more.
 fn put_words_printed(
     text: &mut Vec<u8>,
@@ -96,7 +104,7 @@ fn put_words_printed(
     other: &[u8],
     words: &mut Words,
 ) -> Result<(), Memory>
-    ensures { OnOk result (text.new.items ≡ text.old.items ++ spaced (printed_as word.now (other.now ∷ words.old))) }
+    ensures { OnOk result (text.new.items ≡ text.old.items ++ spaced (words_printed word.now other.now words.old)) }
 {
     if word.eq_ignore_ascii_case(b"cell") {
         put_topic_from(text, b"values", other, words)
@@ -105,32 +113,39 @@ fn put_words_printed(
     }
 }
 
-fn put_printed_as(text: &mut Vec<u8>, word: &[u8], words: &mut Words) -> Result<(), Memory>
-    ensures { OnOk result (text.new.items ≡ text.old.items ++ spaced (printed_as word.now words.old)) }
+fn put_printed_as<N: Names>(
+    text: &mut Vec<u8>,
+    names: &N,
+    word: &[u8],
+    words: &mut Words,
+) -> Result<(), Memory>
+    ensures { OnOk result (text.new.items ≡ text.old.items ++ spaced (printed_as (N.names names.now) word.now words.old)) }
 {
     match words.next() {
-        None => put_word_printed(text, word),
+        None => put_part(text, names, word),
         Some(other) => put_words_printed(text, word, other, words),
     }
 }
 
 /// What follows `print`.
-pub(crate) fn put_printed(text: &mut Vec<u8>, words: &mut Words) -> Result<(), Memory>
-    ensures { OnOk result (text.new.items ≡ text.old.items ++ spaced (printed words.old)) }
+pub(crate) fn put_printed<N: Names>(
+    text: &mut Vec<u8>,
+    names: &N,
+    words: &mut Words,
+) -> Result<(), Memory>
+    ensures { OnOk result (text.new.items ≡ text.old.items ++ spaced (printed (N.names names.now) words.old)) }
 {
     match words.next() {
         None => put(text, b"values"),
-        Some(word) => put_printed_as(text, word, words),
+        Some(word) => put_printed_as(text, names, word, words),
     }
 }
 
-fn put_word_shown(text: &mut Vec<u8>, word: &[u8]) -> Result<(), Memory>
-    ensures { OnOk result (text.new.items ≡ text.old.items ++ spaced (shown_as word.now [])) }
+fn put_shown_alone<N: Names>(text: &mut Vec<u8>, names: &N, word: &[u8]) -> Result<(), Memory>
+    ensures { OnOk result (text.new.items ≡ text.old.items ++ spaced (shown_alone (N.names names.now) word.now)) }
 {
     if is_register(plain(word)) {
-        put(text, b"values")
-    } else if is_flag(word) {
-        put(text, b"regs")
+        put_part(text, names, word)
     } else if word.eq_ignore_ascii_case(b"last") {
         put(text, word)?;
         put(text, b"1")
@@ -139,39 +154,69 @@ fn put_word_shown(text: &mut Vec<u8>, word: &[u8]) -> Result<(), Memory>
     }
 }
 
-// Words of which there are two or more.
-fn put_words_shown(
+// What alters a part: a symbol is its cell.
+fn put_writes<N: Names>(
     text: &mut Vec<u8>,
+    names: &N,
     word: &[u8],
     other: &[u8],
     words: &mut Words,
 ) -> Result<(), Memory>
-    ensures { OnOk result (text.new.items ≡ text.old.items ++ spaced (shown_as word.now (other.now ∷ words.old))) }
+    ensures { OnOk result (text.new.items ≡ text.old.items ++ spaced (writes_of (N.names names.now) word.now other.now words.old)) }
+{
+    put(text, word)?;
+    if is_symbol(names, other) {
+        put_two(text, b"cell", other, words)
+    } else {
+        put_with_all(text, plain(other), words)
+    }
+}
+
+// Words of which there are two or more.
+fn put_words_shown<N: Names>(
+    text: &mut Vec<u8>,
+    names: &N,
+    word: &[u8],
+    other: &[u8],
+    words: &mut Words,
+) -> Result<(), Memory>
+    ensures { OnOk result (text.new.items ≡ text.old.items ++ spaced (shown_as (N.names names.now) word.now (other.now ∷ words.old))) }
 {
     if word.eq_ignore_ascii_case(b"cell") {
         put_topic_from(text, b"values", other, words)
     } else if has_range(word) {
         put_topic_from(text, word, other, words)
+    } else if word.eq_ignore_ascii_case(b"writes") {
+        put_writes(text, names, word, other, words)
     } else {
         put_two(text, word, other, words)
     }
 }
 
-fn put_shown_as(text: &mut Vec<u8>, word: &[u8], words: &mut Words) -> Result<(), Memory>
-    ensures { OnOk result (text.new.items ≡ text.old.items ++ spaced (shown_as word.now words.old)) }
+fn put_shown_as<N: Names>(
+    text: &mut Vec<u8>,
+    names: &N,
+    word: &[u8],
+    words: &mut Words,
+) -> Result<(), Memory>
+    ensures { OnOk result (text.new.items ≡ text.old.items ++ spaced (shown_as (N.names names.now) word.now words.old)) }
 {
     match words.next() {
-        None => put_word_shown(text, word),
-        Some(other) => put_words_shown(text, word, other, words),
+        None => put_shown_alone(text, names, word),
+        Some(other) => put_words_shown(text, names, word, other, words),
     }
 }
 
 /// What follows `show`.
-pub(crate) fn put_shown(text: &mut Vec<u8>, words: &mut Words) -> Result<(), Memory>
-    ensures { OnOk result (text.new.items ≡ text.old.items ++ spaced (shown words.old)) }
+pub(crate) fn put_shown<N: Names>(
+    text: &mut Vec<u8>,
+    names: &N,
+    words: &mut Words,
+) -> Result<(), Memory>
+    ensures { OnOk result (text.new.items ≡ text.old.items ++ spaced (shown (N.names names.now) words.old)) }
 {
     match words.next() {
         None => Ok(()),
-        Some(word) => put_shown_as(text, word, words),
+        Some(word) => put_shown_as(text, names, word, words),
     }
 }

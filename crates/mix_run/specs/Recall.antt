@@ -1,11 +1,13 @@
 -- What a talk recalls of a person's lines, and the lines of a script that the next one then stands for.
-use Rattle.std.specs.Prelude.{ℕ, ◌+◌, List, [], ◌∷◌, ◌++◌, codes, length, nat_lt, Result, Ok, Err, if◌then◌else◌}
+use Rattle.std.specs.Prelude.{ℕ, ◌+◌, ◌||◌, List, [], ◌∷◌, ◌++◌, codes, length, nat_lt, is_ok, is_some, Result, Ok, Err, if◌then◌else◌}
 use Rattle.mix_lines.specs.Lines.{words}
 use Rattle.mix_session.specs.Conditions.{most_conditions}
+use Rattle.mix_session.specs.Names.{names_of}
 use Rattle.mix_session.specs.Session.{SessionState, request_in}
 use Rattle.mix_session.specs.declared.fault.Refusal.{Refusal}
 use Rattle.mix_session.specs.declared.request.Request.{Request}
 use Rattle.mix_session.specs.declared.request.Request.TheVariants as ask
+use Rattle.mix_person.specs.Aside.{aside_of, part_in}
 use Rattle.mix_person.specs.Person.{kind_of, person_line, watched_in, condition_in}
 use Rattle.mix_run.specs.declared.talk.aside.After.{After}
 use Rattle.mix_run.specs.declared.talk.aside.After.TheVariants as after
@@ -14,7 +16,7 @@ use Rattle.mix_run.specs.declared.talk.aside.Talker.TheVariants.{Program, Person
 use Rattle.mix_person.specs.declared.person.Line.{Line}
 use Rattle.mix_person.specs.declared.person.Line.TheVariants as line_kind
 
--- the line of a script that a blank line stands for: the last one that took steps, or changes back; an empty one before that. And what is watched, from
+-- the line of a script that a blank line stands for: that of the line before it, or an empty one, where that was no command. And what is watched, from
 -- its `until` on, and how many conditions that are; empty, where nothing is. And the lines of a script that show what is displayed after each stop. And
 -- the script of what was done: the lines that may have changed the machine
 pub record RecallState : Type 0 where
@@ -28,14 +30,13 @@ pub record RecallState : Type 0 where
 abbrev pub nothing : RecallState
 nothing = record { again = []; watch = []; watched = 0; displays = []; done = [] }
 
--- what a request leads to: a stop after steps, or after changes that were taken back, which a blank line repeats; one after other changes that were done;
--- another stop; a change without a stop; or nothing
+-- what a request leads to: a stop after changes that were done; another stop; a change without a stop; or nothing
 abbrev pub after_request : Request → After
-after_request (ask.Step n) = after.Stepped
-after_request (ask.Back n) = after.Repeated
-after_request ask.BackAll = after.Repeated
-after_request ask.BackBreak = after.Repeated
-after_request (ask.BackUntil conditions) = after.Repeated
+after_request (ask.Step n) = after.Done
+after_request (ask.Back n) = after.Stop
+after_request ask.BackAll = after.Stop
+after_request ask.BackBreak = after.Stop
+after_request (ask.BackUntil conditions) = after.Stop
 after_request (ask.Trace n) = after.Stop
 after_request (ask.Run n) = after.Done
 after_request (ask.RunUntil n conditions) = after.Stop
@@ -58,8 +59,6 @@ with_done typed r = record r { done = r.done ++ (typed ++ 10 ∷ []) }
 
 -- what is recalled when a line of a script was executed
 abbrev pub recalled_after : After → List ℕ → RecallState → RecallState
-recalled_after after.Stepped typed r = record (with_done typed r) { again = typed }
-recalled_after after.Repeated typed r = record (with_done typed r) { again = typed }
 recalled_after after.Done typed r = with_done typed r
 recalled_after after.Stop typed r = with_done typed r
 recalled_after after.Changed typed r = with_done typed r
@@ -86,43 +85,48 @@ recalled_watch (Ok request) typed r = watched_by request typed r
 recalled_watch (Err refusal) typed r = r
 
 -- what is displayed after a line that asks for more: that must be there to be shown
-abbrev pub recalled_display : Result Request Refusal → List ℕ → RecallState → RecallState
-recalled_display (Ok request) typed r = record r { displays = r.displays ++ (typed ++ 10 ∷ []) }
-recalled_display (Err refusal) typed r = r
+abbrev pub recalled_display : SessionState → List ℕ → RecallState → RecallState
+recalled_display s typed r =
+    if is_some (part_in (words typed)) || is_ok (request_in s typed) then record r { displays = r.displays ++ (typed ++ 10 ∷ []) } else r
 
--- what is recalled when a person's line was answered
+-- what is recalled of a command: nothing, if something is only said
+abbrev pub recalled_command : SessionState → List ℕ → RecallState → RecallState
+recalled_command s typed r = if is_some (aside_of s typed) then r else recalled_after (after_read (request_in s typed)) typed r
+
+-- what is recalled when a person's line was answered; a blank line repeats the last line alone, and only a command
 abbrev pub recalled_by : SessionState → Line → List ℕ → RecallState → RecallState
-recalled_by s line_kind.Command typed r = recalled_after (after_read (request_in s typed)) typed r
-recalled_by s line_kind.Help typed r = r
-recalled_by s line_kind.Listing typed r = r
-recalled_by s line_kind.Watch typed r = recalled_watch (request_in s typed) typed r
-recalled_by s line_kind.Delete typed r = record r { watch = []; watched = 0 }
-recalled_by s line_kind.Display typed r = recalled_display (request_in s typed) typed r
-recalled_by s line_kind.Undisplay typed r = record r { displays = [] }
-recalled_by s line_kind.Save typed r = r
-recalled_by s line_kind.Source typed r = r
-recalled_by s line_kind.Reload typed r = r
+recalled_by s line_kind.Command typed r = record (recalled_command s typed r) { again = typed }
+recalled_by s line_kind.Help typed r = record r { again = [] }
+recalled_by s line_kind.Listing typed r = record r { again = [] }
+recalled_by s line_kind.Watch typed r = record (recalled_watch (request_in s typed) typed r) { again = [] }
+recalled_by s line_kind.Delete typed r = record r { again = []; watch = []; watched = 0 }
+recalled_by s line_kind.Display typed r = record (recalled_display s typed r) { again = [] }
+recalled_by s line_kind.Undisplay typed r = record r { again = []; displays = [] }
+recalled_by s line_kind.Save typed r = record r { again = [] }
+recalled_by s line_kind.Source typed r = record r { again = [] }
+recalled_by s line_kind.Reload typed r = record r { again = [] }
 recalled_by s line_kind.Quit typed r = r
 
 abbrev pub recalled : SessionState → Talker → RecallState → List ℕ → RecallState
 recalled s Program r line = r
-recalled s Person r line = recalled_by s (kind_of (words line)) (person_line r.again r.watch line) r
+recalled s Person r line = recalled_by s (kind_of (words line)) (person_line (names_of s.program) r.again r.watch line) r
 
 -- the lines of a script that a line stands for: a program's stands for itself; help is no command, nor is a listing of the source, what is watched,
--- displayed or saved, or the end of a talk; nor is a line of a file that sources another one or reloads, which is refused
-abbrev pub meant_by : Line → List ℕ → List (List ℕ)
-meant_by line_kind.Command typed = typed ∷ []
-meant_by line_kind.Help typed = []
-meant_by line_kind.Listing typed = []
-meant_by line_kind.Watch typed = []
-meant_by line_kind.Delete typed = []
-meant_by line_kind.Display typed = []
-meant_by line_kind.Undisplay typed = []
-meant_by line_kind.Save typed = []
-meant_by line_kind.Source typed = []
-meant_by line_kind.Reload typed = []
-meant_by line_kind.Quit typed = []
+-- displayed or saved, or the end of a talk; nor is a line of a file that sources another one or reloads, which is refused; nor is a line, of which
+-- something is only said
+abbrev pub meant_by : SessionState → Line → List ℕ → List (List ℕ)
+meant_by s line_kind.Command typed = if is_some (aside_of s typed) then [] else typed ∷ []
+meant_by s line_kind.Help typed = []
+meant_by s line_kind.Listing typed = []
+meant_by s line_kind.Watch typed = []
+meant_by s line_kind.Delete typed = []
+meant_by s line_kind.Display typed = []
+meant_by s line_kind.Undisplay typed = []
+meant_by s line_kind.Save typed = []
+meant_by s line_kind.Source typed = []
+meant_by s line_kind.Reload typed = []
+meant_by s line_kind.Quit typed = []
 
 abbrev pub meant : SessionState → Talker → RecallState → List ℕ → List (List ℕ)
 meant s Program r line = line ∷ []
-meant s Person r line = meant_by (kind_of (words line)) (person_line r.again r.watch line)
+meant s Person r line = meant_by s (kind_of (words line)) (person_line (names_of s.program) r.again r.watch line)

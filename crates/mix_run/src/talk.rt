@@ -32,6 +32,7 @@ mod recall;
 mod reload;
 mod save;
 mod source;
+mod watched;
 
 use crate::fault::ToolFault;
 use crate::opener::Opener;

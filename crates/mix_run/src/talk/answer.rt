@@ -6,7 +6,8 @@ ghost use Rattle.mix_run.specs.Asked.{after_lines, is_quit};
 ghost use Rattle.mix_run.specs.Fault.{IsMemoryOrWrite};
 ghost use Rattle.mix_run.specs.Opening.{noted};
 ghost use Rattle.mix_run.specs.Output.{replies};
-ghost use Rattle.mix_run.specs.Recall.{meant, recalled};
+ghost use Rattle.mix_person.specs.declared.person.Line.TheVariants as kinds;
+ghost use Rattle.mix_run.specs.Recall.{meant, meant_by, recalled, recalled_by};
 ghost use Rattle.mix_run.specs.Saves.{saves_of};
 ghost use Rattle.mix_stream.specs.Stream.{AppendsFront, CountsFailure};
 
@@ -14,13 +15,48 @@ use crate::bundle::Origin;
 use crate::commands::command;
 use crate::fault::ToolFault;
 use crate::opener::Opener;
-use crate::talk::aside::{Talker, after_reply, help, tell};
+use crate::talk::aside::{Talker, after_reply, help, say_bytes, tell};
 use crate::talk::listing::list;
 use crate::talk::recall::Recall;
 use crate::talk::source::refuse_in_file;
-use mix_person::{Line, kind_of};
+use mix_person::{Line, kind_of, only_said};
 use mix_session::{Session, Told};
 use mix_stream::Out;
+
+// The command that a person's line stands for is executed, or what there is to say instead is said: whether it was accepted.
+fn answer_command<W: Out, E: Out>(
+    session: &mut Session,
+    recall: &mut Recall,
+    typed: &[u8],
+    out: &mut W,
+    errors: &mut E,
+) -> Result<Told, ToolFault>
+    requires { W.failed out.old < 2 ^ 64 - 1 }
+    ensures told { IfOk result (λ told. told ≡ (replies session.old (meant_by session.old kinds.Command typed.now)).told) }
+    ensures written { OnOk result (Appends (W.told out.old) (W.told out.new) (replies session.old (meant_by session.old kinds.Command typed.now)).bytes) }
+    ensures session { OnOk result (session.new ≡ after_lines session.old (meant_by session.old kinds.Command typed.now)) }
+    ensures recall { OnOk result (recall.new ≡ recalled_by session.old kinds.Command typed.now recall.old) }
+    ensures begun { AppendsFront (W.told out.old) (W.told out.new) (replies session.old (meant_by session.old kinds.Command typed.now)).bytes }
+    ensures write { CountsFailure (result ≡ Err ToolFault.Write) (W.failed out.old) (W.failed out.new) }
+    ensures only { IfErr result IsMemoryOrWrite }
+{
+    match only_said(recall.allocator(), session, typed)? {
+        Some(text) => {
+            say_bytes(&text, errors);
+            recall.repeat(typed)?;
+            Ok(Told::Accepted)
+        }
+        None => {
+            let after = after_reply(session, typed);
+            let told = command(session, typed, out)?;
+            tell(after, told, session, typed, errors);
+            recall.tell_displays(after, session, errors);
+            recall.keep(after, typed)?;
+            recall.repeat(typed)?;
+            Ok(told)
+        }
+    }
+}
 
 // A person's line: the command that it stands for is executed, help is given, and what was done is saved. A line that sources a file or reloads
 // is one of such a file: it is refused. Whether the command was accepted; none where the line ends the talk.
@@ -46,54 +82,25 @@ fn answer_person<O: Opener, W: Out, E: Out>(
     ensures write { CountsFailure (result ≡ Err ToolFault.Write) (W.failed out.old) (W.failed out.new) }
     ensures only { IfErr result IsMemoryOrWrite }
 {
-    let typed = recall.line(line)?;
+    let typed = recall.line(session, line)?;
     match kind_of(line) {
-        Line::Quit => Ok(None),
-        Line::Help => {
-            help(&typed, errors);
-            Ok(Some(Told::Accepted))
-        }
-        Line::Listing => {
-            list(recall.allocator(), session, origin.source(), &typed, errors)?;
-            Ok(Some(Told::Accepted))
-        }
-        Line::Watch => {
-            recall.watch(session, &typed, errors)?;
-            Ok(Some(Told::Accepted))
-        }
-        Line::Delete => {
-            recall.delete();
-            Ok(Some(Told::Accepted))
-        }
-        Line::Display => {
-            recall.display(session, &typed, errors)?;
-            Ok(Some(Told::Accepted))
-        }
-        Line::Undisplay => {
-            recall.undisplay();
-            Ok(Some(Told::Accepted))
-        }
-        Line::Save => {
-            recall.save(origin, line, files, errors)?;
-            Ok(Some(Told::Accepted))
-        }
-        Line::Source => {
-            refuse_in_file("source", errors);
-            Ok(Some(Told::Accepted))
-        }
-        Line::Reload => {
-            refuse_in_file("reload", errors);
-            Ok(Some(Told::Accepted))
-        }
+        Line::Quit => return Ok(None),
         Line::Command => {
-            let after = after_reply(session, &typed);
-            let told = command(session, &typed, out)?;
-            tell(after, told, session, &typed, errors);
-            recall.tell_displays(after, session, errors);
-            recall.keep(after, &typed)?;
-            Ok(Some(told))
+            let told = answer_command(session, recall, &typed, out, errors)?;
+            return Ok(Some(told));
         }
+        Line::Help => help(&typed, errors),
+        Line::Listing => list(recall, session, origin.source(), &typed, errors)?,
+        Line::Watch => recall.watch(session, &typed, errors)?,
+        Line::Delete => recall.delete(),
+        Line::Display => recall.display(session, &typed, errors)?,
+        Line::Undisplay => recall.undisplay(),
+        Line::Save => recall.save(origin, line, files, errors)?,
+        Line::Source => refuse_in_file("source", errors),
+        Line::Reload => refuse_in_file("reload", errors),
     }
+    recall.repeat_nothing();
+    Ok(Some(Told::Accepted))
 }
 
 /// One line: the commands that it stands for are executed, and a person is given help. Whether each was accepted; none where the line ends the talk.

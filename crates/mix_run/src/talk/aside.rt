@@ -8,7 +8,7 @@ ghost use Rattle.mix_session.specs.Session.{request_in};
 use crate::beside::tell_report;
 use mix_lines::{Words, split_line};
 use mix_machine::Place;
-use mix_person::{form_of, help_on};
+use mix_person::{form_of, help_on, shown_part};
 use mix_refused::Memory;
 use mix_session::{Answer, Request, Session, Told, Topic};
 use mix_stream::{Out, write_all};
@@ -89,16 +89,13 @@ pub(crate) fn help<E: Out>(line: &[u8], errors: &mut E) {
 }
 
 /// What follows the reply to a command: a stop, of which the reply itself shows the step, or none was done; one after steps or changes that were done,
-/// of which the last is shown; a stop after steps, or after changes taken back, which a blank line repeats; nothing, after a change without a stop or
-/// after none; or the form, if its words are refused.
+/// of which the last is shown; nothing, after a change without a stop or after none; or the form, if its words are refused.
 #[derive(Clone, Copy)]
 pub(crate) enum After {
     Nothing,
     Changed,
     Stop,
     Done,
-    Stepped,
-    Repeated,
     Refused,
 }
 
@@ -116,13 +113,15 @@ fn after_request(request: Request) -> After
     ensures { result ≡ after_request request }
 {
     match request {
-        Request::Step(_) => After::Stepped,
-        Request::Back(_) | Request::BackAll | Request::BackBreak | Request::BackUntil(_) => {
-            After::Repeated
-        }
-        Request::Run(_) | Request::Forth(_) | Request::ForthAll => After::Done,
-        Request::Trace(_) | Request::RunUntil(..) | Request::ForthUntil(_) | Request::Goto(_) =>
-            After::Stop,
+        Request::Step(_) | Request::Run(_) | Request::Forth(_) | Request::ForthAll => After::Done,
+        Request::Back(_)
+        | Request::BackAll
+        | Request::BackBreak
+        | Request::BackUntil(_)
+        | Request::Trace(_)
+        | Request::RunUntil(..)
+        | Request::ForthUntil(_)
+        | Request::Goto(_) => After::Stop,
         Request::Change(_) => After::Changed,
         Request::Nothing | Request::Show(_) => After::Nothing,
     }
@@ -139,13 +138,11 @@ pub(crate) fn tell<E: Out>(
 ) {
     match (after, told) {
         (After::Nothing | After::Changed, _) => {}
-        (After::Done | After::Stepped, Told::Accepted) => {
+        (After::Done, Told::Accepted) => {
             tell_topic(session, Topic::Last(1), errors);
             tell_place(session, errors);
         }
-        (After::Stop | After::Repeated | After::Done | After::Stepped, _) => {
-            tell_place(session, errors)
-        }
+        (After::Stop | After::Done, _) => tell_place(session, errors),
         (After::Refused, _) => say(form_of(Words::of(line).next()), errors),
     }
 }
@@ -165,15 +162,21 @@ fn tell_topic<E: Out>(session: &Session, topic: Topic, errors: &mut E) {
     }
 }
 
-/// What some lines of a script show now.
-pub(crate) fn tell_shown<E: Out>(session: &Session, lines: &[u8], errors: &mut E) {
+// What a line shows now: a part of the machine, or what a script's `show` does.
+fn tell_line_shown<E: Out>(alloc: Global, session: &Session, line: &[u8], errors: &mut E) {
+    match (shown_part(alloc, session, line), session.read(line)) {
+        (Ok(Some(text)), _) => say_bytes(&text, errors),
+        (Ok(None), Ok(Request::Show(topic))) => tell_topic(session, topic, errors),
+        (Ok(None), Ok(_) | Err(_)) | (Err(Memory), _) => {}
+    }
+}
+
+/// What some lines show now.
+pub(crate) fn tell_shown<E: Out>(alloc: Global, session: &Session, lines: &[u8], errors: &mut E) {
     let mut rest = lines;
     while !rest.is_empty() {
         let (line, after) = split_line(rest);
-        match session.read(line) {
-            Ok(Request::Show(topic)) => tell_topic(session, topic, errors),
-            Ok(_) | Err(_) => {}
-        }
+        tell_line_shown(alloc, session, line, errors);
         rest = after;
     }
 }

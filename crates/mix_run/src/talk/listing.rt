@@ -1,6 +1,9 @@
 //! The lines of the source around a line, which `list` shows to a person.
 
+ghost use Rattle.std.specs.Prelude.{◌≡◌, OnOk};
+
 use crate::talk::aside::{say, say_bytes};
+use crate::talk::recall::Recall;
 use mix_lines::{Words, number, split_line};
 use mix_machine::Place;
 use mix_person::form_of;
@@ -10,6 +13,13 @@ use mix_stream::Out;
 use mixal_asm::Source;
 use mixal_text::Symbol;
 use std::alloc::Global;
+
+/// The line around which `list` has listed last, and the location then.
+#[derive(Clone, Copy)]
+pub(crate) struct Listed {
+    around: u64,
+    loc: u16,
+}
 
 // How many lines are shown before the line, and how many from it on.
 const BEFORE: u64 = 5;
@@ -38,13 +48,13 @@ fn line_named(session: &Session, word: &[u8]) -> Option<u64> {
 }
 
 // The line around which a person's line asks for lines.
-fn line_asked(session: &Session, next: Option<u64>, line: &[u8]) -> Option<u64> {
+fn line_asked(session: &Session, unsaid: u64, line: &[u8]) -> Option<u64> {
     let mut words = Words::of(line);
     match words.next() {
         Some(_) | None => {}
     }
     match words.next() {
-        None => Some(next.unwrap_or(1)),
+        None => Some(unsaid),
         Some(word) => {
             if words.is_end() {
                 line_named(session, word)
@@ -70,41 +80,64 @@ fn tell_line<E: Out>(
     Ok(())
 }
 
-// The lines around one, each with its number; a mark is at that of the next instruction.
+// The lines around one, each with its number; a mark is at that of the next instruction. Whether there is one; else how many the source has is said.
 fn tell_around<E: Out>(
     alloc: Global,
     source: &[u8],
     around: u64,
     next: Option<u64>,
     errors: &mut E,
-) -> Result<(), Memory> {
+) -> Result<bool, Memory> {
     let mut rest = source;
     let mut number = 1u64;
+    let mut is_found = false;
     while !rest.is_empty() && number < around.saturating_add(FROM) {
         let (line, after) = split_line(rest);
         if number.saturating_add(BEFORE) >= around {
             tell_line(alloc, number, next == Some(number), line, errors)?;
+            is_found = true;
         }
         number = number.saturating_add(1);
         rest = after;
     }
-    Ok(())
+    if !is_found {
+        let end = format!(in alloc; "the source has {} lines\n", number.saturating_sub(1))?;
+        say(end.as_str(), errors);
+    }
+    Ok(is_found)
 }
 
-/// Tells the lines of the source around the one that a person's line names, or around that of the next instruction if it names none.
+// Around which line a `list` alone lists: that of the next instruction, or what comes after the lines before, if no step came between.
+fn line_unsaid(recall: &Recall, loc: u16, next: Option<u64>) -> u64 {
+    match recall.listed() {
+        Some(listed) if listed.loc == loc => listed.around.saturating_add(BEFORE + FROM),
+        Some(_) | None => next.unwrap_or(1),
+    }
+}
+
+/// Tells the lines of the source around the one that a person's line names; if it names none, around that of the next instruction, and the next time
+/// those that come then.
 pub(crate) fn list<E: Out>(
-    alloc: Global,
+    recall: &mut Recall,
     session: &Session,
     source: &[u8],
     line: &[u8],
     errors: &mut E,
-) -> Result<(), Memory> {
+) -> Result<(), Memory>
+    ensures { OnOk result (recall.new ≡ recall.old) }
+{
+    let alloc = recall.allocator();
     let next = next_line(session);
-    match line_asked(session, next, line) {
-        Some(around) => tell_around(alloc, source, around, next, errors),
-        None => {
-            say(form_of(Some(b"list")), errors);
-            Ok(())
-        }
-    }
+    let loc = session.world().loc();
+    let Some(around) = line_asked(session, line_unsaid(recall, loc, next), line) else {
+        say(form_of(Some(b"list")), errors);
+        return Ok(());
+    };
+    let is_found = tell_around(alloc, source, around, next, errors)?;
+    recall.list_ends(if is_found {
+        Some(Listed { around, loc })
+    } else {
+        None
+    });
+    Ok(())
 }

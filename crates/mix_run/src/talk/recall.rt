@@ -1,28 +1,31 @@
 //! What a talk recalls of a person's lines, and what it reads them with.
 
-ghost use Rattle.std.specs.Prelude.{◌≡◌, ◌≤◌, ◌++◌, [], IfOk, OnOk};
+ghost use Rattle.std.specs.Prelude.{◌≡◌, ◌≤◌, [], IfOk, OnOk};
 ghost use Rattle.mix_session.specs.Conditions.{most_conditions};
-ghost use Rattle.mix_run.specs.Recall.{nothing, recalled_after, recalled_display, recalled_watch, watched_after, watched_by, watched_more, with_done};
+ghost use Rattle.mix_run.specs.Recall.{nothing, recalled_after, recalled_display, recalled_watch, watched_by, watched_more, with_done};
+ghost use Rattle.mix_session.specs.Names.{names_of};
 ghost use Rattle.mix_session.specs.Session.{request_in};
 ghost use Rattle.mix_lines.specs.Lines.{words};
 ghost use Rattle.mix_run.specs.Bundle.{bundle_of};
 ghost use Rattle.mix_run.specs.Opening.{noted};
-ghost use Rattle.mix_person.specs.Person.{condition_in, name_in, person_line, watched_in};
+ghost use Rattle.mix_person.specs.Person.{name_in, person_line};
 ghost use Rattle.mix_run.specs.Saves.{saves_under};
 
 use crate::bundle::Origin;
 use crate::opener::Opener;
-use crate::talk::aside::{After, say, tell_shown};
+use crate::talk::aside::{After, say, say_bytes, tell_shown};
+use crate::talk::listing::Listed;
 use crate::talk::save::save;
-use mix_person::{form_of, person_line};
+use crate::talk::watched::{condition_watched, put_watched};
+use mix_person::{form_of, person_line, shows_part};
 use mix_refused::Memory;
 use mix_session::{Conditions, Request, Session};
 use mix_stream::Out;
 use std::alloc::Global;
 use std::marker::Model;
 
-/// The line of a script that a blank line stands for: the last one that took steps, or changes back; an empty one before that. With it what is
-/// watched, the lines of a script that show what is displayed, and the script of what was done.
+/// The line of a script that a blank line stands for: that of the line before it, or an empty one, where that was no command. With it what is
+/// watched, the lines that show what is displayed, the script of what was done, and where the last `list` has ended.
 #[derive(Drop)]
 pub(crate) struct Recall {
     alloc: Global,
@@ -31,41 +34,10 @@ pub(crate) struct Recall {
     watched: usize,
     displays: Vec<u8>,
     done: Vec<u8>,
+    listed: Option<Listed>,
 }
 
 const WATCHED: &str = "watch takes no more than eight conditions; delete forgets them\n";
-
-const RUN_LEN: usize = 11;
-
-const UNTIL_LEN: usize = 17;
-
-// What is watched, of a line that runs until it: from its `until` on.
-fn watched_in(line: &[u8]) -> &[u8]
-    ensures { result.now ≡ watched_in line.now }
-{
-    &line[RUN_LEN.min(line.len())..]
-}
-
-// The same from what follows `until` on.
-fn condition_in(line: &[u8]) -> &[u8]
-    ensures { result.now ≡ condition_in line.now }
-{
-    &line[UNTIL_LEN.min(line.len())..]
-}
-
-// Appends what a line asks for to what is watched: after the word `or`, where something is.
-fn put_watched(watch: &mut Vec<u8>, line: &[u8]) -> Result<(), Memory>
-    ensures { OnOk result (watch.new.items ≡ watched_after watch.old.items line.now) }
-{
-    match watch.split_first() {
-        None => watch.extend_from_slice(watched_in(line))?,
-        Some(_) => {
-            watch.extend_from_slice(b" or")?;
-            watch.extend_from_slice(condition_in(line))?;
-        }
-    }
-    Ok(())
-}
 
 impl Model for Recall {
     ghost use Rattle.mix_run.specs.Recall.{RecallState};
@@ -91,6 +63,7 @@ impl Recall {
             watched: 0,
             displays: Vec::new(alloc),
             done: Vec::new(alloc),
+            listed: None,
         }
     }
 
@@ -99,10 +72,44 @@ impl Recall {
     }
 
     /// The line of a script that a person's line stands for.
-    pub(crate) fn line(&self, line: &[u8]) -> Result<Vec<u8>, Memory>
-        ensures { IfOk result (λ text. text.items ≡ person_line self.now.again self.now.watch line.now) }
+    pub(crate) fn line(&self, session: &Session, line: &[u8]) -> Result<Vec<u8>, Memory>
+        ensures { IfOk result (λ text. text.items ≡ person_line (names_of session.now.program) self.now.again self.now.watch line.now) }
     {
-        person_line(self.alloc, &self.again, &self.watch, line)
+        person_line(
+            self.alloc,
+            session.program(),
+            &self.again,
+            &self.watch,
+            line,
+        )
+    }
+
+    /// Where the last `list` has ended.
+    pub(crate) fn listed(&self) -> Option<Listed> {
+        self.listed
+    }
+
+    /// Where a `list` has ended.
+    pub(crate) fn list_ends(&mut self, listed: Option<Listed>)
+        ensures { self.new ≡ self.old }
+    {
+        self.listed = listed;
+    }
+
+    /// A blank line repeats nothing.
+    pub(crate) fn repeat_nothing(&mut self)
+        ensures { self.new ≡ record self.old { again = [] } }
+    {
+        self.again.clear();
+    }
+
+    /// A blank line repeats this line of a script.
+    pub(crate) fn repeat(&mut self, typed: &[u8]) -> Result<(), Memory>
+        ensures { OnOk result (self.new ≡ record self.old { again = typed.now }) }
+    {
+        self.again.clear();
+        self.again.extend_from_slice(typed)?;
+        Ok(())
     }
 
     /// What a line asks for is watched too, if it has conditions, and there are then no more than eight; a person is told what is not.
@@ -148,6 +155,9 @@ impl Recall {
         }
         put_watched(&mut self.watch, line)?;
         self.watched = watched;
+        say("watching", errors);
+        say_bytes(condition_watched(&self.watch), errors);
+        say("\n", errors);
         Ok(())
     }
 
@@ -166,14 +176,14 @@ impl Recall {
         line: &[u8],
         errors: &mut E,
     ) -> Result<(), Memory>
-        ensures { OnOk result (self.new ≡ recalled_display (request_in session.now line.now) line.now self.old) }
+        ensures { OnOk result (self.new ≡ recalled_display session.now line.now self.old) }
     {
-        if session.read(line).is_err() {
-            say(form_of(Some(b"display")), errors);
-        } else {
+        if shows_part(line) || session.read(line).is_ok() {
             self.displays.extend_from_slice(line)?;
             self.displays.extend_from_slice(b"\n")?;
-            tell_shown(session, line, errors);
+            tell_shown(self.alloc, session, line, errors);
+        } else {
+            say(form_of(Some(b"display")), errors);
         }
         Ok(())
     }
@@ -189,9 +199,7 @@ impl Recall {
     pub(crate) fn tell_displays<E: Out>(&self, after: After, session: &Session, errors: &mut E) {
         match after {
             After::Nothing | After::Changed | After::Refused => {}
-            After::Stop | After::Done | After::Stepped | After::Repeated => {
-                tell_shown(session, &self.displays, errors)
-            }
+            After::Stop | After::Done => tell_shown(self.alloc, session, &self.displays, errors),
         }
     }
 
@@ -233,11 +241,6 @@ impl Recall {
         match after {
             After::Nothing | After::Refused => {}
             After::Changed | After::Stop | After::Done => self.keep_done(line)?,
-            After::Stepped | After::Repeated => {
-                self.again.clear();
-                self.again.extend_from_slice(line)?;
-                self.keep_done(line)?;
-            }
         }
         Ok(())
     }

@@ -1,0 +1,209 @@
+//! What is only said of a line that a person types: a part of the machine, or that the program has halted.
+
+ghost use Rattle.std.specs.Prelude.{◌≡◌, ◌∷◌, ◌++◌, [], Some, IfOk, OnOk, codes, is_some, option_map};
+ghost use Rattle.mix_lines.specs.Lines.{lines, words};
+ghost use Rattle.mix_machine.specs.Do.{is_halt_next};
+ghost use Rattle.mix_session.specs.Counts.{is_step};
+ghost use Rattle.mix_session.specs.Differences.{held_text};
+ghost use Rattle.mix_person.specs.Aside.{aside_of, flag_text, goes_on, halted_text, is_halt, is_halted, is_named, is_shown, line_named, lines_named, part_in, part_text};
+ghost use Rattle.mix_person.specs.Person.{is_one_of};
+
+use crate::names::is_register;
+use mix_lines::{Words, split_line};
+use mix_machine::{Change, World};
+use mix_refused::Memory;
+use mix_session::{Altered, Answer, Held, Session, Topic};
+use std::alloc::Global;
+
+fn halted_text() -> &'static str
+    ensures { result.now ≡ halted_text }
+{
+    "The program has halted: back all begins anew, step 1 goes on behind HLT.\n"
+}
+
+// Whether a change is a step of HLT, from this machine.
+fn is_halt(change: Change, before: &World) -> bool
+    ensures { result ≡ is_halt (Some change) before.now }
+{
+    matches!(change, Change::Step) && before.next_is_halt()
+}
+
+// Whether the last change that is done is a step of HLT.
+fn is_halted(alloc: Global, session: &Session) -> Result<bool, Memory>
+    ensures { IfOk result (λ halted. halted ≡ is_halted session.now.timeline) }
+{
+    let done = session.changes().len();
+    let Some(change) = session.change_at(done) else {
+        return Ok(false);
+    };
+    let before = session.world_at(alloc, done.saturating_sub(1))?;
+    Ok(is_halt(change, &before))
+}
+
+fn is_one_step(command: &[u8]) -> bool
+    ensures { result ≡ is_one_of (codes "step" ∷ codes "trace" ∷ []) command.now }
+{
+    command.eq_ignore_ascii_case(b"step") || command.eq_ignore_ascii_case(b"trace")
+}
+
+fn goes_on_by(command: &[u8], words: &mut Words) -> bool
+    ensures { result ≡ goes_on (command.now ∷ words.old) }
+{
+    match words.next() {
+        None => is_one_step(command),
+        Some(count) => {
+            command.eq_ignore_ascii_case(b"run") && count.eq_ignore_ascii_case(b"1000000")
+        }
+    }
+}
+
+fn goes_on(typed: &[u8]) -> bool
+    ensures { result ≡ goes_on (words typed.now) }
+{
+    let mut words = Words::of(typed);
+    match words.next() {
+        None => false,
+        Some(command) => goes_on_by(command, &mut words),
+    }
+}
+
+fn is_shown(name: &[u8]) -> bool
+    ensures { result ≡ is_shown name.now }
+{
+    is_register(name)
+        || name.eq_ignore_ascii_case(b"over")
+        || name.eq_ignore_ascii_case(b"cmp")
+        || name.eq_ignore_ascii_case(b"loc")
+}
+
+fn part_after<'a>(command: &[u8], words: &mut Words<'a>) -> Option<&'a [u8]>
+    ensures { option_map (λ n. n.now) result ≡ part_in (command.now ∷ words.old) }
+{
+    match words.next() {
+        None => None,
+        Some(name) => {
+            if words.is_end() && command.eq_ignore_ascii_case(b"show") && is_shown(name) {
+                Some(name)
+            } else {
+                None
+            }
+        }
+    }
+}
+
+// The part of the machine that a line shows.
+fn part_in(typed: &[u8]) -> Option<&[u8]>
+    ensures { option_map (λ n. n.now) result ≡ part_in (words typed.now) }
+{
+    let mut words = Words::of(typed);
+    match words.next() {
+        None => None,
+        Some(command) => part_after(command, &mut words),
+    }
+}
+
+fn is_named(name: &[u8], line: &[u8]) -> bool
+    ensures { result ≡ is_named name.now (words line.now) }
+{
+    match Words::of(line).next() {
+        None => false,
+        Some(word) => word.eq_ignore_ascii_case(name),
+    }
+}
+
+fn put_named(text: &mut Vec<u8>, name: &[u8], line: &[u8]) -> Result<(), Memory>
+    ensures { OnOk result (text.new.items ≡ text.old.items ++ line_named name.now line.now) }
+{
+    if is_named(name, line) {
+        text.extend_from_slice(line)?;
+        text.extend_from_slice(b"\n")?;
+    }
+    Ok(())
+}
+
+// The lines of a text that begin with a name.
+fn lines_named(alloc: Global, name: &[u8], all: &[u8]) -> Result<Vec<u8>, Memory>
+    ensures { IfOk result (λ text. text.items ≡ lines_named name.now (lines all.now)) }
+{
+    let mut text = Vec::new(alloc);
+    let mut rest = all;
+    while !rest.is_empty() {
+        let (line, after) = split_line(rest);
+        put_named(&mut text, name, line)?;
+        rest = after;
+    }
+    Ok(text)
+}
+
+fn flag_line(alloc: Global, world: &World, name: &str, part: Altered) -> Result<Vec<u8>, Memory>
+    ensures { IfOk result (λ text. text.items ≡ name.now ++ held_text world.now part ++ 10 ∷ []) }
+{
+    let held = Held(world, part);
+    let line = format!(in alloc; "{name}{held}\n")?;
+    Ok(line.into_bytes())
+}
+
+// The toggle, the indicator or the location.
+fn flag_text(alloc: Global, world: &World, name: &[u8]) -> Result<Vec<u8>, Memory>
+    ensures { IfOk result (λ text. text.items ≡ flag_text world.now name.now) }
+{
+    if name.eq_ignore_ascii_case(b"over") {
+        flag_line(alloc, world, "over ", Altered::Over)
+    } else if name.eq_ignore_ascii_case(b"cmp") {
+        flag_line(alloc, world, "cmp ", Altered::Cmp)
+    } else {
+        flag_line(alloc, world, "loc ", Altered::Loc)
+    }
+}
+
+fn part_text(alloc: Global, session: &Session, name: &[u8]) -> Result<Vec<u8>, Memory>
+    ensures { IfOk result (λ text. text.items ≡ part_text session.now name.now) }
+{
+    if is_register(name) {
+        let all = session.text(&Answer::Shows(Topic::Values))?;
+        lines_named(alloc, name, &all)
+    } else {
+        flag_text(alloc, session.world(), name)
+    }
+}
+
+/// Whether a line shows a part of the machine; no line of a script does.
+pub fn shows_part(typed: &[u8]) -> bool
+    ensures { result ≡ is_some (part_in (words typed.now)) }
+{
+    part_in(typed).is_some()
+}
+
+/// The part of the machine that a line shows.
+pub fn shown_part(alloc: Global, session: &Session, typed: &[u8]) -> Result<Option<Vec<u8>>, Memory>
+    ensures { IfOk result (λ said. option_map (λ text. text.items) said ≡ option_map (part_text session.now) (part_in (words typed.now))) }
+{
+    match part_in(typed) {
+        None => Ok(None),
+        Some(name) => {
+            let text = part_text(alloc, session, name)?;
+            Ok(Some(text))
+        }
+    }
+}
+
+fn halted(alloc: Global) -> Result<Vec<u8>, Memory>
+    ensures { IfOk result (λ text. text.items ≡ halted_text) }
+{
+    let mut text = Vec::new(alloc);
+    text.extend_from_slice(halted_text().as_bytes())?;
+    Ok(text)
+}
+
+/// What is only said of the line of a script that a person's line stands for, if that is all: a part of the machine that it shows, or that the program
+/// has halted, if it asks for steps without a number.
+#[tactic(auto, unfolding(crate::specs::Aside::aside_of))]
+pub fn only_said(alloc: Global, session: &Session, typed: &[u8]) -> Result<Option<Vec<u8>>, Memory>
+    ensures { IfOk result (λ said. option_map (λ text. text.items) said ≡ aside_of session.now typed.now) }
+{
+    if goes_on(typed) && is_halted(alloc, session)? {
+        let text = halted(alloc)?;
+        return Ok(Some(text));
+    }
+    shown_part(alloc, session, typed)
+}
