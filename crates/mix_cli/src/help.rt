@@ -35,10 +35,10 @@ The program runs to its halt, and what it prints is written at once: the rows of
 and the paper tape in the order in which they are printed, without the blanks at their ends, and a page mark as a form feed.
 If a step meets a fault, or the steps are used up, one line on standard error says where. It cannot go back.
 A step that uses cells of a transfer that is not over is a mistake, such as a store into a line that is still printed.
-The first of them is told there, and how many there are; with --strict the run ends before it.
+The first of them is printed there, and how many there are; with --strict the run ends before it.
 With --trace the line of each step, with what it altered, comes before what it prints.
 With --keep the tapes and disks are there for the next program: it reads that file with --devices.
-With --svg the picture has the lines of the source against the steps of the run, the darker, the oftener a line was executed.
+With --svg the picture has the lines of the source against the steps of the run: darker where a line was executed more often.
 With --counts a table has a row for each instruction that was executed: the line of the source, the location, how often, and
 the time in u. With --writes it has a row for each change of a part, with its values before and after. With --trace and one
 of --csv, --json and --latex it has a row for each step. A run with --svg or --counts keeps its history, so a program without
@@ -63,8 +63,8 @@ Example:
   mixrev check primes.mixal sieve.mixal";
 
 pub(crate) const MORE_ON_DEBUG: &str = "\
-Without a script it is interactive: each line of standard input is a command, which is done and answered before the next is
-read. At a terminal, help lists the commands, and quit ends the session, as the end of the input does.
+Without a script it is interactive: it reads a command from standard input, executes it and prints its reply before it reads
+the next. At a terminal, help lists the commands, and quit ends the session, as the end of the input does.
 
 A script is a text file of commands, one a line: step N and run N go on, trace N shows each step, back N takes changes back,
 forth N does them again, goto N goes to the state after the first N, set, break and clear change the machine, and show shows
