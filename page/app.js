@@ -12,20 +12,23 @@ import { Broken, STOPPED } from "./machine.js";
 import { Memory, showRegisters, showSymbols } from "./memory.js";
 import { TimeMap } from "./pictures.js";
 import { choose, place } from "./place.js";
-import { conflictOf, toldOf } from "./sentence.js";
+import { toldOf } from "./sentence.js";
+import { WHOLE } from "./session.js";
 import { Store } from "./store.js";
 import { Talk } from "./talk.js";
 import { Time } from "./time.js";
 import { Output, Units } from "./units.js";
+import { conflictOf } from "./views.js";
 import { Who } from "./who.js";
 
 export class App {
   constructor(machine, grammar) {
-    const store = new Store(machine, () => this.texts, () => this.units.requests);
+    const shown = () => ({ blocks: this.units.requests, field: this.bars.field ?? WHOLE });
+    const store = new Store(machine, () => this.texts, shown);
     this.store = store;
     this.isEdited = false;
     this.isOpening = false; // a program, whose script stays as it came
-    this.said = [""]; // what the status says
+    this.said = ["", false, ""]; // what the status says
     this.agreed = ""; // a command that is done when it is given again
     store.on("texts", (begun) => this.showTexts(begun));
     this.listing = new Listing(store, grammar);
@@ -76,9 +79,9 @@ export class App {
     this.tell(did, isFault, next);
   }
 
-  tell(...said) {
-    this.said = said;
-    this.showStatus(...said);
+  tell(did, isFault = false, next = isFault ? "" : this.said[2]) {
+    this.said = [did, isFault, next];
+    this.showStatus(...this.said);
   }
 
   showStatus(did, isFault = false, next = "") {

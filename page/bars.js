@@ -3,7 +3,9 @@
 import { $, counted, mark, note, on } from "./dom.js";
 import { Strip, keepsPictures } from "./pictures.js";
 import { CellRange } from "./range.js";
-import { fieldOf, instructionIn } from "./sentence.js";
+import { OPERATIONS } from "./operations.js";
+import { itemOf } from "./sentence.js";
+import { WHOLE } from "./session.js";
 import { barsOf } from "./svg.js";
 
 const MAX_BARS = 120;
@@ -35,6 +37,14 @@ export class Bars {
 
   get isOpen() { return $("bars-box").open; }
   get by() { return $("bars-by").value; }
+
+  // The field by which they are drawn, as MIX writes it; null where what was written is none.
+  get field() {
+    if (!this.isOpen || this.by === "number") return WHOLE;
+    if (this.by === "characters") return 13;
+    const [, left, right] = FIELD.exec($("bars-field").value) || [];
+    return left <= right ? 8 * Number(left) + Number(right) : null;
+  }
 
   // The cells that are drawn.
   get cells() { return this.isOpen ? this.range.cells.slice(0, MAX_BARS) : []; }
@@ -79,56 +89,60 @@ export class Bars {
     const isByField = this.by === "field";
     $("bars-field").hidden = !isByField;
     $("main").classList.toggle("bars", this.isOpen);
-    const { cells, store: { view } } = this;
+    const { cells, store } = this;
+    const { view } = store;
     if (!view || cells.length === 0) return;
-    const field = FIELD.exec($("bars-field").value);
-    const isField = !isByField || (field && field[1] <= field[2]);
-    mark($("bars-field"), "aria-invalid", !isField);
-    if (!isField) return;
-    const f = isByField ? 8 * Number(field[1]) + Number(field[2]) : this.by === "characters" ? 13 : 5;
-    const bars = this.bars(view, cells, f);
+    const { field } = this;
+    mark($("bars-field"), "aria-invalid", field === null);
+    if (field === null) return;
+    if (field !== view.field) {
+      store.look();
+      return;
+    }
+    const bars = this.bars(view, cells);
     const arrows = this.arrows(view.state, cells[0], cells[cells.length - 1]);
-    const title = `Cells ${this.range.ends.join(" to ")} by ${this.by}${isByField ? ` (${field[0].trim()})` : ""}`;
+    const by = isByField ? ` (${field >> 3}:${field & 7})` : "";
+    const title = `Cells ${this.range.ends.join(" to ")} by ${this.by}${by}`;
     const conflict = view.conflict && cells.includes(view.conflict.cell) ? view.conflict : null;
     const text = textOf(bars, arrows) + (conflict ? ` Conflict at ${conflict.cell}: ${conflict.use}.` : "");
     const after = `after ${counted(view.state.done, "change")}`;
     $("bars").replaceChildren(barsOf({ title: `${title}, ${after}`, text, bars, arrows, conflict }));
-    this.strip.show({ cells, valueOf: (word) => Number(fieldOf(word, f)), title });
+    this.strip.show({ cells, field, title });
     const all = this.range.cells.length;
     note("bars-more", all > cells.length ? `These are the first ${MAX_BARS} of ${counted(all, "cell")}.` : "");
   }
 
-  // What is drawn of each cell: its value in a field, and before the last change, if that wrote it.
-  bars(/** @type {View} */ { altered, before, wordIn }, cells, f) {
+  // What is drawn of each cell: its value; what it was before the last change, if that wrote it; what it will be.
+  bars(/** @type {View} */ { inField: { change, next }, wordIn }, cells) {
     return cells.map((cell) => {
-      const { word, characters } = wordIn(cell);
-      const isWritten = altered.has(`cell ${cell}`);
-      const told = fieldOf(word, f);
-      const was = Number(fieldOf((isWritten && before.get(`cell ${cell}`)) || word, f));
-      const text = this.by === "characters" ? characters.trimEnd() : told;
-      return { cell, value: Number(told), text, isWritten, was };
+      const { value, characters } = wordIn(cell);
+      const [written, will] = [change, next].map((each) => itemOf(each, `cell ${cell}`));
+      const text = this.by === "characters" ? characters.trimEnd() : value;
+      const [was, after] = [written?.beforeValue ?? value, will?.afterValue ?? value].map(Number);
+      return { cell, value: Number(value), text, isWritten: Boolean(written), was, isNext: Boolean(will), will: after };
     });
   }
 
   // The index registers that point to a cell of the range, or to the one before or behind it: of each the cell that the
   // first instruction that uses one of these by the register would use now.
-  arrows(/** @type {State} */ { cells, registers }, from, to) {
+  arrows(/** @type {State} */ { cells }, from, to) {
     const found = new Map();
-    for (const cell of cells) {
-      if (!this.code.has(cell.cell)) continue;
-      const { row, index, m } = instructionIn(cell, registers);
-      const isUse = row && row.uses === "cell" && index && m >= from - 1 && m <= to + 1;
-      if (isUse && !found.has(index)) found.set(index, m);
+    for (const { cell, instruction } of cells) {
+      if (!instruction || !this.code.has(cell)) continue;
+      const { operation, index, address } = instruction;
+      const isNear = Number(address) >= from - 1 && Number(address) <= to + 1;
+      const isUse = OPERATIONS.get(operation).uses === "cell" && isNear;
+      if (isUse && index > 0 && !found.has(index)) found.set(index, Number(address));
     }
-    return [...found].sort().map(([index, cell]) => ({ name: `r${index}`, cell }));
+    return [...found].sort().map(([index, cell]) => ({ name: `rI${index}`, cell }));
   }
 }
 
 function textOf(bars, arrows) {
   const [first, last] = [bars[0].cell, bars[bars.length - 1].cell];
-  const told = bars.map(({ cell, text, isWritten, was, value }) => {
+  const told = bars.map(({ cell, text, isWritten, was, value, isNext, will }) => {
     const written = was === value ? " (written)" : ` (written, was ${was})`;
-    return `${cell}: ${text || "blank"}${isWritten ? written : ""}`;
+    return `${cell}: ${text || "blank"}${isWritten ? written : ""}${isNext ? ` (will be ${will})` : ""}`;
   });
   const place = (cell) => (cell < first ? `before ${first}` : cell > last ? `behind ${last}` : `to ${cell}`);
   return [`${told.join(", ")}.`, ...arrows.map(({ name, cell }) => `${name} points ${place(cell)}.`)].join(" ");

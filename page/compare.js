@@ -5,7 +5,7 @@ import { $, all, counted, fourDigits, keepRows, make, note, on, put } from "./do
 import { Machine } from "./machine.js";
 import { flagsOf } from "./memory.js";
 import { Picture } from "./pictures.js";
-import { Session } from "./session.js";
+import { Session, WHOLE } from "./session.js";
 import { Papers } from "./units.js";
 
 const CELLS_COMPARED = 100; // cells that differ
@@ -35,7 +35,8 @@ export class Compare extends Picture {
   // Keeps the run that is shown as the other one.
   keep() {
     const { texts, log, state } = this.store.session;
-    this.session = Object.assign(new Session(this.machine, texts, () => []), { log: [...log], state });
+    const other = new Session(this.machine, texts, () => ({ blocks: [], field: WHOLE }));
+    this.session = Object.assign(other, { log: [...log], state });
     this.forget();
     this.look(this.store.view);
   }

@@ -49,7 +49,7 @@ export function missing(listing, { rows }, { wordIn }) {
   const lines = listing.text.split("\n");
   const end = lines.findIndex((line) => /^[^*\s]*[ \t]+END(\s|$)/i.test(line)) + 1;
   const behind = lines.findIndex((line, at) => at >= end && line.trim() !== "") + 1;
-  const halts = rows.some(({ cell, instruction }) => instruction && wordIn(cell).text.startsWith("HLT"));
+  const halts = rows.some(({ cell, instruction }) => instruction && wordIn(cell).instruction?.operation === "HLT");
   const noHalt = { line: end, text: "there is no HLT, so a run goes on into whatever stands behind the program" };
   const more = { line: behind, text: "this stands behind END and is not read" };
   return [...(halts || rows.length === 0 ? [] : [noHalt]), ...(behind > end ? [more] : [])];

@@ -23,8 +23,8 @@ export class Heat extends Picture {
 
   show(/** @type {View} */ { times }) {
     const { listing, memory, store: { session } } = this;
-    const heatOf = heats([...times.values()]);
-    listing.heat = this.isOpen ? (line) => heatOf(times.get(listing.cellOf.get(line)) || 0) : null;
+    const heatOf = heats([...times]);
+    listing.heat = this.isOpen ? (line) => heatOf(times[listing.cellOf.get(line)] || 0) : null;
     listing.draw();
     if (this.isOpen && session && session.total <= MOST_CHANGES) this.look(memory.shownCells.join());
     else if (this.found) this.forget();

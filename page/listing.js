@@ -2,7 +2,7 @@
 // of the next one are marked, with a bow where a jump lies between, and so are those with a fault.
 
 import { $, between, fourDigits, isPressed, make, mark, on, onResize, put, stepOf } from "./dom.js";
-import { ZERO } from "./sentence.js";
+import { ZERO } from "./session.js";
 import { Source } from "./source.js";
 
 const PAGE = 15; // lines
@@ -24,7 +24,7 @@ export class Listing {
     this.marks = []; // of what is wrong
     this.bad = new Set(); // lines with a fault
     this.said = new Map(); // the texts of faults and warnings, by their lines
-    this.times = new Map(); // how often cells were executed
+    this.times = new Uint32Array(); // how often cells were executed
     this.heat = null; // how dark a line is, where somebody asks for it
     this.wordIn = (_) => ZERO;
     this.bow = make("div", { class: "bow", "aria-hidden": "true" });
@@ -187,7 +187,7 @@ export class Listing {
   knownOf(line) {
     const cell = this.cellOf.get(line);
     if (cell === undefined) return { loc: "", word: "", times: "" };
-    return { loc: fourDigits(cell), word: this.wordIn(cell).word, times: String(this.times.get(cell) || "") };
+    return { loc: fourDigits(cell), word: this.wordIn(cell).word, times: String(this.times[cell] || "") };
   }
 
   // The arrow keys walk from line to line at the left.

@@ -3,7 +3,8 @@
 
 import { $, fourDigits, keepRows, make, mark, note, on, put, stopIn, walks } from "./dom.js";
 import { CELLS, CellRange, upTo } from "./range.js";
-import { COMPARED, instructionAt, numberOf } from "./sentence.js";
+import { OPERATIONS } from "./operations.js";
+import { COMPARED, itemOf } from "./sentence.js";
 
 const CELLS_SHOWN = 500; // rows
 
@@ -16,15 +17,17 @@ function wordRow(name, label, asked) {
     if (window.getSelection().isCollapsed) asked(); // otherwise somebody marks a number to copy it
   };
   const cells = ["word", "number", "chars", "was"].map((kind) => make("td", { class: kind, role: "cell" }));
+  cells[3].append(make("span"), make("span", { class: "will" }));
   return make("tr", { click: clicked, role: "row" }, head, ...cells);
 }
 
-// Shows the word of a part in such a row, with what it was if it was altered.
-function showWord(row, part, { word, number, characters }, { altered, before }, more = []) {
+// Shows the word of a part in such a row, with what it was if it was altered, and what the next step will make of it.
+function showWord(row, part, { word, number, characters }, /** @type {View} */ { altered, change, next }, more = []) {
   const isAltered = altered.has(part);
-  const was = isAltered && before.has(part) ? `was ${numberOf(before.get(part))}` : "";
-  const texts = [word, number, `“${characters}”`, was];
-  texts.forEach((text, index) => put(row.children[index + 1], text));
+  const [was, will] = [itemOf(change, part), itemOf(next, part)];
+  [word, number, `“${characters}”`].forEach((text, index) => put(row.children[index + 1], text));
+  put(row.lastChild.firstChild, isAltered && was ? `was ${was.beforeValue}` : "");
+  put(row.lastChild.lastChild, will ? ` → ${will.afterValue}` : "");
   row.classList.toggle("altered", isAltered);
   put(row.querySelector(".unseen"), [isAltered && "altered", ...more].filter(Boolean).join(", "));
 }
@@ -43,7 +46,8 @@ export function showRegisters(store, /** @type {View} */ view) {
     return make("button", { type: "button", "aria-label": `${name}: who wrote it?`, click }, name);
   };
   const row = ({ name }) => wordRow(`r${name}`, `r${name}`, () => store.emit("ask", name, `r${name}`));
-  const flag = ({ name, part }) => make("div", {}, make("dt", {}, part ? asks(part, name) : name), make("dd"));
+  const held = () => make("dd", {}, make("span"), make("span", { class: "will" }));
+  const flag = ({ name, part }) => make("div", {}, make("dt", {}, part ? asks(part, name) : name), held());
   const stop = stopIn($("register-rows"));
   const current = stop ? stop.closest("tr").dataset.key : "A";
   keepRows($("register-rows"), view.state.registers, ({ name }) => name, row, (element, register) => {
@@ -51,7 +55,9 @@ export function showRegisters(store, /** @type {View} */ view) {
     mark(element.querySelector("button"), "tabindex", register.name === current ? "0" : "-1");
   });
   keepRows($("flags"), flagsOf(view.state), ({ name }) => name, flag, (element, { part, text }) => {
-    put(element.lastChild, text);
+    const will = itemOf(view.next, part)?.after;
+    put(element.lastChild.firstChild, text);
+    put(element.lastChild.lastChild, will ? ` → ${COMPARED[will] || will}` : "");
     element.classList.toggle("altered", view.altered.has(part));
   });
 }
@@ -105,8 +111,9 @@ export class Memory {
   show() {
     const { view } = this.store;
     if (!view) return;
-    const { row, m } = instructionAt(view);
-    const used = !view.state.halted && row && row.uses === "cell" && m >= 0 && m < CELLS ? m : null;
+    const { operation, address } = (view.next && view.wordIn(view.state.location).instruction) || {};
+    const isUse = OPERATIONS.get(operation)?.uses === "cell" && Number(address) >= 0 && Number(address) < CELLS;
+    const used = isUse ? Number(address) : null;
     const { cell: met, use } = view.conflict || {};
     if (met !== undefined || used !== null) this.middle = met ?? used;
     else if (this.middle < 0) this.middle = Math.min(view.state.location, CELLS - 1);

@@ -3,18 +3,8 @@
 import { $, all, between, counted, isPressed, mark, note, on, saved } from "./dom.js";
 import { fileOf, mapOf, stripOf } from "./svg.js";
 
-const COLUMNS = { strip: 60, map: 480 }; // at most
+const COLUMNS = 60; // of the strip, at most
 const MAX_ROWS = 120; // of the map
-
-// The sums of pairs of columns.
-function pairs(columns) {
-  return Array.from({ length: Math.floor(columns.length / 2) }, (_, at) => {
-    const sums = new Map();
-    const both = [...columns[2 * at].cells, ...columns[2 * at + 1].cells];
-    for (const { cell, count } of both) sums.set(cell, (sums.get(cell) || 0) + count);
-    return { cells: [...sums].map(([cell, count]) => ({ cell, count })) };
-  });
-}
 
 // One ask of the engine gives all of a picture; it is asked again only where the changes, or what is asked, are others.
 // `isOpen` says whether it is seen, `find` asks a session for what is drawn, `draw` draws what was found, or nothing.
@@ -69,7 +59,7 @@ export function keepsPictures(store, name, what, selector) {
 export class Strip extends Picture {
   constructor(store) {
     super(store);
-    this.shown = null; // the cells that are drawn, what is drawn of a word, the title
+    this.shown = null; // the cells that are drawn, by which field, the title
     on("strip", "click", ({ clientX }) => {
       const { left, width } = $("strip").firstChild.getBoundingClientRect();
       const { found } = this;
@@ -87,10 +77,10 @@ export class Strip extends Picture {
     if (this.shown) this.show(this.shown);
   }
 
-  // Shows some cells, of which `valueOf` gives what is drawn of a word.
+  // Shows some cells by a field.
   show(shown) {
     this.shown = shown;
-    this.look(shown.cells.join());
+    this.look([shown.field, ...shown.cells].join());
   }
 
   forget() {
@@ -99,20 +89,19 @@ export class Strip extends Picture {
   }
 
   async find(session) {
-    const { cells } = this.shown;
-    const count = Math.min(COLUMNS.strip, session.total + 1);
+    const { cells, field } = this.shown;
+    const count = Math.min(COLUMNS, session.total + 1);
     const momentOf = (index) => Math.round((session.total * index) / Math.max(1, count - 1));
     const moments = Array.from({ length: count }, (_, index) => momentOf(index));
-    const found = await session.cellsAt(moments, cells);
-    return found.map((words, index) => ({ moment: moments[index], cells, words: words.map(({ word }) => word) }));
+    const found = await session.cellsAt(moments, cells, field);
+    return found.map((values, index) => ({ moment: moments[index], values }));
   }
 
   draw() {
     $("strip").replaceChildren();
     if (!this.found) return;
-    const { title, valueOf } = this.shown;
-    const columns = this.found.map(({ moment, words }) => ({ moment, values: words.map(valueOf) }));
-    $("strip").append(stripOf({ title, cells: this.found[0].cells, columns, done: this.store.view.state.done }));
+    const { title, cells } = this.shown;
+    $("strip").append(stripOf({ title, cells, columns: this.found, done: this.store.view.state.done }));
   }
 }
 
@@ -137,7 +126,6 @@ export class TimeMap extends Picture {
 
   forget() {
     this.part = ""; // of which is shown when it was written
-    this.known = null; // what is known of a session
     super.forget();
   }
 
@@ -151,39 +139,32 @@ export class TimeMap extends Picture {
     this.look(this.part);
   }
 
-  // A column is twice as long whenever there would be too many. What is as it was is not asked again.
   async find(session) {
     const { total } = session;
-    let { width, columns } = this.known && this.known.session === session ? this.known : { width: 1, columns: [] };
-    columns = columns.slice(0, Math.floor(session.same / width));
-    while (Math.ceil(total / width) > COLUMNS.map) [columns, width] = [pairs(columns), 2 * width];
-    const { columns: more, writes } = await session.mapOf(columns.length * width, width, this.part);
-    columns = [...columns, ...more];
-    this.known = { session, width, columns };
-    session.same = total;
-    const marks = writes.flatMap(({ part, writes: list }) => list.map(({ number }) => ({ number, part })));
-    const times = new Map();
-    columns.forEach(({ cells }, at) => cells.forEach(({ cell, count }) => {
-      const row = times.get(cell) || { cell, count: 0, first: at };
-      times.set(cell, { ...row, count: row.count + count, last: at });
-    }));
-    const rows = [...times.values()].sort((a, b) => a.cell - b.cell);
-    return { total, width, columns, marks: marks.sort((a, b) => a.number - b.number), rows };
+    const { width, sums } = await session.map();
+    const marks = await session.writesOfAll(this.part);
+    const last = sums[sums.length - 1];
+    const cells = [...last.keys()].filter((cell) => last[cell] > 0);
+    const rows = cells.slice(0, MAX_ROWS).map((cell) => {
+      const counts = sums.slice(1).map((times, at) => times[cell] - sums[at][cell]);
+      return { cell, count: last[cell], counts, first: counts.findIndex(Boolean), last: counts.findLastIndex(Boolean) };
+    });
+    return { total, width, rows, many: cells.length, marks: marks.sort((a, b) => a.number - b.number) };
   }
 
   draw() {
     $("map").replaceChildren();
     if (!this.found) return;
-    const { total, width, columns, marks, rows: found } = this.found;
+    const { total, width, many, marks, rows: found } = this.found;
     const { breakCells, lineOf } = this.listing;
     const furnish = (row) => ({ ...row, line: lineOf.get(row.cell), isBreak: breakCells.includes(row.cell) });
-    const rows = found.slice(0, MAX_ROWS).map(furnish);
-    const many = `These are the first ${MAX_ROWS} of ${counted(found.length, "instruction")}.`;
-    note("map-more", rows.length === 0 ? "Nothing was done yet." : found.length > rows.length ? many : "");
+    const rows = found.map(furnish);
+    const more = `These are the first ${MAX_ROWS} of ${counted(many, "instruction")}.`;
+    note("map-more", many === 0 ? "Nothing was done yet." : many > MAX_ROWS ? more : "");
     if (rows.length === 0) return;
     const { done } = this.store.view.state;
     const title = `Map of ${counted(total, "change")}`;
-    $("map").append(mapOf({ title, text: this.textOf(rows), rows, width, columns, marks, total, done }));
+    $("map").append(mapOf({ title, text: this.textOf(rows), rows, width, marks, total, done }));
   }
 
   textOf(rows) {

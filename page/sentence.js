@@ -1,50 +1,30 @@
-// What the last change did and what the next step will do, as a sentence each, and the status.
+// What the last change did and what the next step will do, as a sentence each, and the status. Values are those of the
+// engine: of the change that was done, and of the one that a step would be.
 
 import { counted, fourDigits } from "./dom.js";
 import { refusalOf } from "./machine.js";
 import { OPERATIONS, filled } from "./operations.js";
+import { WHOLE } from "./session.js";
 
-export const ZERO = { word: "+ 00 00 00 00 00", number: "0", characters: "     ", text: "NOP" }; // where nobody wrote
 export const COMPARED = { L: "less", E: "equal", G: "greater" };
 export const STEPS = 1000000; // the most steps of one command
 const LARGE = 10000000; // a number from here on is told as bytes
+const MOST_PARTS = 4; // that are named
 
-// The number of a word, of five bytes or of two: a text, "-0" too.
-export function numberOf(word) {
-  const [sign, ...bytes] = word.split(" ");
-  const magnitude = bytes.reduce((value, byte) => value * 64 + Number(byte), 0);
-  return `${sign === "-" ? "-" : ""}${magnitude}`;
-}
-
-// A word as people read it.
-function told(word) {
-  const number = /^[+-]( \d\d)+$/.test(word) ? numberOf(word) : "";
-  return number !== "" && Math.abs(Number(number)) < LARGE ? number : word;
-}
-
-export function fieldOf(word, f) {
-  const [left, right] = [f >> 3, f & 7];
-  const [sign, ...bytes] = word.split(" ");
-  return numberOf([left === 0 ? sign : "+", ...bytes.slice(Math.max(left, 1) - 1, right)].join(" "));
-}
-
-// The parts of the instruction in a cell: its row of the table, its index register, M, F. No row where it is none.
-export function instructionIn({ word, text }, registers) {
-  const [sign, a, b, index, f] = word.split(" ");
-  const row = OPERATIONS.get(text.split(" ")[0]);
-  const register = registers.find(({ name }) => name === `I${Number(index)}`) || { name: "", number: "0" };
-  const address = (Number(a) * 64 + Number(b)) * (sign === "-" ? -1 : 1);
-  return { row, text, index: register.name, m: address + Number(register.number), f: Number(f) };
-}
-
-export function instructionAt(/** @type {View} */ { state: { location, registers }, wordIn }) {
-  return instructionIn(wordIn(location), registers);
-}
+const THAN = { L: "less than", E: "equal to", G: "greater than" };
 
 // Whether a change was a command, and no step.
-export const isCommand = ({ text }) => /^(set|break|clear) /i.test(text);
+export const isCommand = (/** @type {Change} */ { time }) => time === "0";
 
-const fieldName = (f) => (f === 5 ? "" : `(${f >> 3}:${f & 7})`);
+// What a change makes of a part; nothing where it does not alter it.
+export const itemOf = (change, part) => change?.items?.find((item) => item.part === part);
+
+const fieldName = (f) => (f === WHOLE ? "" : `(${f >> 3}:${f & 7})`);
+const listed = (parts) => {
+  const more = parts.length - MOST_PARTS;
+  return `${parts.slice(0, MOST_PARTS).join(", ")}${more > 0 ? `, and ${counted(more, "part")} more` : ""}`;
+};
+
 function whereIs(location, { lineOf }) {
   return lineOf.get(location) ? `line ${lineOf.get(location)}` : `location ${fourDigits(location)}`;
 }
@@ -58,51 +38,85 @@ function named(location, text, listing) {
   return `${line || fourDigits(location)} ${isThere ? `${operation} ${isBare ? "" : address}`.trimEnd() : text}`;
 }
 
-function nextOf(/** @type {View} */ view, /** @type {Listing} */ listing) {
-  const { location } = view.state;
-  if (location > 3999) return "there is no cell 4000: a step would be a fault";
-  const { row, text, m, f } = instructionAt(view);
-  const name = named(location, text, listing);
-  if (!row) return `${name}: this word is no instruction`;
-  if (row.uses === "cell" && (m < 0 || m > 3999)) return `${name}: there is no cell ${m}, so it will be a fault`;
-  const given = {
-    r: row.register,
-    M: row.uses === "number" && m < 0 ? `(${m})` : String(m),
-    V: `${fieldOf(view.wordIn(m).word, f)} (cell ${m}${fieldName(f)})`,
-    cell: `cell ${m}${fieldName(f)}`,
-    line: whereIs(m, listing),
-    F: String(f),
+// What a change alters in each part of the machine. A unit has `written` so many rows with it.
+function alterationsOf(/** @type {Change} */ { items }, written, isControl) {
+  return items.map(({ part, what, block, before, after, beforeValue, afterValue }) => {
+    if (part === "over") return `overflow goes ${after}`;
+    if (part === "cmp") return `the comparison goes from ${COMPARED[before]} to ${COMPARED[after]}`;
+    if (part.startsWith("break ")) return `breakpoint ${part.slice(6)} ${after}`;
+    if (part.startsWith("unit ")) {
+      if (block !== undefined) return `${part}: block ${block} is written`;
+      const output = isControl ? `${part} begins a new page` : `${part} writes row ${written(part)}`;
+      return { output, place: `${part} goes to block ${after}` }[what];
+    }
+    const told = (word, number) => (number && Math.abs(Number(number)) < LARGE ? number : word);
+    const name = /^(A|X|J|I\d)$/.test(part) ? `r${part}` : part;
+    return `${name} from ${told(before, beforeValue)} to ${told(after, afterValue)}`;
+  }).filter(Boolean);
+}
+
+// How many rows a unit has written, with so many more.
+const rowsOf = (/** @type {View} */ { units }, more) => (part) => {
+  return more + (units.find(({ unit }) => `unit ${unit}` === part)?.rows?.length || 0);
+};
+
+// What decides whether the program jumps, as it is now.
+function factOf({ sentence, register }, f, /** @type {View} */ { state, units }) {
+  if (!sentence.includes(" if ")) return "";
+  const { clock, cmp, over, registers } = state;
+  const until = units.find(({ unit }) => unit === f)?.until || "0";
+  const facts = {
+    comparison: COMPARED[cmp],
+    overflow: over ? "on" : "off",
+    unit: BigInt(until) > BigInt(clock) ? `busy until ${until}` : "ready",
+    "{r}": registers.find(({ name }) => `r${name}` === register)?.number,
   };
-  return `${name}: ${filled(row.sentence, given)}`;
+  return `; it is ${facts[Object.keys(facts).find((name) => sentence.includes(name))]}`;
 }
 
-// What a change altered in one part of the machine, as the units are after it; a new page is an output too.
-function alterationOf(/** @type {Item} */ { part, what, before, after, block }, units, isControl) {
-  if (part === "over") return `overflow goes ${after}`;
-  if (part === "cmp") return `the comparison goes from ${COMPARED[before]} to ${COMPARED[after]}`;
-  if (part.startsWith("unit ")) {
-    if (block !== undefined) return `${part}: block ${block} is written`;
-    const { rows = [] } = units.find(({ unit }) => `unit ${unit}` === part) || {};
-    const output = isControl ? `${part} begins a new page` : `${part} writes row ${rows.length}`;
-    return { output, place: `${part} goes to block ${after}` }[what] || "";
+function nextOf(/** @type {View} */ view, /** @type {Listing} */ listing) {
+  const { next, wordIn, state: { location, cmp, registers } } = view;
+  if (isCommand(next)) return `${next.text}: ${listed(alterationsOf(next, rowsOf(view, 0)))}`;
+  const name = named(location, next.text, listing);
+  if (!next.items) return `${name}: a step would be a fault, ${next.exceptionId} ${next.description}`;
+  const { operation, field: f, address: m, value } = wordIn(location).instruction;
+  const row = OPERATIONS.get(operation);
+  const V = `${value} (cell ${m}${fieldName(f)})`;
+  if (row.name.startsWith("CMP")) {
+    const after = itemOf(next, "cmp")?.after || cmp;
+    const whole = f === WHOLE && registers.find((each) => `r${each.name}` === row.register).number;
+    const becomes = `the comparison ${after === cmp ? "stays" : "becomes"} ${COMPARED[after]}`;
+    return `${name}: ${whole || row.register + fieldName(f)} is ${THAN[after]} ${V}, so ${becomes}`;
   }
-  if (part.startsWith("break ")) return `breakpoint ${part.slice(6)} ${after}`;
-  return `${/^(A|X|J|I\d)$/.test(part) ? `r${part}` : part} from ${told(before)} to ${told(after)}`;
+  const M = row.uses === "number" && m.startsWith("-") ? `(${m})` : m;
+  const [cell, line] = [`cell ${m}${fieldName(f)}`, whereIs(Number(m), listing)];
+  const will = filled(row.sentence, { r: row.register, M, V, cell, line, F: String(f) });
+  if (row.uses === "jump") return `${name}: ${will}${factOf(row, f, view)}`;
+  const parts = alterationsOf(next, rowsOf(view, 1), row.name === "IOC");
+  const subject = `${will.split(" becomes ")[0]} `;
+  const isPlain = parts.length === 1 && parts[0].startsWith(`${subject}from`);
+  const more = isPlain ? `, ${parts[0].slice(subject.length)}` : parts.length > 0 ? `: ${listed(parts)}` : "";
+  return `${name}: ${will}${more}`;
 }
 
-// What the last change did, after which the machine is at a location; its line is that of where it was done.
-function didOf(/** @type {Change} */ change, /** @type {View} */ { state: { location, cmp }, units }, listing) {
-  const row = isCommand(change) ? undefined : OPERATIONS.get(change.text.split(" ")[0]);
-  const parts = change.items.map((item) => alterationOf(item, units, row && row.name === "IOC")).filter(Boolean);
-  if (row && row.uses === "jump") {
-    const isTaken = row.name === "JMP" || row.name === "JSJ" || location !== change.location + 1 || parts.length > 0;
-    parts.unshift(isTaken ? `jumps to ${whereIs(location, listing)}` : "does not jump");
-  }
-  if (row && row.name.startsWith("CMP") && parts.length === 0) parts.push(`the comparison stays ${COMPARED[cmp]}`);
-  if (row && row.name === "HLT") parts.push("halts");
-  const did = parts.join(", ") || "nothing is altered";
-  const { location: from, text, time } = change;
-  return isCommand(change) ? `${text}: ${did}` : `${named(from, text, listing)}: ${did} (${time} u)`;
+// Whether a jump was taken, after which the machine is at a location; nothing where that can't be seen.
+function isTaken({ location, text, items }, { state, wordIn }) {
+  if (/^(JMP|JSJ)\b/.test(text) || state.location !== location + 1 || itemOf({ items }, "J")) return true;
+  return wordIn(location).instruction?.address === String(location + 1) ? undefined : false;
+}
+
+// What the last change did, after which the machine is as in a view; its line is that of where it was done.
+function didOf(/** @type {Change} */ change, /** @type {View} */ view, listing) {
+  const { location, text, time } = change;
+  const row = isCommand(change) ? undefined : OPERATIONS.get(text.split(" ")[0]);
+  const parts = alterationsOf(change, rowsOf(view, 0), row?.name === "IOC");
+  const at = whereIs(view.state.location, listing);
+  const jumps = { true: `jumps to ${at}`, false: "does not jump" };
+  if (row?.uses === "jump") parts.unshift(jumps[isTaken(change, view)] || `goes on at ${at}`);
+  if (parts.length === 0 && row?.name.startsWith("CMP")) parts.push(`the comparison stays ${COMPARED[view.state.cmp]}`);
+  if (row?.name === "HLT") parts.push("halts");
+  const did = listed(parts) || "nothing is altered";
+  return row ? `${named(location, text, listing)}: ${did} (${time} u)` : `${text}: ${did}`;
 }
 
 // What a refusal means, for who meets it first.
@@ -111,29 +125,20 @@ const MEANINGS = {
   "C4 fewer changes than asked": ", there are not so many changes to go over",
 };
 
-// The fault that a command has met: the adapter gives it with the reply alone.
-const faultOf = (answer) => answer.body.result.trimEnd().split("\n").pop().split(": fault ")[1];
-
-// A conflict by its text, as `cell 2001 is altered while unit 18 prints it until 726`.
-export function conflictOf(text) {
-  const words = text.split(" ");
-  return { text, cell: Number(words[1]), use: `unit ${words[6]} until ${words[words.length - 1]}` };
-}
-
 // What is told of a moment: `did`, `next`, whether it is of a fault, and `last`, what the last change did. `answer` is
 // that to the command which led to it from the view `before`; without one the moment is only looked at.
 export function toldOf(/** @type {Shown} */ { answer, before, view, listing }) {
-  const { state, change } = view;
+  const { state, change, next: step } = view;
   const was = before ? before.state.done : state.done;
   const at = whereIs(state.location, listing);
   const last = change ? didOf(change, view, listing) : "";
-  const next = state.halted ? "" : `Next: ${nextOf(view, listing)}.`;
+  const next = step ? `Next: ${nextOf(view, listing)}.` : "";
   const refusal = answer ? refusalOf(answer) : "";
-  const fault = answer && !refusal ? faultOf(answer) : "";
-  if (fault) {
+  if (step && !step.items && answer?.success && answer.body.result.includes(": fault ")) {
     const count = state.done - was;
     const steps = count > 0 ? ` ${counted(count, "step")} ${count === 1 ? "was" : "were"} done before it.` : "";
-    return { last, did: `Fault ${fault}, at ${at}.${steps} The step was not done.`, next, isFault: true };
+    const fault = `Fault ${step.exceptionId} ${step.description}, at ${at}.${steps} The step was not done.`;
+    return { last, did: fault, next, isFault: true };
   }
   if (refusal) return { last, did: `Refused: ${refusal}${MEANINGS[refusal] || ""}.`, next, isFault: true };
   const rows = printed(before, view);

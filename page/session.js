@@ -2,11 +2,14 @@
 // the session; where it was lost, or holds that of another text, it does the commands again.
 
 import { replyOf } from "./machine.js";
-import { ZERO } from "./sentence.js";
+import { Path } from "./path.js";
+import { withViews } from "./views.js";
 
 const MOST_WRITES = 1000; // that the engine tells at once
-const LONG = 200000; // changes after which the counts are left out while the slider is dragged
+export const WHOLE = 5; // the field (0:5)
 const WHERE = ["mix/state", { cells: [], nonzero: false }]; // how many changes are done
+const NOP = { operation: "NOP", index: 0, field: 0, address: "0" };
+export const ZERO = { word: "+ 00 00 00 00 00", number: "0", characters: "     ", value: "0", instruction: NOP };
 
 const repl = (expression) => ["evaluate", { expression, context: "repl" }];
 
@@ -20,18 +23,18 @@ function openingOf({ deck, cards, source }) {
 }
 
 export class Session {
-  // `blocks` gives the requests for blocks of tapes and disks, which are looked at too.
-  constructor(machine, texts, blocks) {
+  // `shown` gives the requests for `blocks` of tapes and disks, and the `field` of which numbers of cells are shown.
+  constructor(machine, texts, shown) {
     this.machine = machine;
     this.texts = texts;
-    this.blocks = blocks;
+    this.shown = shown;
     this.launched = null; // the answer to the launch
     this.log = /** @type {Logged[]} */ ([]); // each command with its reply
     this.state = /** @type {Partial<State>} */ ({ done: 0, ahead: 0 }); // that after the last command
     this.at = 0; // so many changes are done in the engine
-    this.known = { at: 0, times: new Map() }; // how often each cell was executed up to the last command
     this.changes = {}; // another object whenever the list of changes may be another one
-    this.same = 0; // so many changes at its beginning are those that the map has seen
+    this.path = new Path(); // how often each cell was executed
+    this.written = new Map(); // of units that print the changes that are known, and how much they had printed
   }
 
   get done() { return this.state.done; }
@@ -49,46 +52,54 @@ export class Session {
     const answers = await this.machine.ask(this, [...way, ...requests]);
     if (isLost) [, this.launched] = answers;
     this.at = at;
-    return answers.slice(way.length);
+    const found = answers.slice(way.length);
+    return found.map((answer, index) => ({ ...answer, body: withViews(requests[index], answer.body) }));
   }
 
-  // The answers to requests, and what the machine looks like after them.
-  async see(requests, at = this.done, isDragged = false) {
-    const blocks = this.blocks();
-    const looks = [["mix/state", { cells: [], nonzero: true }], ["mix/units", {}], ...blocks];
-    const answers = await this.ask([...requests, ...looks], at);
-    const [state, units, ...found] = answers.slice(requests.length).map(({ body }) => body);
+  // The answers to commands, and what the machine looks like after them.
+  async see(commands, at = this.done) {
+    const { blocks, field } = this.shown();
+    const all = ["mix/state", { cells: [], nonzero: true, instructions: true, field }];
+    const answers = await this.ask([...commands.map(repl), all, ["mix/units", {}], ...blocks], at);
+    const [state, units, ...found] = answers.slice(commands.length).map(({ body }) => body);
     this.at = state.done;
+    if (commands.length > 0) this.noticed(commands, state);
     const held = blocks.flatMap(([, { unit, block }], index) => {
       const { units: one } = found[index];
       return one ? [[`${unit} ${block}`, one[0].block]] : [];
     });
-    const { change, times } = await this.lastOf(state.done, !(isDragged && at >= LONG));
     const cells = new Map(state.cells.map((cell) => [cell.cell, cell]));
-    const items = change ? change.items : [];
     /** @type {View} */
     const view = {
-      state, change, times, units: units.units, blocks: new Map(held),
-      wordIn: (cell) => cells.get(cell) || ZERO,
-      altered: new Set(state.altered),
-      before: new Map(items.map(({ part, before }) => [part, before])),
+      state, units: units.units, blocks: new Map(held), wordIn: (cell) => cells.get(cell) || ZERO,
+      altered: new Set(state.altered), field, ...(await this.momentOf(state, field)),
     };
     return { answers, view };
   }
 
-  // The last of so many changes, and how often they executed each cell: counted on from the last command, or the start.
-  async lastOf(done, isCounted) {
-    const { at, times } = done > this.known.at / 2 ? this.known : { at: 0, times: new Map() };
-    const [from, until] = [Math.min(at, done), Math.max(at, done)];
-    const isOther = isCounted && from < until;
-    const asked = [];
-    if (done > 0) asked.push(["mix/change", { number: done }]);
-    if (isOther) asked.push(["mix/path", { columns: 1, from, until }]);
-    const answers = asked.length > 0 ? await this.ask(asked, isOther ? until : done) : [];
-    const sums = new Map(isCounted ? times : []);
-    const cells = isOther ? answers.pop().body.columns[0].cells : [];
-    for (const { cell, count } of cells) sums.set(cell, (sums.get(cell) || 0) + (done > at ? count : -count));
-    return { change: done > 0 ? answers[0].body : null, times: sums };
+  // What is around a moment: the last change and the next one, which a step would do, each with the numbers of whole
+  // words, and in a field too; how often cells were executed.
+  async momentOf({ done, ahead, halted }, field) {
+    const last = done > 0 ? [["mix/change", { number: done }]] : [];
+    const next = ahead > 0 ? ["mix/change", { number: done + 1 }] : ["mix/next", {}];
+    const both = halted ? last : [...last, next];
+    const fields = [...new Set([WHOLE, field])];
+    const asked = fields.flatMap((each) => both.map(([name, given]) => [name, { ...given, field: each }]));
+    const answers = await this.ask([...asked, ...this.path.requestsTo(done)], done);
+    const bodies = answers.map(({ body }) => body);
+    const ends = (at) => ({ change: done > 0 ? bodies[at] : null, next: halted ? null : bodies[at + last.length] });
+    const inField = ends(asked.length - both.length);
+    return { ...ends(0), inField, times: this.path.timesAt(done, bodies.slice(asked.length)) };
+  }
+
+  // What is not known any more after commands: all that may be another now. To go to a moment alters nothing.
+  noticed(commands, { done, ahead }) {
+    if (commands.every((command) => /^\s*(back|forth|goto)\b/i.test(command))) return;
+    const isAlone = commands.length === 1;
+    if (isAlone && done + ahead === this.total && (done <= this.done || ahead > 0)) return;
+    this.changes = {};
+    this.path.cut(isAlone ? this.done : 0);
+    if (!isAlone || this.ahead > 0) this.written.clear();
   }
 
   // Begins it: what was found in the source, with the refusal, or with the program and what the machine looks like.
@@ -102,24 +113,17 @@ export class Session {
   }
 
   // What the machine looks like after so many changes.
-  look(at = this.done, isDragged = false) {
-    return this.see([], at, isDragged);
+  look(at = this.done) {
+    return this.see([], at);
   }
 
   // Does commands: the answer to the last one, and a view. One that is tried is not kept if it is refused.
   async act(commands, { from = this.done, isTried = false } = {}) {
-    if (commands.length > 1) this.known = { at: 0, times: new Map() }; // these may alter what was done before
-    const { answers, view } = await this.see(commands.map(repl), from);
-    const { done, ahead } = view.state;
+    const { answers, view } = await this.see(commands, from);
     const answer = answers[commands.length - 1];
     if (isTried && !answer.success) return { view, answer };
-    if (commands.length > 1 || done + ahead !== this.total || (done > this.done && ahead === 0)) {
-      this.changes = {};
-      this.same = commands.length > 1 ? 0 : Math.min(this.same, this.done);
-    }
     this.log.push(...commands.map((command, index) => ({ command, reply: replyOf(answers[index]) })));
     this.state = view.state;
-    this.known = { at: done, times: view.times };
     return { view, answer };
   }
 
@@ -163,30 +167,44 @@ export class Session {
     return answers.map(({ success, body }) => (success ? Number(body.result.split(" = ")[1]) : NaN));
   }
 
-  // What cells hold after each of some numbers of changes.
-  async cellsAt(moments, cells) {
-    const look = ["mix/state", { cells: [[cells[0], cells[cells.length - 1]]], nonzero: false }];
+  // The numbers of a field that cells hold after each of some numbers of changes.
+  async cellsAt(moments, cells, field) {
+    const look = ["mix/state", { cells: [[cells[0], cells[cells.length - 1]]], nonzero: false, field }];
     const answers = await this.ask(moments.flatMap((moment) => [repl(`goto ${moment}`), look]));
     this.at = moments[moments.length - 1];
-    return moments.map((_, index) => answers[2 * index + 1].body.cells);
+    return moments.map((_, index) => answers[2 * index + 1].body.cells.map(({ value }) => Number(value)));
   }
 
-  // What was executed in each stretch of `width` changes from number `from` on; and of each unit that has written a
-  // row, and of a part, the last changes that wrote it, the first one first.
-  async mapOf(from, width, part) {
-    const { total } = this;
+  // How often each cell was executed before each column of all changes, and after the last one.
+  async map() {
+    const { path, total } = this;
+    const requests = path.requestsTo(total);
+    const answers = requests.length > 0 ? await this.ask(requests, total) : [];
+    return path.upTo(total, path.timesAt(total, answers.map(({ body }) => body)));
+  }
+
+  // The changes that wrote to each unit that has written a row, and to a part, a thousand at most, in their order. Of a
+  // unit that only prints, no more is asked for than it has printed since.
+  async writesOfAll(part) {
+    const { total, written } = this;
     const [{ body: { units } }] = await this.ask([["mix/units", {}]], total);
-    const written = units.filter(({ rows }) => rows && rows.length > 0).map(({ unit }) => `unit ${unit}`);
-    const parts = [...written, ...(part ? [part] : [])];
-    const count = Math.floor((total - from) / width);
-    const until = from + count * width;
-    const whole = count > 0 ? [["mix/path", { columns: count, from, until }]] : [];
-    const rest = until < total ? [["mix/path", { columns: 1, from: until, until: total }]] : [];
-    const path = [...whole, ...rest];
-    const answers = await this.ask([...path, ...parts.map((part) => ["mix/writes", { part }])], total);
-    const bodies = answers.map(({ body }) => body);
-    const writes = bodies.slice(path.length).map((body, at) => ({ part: parts[at], writes: body.writes.reverse() }));
-    return { columns: bodies.slice(0, path.length).flatMap(({ columns }) => columns), writes };
+    const found = units.filter(({ rows }) => rows && rows.length > 0).map(({ unit, rows, pages, unread }) => {
+      return { part: `unit ${unit}`, size: unread ? NaN : rows.length + pages.length };
+    });
+    const parts = [...found, ...(part ? [{ part, size: NaN }] : [])].map((each) => {
+      const known = written.get(each.part) || { size: 0, numbers: [] };
+      const isMore = !(each.size - known.size <= MOST_WRITES);
+      return { ...each, numbers: isMore ? [] : known.numbers, count: isMore ? MOST_WRITES : each.size - known.size };
+    });
+    const asked = parts.filter(({ count }) => count > 0);
+    const requests = asked.map(({ part, count }) => ["mix/writes", { part, count }]);
+    const answers = requests.length > 0 ? await this.ask(requests, total) : [];
+    asked.forEach((each, at) => {
+      const more = answers[at].body.writes.map(({ number }) => number).reverse();
+      each.numbers = [...each.numbers, ...more].slice(-MOST_WRITES);
+    });
+    for (const each of parts) written.set(each.part, each);
+    return parts.flatMap(({ part, numbers }) => numbers.map((number) => ({ number, part })));
   }
 
   // How many of all changes altered each of some cells, a thousand at most.

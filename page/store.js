@@ -9,11 +9,11 @@ const SESSIONS = 5; // sessions of other texts that can come back
 const SLOW = 400; // milliseconds before a stop is offered
 
 export class Store {
-  // `read` gives the texts as they are now, and `blocks` the requests for blocks of tapes and disks that are shown.
-  constructor(machine, read, blocks) {
+  // `read` gives the texts as they are now, and `shown` what a session has to look at beside the rest.
+  constructor(machine, read, shown) {
     this.machine = machine;
     this.read = read;
-    this.blocks = blocks;
+    this.shown = shown;
     this.subscribers = new Map();
     this.session = /** @type {Session} */ (null); // none while the texts are refused
     this.view = /** @type {View} */ (null);
@@ -50,8 +50,8 @@ export class Store {
     if (faults.length > 0) throw faults[0];
   }
 
-  tell(did, isFault = false, next = "") {
-    this.emit("tell", did, isFault, next);
+  tell(...said) {
+    this.emit("tell", ...said);
   }
 
   get isBusy() { return this.left > 0 || this.timer !== 0; }
@@ -110,7 +110,7 @@ export class Store {
     const key = JSON.stringify([texts.source, texts.deck, texts.cards]);
     if (key === this.assembled) return;
     const back = this.kept.get(key);
-    const session = back || new Session(this.machine, texts, this.blocks);
+    const session = back || new Session(this.machine, texts, this.shown);
     const begun = await session.begin();
     const isLeft = this.session && this.session.log.length > 0;
     if (isLeft) this.kept.set(this.assembled, this.session);
@@ -135,6 +135,14 @@ export class Store {
   show(view, answer = null, before = null) {
     this.view = view;
     this.emit("view", view, answer, before);
+  }
+
+  // Looks at the moment once more, for what is to be shown now.
+  look() {
+    return this.enqueue(async () => {
+      const { view } = await this.session.look(this.view.state.done);
+      this.show({ ...view, conflict: this.view.conflict });
+    });
   }
 
   // Begins anew with the texts as they are.

@@ -49,22 +49,24 @@ function boxesOf(numbers, { x = 0, y, wide, high, end = Infinity }, shade) {
   });
 }
 
-// The bars: of each its `cell`, `value`, `text`, `isWritten`, and `was`, the value before the last change. `arrows`
-// have a `name` and a `cell`, perhaps one beside the bars. `conflict` has the `cell` that a unit uses, and its `use`.
+// The bars: of each its `cell`, `value`, `text`; whether the last change wrote it, and what it `was` before; whether
+// the next step writes it, and what it `will` be. `arrows` have a `name` and a `cell`, perhaps one beside the bars.
+// `conflict` has the `cell` that a unit uses, and its `use`.
 export function barsOf({ title, text, bars, arrows, conflict }) {
   const longest = LETTER * Math.max(...bars.map((bar) => bar.text.length));
   const pitch = Math.min(Math.max(32, longest + 6), Math.max(7, 880 / bars.length));
-  const { least, y } = scaled(bars.flatMap(({ value, was }) => [value, was]), TOP, HIGH);
+  const { least, y } = scaled(bars.flatMap(({ value, was, will }) => [value, was, will]), TOP, HIGH);
   const isTold = longest <= pitch + 1;
   const x = (cell) => (cell - bars[0].cell + 1.5) * pitch;
   const foot = TOP + HIGH + (least < 0 ? 28 : 14);
   const every = Math.ceil((4 * LETTER + 3) / pitch);
-  const bar = ({ cell, value, was, isWritten, text: told }, index) => {
+  const bar = ({ cell, value, was, isWritten, will, isNext, text: told }, index) => {
     const [left, wide] = [x(cell) - pitch * 0.4, pitch * 0.8];
     const high = (of, more) => box(left, Math.min(y(of), y(0)), wide, Math.abs(y(of) - y(0)), more);
     const look = { ...solid(isWritten ? "written" : "bar"), stroke: isWritten ? COLOURS.mark : "none", ...THICK };
     const parts = [high(value, look)];
     if (was !== value) parts.push(high(was, lined("was", "soft", { "stroke-dasharray": "3 2" })));
+    if (isNext) parts.push(high(will, lined("next", "bar", { "stroke-width": 1.5 })));
     const above = Math.min(y(Math.max(0, value)), isWritten ? y(was) : Infinity);
     const at = value < 0 ? Math.max(y(value), y(was)) + 12 : above - 4;
     if (isTold) parts.push(label(x(cell), at, told, "ink", { "font-size": 11 }));
@@ -110,24 +112,23 @@ export function stripOf({ title, cells, columns, done }) {
   return picture({ id: "strip", title: name, text, width: columns.length * wide, height }, shapes);
 }
 
-// The map of time: `rows` have a `cell`, the `line` it comes from, and whether it `isBreak`; `columns` the `cells` that
-// were executed in each stretch of `width` changes, with how often; `marks` the `number` of a change that wrote a
-// `part`, each part on a row of its own; `done` of `total` changes are done.
-export function mapOf({ title, text, rows, width, columns, marks, total, done }) {
+// The map of time: `rows` have a `cell`, the `line` it comes from, whether it `isBreak`, and the `counts`, how often it
+// was executed in each stretch of `width` changes; `marks` the `number` of a change that wrote a `part`, each part on a
+// row of its own; `done` of `total` changes are done.
+export function mapOf({ title, text, rows, width, marks, total, done }) {
   const parts = [...new Set(marks.map(({ part }) => part))];
   const high = Math.max(3, Math.min(12, 300 / rows.length));
   const left = LETTER * Math.max(4, ...parts.map((part) => part.length)) + 8;
-  const counts = columns.map(({ cells }) => new Map(cells.map(({ cell, count }) => [cell, count])));
-  const most = Math.log(1 + Math.max(...counts.flatMap((times) => [...times.values()])));
+  const most = Math.log(1 + Math.max(...rows.map(({ counts }) => Math.max(...counts))));
   const shade = (count) => (count === 0 ? 0 : Math.round(10 * (0.25 + (0.75 * Math.log(1 + count)) / most)) / 10);
   const every = Math.ceil(11 / high);
   const named = (y, name, kind) => label(left - 4, y, name, kind, { "text-anchor": "end" });
-  const shapes = rows.flatMap(({ cell, line, isBreak }, row) => {
+  const shapes = rows.flatMap(({ cell, line, isBreak, counts }, row) => {
     const y = 4 + row * high;
     const tint = isBreak ? [box(left, y, WIDE, high, { ...solid("mark"), "fill-opacity": ".15" })] : [];
     const name = named(y + Math.min(high, 10), line ? String(line) : fourDigits(cell), isBreak ? "mark" : "soft");
     const place = { x: left, y, wide: (WIDE * width) / total, high, end: WIDE };
-    const boxes = boxesOf(counts.map((times) => shade(times.get(cell) || 0)), place, (dark) => dark);
+    const boxes = boxesOf(counts.map(shade), place, (dark) => dark);
     return [...tint, ...boxes, ...(row % every === 0 ? [name] : [])];
   });
   const foot = 4 + rows.length * high;

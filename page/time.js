@@ -55,7 +55,7 @@ export class Time {
       await new Promise((resolve) => setTimeout(resolve));
       for (let seen; seen !== this.wanted && this.isDragged; ) {
         seen = this.wanted;
-        const { view } = await session.look(seen, true);
+        const { view } = await session.look(seen);
         if (session !== store.session) break;
         store.show(view);
       }

@@ -8,14 +8,16 @@ type Listing = import("./listing.js").Listing;
 type Memory = import("./memory.js").Memory;
 
 interface Word { word: string; number: string; characters: string }
-interface Cell extends Word { cell: number; text: string }
+interface Instruction { operation: string; index: number; field: number; address: string; value?: string }
+interface Cell extends Word { cell: number; text: string; value: string; instruction?: Instruction }
 interface Register extends Word { name: string }
 interface State {
   done: number; ahead: number; location: number; clock: string; over: boolean; cmp: "L" | "E" | "G"; halted: boolean;
   registers: Register[]; cells: Cell[]; altered: string[];
 }
-interface Item { part: string; what?: string; before: string; after: string; block?: number }
+interface Item { part: string; what?: string; before: string; after: string; beforeValue?: string; afterValue?: string; block?: number }
 interface Change { number: number; location: number; text: string; time: string; items: Item[] }
+interface Next extends Partial<Change> { exceptionId?: string; description?: string } // no items where it would be a fault
 interface Unit {
   unit: number; kind: string; place: number; blocks: number; delay: string; until: string;
   rows?: string[]; pages?: number[]; unread?: string[]; block?: Word[];
@@ -34,12 +36,14 @@ interface Logged { command: string; reply: string; slidFrom?: number }
 interface View {
   state: State;
   change: Change | null; // the last one that is done
-  times: Map<number, number>; // how often cells were executed
+  next: any; // the change that a step would be, or the fault that it would meet
+  field: number; // of which cells and their changes have the numbers too
+  inField: { change: Change | null; next: any }; // both with the numbers of that field
+  times: Uint32Array; // how often cells were executed
   units: Unit[];
   blocks: Map<string, Word[]>; // those that are shown, as "8 0"
-  wordIn: (cell: number) => { word: string; number: string; characters: string; text: string };
+  wordIn: (cell: number) => Word & { value: string; instruction?: Instruction };
   altered: Set<string>; // parts, by the last change
-  before: Map<string, string>; // what they held before it
   conflict?: Conflict; // at which the run stopped
   did?: string; // the sentence of the last change
 }

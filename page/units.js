@@ -81,7 +81,7 @@ export class Units {
     if (!isOpen) open.delete(key);
     else {
       open.add(key);
-      store.enqueue(async () => store.show((await store.session.look()).view));
+      store.look();
     }
   }
 }

@@ -3,17 +3,21 @@
 import { $, counted, fourDigits, make, note, on, put } from "./dom.js";
 import { refusalOf } from "./machine.js";
 import { CHARACTERS } from "./operations.js";
-import { COMPARED, isCommand, numberOf } from "./sentence.js";
+import { COMPARED, isCommand } from "./sentence.js";
 import { valuesOf } from "./svg.js";
 
 // What was typed as a W-value: also a word byte by byte and five characters in quotes, as the page shows them.
 function valueOf(typed) {
   const text = typed.trim();
-  if (/^[+-]( \d{1,2}){2,5}$/.test(text)) return numberOf(text);
   const letters = (/^["“]([^"”]{1,5})["”]$/.exec(text.toUpperCase()) || [])[1];
-  if (!letters) return text;
-  const bytes = [...letters.padEnd(5)].map((letter) => CHARACTERS.indexOf(letter));
-  return bytes.includes(-1) ? text : numberOf(`+ ${bytes.join(" ")}`);
+  const isWord = /^[+-]( \d{1,2}){2,5}$/.test(text);
+  if (!letters && !isWord) return text;
+  const codes = (word) => [...word.padEnd(5)].map((letter) => CHARACTERS.indexOf(letter));
+  const bytes = isWord ? text.split(" ").slice(1).map(Number) : codes(letters);
+  if (bytes.includes(-1)) return text;
+  const first = 6 - bytes.length; // in the word
+  const parts = bytes.map((byte, at) => (byte > 0 ? `${byte}(${first + at}:${first + at})` : "")).filter(Boolean);
+  return [...(text.startsWith("-") ? ["-0(0:0)"] : []), ...parts].join(",") || "0";
 }
 
 // What a part of the machine holds, for people.

@@ -4,10 +4,11 @@ import { bundleOf, cardsApart, openedOf, placeOf, scriptOf, withCards } from "..
 import { Grammar } from "../../page/colours.js";
 import { CARD, CHARACTERS, OPERATIONS, PSEUDO, explained, filled, takeTables } from "../../page/operations.js";
 import { upTo } from "../../page/range.js";
-import { conflictOf, fieldOf, numberOf } from "../../page/sentence.js";
+import { Path } from "../../page/path.js";
 import { bundleIn, fragmentOf } from "../../page/share.js";
 import { tooLarge } from "../../page/source.js";
 import { barsOf, stripOf, valuesOf } from "../../page/svg.js";
+import { conflictOf, withViews } from "../../page/views.js";
 
 const packs = (() => { try { return new CompressionStream("deflate-raw"); } catch { return false; } })(); // not in Node 18
 const read = (name) => readFileSync(new URL(`../../${name}`, import.meta.url), "utf8");
@@ -53,8 +54,9 @@ for (const group of read("editors/samples.txt").split("\n\n")) {
   }
 }
 
-// A word that is shown is a number again, and so is each of its fields: bytes L to R, with the sign where L is 0.
-for (const [word, number] of [["+ 00 00 00 00 12", "12"], ["- 00 00 00 00 00", "-0"], ["+ 46 61", "3005"], ["- 63 63 63 63 63", "-1073741823"]]) row(`number of ${word}`, numberOf(word), number);
+// A word is a number, and so is each of its fields: bytes L to R, with the sign where L is 0.
+const fieldOf = (word, field) => withViews(["mix/change", { field }], { items: [{ part: "A", before: word, after: word }] }).items[0].afterValue;
+for (const [word, number] of [["+ 00 00 00 00 12", "12"], ["- 00 00 00 00 00", "-0"], ["+ 46 61", "3005"], ["- 63 63 63 63 63", "-1073741823"]]) row(`number of ${word}`, fieldOf(word, 5), number);
 for (let round = 0; round < 200; round += 1) {
   const [sign, magnitude, left, right] = ["+-"[drawn(2)], drawn(64 ** 5), drawn(6), drawn(6)];
   const bytes = [4, 3, 2, 1, 0].map((place) => String(Math.floor(magnitude / 64 ** place) % 64).padStart(2, "0"));
@@ -63,6 +65,34 @@ for (let round = 0; round < 200; round += 1) {
   if (left <= right) row(`field (${left}:${right}) of ${sign}${magnitude}`, fieldOf([sign, ...bytes].join(" "), 8 * left + right), `${sign === "-" && left === 0 ? "-" : ""}${value}`);
 }
 row("a conflict", conflictOf("cell 2001 is altered while unit 18 prints it until 726"), { text: "cell 2001 is altered while unit 18 prints it until 726", cell: 2001, use: "unit 18 until 726" });
+
+// How often cells were executed is what the changes say, at moments in any order, also when later changes are others.
+for (let round = 0; round < 20; round += 1) {
+  const path = new Path();
+  const changes = [];
+  const told = ([, { from, until, columns }]) => ({ columns: Array.from({ length: columns }, (_, column) => {
+    const counts = new Map();
+    changes.slice(from, until).forEach((cell, at) => {
+      if (Math.floor((at * columns) / (until - from)) === column) counts.set(cell, (counts.get(cell) || 0) + 1);
+    });
+    return { cells: [...counts].map(([cell, count]) => ({ cell, count })) };
+  }) });
+  const counted = (until) => changes.slice(0, until).reduce((times, cell) => ({ ...times, [cell]: (times[cell] || 0) + 1 }), {});
+  const found = (times) => Object.fromEntries([...times.entries()].filter(([, count]) => count > 0));
+  for (let move = 0; move < 6; move += 1) {
+    if (drawn(3) === 0) {
+      changes.length = drawn(changes.length + 1);
+      path.cut(changes.length);
+    }
+    changes.push(...some(1500, () => drawn(5)));
+    const until = drawn(changes.length + 1);
+    const times = path.timesAt(until, path.requestsTo(until).map(told));
+    row("path: a moment", found(times), counted(until));
+    const { width, sums } = path.upTo(until, times);
+    row("path: columns", sums.map(found), sums.map((_, at) => counted(Math.min(until, at * width))));
+    row("path: of one width, not too many", [sums.length - 1 <= 480, sums.length - 1], [true, Math.ceil(until / width)]);
+  }
+}
 row("cells of a range", [upTo(3, 5), upTo(3998, 5000), upTo(5, 4)], [[3, 4, 5], [3998, 3999], []]);
 
 // What is put together comes apart again: bundles, what the page keeps in them, cards, links.
@@ -92,9 +122,9 @@ for (const [text, isLarge] of [["\n".repeat(20000), false], ["\n".repeat(20001),
 const element = (name) => ({ name, given: {}, inside: [], setAttribute(key, value) { this.given[key] = value; }, append(...more) { this.inside.push(...more); } });
 globalThis.document = { createElementNS: (_, name) => element(name) };
 const within = (shape, name) => [...(shape.name === name ? [shape.given] : []), ...(shape.inside || []).flatMap((each) => within(each, name))];
-const bars = [4, -2, 0].map((value, at) => ({ cell: 10 + at, value, text: String(value), isWritten: at === 1, was: at === 1 ? 8 : value }));
+const bars = [4, -2, 0].map((value, at) => ({ cell: 10 + at, value, text: String(value), isWritten: at === 1, was: at === 1 ? 8 : value, isNext: at === 2, will: at === 2 ? 6 : value }));
 const heights = within(barsOf({ title: "", text: "", bars, arrows: [] }), "rect").map(({ height }) => height);
-row("bars: of 8 to -2 in 90 points, and a dashed one for what was", heights, [36, 18, 72, 0]);
+row("bars: of 8 to -2 in 90 points, a dashed one for what was, a hollow one for what will be", heights, [36, 18, 72, 0, 54]);
 const strip = within(stripOf({ title: "", cells: [1], columns: [5, 5, -10, 0].map((value, moment) => ({ moment, values: [value] })), done: 1 }), "rect");
 row("strip: a box for each run of a value, and the moment", strip.map(({ x, width, "fill-opacity": dark }) => [x, width, dark]), [[0, 48, "0.5"], [48, 24, "1"], [24, 24, undefined]]);
 const writes = [{ number: 50, before: 0, after: 7 }, { number: 100, before: 7, after: 14 }];
