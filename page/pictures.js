@@ -141,8 +141,7 @@ export class TimeMap extends Picture {
 
   async find(session) {
     const { total } = session;
-    const { width, sums } = await session.map();
-    const marks = await session.writesOfAll(this.part);
+    const { width, sums, marks } = await session.mapWith(this.part);
     const last = sums[sums.length - 1];
     const cells = [...last.keys()].filter((cell) => last[cell] > 0);
     const rows = cells.slice(0, MAX_ROWS).map((cell) => {

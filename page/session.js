@@ -46,6 +46,7 @@ export class Session {
 
   /** @returns {Promise<any[]>} The answers to requests, of which the first finds so many changes done. */
   async ask(requests, at = this.done) {
+    if (requests.length === 0) return [];
     const isLost = this.machine.holder !== this;
     const way = isLost ? [...openingOf(this.texts), ...this.log.map(({ command }) => repl(command))] : [];
     if (at !== (isLost ? this.done : this.at)) way.push(repl(`goto ${at}`));
@@ -175,36 +176,35 @@ export class Session {
     return moments.map((_, index) => answers[2 * index + 1].body.cells.map(({ value }) => Number(value)));
   }
 
-  // How often each cell was executed before each column of all changes, and after the last one.
-  async map() {
+  // How often each cell was executed before each column of all changes; the changes that wrote to units and to a part.
+  async mapWith(part) {
     const { path, total } = this;
-    const requests = path.requestsTo(total);
-    const answers = requests.length > 0 ? await this.ask(requests, total) : [];
-    return path.upTo(total, path.timesAt(total, answers.map(({ body }) => body)));
+    const answers = await this.ask([["mix/units", {}], ...path.requestsTo(total)], total);
+    const [{ units }, ...bodies] = answers.map(({ body }) => body);
+    return { ...path.upTo(total, path.timesAt(total, bodies)), marks: await this.marksOf(part, units) };
   }
 
-  // The changes that wrote to each unit that has written a row, and to a part, a thousand at most, in their order. Of a
-  // unit that only prints, no more is asked for than it has printed since.
-  async writesOfAll(part) {
+  // The last changes that wrote to each unit that has written a row, and to a part, in their order. Of a unit that only
+  // prints, no more are asked for than it has printed since.
+  async marksOf(part, units) {
     const { total, written } = this;
-    const [{ body: { units } }] = await this.ask([["mix/units", {}]], total);
-    const found = units.filter(({ rows }) => rows && rows.length > 0).map(({ unit, rows, pages, unread }) => {
-      return { part: `unit ${unit}`, size: unread ? NaN : rows.length + pages.length };
+    const printed = units.filter(({ rows }) => rows && rows.length > 0);
+    const sizes = printed.map(({ unit, rows, pages, unread }) => {
+      return [`unit ${unit}`, unread ? NaN : rows.length + pages.length];
     });
-    const parts = [...found, ...(part ? [{ part, size: NaN }] : [])].map((each) => {
-      const known = written.get(each.part) || { size: 0, numbers: [] };
-      const isMore = !(each.size - known.size <= MOST_WRITES);
-      return { ...each, numbers: isMore ? [] : known.numbers, count: isMore ? MOST_WRITES : each.size - known.size };
-    });
-    const asked = parts.filter(({ count }) => count > 0);
-    const requests = asked.map(({ part, count }) => ["mix/writes", { part, count }]);
-    const answers = requests.length > 0 ? await this.ask(requests, total) : [];
-    asked.forEach((each, at) => {
-      const more = answers[at].body.writes.map(({ number }) => number).reverse();
-      each.numbers = [...each.numbers, ...more].slice(-MOST_WRITES);
-    });
-    for (const each of parts) written.set(each.part, each);
-    return parts.flatMap(({ part, numbers }) => numbers.map((number) => ({ number, part })));
+    const marks = [];
+    for (const [of, size] of part ? [...sizes, [part, NaN]] : sizes) {
+      const known = written.get(of) || { size: 0, numbers: [] };
+      const isMore = size - known.size <= MOST_WRITES; // otherwise all are asked for
+      const count = isMore ? size - known.size : MOST_WRITES;
+      const asked = count > 0 ? [["mix/writes", { part: of, count }]] : [];
+      const [{ body } = { body: { writes: [] } }] = await this.ask(asked, total);
+      const more = body.writes.map(({ number }) => number).reverse();
+      const numbers = [...(isMore ? known.numbers : []), ...more].slice(-MOST_WRITES);
+      written.set(of, { size, numbers });
+      marks.push(...numbers.map((number) => ({ number, part: of })));
+    }
+    return marks;
   }
 
   // How many of all changes altered each of some cells, a thousand at most.

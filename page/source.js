@@ -18,15 +18,26 @@ export function tooLarge(text) {
   return `it has ${count.toLocaleString("en")} ${name}, and a source has at most ${LIMITS[name].toLocaleString("en")}`;
 }
 
-// The grammar as a mode of the editor.
+const isRemark = (text) => text.startsWith("*");
+
+// Where the operation of a line begins; nothing where it has none.
+function operationAt(text) {
+  const [before] = (isRemark(text) ? null : /^\S*[ \t]+(?=\S)/.exec(text)) || [""];
+  return before.length || undefined;
+}
+
+// The grammar as a mode of the editor. A new line begins at the column of the operation above; behind a remark, at the
+// first one.
 function modeOf(grammar) {
   const begin = (text, state) => {
-    Object.assign(state, grammar.line(text, state.open));
+    const column = operationAt(text) ?? state.column;
+    Object.assign(state, grammar.line(text, state.open), { column, indented: isRemark(text) ? 0 : column });
   };
   return () => ({
-    startState: () => ({ open: null, names: [] }),
+    startState: () => ({ open: null, names: [], column: FIELD_COLUMNS[1], indented: FIELD_COLUMNS[1] }),
     copyState: (state) => ({ ...state }),
     blankLine: (state) => begin("", state),
+    indent: ({ indented }) => indented,
     token(stream, state) {
       if (stream.sol()) begin(stream.string, state);
       const { names } = state;
@@ -37,8 +48,6 @@ function modeOf(grammar) {
   });
 }
 
-const isRemark = (text) => text.startsWith("*");
-
 // What is folded at the first of some remark lines: all up to the next of such lines.
 function foldAt(cm, { line }) {
   if (!isRemark(cm.getLine(line)) || (line > 0 && isRemark(cm.getLine(line - 1)))) return undefined;
@@ -48,27 +57,6 @@ function foldAt(cm, { line }) {
   while (last > line && cm.getLine(last).trim() === "") last -= 1;
   const end = (at) => window.CodeMirror.Pos(at, cm.getLine(at).length);
   return { from: end(line), to: end(last) };
-}
-
-// Where the operation of a line begins; nothing where it has none.
-function operationAt(text) {
-  const [before] = (isRemark(text) ? null : /^\S*[ \t]+(?=\S)/.exec(text)) || [""];
-  return before.length || undefined;
-}
-
-// Begins a line at the column of the operation; what stands behind a label or before the operation is only broken.
-function newLine(cm) {
-  const { line, ch } = cm.getCursor("from");
-  const text = cm.getLine(line);
-  const isBlank = text.trim() === "";
-  let above = line;
-  while (above > 0 && operationAt(cm.getLine(above)) === undefined) above -= 1;
-  const column = operationAt(cm.getLine(above)) ?? FIELD_COLUMNS[1];
-  const rest = text.slice(ch).trim();
-  const isBroken = rest !== "" && (isRemark(rest) || ch <= (operationAt(text) ?? text.length));
-  if (isBlank) cm.replaceRange("", { line, ch: 0 }, { line, ch: text.length }, "+input");
-  cm.replaceSelection(isBroken || (isRemark(text) && ch > 0) ? "\n" : `\n${" ".repeat(column)}`, "end", "+input");
-  cm.scrollIntoView(null);
 }
 
 // Goes to the next column, over blanks or over the rest of a word; behind the text it makes blanks.
@@ -101,9 +89,9 @@ export class Source {
     CodeMirror.defineMode("mixal", modeOf(grammar));
     const hints = (cm) => this.hints(cm, symbols());
     const complete = (cm) => cm.showHint({ hint: hints, completeSingle: false });
-    const extraKeys = { Enter: newLine, Tab: nextColumn, "Shift-Tab": columnBefore, "Ctrl-Space": complete };
+    const extraKeys = { Tab: nextColumn, "Shift-Tab": columnBefore, "Ctrl-Space": complete };
     const gutters = ["beside", "CodeMirror-foldgutter"];
-    const off = { maxHighlightLength: 2000, smartIndent: false, electricChars: false, dragDrop: false };
+    const off = { maxHighlightLength: 2000, electricChars: false, dragDrop: false };
     this.cm = CodeMirror($("listing"), {
       mode: "mixal", theme: "mix", lineWrapping: true, gutters, foldGutter: { rangeFinder: foldAt }, extraKeys,
       tabSize: 8, viewportMargin: SHOWN_AROUND, screenReaderLabel: "Source", undoDepth: 1000, ...off,

@@ -12,6 +12,7 @@ const THICK = { "stroke-width": 2 };
 const BOLD = { "font-size": 11, "font-weight": "bold" };
 const COLOURS = { ink: "#24211c", soft: "#5e5648", bar: "#224a69", mark: "#96281c", written: "#f6d98a" };
 
+const tenths = (number) => Math.round(10 * number) / 10;
 const shape = (name, given, ...children) => furnished(document.createElementNS(PLACE, name), given, children);
 
 const solid = (kind) => ({ class: kind, fill: COLOURS[kind] });
@@ -38,15 +39,11 @@ function scaled(numbers, top, high) {
   return { most, least, y: (value) => top + (high * (most - value)) / (most - least || 1) };
 }
 
-// A box for each run of the same number in a row, as dark as `shade` says of it; none where that is 0.
-function boxesOf(numbers, { x = 0, y, wide, high, end = Infinity }, shade) {
+// The runs of the same number in a row, without those of 0: the number, where it begins, and where the next one does.
+function runsOf(numbers) {
   const begins = numbers.flatMap((number, at) => (at === 0 || number !== numbers[at - 1] ? [at] : []));
-  return begins.flatMap((from, index) => {
-    const opacity = shade(numbers[from]);
-    const width = Math.min(((begins[index + 1] ?? numbers.length) - from) * wide, end - from * wide);
-    const look = { "fill-opacity": String(opacity), ...solid(numbers[from] < 0 ? "mark" : "bar") };
-    return opacity > 0 ? [box(x + from * wide, y, width, high, look)] : [];
-  });
+  const runs = begins.map((from, index) => [numbers[from], from, begins[index + 1] ?? numbers.length]);
+  return runs.filter(([number]) => number !== 0);
 }
 
 // The bars: of each its `cell`, `value`, `text`; whether the last change wrote it, and what it `was` before; whether
@@ -97,8 +94,10 @@ export function stripOf({ title, cells, columns, done }) {
   const [wide, high] = [Math.min(24, WIDE / columns.length), Math.max(3, Math.min(12, 160 / cells.length))];
   const most = Math.max(1, ...columns.flatMap(({ values }) => values.map(Math.abs)));
   const shade = (value) => Math.round((100 * Math.abs(value)) / most) / 100;
-  const valuesAt = (row) => columns.map(({ values }) => values[row]);
-  const shapes = cells.flatMap((_, row) => boxesOf(valuesAt(row), { y: 4 + row * high, wide, high }, shade));
+  const shapes = cells.flatMap((_, row) => runsOf(columns.map(({ values }) => values[row])).map(([value, from, to]) => {
+    const look = { "fill-opacity": String(shade(value)), ...solid(value < 0 ? "mark" : "bar") };
+    return box(from * wide, 4 + row * high, (to - from) * wide, high, look);
+  }));
   const present = columns.reduce((best, { moment }, at) => (moment <= done ? at : best), 0);
   const height = 8 + cells.length * high;
   shapes.push(box(present * wide, 1, wide, height - 2, lined("present", "mark", THICK)));
@@ -123,14 +122,19 @@ export function mapOf({ title, text, rows, width, marks, total, done }) {
   const shade = (count) => (count === 0 ? 0 : Math.round(10 * (0.25 + (0.75 * Math.log(1 + count)) / most)) / 10);
   const every = Math.ceil(11 / high);
   const named = (y, name, kind) => label(left - 4, y, name, kind, { "text-anchor": "end" });
+  const boxes = new Map(); // of each shade all of them, which are one shape
+  const x = (column) => tenths(left + Math.min(WIDE, (column * width * WIDE) / total));
   const shapes = rows.flatMap(({ cell, line, isBreak, counts }, row) => {
     const y = 4 + row * high;
+    for (const [dark, from, to] of runsOf(counts.map(shade))) {
+      const wide = tenths(x(to) - x(from));
+      boxes.set(dark, `${boxes.get(dark) || ""}M${x(from)} ${tenths(y)}h${wide}v${tenths(high)}h${-wide}z`);
+    }
     const tint = isBreak ? [box(left, y, WIDE, high, { ...solid("mark"), "fill-opacity": ".15" })] : [];
     const name = named(y + Math.min(high, 10), line ? String(line) : fourDigits(cell), isBreak ? "mark" : "soft");
-    const place = { x: left, y, wide: (WIDE * width) / total, high, end: WIDE };
-    const boxes = boxesOf(counts.map(shade), place, (dark) => dark);
-    return [...tint, ...boxes, ...(row % every === 0 ? [name] : [])];
+    return [...tint, ...(row % every === 0 ? [name] : [])];
   });
+  for (const [dark, d] of boxes) shapes.push(shape("path", { d, "fill-opacity": String(dark), ...solid("bar") }));
   const foot = 4 + rows.length * high;
   parts.forEach((part, row) => {
     const y = foot + 4 + row * 12;

@@ -23,9 +23,10 @@ LINES = [3, *[4, 5, 6] * 3, 7]  # of the eleven changes
 PRINTED = [2, 5, 8]
 
 FIELD = "const f = document.querySelector('#map .field'); const x0 = Number(f.getAttribute('x')), w = Number(f.getAttribute('width'));"
-DARK = FIELD + """return [...document.querySelectorAll('#map rect.bar')].map(r => ['x', 'width', 'y', 'height'].map(n => Number(r.getAttribute(n))))
-    .map(([x, width, y, height]) => [Math.round((x - x0) / w * 11), Math.round(width / w * 11), Math.round((y - 4) / height)])"""
-TICKS = FIELD + """return [...document.querySelectorAll('#map path')].map(p => Number(p.getAttribute('d').split(' ')[1])).map(x => Math.round((x - x0) / w * 11))"""
+BOXES = r"""const boxes = [...document.querySelectorAll('#map path.bar')].flatMap(p => [...p.getAttribute('d').matchAll(/M([\d.]+) ([\d.]+)h([\d.]+)v([\d.]+)/g)])
+    .map(found => found.slice(1).map(Number)); """
+DARK = FIELD + BOXES + """return boxes.map(([x, y, width, height]) => [Math.round((x - x0) / w * 11), Math.round(width / w * 11), Math.round((y - 4) / height)])"""
+TICKS = FIELD + """return [...document.querySelectorAll('#map path.mark')].map(p => Number(p.getAttribute('d').split(' ')[1])).map(x => Math.round((x - x0) / w * 11))"""
 PRESENT = FIELD + "return Math.round((Number(document.querySelector('#map .present').getAttribute('x1')) - x0) / w * 11)"
 NAMES = "return [...document.querySelectorAll('#map text')].map(t => t.textContent)"
 CLICK = """const f = document.querySelector('#map .field').getBoundingClientRect();
@@ -143,7 +144,7 @@ def map_grows(page, native, count):
     page.put("text", LONG)
     open_map(page)
     page.script(SENT)
-    wide = "const f = document.querySelector('#map .field'), [x0, w] = ['x', 'width'].map(n => Number(f.getAttribute(n))); return [...document.querySelectorAll('#map rect.bar')].every(r => Number(r.getAttribute('x')) >= x0 - 0.1 && Number(r.getAttribute('x')) + Number(r.getAttribute('width')) <= x0 + w + 0.2)"
+    wide = FIELD + BOXES + "return boxes.length > 0 && boxes.every(([x, , width]) => x >= x0 - 0.1 && x + width <= x0 + w + 0.2)"
     for command in ("run 1000", "run 1500", "run 100000"):
         page.say(command)
         page.wait(lambda: page.all("#map svg"))

@@ -60,7 +60,7 @@ def columns(page, native, count):
     count.row("columns: it is accepted", page.one("step").is_enabled(), page.told())
     page.caret(2, 8)
     page.press(Keys.ENTER)
-    count.same("columns: a line is only broken before its operation", page.value("text").split("\n")[1:3], ["        ", "INCA 7"])
+    count.same("columns: broken before its operation, which keeps its column", page.value("text").split("\n")[1:3], ["        ", "        INCA 7"])
     page.chord(Keys.CONTROL, "z")
     count.same("columns: undone", page.value("text"), wanted)
     page.caret(1, 0)
