@@ -187,8 +187,11 @@ def fields(page, native, count):
     page.click("step")
     page.click("step")
     count.same("bars: an arrow", dict(page.script(ARROWS)), {"rI2": dict(page.script(PLACES))["0002"]})
-    for _ in range(4):
+    for _ in range(3):
         page.click("step")
+    hollow = page.script("return [...document.querySelectorAll('#bars .next')].map(r => [Number(r.parentNode.dataset.cell), r.getAttribute('fill')])")
+    count.same("bars: what the next step will write is hollow", (hollow, "4: 0 (will be -9)" in page.script(SAID)[1]), ([[4, "none"]], True))
+    page.click("step")
     line = page.script("return Number(document.querySelector('#bars .axis').getAttribute('y1'))")
     tops = page.script("return [...document.querySelectorAll('#bars [data-cell] rect:first-child')].map(r => Number(r.getAttribute('y')))")
     count.same("bars: -9 is below the line, and what is positive above", ([top >= line for top in tops], told()[4]), ([False, True, False, False, True], "-9"))

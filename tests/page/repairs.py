@@ -210,7 +210,7 @@ def setting(page, native, count):
     page.idle()
     count.row("set: refused beside the field", page.one("who-fault").is_displayed() and page.text("who-fault").startswith("Refused: C2 bad argument."), page.text("who-fault"))
     count.same("set: refused, nothing is done", commands(page), ["run 1000000", "back 1", "back 1"])
-    for typed, command in (('"HELLO"', "set A 135582544"), ("+ 00 00 00 00 12", "set A 12"), ("-0", "set A -0")):
+    for typed, command in (('"HELLO"', "set A 8(1:1),5(2:2),13(3:3),13(4:4),16(5:5)"), ("+ 00 00 00 00 12", "set A 12(5:5)"), ("- 00 01 00 00 00", "set A -0(0:0),1(2:2)"), ("-0", "set A -0")):
         if not page.one("who").is_displayed():
             page.tap(page.all("#register-rows td")[0])
         page.one("who-value").clear()

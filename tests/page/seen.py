@@ -73,6 +73,10 @@ VALUES_SAID = [
     ("Did 12 J1P *+1: jumps to line 13, rJ from 0 to 11 (1 u).", "Next: 13 STX 200(5:5): cell 200(5:5) becomes rX: cell 200 from 0 to 25."),
     ("Did 13 STX 200(5:5): cell 200 from 0 to 25 (2 u).", "Next: 14 MOVE 0(2): 2 words are copied, from cell 0 on to the cell in rI1 on; rI1 becomes rI1 + 2: rI1 from 4 to 6, cell 4 from 262467 to + 63 63 63 63 63, cell 5 from 328 to 5."),
 ]
+# What each next step of these alters, of the registers, the flags and cell 200, as it is shown in grey.
+WILL_BE = [{"A": " → 5"}, {"comparison": " → less"}, {"A": " → 0", "X": " → 25"}, {"A": " → 1073741823"}, {"A": " → 4", "overflow": " → on"}, {"overflow": " → off"},
+           {"comparison": " → equal"}, {"I1": " → 4"}, {"J": " → 11"}, {"200": " → 25"}, {"I1": " → 6"}]
+WILL = """return [...document.querySelectorAll('#register-rows tr, #flags > div, #cell-rows tr')].map((row) => [row.dataset.key, row.querySelector('.will').textContent]).filter(([, text]) => text)"""
 IN_VIEW = """const box = arguments[0].getBoundingClientRect(); const bar = document.getElementById('time').getBoundingClientRect();
 const inside = arguments[1] ? document.querySelector(arguments[1]).getBoundingClientRect() : { top: 0, bottom: innerHeight };
 return box.height > 0 && box.top >= Math.max(inside.top, bar.bottom) - 1 && box.bottom <= Math.min(inside.bottom, innerHeight) + 1"""
@@ -110,6 +114,7 @@ def sentences(page, native, count):
         if number > 0:
             page.click("step")
         count.same(f"sentences: with values, after {number} steps", (status(page)[0] if number else "At the start.", status(page)[1]), wanted)
+        count.same(f"sentences: what will be altered, after {number} steps", {name: text for name, text in page.script(WILL) if name in WILL_BE[number] or not WILL_BE[number]}, WILL_BE[number])
     page.lesson(1)
     page.lesson(0)
     page.click("step")

@@ -1,10 +1,12 @@
 """The map of time, and all changes that wrote a part: for a loop whose course follows from the rules of the book."""
+import time
 import xml.etree.ElementTree as tree
 
 from bars import COPIED
 from kept import SENT
 from selenium.webdriver.common.by import By
 from selenium.webdriver.common.keys import Keys
+from typing_ import work
 
 # Three times through a loop of two lines; a row is printed each time. Each line that is executed is
 # a change: ENT1, then OUT, DEC1, J1P three times, HLT.
@@ -150,6 +152,10 @@ def map_grows(page, native, count):
         page.wait(lambda: page.all("#map svg"))
         page.idle()
         count.same(f"map: after {command}: nothing is beside the field", page.script(wide), True)
+    page.script("window.sent = []")
+    page.click("back")
+    count.row("map: little is asked with it open", sum(number for _, number in page.script("return window.sent")) <= 8, page.script("return window.sent"))
+    page.click("to-end")
     text = page.script(SAID)[1]
     count.row("map: the sums", all(f"Line {line}: {times:,} time" in text for line, times in ((2, 1), (3, 1), (4, 3000), (5, 3000), (6, 3000), (7, 1))), text)
     page.slide(500)
@@ -159,6 +165,23 @@ def map_grows(page, native, count):
     times = (500 - 2) // 3 + 5
     text = page.script(SAID)[1]
     count.row("map: after another way", f"Line 4: {times} times" in text and "Line 7: 1 time," in text, text)
+
+
+def map_time(page, native, count):
+    """The map of a million changes is open within a tenth of a second of the page's work, and the engine goes over none of them again."""
+    page.command("Performance.setTimeDomain", timeDomain="threadTicks")
+    page.command("Performance.enable")
+    page.lesson(0)
+    page.put("text", " ENT1 0\nLOOP INC1 1\n ST1 100\n DEC1 1\n J1NN LOOP\n END 0\n")
+    page.click("run")
+    page.script(SENT)
+    before, begun = work(page), time.monotonic()
+    page.script("document.getElementById('map-box').open = true")
+    page.wait(lambda: page.all("#map svg"))
+    took, seconds = round(work(page) - before, 1), time.monotonic() - begun
+    print(f"the map of a million changes is seen after {1000 * seconds:.0f} ms, of which the page works {took} ms")
+    count.row("map: its time at a million changes", took <= 100 and len(page.script("return window.sent")) <= 1, (took, page.script("return window.sent")))
+    count.row("map: all of them", page.script(SAID)[0] == "Map of 1,000,000 changes" and "Line 2: 250,000 times" in page.script(SAID)[1], page.script(SAID))
 
 
 MAP = (time_map, writes, many_writes, map_grows)
