@@ -76,6 +76,17 @@ def heard(text):
     return requests, 0
 
 
+def messages(output):
+    """The messages of an output; a failure where it is anything but whole frames."""
+    at = 0
+    while at < len(output):
+        head = re.compile(rb"Content-Length: (\d+)\r\n\r\n").match(output, at)
+        if not head or len(output) < head.end() + int(head[1]):
+            raise ValueError(f"no frame: {output[at:at + 80]!r}")
+        at = head.end() + int(head[1])
+        yield json.loads(output[head.end():at])
+
+
 class Untold(Exception):
     """A request that the commands of a script have no words for."""
 

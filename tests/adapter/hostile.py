@@ -19,7 +19,7 @@ sys.path[:0] = [HERE, os.path.join(os.path.dirname(HERE), "model")]
 
 import schema
 from client import Count
-from frames import Untold, commands, frame, heard, request
+from frames import Untold, commands, frame, heard, messages, request
 
 import bundle as model  # of tests/model/
 
@@ -79,19 +79,6 @@ def mutant(seed, k):
     return text + b"".join(map(frame, ENDING))
 
 
-def messages(output):
-    """The messages of an output; a failure where it is anything but whole frames."""
-    found = []
-    while output:
-        head = re.match(rb"Content-Length: (\d+)\r\n\r\n", output)
-        body = output[head.end():head.end() + int(head[1])] if head else b""
-        if not head or len(body) < int(head[1]):
-            raise ValueError(f"no frame: {output[:80]!r}")
-        found.append(json.loads(body))
-        output = output[head.end() + int(head[1]):]
-    return found
-
-
 def said(command, text):
     """What is wrong with what the adapter makes of a text, in words, and whether the state was compared."""
     requests, status = heard(text)
@@ -101,7 +88,7 @@ def said(command, text):
     if (ran.stderr != b"") != (status == 2) or not re.fullmatch(rb"(mixrev: T\d .*\n)?", ran.stderr):
         return f"on standard error stands {ran.stderr!r}", False
     try:
-        every = messages(ran.stdout)
+        every = [*messages(ran.stdout)]
     except ValueError as problem:
         return str(problem), False
     wrong = [(fault, message) for message in every for fault in schema.faults(message)]

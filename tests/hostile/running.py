@@ -9,7 +9,7 @@ sys.dont_write_bytecode = True
 
 HERE = os.path.dirname(os.path.abspath(__file__))
 TOP = os.path.dirname(os.path.dirname(HERE))
-sys.path[:0] = [os.path.join(TOP, "tests"), os.path.join(TOP, "tests", "model"), os.path.join(TOP, "tests", "runs")]
+sys.path[:0] = [os.path.join(TOP, "tests", *more) for more in ((), ("model",), ("runs",), ("adapter",))]
 
 # (handed on)
 from counting import Count

@@ -1,0 +1,115 @@
+"""Calls that may answer out of memory, or be cut, each at its documented limit with memory enough: they do neither. What is due is worked out here, by the rules."""
+
+import os
+
+from frames import BODY, frame, messages, request
+from limits import DECK, SCRIPT, SOURCE, filled, shown_block
+from running import TOP, Count, Runner, bundle, folder, lines
+
+LOOP = b" JMP *\n END 0\n"
+MANY = 1000001
+USED_UP = b"loop:1: steps used up at 0000 clock %d\n" % MANY
+# Step 992,375 alters a cell that the printer uses: 2 steps, 124 times 8,003, and 1.
+CONFLICT = lines(" OUT 2000(18)", " ENT2 124", " ENT1 4000", " DEC1 1", " J1P *-1", " DEC2 1", " J2P *-4", " STZ 2000", " JMP *", " END 0")
+STZ = b" 992375  0007  STZ 2000             2u"
+FAULT = b" PRNT 5 ".ljust(10000, b"x") + b"\n"  # 104 of them are nearly as long as a source may be, and 100 are reported
+NO_FIELD = b" LDA 100(6:6)\n"  # 4,000 of them, and an ORIG
+REGISTERS = b"0," * 8
+FULL = b"".join(b"%%UNIT %d\n" % unit + (b" ".join([b"+0102030405"] * 5) + b"\n") * 20000 for unit in range(16)) + b"%UNIT 16\n" + (b"C" * 80 + b"\n") * 1000 + \
+    b"".join(b"%%UNIT %d\n" % unit + (b"L" * 70 + b"\n") * 1000 for unit in (19, 20))
+
+
+def conflicts():
+    """`until conflict` over a million changes, both ways."""
+    run = b"ran 1000000 to 0008 clock %d: limit\n"
+    script = [(b"run 1000000 until conflict", STZ + b"\nran 992375 to 0008 clock 992376: until\n"), (b"back all", b"back 992375 to 0000 clock 0\n"),
+              (b"run 1000000", run % 1000001), (b"run 1000000", run % 2000001), (b"back until conflict", STZ + b"\nback 1007626 to 0007 clock 992374\n"),
+              (b"back all", b"back 992374 to 0000 clock 0\n"), (b"forth until conflict", STZ + b"\nforth 992375 to 0008 clock 992376\n"), (b"forth all", b"forth 1007625 to 0008 clock 2000001\n"),
+              (b"show conflicts", STZ + b"  cell 2000, unit 18 until 1000000001\n")]
+    return bundle(CONFLICT, b"".join(line + b"\n" for line, _ in script), b"%UNIT 18 delay 1000000000\n"), (b"".join(reply for _, reply in script), b"", 0)
+
+
+def runs():
+    """Texts of the files, the words, and what is due; the file `kept` is written after it."""
+    text, wanted = conflicts()
+    yield {"in": text}, "", wanted
+    yield {"loop": LOOP}, "run --trace --csv --steps %d loop" % MANY, \
+        (b"change,line,location,instruction,A,X,I1,I2,I3,I4,I5,I6,J,overflow,comparison,clock\n" +
+         b"".join(b"%d,1,0,JMP 0,%s1,off,E,%d\n" % (k, REGISTERS, k) for k in range(1, MANY + 1)), USED_UP, 3)
+    yield {"loop": b" INCA 1\n DECA 1\n JMP 0\n END 0\n"}, "run --writes A --json --steps %d loop" % (2 * MANY), \
+        (b"[\n" + b",\n".join(b'{"change":%d,"line":%d,"location":%d,"before":%d,"after":%d}' % (k + 1, k % 3 + 1, k % 3, k % 3, 1 - k % 3) for k in range(2 * MANY) if k % 3 < 2) + b"\n]\n",
+         b"loop:2: steps used up at 0001 clock %d\n" % (2 * MANY), 3)
+    yield {"loop": LOOP}, "run --counts --steps %d loop" % MANY, (b"line,location,count,time\n1,0,%d,%d\n" % (MANY, MANY), USED_UP, 3)
+    yield {"f": FAULT * 104 + b" END 0\n"}, "check f", (b"".join(b"f:%d:2: error: A2 no such operation: PRNT\n" % k + FAULT + b" ^^^^\n" for k in range(1, 101)), b"", 1)
+    yield {"f": FAULT * 104 + b" END 0\n"}, "check --json f", \
+        (b"".join(b'{"file":"f","line":%d,"column":2,"endColumn":6,"severity":"error","code":"A2","text":"no such operation: PRNT"}\n' % k for k in range(1, 101)), b"", 1)
+    warning = b"f:%d:6: warning: the operation takes no such F: the machine will refuse the step [no-field]\n" + NO_FIELD + b"     ^^^^^^^^\n"
+    yield {"f": (NO_FIELD * 3999 + b" ORIG 0\n") * 4 + NO_FIELD * 3999 + b" END 0\n"}, "check f", (b"".join(warning % k for k in range(1, 20000) if k % 4000), b"", 0)
+    yield {"f": b"*" * 51 + b"\n" + (b"*" * 51 + b"\n") * 19998 + b" END 0\n"}, "list f", \
+        (b"".join(b" " * 24 + b"%5d  " % k + b"*" * 51 + b"\n" for k in range(1, 20000)) + b"0000" + b" " * 20 + b"20000   END 0\nsymbols 0\n", b"", 0)
+    yield {"loop": LOOP, "script": filled(b"", SCRIPT - 12) + b"\nshow clock\n"}, "debug loop script", (b"clock 0\n", b"", 0)
+    yield {"f": b" HLT\n END 0\n", "deck": FULL, "kept": b""}, "run --devices deck --keep kept f", (b"", b"", 0)
+
+
+def talk(runner, requests):
+    """The bodies of the answers to some requests, of which the first is as long as a request may be; whether all follow each other in number; the other messages."""
+    first, *others = requests
+    bodies = [request(1, first[0], **first[1]).ljust(BODY), *(request(seq, command, **given) for seq, (command, given) in enumerate(others, 2))]
+    output, errors, status = runner.run(b"".join(map(frame, bodies)), ["dap"])
+    every = [*messages(output)]
+    answers = [message for message in every if message["type"] == "response"]
+    in_turn = [message["seq"] for message in every] == [*range(1, len(every) + 1)] and [answer["request_seq"] for answer in answers] == [*range(1, len(bodies) + 1)]
+    refused = [answer for answer in answers if not answer["success"]]
+    return [answer.get("body") for answer in answers], (in_turn, refused, errors, status), [message for message in every if message["type"] != "response"]
+
+
+def dialogues(runner, count):
+    """Launches with texts at their limits, named and in the longest frame; the views after 11,000,000 changes; 70,000 requests."""
+    texts = {"source": filled(b"", SOURCE - 23) + b"\n INCA 1\n JMP 0\n END 0\n", "devices": filled(b"", DECK - len(FULL) - 1, b" ") + b"\n" + FULL,
+             "cards": b"".join((b"D" * 80).ljust(33553 + (k < 432)) + b"\n" for k in range(1000))}
+    count.same("texts at their limits", [*map(len, texts.values())], [SOURCE, DECK, DECK])
+    write(texts)
+    files = ("launch", {"program": "source", "devices": "devices", "cards": "cards", "stopOnEntry": True})
+    given = ("launch", {"stopOnEntry": True, **{name + "Text": text.decode() for name, text in texts.items()}})
+    looks = [("configurationDone", {}), ("mix/program", {}), ("mix/units", {}), ("evaluate", {"expression": "show unit 15", "context": "repl"})]
+    due = [{"rows": [{"cell": k, "instruction": True, "line": 10487 + k} for k in (0, 1)], "start": 0, "symbols": []},
+           [["D" * 80] * 1000 if unit == 16 else ["L" * 70] * 1000 if unit > 16 else 1000 for unit in (*range(17), 19, 20)],
+           {"result": "unit 15 place 0 blocks 1000 output 0\n" + shown_block(15).decode() * 1000, "variablesReference": 0}]
+    views = [("mix/counts", {}), ("mix/path", {"columns": 500}), ("mix/writes", {"part": "A", "count": 1000}), ("mix/change", {"number": 10999999})]
+    long = [*[("continue", {})] * 11, *views, *[("reverseContinue", {})] * 11, ("evaluate", {"expression": "show changes", "context": "repl"}), *[("threads", {})] * 70000]
+    for name, begin, more in (("a frame", [given], []), ("files", [("initialize", {}), files], long)):
+        found, ended, events = talk(runner, [*begin, *looks, *more, ("disconnect", {})])
+        count.same(f"a dialogue that launches by {name}", ended, (True, [], b"", 0))
+        program, units, shown, *rest = found[len(begin) + 1:]
+        units = [unit.get("unread", unit["blocks"]) for unit in units["units"]]
+        count.same(f"a launch by {name}", [program, units, shown], due)
+    counts, path, writes, change = rest[11:15]
+    each = [{"cell": k, "count": "5500000", "time": "5500000"} for k in (0, 1)]
+    count.same("counts of 11,000,000 changes", counts, {"cells": each, "count": "11000000", "time": "11000000"})
+    count.same("their path", path, {"columns": [{"cells": [{"cell": k, "count": 11000} for k in (0, 1)]}] * 500, "from": 0, "until": 11000000})
+    count.same("what wrote A", [(one["number"], one["before"]["number"], one["after"]["number"]) for one in writes["writes"]],
+               [(2 * k + 1, str(k), str(k + 1)) for k in range(5499999, 5498999, -1)])
+    count.same("a change", change, {"number": 10999999, "location": 0, "text": "INCA 1", "time": "1", "items": [{"part": "A", "before": "+ 00 20 62 49 31", "after": "+ 00 20 62 49 32"}]})
+    count.same("all taken back", rest[26]["result"], "changes 0\n")
+    count.same("22 pauses", [event["body"]["text"] for event in events[2:]], ["paused after 1000000 changes"] * 22)
+
+
+def write(texts):
+    for name, text in texts.items():
+        with open(name, "wb") as file:
+            file.write(text)
+
+
+def rows(program, workers, quick=False):
+    count = Count()
+    with folder() as place, folder() as other:
+        os.chdir(other)
+        runner = Runner(program, place)
+        for files, words, wanted in runs():
+            write(files)
+            count.same(words or "until conflict", runner.run(files.get("in", b""), words.split()), wanted)
+        with open("kept", "rb") as kept:
+            count.row("units that are full are kept", kept.read() == FULL)
+        dialogues(runner, count)
+        os.chdir(TOP)
+    return count
