@@ -36,8 +36,10 @@ WHOLE = [(b"Content-Length: 2\r\n\r\n{}", b""), (b"Content-Length: 2\r\n\r\n{}",
 # Beginnings of a frame: nothing is heard yet, and the input is cut; none at all is its end.
 PARTIAL = [b"", b"Content-Length: 2", b"Content-Length: 2\r\n", b"Content-Length: 2\r\n\r", b"Content-Length: 2\r\n\r\n", b"Content-Length: 2\r\n\r\n{"]
 
-# Bodies that are no request: JSON that is broken off, and an event.
-UNHEARD = [b"{", b'{"seq":1,"type":"event","event":"x"}']
+# Frames that are no request, and what is said of each: no length, JSON that is broken off, and an
+# event.
+UNHEARD = [(b"hello\r\n\r\n", "a header without Content-Length"), (frame(b"{"), "a message that is not JSON"),
+           (frame(b'{"seq":1,"type":"event","event":"x"}'), "a message that is not a request")]
 
 # A request by its name and its arguments, the location after it, and how many changes are done.
 LEADS = [("configurationDone", {}, 0, 0), ("stepBack", {}, 0, 0), ("next", {}, 1, 1), ("stepBack", {}, 0, 0), ("next", {}, 1, 1),
@@ -275,9 +277,10 @@ def frames(command, count):
         count.same(f"{whole}, and {rest} behind it", texts(command, whole + rest)[1], [CUT, 2] if rest else GOOD)
     for partial in PARTIAL:
         count.same(f"{partial}", sent(command, partial), (b"", CUT, 2) if partial else (b"", *GOOD))
-    for body in UNHEARD:
-        found, ended = texts(command, frame(body))
-        count.same(f"{body} is no request", ([json.loads(text)["event"] for text in found], ended), (["output"], GOOD))
+    for whole, said in UNHEARD:
+        found, ended = texts(command, whole)
+        wanted = [{"seq": 1, "type": "event", "event": "output", "body": {"category": "important", "output": said + "\n"}}]
+        count.same(f"{whole} is no request", ([json.loads(text) for text in found], ended), (wanted, GOOD))
 
 
 def messages(command, count):
