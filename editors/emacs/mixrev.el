@@ -1,13 +1,61 @@
-;;; mixrev.el --- MIX programs under dap-mode, both ways  -*- lexical-binding: t; -*-
+;;; mixrev.el --- MIXAL sources checked, and debugged both ways  -*- lexical-binding: t; -*-
 
 ;;; Commentary:
-;; A debug provider and a template for dap-mode, and the commands that run backwards, which dap-mode has not.
+;; In a buffer of Emacs's own mixal-mode `M-x compile' checks the source, and Flycheck checks it while it is typed.
+;; For dap-mode: a debug provider and a template, and the commands that run backwards, which dap-mode has not.
 ;; A template may have `:devices' and `:cards' too, as ../README.md says.
 
 ;;; Code:
 
+(require 'compile)
+
+(defun mixrev-in-mixal-mode ()
+  "Let `compile' check the source of this buffer, by columns that count tab stops."
+  (when buffer-file-name
+    (setq-local compile-command (concat "mixrev check " (shell-quote-argument (file-name-nondirectory buffer-file-name)))))
+  (setq-local compilation-error-screen-columns t))
+(add-hook 'mixal-mode-hook #'mixrev-in-mixal-mode)
+
+(declare-function flycheck-define-command-checker "ext:flycheck")
+(declare-function flycheck-error-new-at "ext:flycheck")
+(defvar flycheck-checkers)
+
+(defun mixrev--character (buffer line column)
+  "The character of BUFFER in COLUMN of LINE, from 1; columns count tab stops."
+  (with-current-buffer buffer
+    (save-excursion
+      (save-restriction
+        (widen)
+        (goto-char (point-min))
+        (forward-line (1- line))
+        (let ((tab-width 8)) (move-to-column (1- column)))
+        (- (point) (line-beginning-position) -1)))))
+
+(defun mixrev--faults (output checker buffer)
+  "The faults and warnings of BUFFER in the OUTPUT of CHECKER, for Flycheck."
+  (let (found (start 0))
+    (while (string-match "^-:\\([0-9]+\\):\\(?:\\([0-9]+\\):\\)? \\(error\\|warning\\): \\(.*\\)" output start)
+      (setq start (match-end 0))
+      (let ((line (string-to-number (match-string 1 output)))
+            (column (match-string 2 output))
+            (level (intern (match-string 3 output)))
+            (text (match-string 4 output)))
+        (push (flycheck-error-new-at line (and column (mixrev--character buffer line (string-to-number column)))
+                                     level text :checker checker :buffer buffer)
+              found)))
+    (nreverse found)))
+
+(with-eval-after-load 'flycheck
+  (flycheck-define-command-checker 'mixrev "The check of a MIXAL source by mixrev."
+    :command '("mixrev" "check" "-") :standard-input t :error-parser #'mixrev--faults :modes '(mixal-mode))
+  (add-to-list 'flycheck-checkers 'mixrev))
+
+(declare-function dap-register-debug-provider "ext:dap-mode")
+(declare-function dap-register-debug-template "ext:dap-mode")
+(declare-function dap--put-if-absent "ext:dap-mode")
+(declare-function dap--cur-active-session-or-die "ext:dap-mode")
+(declare-function dap--step "ext:dap-mode")
 ;; dap-mode asks which exception filters are set, but only its dap-ui defines where that is kept. Without dap-ui none is set.
-(require 'dap-mode)
 (defvar dap-exception-breakpoints nil)
 
 (defcustom dap-mixrev-command '("mixrev" "dap")
@@ -17,14 +65,14 @@
 
 (defun dap-mixrev--populate (conf)
   "What CONF does not say: the adapter, and the source in the current buffer."
-  (-> conf
-      (dap--put-if-absent :dap-server-path dap-mixrev-command)
-      (dap--put-if-absent :request "launch")
-      (dap--put-if-absent :program (buffer-file-name))))
+  (setq conf (dap--put-if-absent conf :dap-server-path dap-mixrev-command))
+  (setq conf (dap--put-if-absent conf :request "launch"))
+  (dap--put-if-absent conf :program (buffer-file-name)))
 
-(dap-register-debug-provider "mixrev" #'dap-mixrev--populate)
-(dap-register-debug-template "MIX: this file"
-                             (list :type "mixrev" :request "launch" :name "MIX: this file" :stopOnEntry t))
+(with-eval-after-load 'dap-mode
+  (dap-register-debug-provider "mixrev" #'dap-mixrev--populate)
+  (dap-register-debug-template "MIX: this file"
+                               (list :type "mixrev" :request "launch" :name "MIX: this file" :stopOnEntry t)))
 
 (defun dap-mixrev-step-back (session)
   "Take the last step of SESSION back."
