@@ -6,8 +6,9 @@ function __mixrev_words -a condition
     s/^Usage:[^<]*\$/-n '$condition' -f/p
     s/^ +-(.), --([a-z]+) +(.*)/-n '$condition' -s \1 -l \2 -d '\3'/p
     s/^ +--([a-z]+) <N> +(.* ([0-9]+) to ([0-9]+).*)/-n '$condition' -l \1 -x -a '(seq \3 \4)' -d '\2'/p
-    s/^ +--([a-z]+) <N> +(.*)/-n '$condition' -l \1 -x -d '\2'/p
+    s/^ +--([a-z]+) <PART> +(.*)/-n '$condition' -l \1 -x -a 'A X I1 I2 I3 I4 I5 I6 J over cmp' -d '\2'/p
     s/^ +--([a-z]+) <FILE> +(.*)/-n '$condition' -l \1 -r -F -d '\2'/p
+    s/^ +--([a-z]+) <[A-Z]+> +(.*)/-n '$condition' -l \1 -x -d '\2'/p
     s/^ +--([a-z]+) +(.*)/-n '$condition' -l \1 -d '\2'/p" | sed 's/^/complete -c mixrev /'
 end
 __mixrev_words __fish_use_subcommand | source
