@@ -112,7 +112,8 @@ export class Bars {
     note("bars-more", all > cells.length ? `These are the first ${MAX_BARS} of ${counted(all, "cell")}.` : "");
   }
 
-  // What is drawn of each cell: its value; what it was before the last change, if that wrote it; what it will be.
+  // What is drawn of each cell: its value; what it was before the last change, if that wrote it;
+  // what it will be.
   bars(/** @type {View} */ { inField: { change, next }, wordIn }, cells) {
     return cells.map((cell) => {
       const { value, characters } = wordIn(cell);

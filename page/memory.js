@@ -21,7 +21,8 @@ function wordRow(name, label, asked) {
   return make("tr", { click: clicked, role: "row" }, head, ...cells);
 }
 
-// Shows the word of a part in such a row, with what it was if it was altered, and what the next step will make of it.
+// Shows the word of a part in such a row, with what it was if it was altered, and what the next
+// step will make of it.
 function showWord(row, part, { word, number, characters }, /** @type {View} */ { altered, change, next }, more = []) {
   const isAltered = altered.has(part);
   const [was, will] = [itemOf(change, part), itemOf(next, part)];

@@ -1,5 +1,5 @@
-// How often each cell was executed in the course of the changes: in columns of the same width, each asked for once. So
-// a moment takes no more than what is done since the column before it.
+// How often each cell was executed in the course of the changes: in columns of the same width, each
+// asked for once. So a moment takes no more than what is done since the column before it.
 
 import { CELLS } from "./range.js";
 

@@ -1,5 +1,5 @@
-// What the last change did and what the next step will do, as a sentence each, and the status. Values are those of the
-// engine: of the change that was done, and of the one that a step would be.
+// What the last change did and what the next step will do, as a sentence each, and the status.
+// Values are those of the engine: of the change that was done, and of the one that a step would be.
 
 import { counted, fourDigits } from "./dom.js";
 import { refusalOf } from "./machine.js";
@@ -99,13 +99,15 @@ function nextOf(/** @type {View} */ view, /** @type {Listing} */ listing) {
   return `${name}: ${will}${more}`;
 }
 
-// Whether a jump was taken, after which the machine is at a location; nothing where that can't be seen.
+// Whether a jump was taken, after which the machine is at a location; nothing where that can't be
+// seen.
 function isTaken({ location, text, items }, { state, wordIn }) {
   if (/^(JMP|JSJ)\b/.test(text) || state.location !== location + 1 || itemOf({ items }, "J")) return true;
   return wordIn(location).instruction?.address === String(location + 1) ? undefined : false;
 }
 
-// What the last change did, after which the machine is as in a view; its line is that of where it was done.
+// What the last change did, after which the machine is as in a view; its line is that of where it
+// was done.
 function didOf(/** @type {Change} */ change, /** @type {View} */ view, listing) {
   const { location, text, time } = change;
   const row = isCommand(change) ? undefined : OPERATIONS.get(text.split(" ")[0]);

@@ -23,7 +23,8 @@ function openingOf({ deck, cards, source }) {
 }
 
 export class Session {
-  // `shown` gives the requests for `blocks` of tapes and disks, and the `field` of which numbers of cells are shown.
+  // `shown` gives the requests for `blocks` of tapes and disks, and the `field` of which numbers of
+  // cells are shown.
   constructor(machine, texts, shown) {
     this.machine = machine;
     this.texts = texts;
@@ -78,8 +79,8 @@ export class Session {
     return { answers, view };
   }
 
-  // What is around a moment: the last change and the next one, which a step would do, each with the numbers of whole
-  // words, and in a field too; how often cells were executed.
+  // What is around a moment: the last change and the next one, which a step would do, each with the
+  // numbers of whole words, and in a field too; how often cells were executed.
   async momentOf({ done, ahead, halted }, field) {
     const last = done > 0 ? [["mix/change", { number: done }]] : [];
     const next = ahead > 0 ? ["mix/change", { number: done + 1 }] : ["mix/next", {}];
@@ -93,7 +94,8 @@ export class Session {
     return { ...ends(0), inField, times: this.path.timesAt(done, bodies.slice(asked.length)) };
   }
 
-  // What is not known any more after commands: all that may be another now. To go to a moment alters nothing.
+  // What is not known any more after commands: all that may be another now. To go to a moment
+  // alters nothing.
   noticed(commands, { done, ahead }) {
     if (commands.every((command) => /^\s*(back|forth|goto)\b/i.test(command))) return;
     const isAlone = commands.length === 1;
@@ -176,7 +178,8 @@ export class Session {
     return moments.map((_, index) => answers[2 * index + 1].body.cells.map(({ value }) => Number(value)));
   }
 
-  // How often each cell was executed before each column of all changes; the changes that wrote to units and to a part.
+  // How often each cell was executed before each column of all changes; the changes that wrote to
+  // units and to a part.
   async mapWith(part) {
     const { path, total } = this;
     const answers = await this.ask([["mix/units", {}], ...path.requestsTo(total)], total);
@@ -184,8 +187,8 @@ export class Session {
     return { ...path.upTo(total, path.timesAt(total, bodies)), marks: await this.marksOf(part, units) };
   }
 
-  // The last changes that wrote to each unit that has written a row, and to a part, in their order. Of a unit that only
-  // prints, no more are asked for than it has printed since.
+  // The last changes that wrote to each unit that has written a row, and to a part, in their order.
+  // Of a unit that only prints, no more are asked for than it has printed since.
   async marksOf(part, units) {
     const { total, written } = this;
     const printed = units.filter(({ rows }) => rows && rows.length > 0);

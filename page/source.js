@@ -26,8 +26,8 @@ function operationAt(text) {
   return before.length || undefined;
 }
 
-// The grammar as a mode of the editor. A new line begins at the column of the operation above; behind a remark, at the
-// first one.
+// The grammar as a mode of the editor. A new line begins at the column of the operation above;
+// behind a remark, at the first one.
 function modeOf(grammar) {
   const begin = (text, state) => {
     const column = operationAt(text) ?? state.column;

@@ -9,7 +9,8 @@ const SESSIONS = 5; // sessions of other texts that can come back
 const SLOW = 400; // milliseconds before a stop is offered
 
 export class Store {
-  // `read` gives the texts as they are now, and `shown` what a session has to look at beside the rest.
+  // `read` gives the texts as they are now, and `shown` what a session has to look at beside the
+  // rest.
   constructor(machine, read, shown) {
     this.machine = machine;
     this.read = read;

@@ -39,16 +39,17 @@ function scaled(numbers, top, high) {
   return { most, least, y: (value) => top + (high * (most - value)) / (most - least || 1) };
 }
 
-// The runs of the same number in a row, without those of 0: the number, where it begins, and where the next one does.
+// The runs of the same number in a row, without those of 0: the number, where it begins, and where
+// the next one does.
 function runsOf(numbers) {
   const begins = numbers.flatMap((number, at) => (at === 0 || number !== numbers[at - 1] ? [at] : []));
   const runs = begins.map((from, index) => [numbers[from], from, begins[index + 1] ?? numbers.length]);
   return runs.filter(([number]) => number !== 0);
 }
 
-// The bars: of each its `cell`, `value`, `text`; whether the last change wrote it, and what it `was` before; whether
-// the next step writes it, and what it `will` be. `arrows` have a `name` and a `cell`, perhaps one beside the bars.
-// `conflict` has the `cell` that a unit uses, and its `use`.
+// The bars: of each its `cell`, `value`, `text`; whether the last change wrote it, and what it
+// `was` before; whether the next step writes it, and what it `will` be. `arrows` have a `name` and
+// a `cell`, perhaps one beside the bars. `conflict` has the `cell` that a unit uses, and its `use`.
 export function barsOf({ title, text, bars, arrows, conflict }) {
   const longest = LETTER * Math.max(...bars.map((bar) => bar.text.length));
   const pitch = Math.min(Math.max(32, longest + 6), Math.max(7, 880 / bars.length));
@@ -111,9 +112,9 @@ export function stripOf({ title, cells, columns, done }) {
   return picture({ id: "strip", title: name, text, width: columns.length * wide, height }, shapes);
 }
 
-// The map of time: `rows` have a `cell`, the `line` it comes from, whether it `isBreak`, and the `counts`, how often it
-// was executed in each stretch of `width` changes; `marks` the `number` of a change that wrote a `part`, each part on a
-// row of its own; `done` of `total` changes are done.
+// The map of time: `rows` have a `cell`, the `line` it comes from, whether it `isBreak`, and the
+// `counts`, how often it was executed in each stretch of `width` changes; `marks` the `number` of a
+// change that wrote a `part`, each part on a row of its own; `done` of `total` changes are done.
 export function mapOf({ title, text, rows, width, marks, total, done }) {
   const parts = [...new Set(marks.map(({ part }) => part))];
   const high = Math.max(3, Math.min(12, 300 / rows.length));

@@ -1,5 +1,6 @@
-// What an engine leaves out of `mix/state`, `mix/change` and `mix/next` that does not know their arguments `field`,
-// `instructions` and `conflict` yet: numbers of fields, instructions in their parts, a conflict. Nothing else decodes.
+// What an engine leaves out of `mix/state`, `mix/change` and `mix/next` that does not know their
+// arguments `field`, `instructions` and `conflict` yet: numbers of fields, instructions in their
+// parts, a conflict. Nothing else decodes.
 
 import { OPERATIONS } from "./operations.js";
 

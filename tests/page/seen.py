@@ -26,106 +26,9 @@ OUT     JOV  BACK
 """
 APART = """const tops = (selector) => [...document.querySelectorAll(selector)].map(e => e.getBoundingClientRect().top);
 const [rows, lines] = [tops('.line'), tops('#listing .CodeMirror-line')]; return Math.max(...rows.map((top, at) => Math.abs(top - lines[at])))"""
-# Each step of it: what it did, and what the next one will do, by the rules of the book.
-SENTENCES = [
-    ("At the start.", "Next: 8 LDX KEY+1: rX becomes 50 (cell 1000), from 0 to 50."),
-    ("Did 8 LDX KEY+1: rX from 0 to 50 (2 u).", "Next: 9 STX KEY+2: cell 1001 becomes rX, from 20 to 50."),
-    ("Did 9 STX KEY+2: cell 1001 from 20 to 50 (2 u).", "Next: 10 ENT2 3: rI2 becomes 3, from 0 to 3."),
-    ("Did 10 ENT2 3: rI2 from 0 to 3 (1 u).", "Next: 11 DEC2 1: rI2 becomes rI2 - 1, from 3 to 2."),
-    ("Did 11 DEC2 1: rI2 from 3 to 2 (1 u).", "Next: 12 CMPX KEY,2: 50 is equal to 50 (cell 1001), so the comparison stays equal."),
-    ("Did 12 CMPX KEY,2: the comparison stays equal (2 u).", "Next: 13 JE OUT: jumps to line 15 if the comparison is equal; it is equal."),
-    ("Did 13 JE OUT: jumps to line 15, rJ from 0 to 3006 (1 u).", "Next: 15 JOV BACK: jumps to line 11 if overflow is on, which goes off; it is off."),
-    ("Did 15 JOV BACK: does not jump (1 u).", "Next: 16 LD3 KEY+3(4:5): rI3 becomes 70 (cell 1002(4:5)), from 0 to 70."),
-    ("Did 16 LD3 KEY+3(4:5): rI3 from 0 to 70 (2 u).", "Next: 17 ENNA -5: rA becomes -(-5), from 0 to 5."),
-    ("Did 17 ENNA -5: rA from 0 to 5 (1 u).", "Next: 18 HLT: halts."),
-]
-# Steps of which the outcome depends on what the machine holds, and on what it does with it.
-VALUES = """BIG     CON  1073741823
-FIVE    CON  5
-LINE    EQU  100
-START   LDA  FIVE
-        CMPA BIG
-        MUL  FIVE
-        LDA  BIG
-        ADD  FIVE
-        JNOV START
-        CMPA FIVE(1:4)
-        ENT1 4
-        J1P  *+1
-        STX  200(5:5)
-        MOVE 0(2)
-        OUT  LINE(18)
-        JBUS *+2(18)
-        NOP
-        LD1  BIG
-        END  START
-"""
-VALUES_SAID = [
-    ("At the start.", "Next: 4 LDA FIVE: rA becomes 5 (cell 1), from 0 to 5."),
-    ("Did 4 LDA FIVE: rA from 0 to 5 (2 u).", "Next: 5 CMPA BIG: 5 is less than 1073741823 (cell 0), so the comparison becomes less."),
-    ("Did 5 CMPA BIG: the comparison goes from equal to less (2 u).", "Next: 6 MUL FIVE: rA and rX become the product of rA and 5 (cell 1): rA from 5 to 0, rX from 0 to 25."),
-    ("Did 6 MUL FIVE: rA from 5 to 0, rX from 0 to 25 (10 u).", "Next: 7 LDA BIG: rA becomes 1073741823 (cell 0), from 0 to + 63 63 63 63 63."),
-    ("Did 7 LDA BIG: rA from 0 to + 63 63 63 63 63 (2 u).", "Next: 8 ADD FIVE: rA becomes rA + 5 (cell 1): rA from + 63 63 63 63 63 to 4, overflow goes on."),
-    ("Did 8 ADD FIVE: rA from + 63 63 63 63 63 to 4, overflow goes on (2 u).", "Next: 9 JNOV START: jumps to line 4 if overflow is off; otherwise it goes off; it is on."),
-    ("Did 9 JNOV START: does not jump, overflow goes off (1 u).", "Next: 10 CMPA FIVE(1:4): rA(1:4) is equal to 0 (cell 1(1:4)), so the comparison becomes equal."),
-    ("Did 10 CMPA FIVE(1:4): the comparison goes from less to equal (2 u).", "Next: 11 ENT1 4: rI1 becomes 4, from 0 to 4."),
-    ("Did 11 ENT1 4: rI1 from 0 to 4 (1 u).", "Next: 12 J1P *+1: jumps to line 13 if rI1 is positive; it is 4."),
-    ("Did 12 J1P *+1: jumps to line 13, rJ from 0 to 11 (1 u).", "Next: 13 STX 200(5:5): cell 200(5:5) becomes rX: cell 200 from 0 to 25."),
-    ("Did 13 STX 200(5:5): cell 200 from 0 to 25 (2 u).", "Next: 14 MOVE 0(2): 2 words are copied, from cell 0 on to the cell in rI1 on; rI1 becomes rI1 + 2: rI1 from 4 to 6, cell 4 from 262467 to + 63 63 63 63 63, cell 5 from 328 to 5."),
-]
-# What each next step of these alters, of the registers, the flags and cell 200, as it is shown in grey.
-WILL_BE = [{"A": " → 5"}, {"comparison": " → less"}, {"A": " → 0", "X": " → 25"}, {"A": " → 1073741823"}, {"A": " → 4", "overflow": " → on"}, {"overflow": " → off"},
-           {"comparison": " → equal"}, {"I1": " → 4"}, {"J": " → 11"}, {"200": " → 25"}, {"I1": " → 6"}]
-WILL = """return [...document.querySelectorAll('#register-rows tr, #flags > div, #cell-rows tr')].map((row) => [row.dataset.key, row.querySelector('.will').textContent]).filter(([, text]) => text)"""
 IN_VIEW = """const box = arguments[0].getBoundingClientRect(); const bar = document.getElementById('time').getBoundingClientRect();
 const inside = arguments[1] ? document.querySelector(arguments[1]).getBoundingClientRect() : { top: 0, bottom: innerHeight };
 return box.height > 0 && box.top >= Math.max(inside.top, bar.bottom) - 1 && box.bottom <= Math.min(inside.bottom, innerHeight) + 1"""
-
-
-def status(page):
-    return page.told(), page.text("next")
-
-
-def sentences(page, native, count):
-    page.lesson(0)
-    page.put("text", SORT)
-    for number, wanted in enumerate(SENTENCES):
-        if number > 0:
-            page.click("step")
-        found = status(page)
-        count.same(f"sentences: after {number} steps", (found[0] if number else "At the start.", found[1]), wanted)
-    page.click("back")
-    count.same("sentences: taken back", status(page), ("Taken back: 17 ENNA -5: rA from 0 to 5 (1 u).", SENTENCES[8][1]))
-    page.slide(3)
-    count.same("sentences: at a moment", status(page)[1], SENTENCES[3][1])
-    page.click("run")
-    count.same("sentences: a run to the end", page.told(), "Halted after 10 changes, clock 23 u, the last 7 now.")
-    page.put("text", " JSJ *+1\n JMP *+1\n ENT1 4\n JMP *+1\n IOC 0(18)\n OUT 100(18)\n HLT\n END 0\n")
-    said = ["Did 1 JSJ *+1: jumps to line 2 (1 u).", "Did 2 JMP *+1: jumps to line 3, rJ from 0 to 2 (1 u).", "Did 3 ENT1 4: rI1 from 0 to 4 (1 u).", "Did 4 JMP *+1: jumps to line 5, rJ from 2 to 4 (1 u).",
-            "Did 5 IOC 0(18): unit 18 begins a new page (1 u).", "Did 6 OUT 100(18): unit 18 writes row 1 (1 u). 1 row printed."]
-    found = []
-    for _ in said:
-        page.click("step")
-        found.append(page.told())
-    count.same("sentences: a jump to the next line, a new page and a row", found, said)
-    page.lesson(0)
-    page.put("text", VALUES)
-    for number, wanted in enumerate(VALUES_SAID):
-        if number > 0:
-            page.click("step")
-        count.same(f"sentences: with values, after {number} steps", (status(page)[0] if number else "At the start.", status(page)[1]), wanted)
-        count.same(f"sentences: what will be altered, after {number} steps", {name: text for name, text in page.script(WILL) if name in WILL_BE[number] or not WILL_BE[number]}, WILL_BE[number])
-    page.lesson(1)
-    page.lesson(0)
-    page.click("step")
-    row = page.driver.find_element(By.CSS_SELECTOR, "#register-rows tr.altered")
-    count.row("sentences: what a register was, and will be", row.text.endswith("was 0 → 12"), row.text)
-    page.caret(5, 9)
-    page.press("\ue031")  # F1
-    title = page.script("""const word = document.querySelectorAll('#listing .CodeMirror-line')[5].querySelector('.cm-support'), at = word.getBoundingClientRect();
-        word.dispatchEvent(new MouseEvent('mousemove', { clientX: at.left + 3, clientY: at.top + 5, bubbles: true })); return document.getElementById('listing').title""")
-    count.same("sentences: at the pointer", title, "STA: field F of cell M becomes rA. C = 24, 2 u.")
-    count.row("sentences: F1 at an operation", page.told().startswith("INCA: rA becomes rA + M."), page.told())
 
 
 def output(page, native, count):
@@ -261,4 +164,4 @@ def contrast(page, native, count):
             count.row(f"contrast, {shade}: ink on {ground}, where it is hottest", ratio >= 4.5, f"{ratio:.2f}")
 
 
-SEEN = (sentences, output, lesson, memory_shown, small)
+SEEN = (output, lesson, memory_shown, small)
