@@ -10,33 +10,60 @@ use Rattle.mix_cli.specs.Program.{mixrev}
 pub use Rattle.mix_cli.specs.Vain.{is_set}
 use Rattle.mix_cli.specs.Vain.{vain_in}
 use Rattle.mix_cli.specs.declared.vain.Vain.{Vain}
-use Rattle.mix_cli.specs.declared.words.AskedTable.{AskedTable}
-use Rattle.mix_cli.specs.declared.words.Format.{Format}
-use Rattle.mix_cli.specs.declared.words.Format.TheVariants.{Csv, Json, Latex}
-use Rattle.mix_cli.specs.declared.words.Plan.{Plan}
-use Rattle.mix_cli.specs.declared.words.Plan.TheVariants as plan
-use Rattle.mix_cli.specs.declared.words.Printing.{Printing}
-use Rattle.mix_cli.specs.declared.words.TableRows.{TableRows}
-use Rattle.mix_cli.specs.declared.words.TableRows.TheVariants.{Counts, Trace, Writes}
+use Rattle.mix_plan.specs.declared.plan.Plan.{Plan}
+use Rattle.mix_plan.specs.declared.plan.Plan.TheVariants as plan
+use Rattle.mix_plan.specs.declared.run.AskedTable.{AskedTable}
+use Rattle.mix_plan.specs.declared.run.TableFormat.{TableFormat}
+use Rattle.mix_plan.specs.declared.run.TableFormat.TheVariants.{Csv, Json, Latex}
+use Rattle.mix_plan.specs.declared.run.TableOf.{TableOf}
+use Rattle.mix_plan.specs.declared.run.TableOf.TheVariants.{Counts, Trace, Writes}
+use Rattle.mix_plan.specs.declared.run.UnitSet.{UnitSet}
 
--- a bundle; a listing of a source; a check of some sources, in JSON or not; a session of a source, of a script where it is named, and of a deck where it is named, with the commands of the script echoed or not; a run of a source, of
--- cards, lines of the typewriter and a deck where they are named, of so many steps at most, of what is printed, traced or not, strict or not, whose units are kept in a file and whose picture is saved in one where they are named, and of which a table is asked for or not, with the part whose changes it is of where one is named; the debug adapter
+-- a run: its files, with texts for names
+pub record Asked : Type 0 where
+  pub source : Text
+  pub devices : Option Text
+  pub cards : Option Text
+  pub typewriter : Option Text
+  pub steps : ℕ
+  pub units : UnitSet
+  pub trace : Bool
+  pub strict : Bool
+  pub keep : Option Text
+  pub svg : Option Text
+  pub table : Option AskedTable
+  pub part : Option Text
+
+-- a bundle; a listing of a source; a check of some sources, in JSON or not; a session of a source, of a script where it is named, and of a deck
+-- where it is named, with the commands of the script echoed or not; a run; the debug adapter
 pub data Planned : Type 0 where
   bundle : Planned
   lists : Text → Planned
   checks : List Text → Bool → Planned
   debugs : Text → Option Text → Option Text → Bool → Planned
-  runs : Text → Option Text → Option Text → Option Text → ℕ → Printing → Bool → Bool → Option Text → Option Text → Option AskedTable → Option Text → Planned
+  runs : Asked → Planned
   adapts : Planned
 
 abbrev pub planned_of : Plan → Planned
 planned_of plan.Bundle = bundle
 planned_of (plan.List source) = lists (string_bytes source)
 planned_of (plan.Check sources json) = checks (map string_bytes sources.items) json
-planned_of (plan.Debug source script devices echo) = debugs (string_bytes source) (option_map string_bytes script) (option_map string_bytes devices) echo
-planned_of (plan.Run source cards typewriter devices steps printing trace strict keep svg table part) =
-    runs (string_bytes source) (option_map string_bytes cards) (option_map string_bytes typewriter) (option_map string_bytes devices) steps printing trace
-    strict (option_map string_bytes keep) (option_map string_bytes svg) table (option_map string_bytes part)
+planned_of (plan.Debug session) =
+    debugs (string_bytes session.source) (option_map string_bytes session.script) (option_map string_bytes session.devices) session.echo
+planned_of (plan.Run run) = runs (record {
+  source = string_bytes run.source;
+  devices = option_map string_bytes run.devices;
+  cards = option_map string_bytes run.cards;
+  typewriter = option_map string_bytes run.typewriter;
+  steps = run.steps;
+  units = run.units;
+  trace = run.trace;
+  strict = run.strict;
+  keep = option_map string_bytes run.keep;
+  svg = option_map string_bytes run.svg;
+  table = run.table;
+  part = option_map string_bytes run.part;
+})
 planned_of plan.Dap = adapts
 
 -- the number that a text writes in decimal digits, where it is below 2^64
@@ -58,18 +85,18 @@ names_unit unit text = option_map_or (λ n. n == unit) (number_of text) false
 abbrev pub prints : List Row → ℕ → Bool
 prints rows unit = option_map_or (λ texts. list_any (names_unit unit) texts) (all_of (codes "unit") rows) true
 
-abbrev pub printing_of : List Row → Printing
-printing_of rows = record { punch = prints rows 17; printer = prints rows 18; typewriter = prints rows 19; tape = prints rows 20 }
+abbrev pub units_of : List Row → UnitSet
+units_of rows = record { card_punch = prints rows 17; printer = prints rows 18; typewriter = prints rows 19; paper_tape = prints rows 20 }
 
 -- the form that is asked for, if one is
-abbrev pub form_of : List Row → Option Format
+abbrev pub form_of : List Row → Option TableFormat
 form_of rows =
     if is_set (codes "latex") rows then Some Latex else
     if is_set (codes "json") rows then Some Json else
     if is_set (codes "csv") rows then Some Csv else None
 
 -- what a table is of: the counts, or else the changes of a part, or else, where a form is asked for, the steps of a trace
-abbrev pub rows_asked : Bool → Bool → Bool → Option TableRows
+abbrev pub rows_asked : Bool → Bool → Bool → Option TableOf
 rows_asked counts writes traces = if counts then Some Counts else if writes then Some Writes else if traces then Some Trace else None
 
 -- the table that is asked for, if one is: CSV where no form is
@@ -93,13 +120,24 @@ debug_planned rows =
     (first_of (codes "SOURCE") rows)
 
 -- of the words after `run`
+abbrev pub asked_by : Text → List Row → Asked
+asked_by source rows = record {
+  source = source;
+  devices = first_of (codes "devices") rows;
+  cards = first_of (codes "cards") rows;
+  typewriter = first_of (codes "typewriter") rows;
+  steps = steps_of rows;
+  units = units_of rows;
+  trace = is_set (codes "trace") rows;
+  strict = is_set (codes "strict") rows;
+  keep = first_of (codes "keep") rows;
+  svg = first_of (codes "svg") rows;
+  table = table_of rows;
+  part = first_of (codes "writes") rows;
+}
+
 abbrev pub run_planned : List Row → Option Planned
-run_planned rows =
-    option_map
-    (λ source. runs source (first_of (codes "cards") rows) (first_of (codes "typewriter") rows) (first_of (codes "devices") rows) (steps_of rows)
-    (printing_of rows) (is_set (codes "trace") rows) (is_set (codes "strict") rows) (first_of (codes "keep") rows)
-    (first_of (codes "svg") rows) (table_of rows) (first_of (codes "writes") rows))
-    (first_of (codes "SOURCE") rows)
+run_planned rows = option_map (λ source. runs (asked_by source rows)) (first_of (codes "SOURCE") rows)
 
 -- of the words after the name of a subcommand, as clap finds them
 abbrev pub subcommand_planned : Text × List Row → Option Planned

@@ -4,10 +4,10 @@ ghost use Rattle.std.specs.Prelude.{◌≡◌, IfOk, IsSome, Some, map, true, st
 ghost use Rattle.std.specs.List.{list_any};
 ghost use Rattle.clap.specs.Words.{all_of, first_of, found_of, rows_of};
 ghost use Rattle.std.specs.Option.{is_some};
-ghost use Rattle.mix_cli.specs.Plan.{form_of, is_set, names_unit, number_of, printing_of, prints, rows_asked, steps_of, table_of};
+ghost use Rattle.mix_cli.specs.Plan.{form_of, is_set, names_unit, number_of, units_of, prints, rows_asked, steps_of, table_of};
 
-use crate::words::{AskedTable, Format, Printing, TableRows};
 use clap::ArgMatches;
+use mix_plan::{AskedTable, TableFormat, TableOf, UnitSet};
 use std::alloc::{AllocError, Global};
 
 /// How many steps a run does at most where no number is given.
@@ -94,30 +94,30 @@ pub(crate) fn is_given(words: &ArgMatches<'_>, id: &str) -> bool
 }
 
 // The form that is asked for, if one is.
-fn form_of(words: &ArgMatches<'_>) -> Option<Format>
+fn form_of(words: &ArgMatches<'_>) -> Option<TableFormat>
     ensures { result ≡ form_of (rows_of (found_of words.now)) }
 {
     if is_set(words, "latex") {
-        Some(Format::Latex)
+        Some(TableFormat::Latex)
     } else if is_set(words, "json") {
-        Some(Format::Json)
+        Some(TableFormat::Json)
     } else if is_set(words, "csv") {
-        Some(Format::Csv)
+        Some(TableFormat::Csv)
     } else {
         None
     }
 }
 
 // What a table is of.
-fn rows_asked(counts: bool, writes: bool, traces: bool) -> Option<TableRows>
+fn rows_asked(counts: bool, writes: bool, traces: bool) -> Option<TableOf>
     ensures { result ≡ rows_asked counts writes traces }
 {
     if counts {
-        Some(TableRows::Counts)
+        Some(TableOf::Counts)
     } else if writes {
-        Some(TableRows::Writes)
+        Some(TableOf::Writes)
     } else if traces {
-        Some(TableRows::Trace)
+        Some(TableOf::Trace)
     } else {
         None
     }
@@ -132,7 +132,7 @@ pub(crate) fn table(words: &ArgMatches<'_>) -> Option<AskedTable>
     let of = rows_asked(is_set(words, "counts"), is_given(words, "writes"), traces)?;
     Some(AskedTable {
         of,
-        format: form.unwrap_or(Format::Csv),
+        format: form.unwrap_or(TableFormat::Csv),
     })
 }
 
@@ -182,13 +182,14 @@ fn prints(words: &ArgMatches<'_>, unit: u64) -> bool
     }
 }
 
-pub(crate) fn what_is_printed(words: &ArgMatches<'_>) -> Printing
-    ensures { result ≡ printing_of (rows_of (found_of words.now)) }
+/// The units whose rows are written.
+pub(crate) fn units(words: &ArgMatches<'_>) -> UnitSet
+    ensures { result ≡ units_of (rows_of (found_of words.now)) }
 {
-    Printing {
-        punch: prints(words, 17),
+    UnitSet {
+        card_punch: prints(words, 17),
         printer: prints(words, 18),
         typewriter: prints(words, 19),
-        tape: prints(words, 20),
+        paper_tape: prints(words, 20),
     }
 }

@@ -11,4 +11,4 @@ mod words;
 
 pub use fault::{FAILED, LineFault, line_status};
 pub use vain::{Choice, Vain};
-pub use words::{AskedTable, Format, Plan, Printing, TableRows, read_words};
+pub use words::read_words;

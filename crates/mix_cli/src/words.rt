@@ -9,78 +9,12 @@ ghost use Rattle.mix_cli.specs.Program.{mixrev};
 ghost use Rattle.mix_cli.specs.declared.fault.LineFault.{LineFault};
 
 use crate::fault::LineFault;
-use crate::found::{is_set, optional, required, several, steps, table, what_is_printed};
+use crate::found::{is_set, optional, required, several, steps, table, units};
 use crate::program::program;
 use crate::vain::{Vain, vain_in};
 use clap::{ArgMatches, Error};
+use mix_plan::{DebugPlan, Plan, RunPlan};
 use std::alloc::{AllocError, Global};
-
-/// What the program is to do: a bundle from standard input; the listing of a source; a check of sources, in JSON or not; a session of a source, with a deck where one is named, by a
-/// script, whose commands are echoed or not, or, where none is named, a talk; a run of a source, with cards, lines of the typewriter and a deck where they are named, of so many steps at
-/// most, 1 to 10^18, traced or not, strict or not, whose units are kept in a file and whose picture is saved in one where they are named, and of which a table is asked for or not, with the part whose changes it is of where one
-/// is named; or to be a debug adapter. The texts are names of files, but that of the part.
-#[derive(Drop)]
-pub enum Plan {
-    Bundle,
-    List(String),
-    Check {
-        sources: Vec<String>,
-        json: bool,
-    },
-    Debug {
-        source: String,
-        script: Option<String>,
-        devices: Option<String>,
-        echo: bool,
-    },
-    Run {
-        source: String,
-        cards: Option<String>,
-        typewriter: Option<String>,
-        devices: Option<String>,
-        steps: u64,
-        printing: Printing,
-        trace: bool,
-        strict: bool,
-        keep: Option<String>,
-        svg: Option<String>,
-        table: Option<AskedTable>,
-        part: Option<String>,
-    },
-    Dap,
-}
-
-/// What is written instead of the rows of the units: a table of this, in this form.
-#[derive(Clone, Copy)]
-pub struct AskedTable {
-    pub of: TableRows,
-    pub format: Format,
-}
-
-/// What a table has a row for: each instruction that was executed, each step, or each change of a part.
-#[derive(Clone, Copy)]
-pub enum TableRows {
-    Counts,
-    Trace,
-    Writes,
-}
-
-/// The form of a table: comma-separated values, JSON, or a table of LaTeX.
-#[derive(Clone, Copy)]
-pub enum Format {
-    Csv,
-    Json,
-    Latex,
-}
-
-/// Of which units a run writes the rows (1.3.1): the card punch 17, the printer 18, the typewriter 19, the paper tape 20.
-#[derive(Clone, Copy)]
-pub struct Printing {
-    pub punch: bool,
-    pub printer: bool,
-    pub typewriter: bool,
-    pub tape: bool,
-}
 
 fn list_plan(alloc: Global, words: &ArgMatches<'_>) -> Result<Plan, AllocError>
     requires { IsSome (list_planned (rows_of (found_of words.now))) }
@@ -103,32 +37,32 @@ fn debug_plan(alloc: Global, words: &ArgMatches<'_>) -> Result<Plan, AllocError>
     requires { IsSome (debug_planned (rows_of (found_of words.now))) }
     ensures { IfOk result (λ p. debug_planned (rows_of (found_of words.now)) ≡ Some (planned_of p)) }
 {
-    Ok(Plan::Debug {
+    Ok(Plan::Debug(DebugPlan {
         source: required(alloc, words, "SOURCE")?,
         script: optional(alloc, words, "SCRIPT")?,
         devices: optional(alloc, words, "devices")?,
         echo: is_set(words, "echo"),
-    })
+    }))
 }
 
 fn run_plan(alloc: Global, words: &ArgMatches<'_>) -> Result<Plan, AllocError>
     requires { IsSome (run_planned (rows_of (found_of words.now))) }
     ensures { IfOk result (λ p. run_planned (rows_of (found_of words.now)) ≡ Some (planned_of p)) }
 {
-    Ok(Plan::Run {
+    Ok(Plan::Run(RunPlan {
         source: required(alloc, words, "SOURCE")?,
+        devices: optional(alloc, words, "devices")?,
         cards: optional(alloc, words, "cards")?,
         typewriter: optional(alloc, words, "typewriter")?,
-        devices: optional(alloc, words, "devices")?,
         steps: steps(words),
-        printing: what_is_printed(words),
+        units: units(words),
         trace: is_set(words, "trace"),
         strict: is_set(words, "strict"),
         keep: optional(alloc, words, "keep")?,
         svg: optional(alloc, words, "svg")?,
         table: table(words),
         part: optional(alloc, words, "writes")?,
-    })
+    }))
 }
 
 // The plan of a subcommand and the words after it.

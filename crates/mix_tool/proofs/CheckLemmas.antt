@@ -1,8 +1,8 @@
 -- The sources of a check: one file more, up to the last or the first that can't be opened.
 use Rattle.std.proofs.Common.{◌≡◌, ◌≢◌, ℕ, ◌-◌, ◌≤◌, Bool, true, false, ◌⊎◌, inl, inr, List, [], ◌∷◌, ◌++◌, length, take, drop, map, get_or, arith, Option, None, Some, Result, Ok, refl, sym, ap, ◌∙◌, subst, append_assoc}
 use Rattle.std.proofs.lemmas.List.{map-append, append-nil, take_all}
-use Rattle.mix_cli.specs.declared.words.Plan.{Plan}
-use Rattle.mix_cli.specs.declared.words.Plan.TheVariants as plan
+use Rattle.mix_plan.specs.declared.plan.Plan.{Plan}
+use Rattle.mix_plan.specs.declared.plan.Plan.TheVariants as plan
 use Rattle.mix_run.specs.Check.{Named, Reported}
 use Rattle.mix_run.specs.declared.check.Reports.{Reports}
 use Rattle.mix_run.specs.declared.fault.ToolFault.{ToolFault}
@@ -119,8 +119,8 @@ pub client-unnamed : (p : Plan) → hears_client p ≡ true → in_order (names_
 client-unnamed plan.Bundle hears = refl
 client-unnamed (plan.List source) hears = absurd cc
 client-unnamed (plan.Check sources json) hears = refl
-client-unnamed (plan.Debug source script devices echo) hears = absurd cc
-client-unnamed (plan.Run source cards typewriter devices steps printing trace strict keep svg table part) hears = absurd cc
+client-unnamed (plan.Debug session) hears = absurd cc
+client-unnamed (plan.Run run) hears = absurd cc
 client-unnamed plan.Dap hears = refl
 
 -- a plan with lines for the typewriter names a file

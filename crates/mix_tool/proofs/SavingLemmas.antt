@@ -8,8 +8,8 @@ use Rattle.mix_run.specs.declared.print.PrintAnswer.TheVariants as answers
 use Rattle.mix_run.specs.declared.print.options.PrintOptions.{PrintOptions}
 use Rattle.mix_run.specs.declared.print.steps.RunEnd.{RunEnd}
 use Rattle.mix_run.specs.declared.print.steps.RunEnd.TheVariants as ends
-use Rattle.mix_cli.specs.declared.words.Plan.{Plan}
-use Rattle.mix_cli.specs.declared.words.Plan.TheVariants as plan
+use Rattle.mix_plan.specs.declared.plan.Plan.{Plan}
+use Rattle.mix_plan.specs.declared.plan.Plan.TheVariants as plan
 use Rattle.mix_tool.proofs.CheckLemmas.{asks-nothing}
 use Rattle.mix_tool.specs.Plan.{Given, SavesOn}
 use Rattle.mix_tool.specs.Ending.{ByEnd, Creates, EndsWith, saved_after, saved_as, status_of_end, status_of_print}
@@ -80,30 +80,25 @@ saves-after (Err fault) keep svg deck kept map IsDrawn old new same drawn saved 
 
 -- and it has saved its texts: those that a run gives of which this is asked
 pub saves-run : (options asked : PrintOptions) (names : List (List ℕ)) (run : Result PrintAnswer ToolFault) (keep svg : Option (List ℕ))
-    (kept : PrintOptions → List ℕ) (IsDrawn : PrintOptions → List ℕ → List ℕ → Type 0) (no_deck no_map deck map deck_seen map_seen : List ℕ)
+    (kept : PrintOptions → List ℕ) (IsDrawn : PrintOptions → List ℕ → List ℕ → Type 0) (no_deck no_map deck map : List ℕ)
     (status answered : ℕ) (old new : Option (List Saved)) → options ≡ asked → no_deck ≡ [] → no_map ≡ []
-    → OnOk run (deck ≡ no_deck ++ kept options) → OnOk run (IsDrawn options no_map map) → deck_seen ≡ deck → map_seen ≡ map
+    → OnOk run (deck ≡ no_deck ++ kept options) → OnOk run (IsDrawn options no_map map)
     → status ≡ status_of_print run → EndsWith (saved_after names run) status answered
-    → new ≡ noted old (saved_after (saved_as keep deck_seen ++ saved_as svg map_seen) run)
+    → new ≡ noted old (saved_after (saved_as keep deck ++ saved_as svg map) run)
     → ByEnd answered ((m : List ℕ) × IsDrawn asked [] m × (new ≡ noted old (saved_as keep (kept asked) ++ saved_as svg m))) (new ≡ old)
-saves-run options asked names run keep svg kept IsDrawn no_deck no_map deck map deck_seen map_seen status answered old new same deck_none map_none same_deck drawn deck_is map_is
-    e end saved =
+saves-run options asked names run keep svg kept IsDrawn no_deck no_map deck map status answered old new same deck_none map_none same_deck drawn e end saved =
     let deck_kept = subst (λ (o : PrintOptions). OnOk run (deck ≡ kept o)) same (subst (λ (l : List ℕ). OnOk run (deck ≡ l ++ kept options)) deck_none same_deck) in
     let map_drawn = subst (λ (o : PrintOptions). OnOk run (IsDrawn o [] map)) same (subst (λ (l : List ℕ). OnOk run (IsDrawn options l map)) map_none drawn) in
-    let here = saved ∙ ap (λ d. noted old (saved_after (saved_as keep d ++ saved_as svg map_seen) run)) deck_is
-    ∙ ap (λ m. noted old (saved_after (saved_as keep deck ++ saved_as svg m) run)) map_is in
-    by-end names run status answered _ _ e end (saves-after run keep svg deck (kept asked) map (IsDrawn asked []) old new deck_kept map_drawn here)
+    by-end names run status answered _ _ e end (saves-after run keep svg deck (kept asked) map (IsDrawn asked []) old new deck_kept map_drawn saved)
+
+-- and it has created its files
+pub creates-run : (names : List (List ℕ)) (run : Result PrintAnswer ToolFault) (status answered : ℕ) (old new : Option (List (List ℕ)))
+    → status ≡ status_of_print run → EndsWith (saved_after names run) status answered → Asks old new (saved_after names run) → Creates names answered old new
+creates-run names run status answered old new e end created = by-end names run status answered _ _ e end (created-after names run old new created)
 
 -- the files that are asked of a plan
-some-same : (a b : List (List ℕ)) → Some a ≡ Some b → a ≡ b
+pub some-same : (a b : List (List ℕ)) → Some a ≡ Some b → a ≡ b
 some-same a b e = ap (λ (o : Option (List (List ℕ))). unwrap_or o a) e
-
-pub creates-asked : (names asked : List (List ℕ)) (run : Result PrintAnswer ToolFault) (status answered : ℕ) (old new : Option (List (List ℕ)))
-    → Some names ≡ Some asked → status ≡ status_of_print run → EndsWith (saved_after names run) status answered
-    → Asks old new (saved_after names run) → Creates asked answered old new
-creates-asked names asked run status answered old new same e end created =
-    subst (λ (l : List (List ℕ)). Creates l answered old new) (some-same names asked same)
-    (by-end names run status answered _ _ e end (created-after names run old new created))
 
 -- a run that is not made creates nothing and saves nothing
 pub creates-none : (names : List (List ℕ)) (status : ℕ) (old new : Option (List (List ℕ))) → status ≡ 2 → new ≡ old → Creates names status old new
@@ -113,6 +108,6 @@ pub saves-none : (p : Plan) (given : Given) (status : ℕ) (old new : Option (Li
 saves-none plan.Bundle given status old new e same = tt
 saves-none (plan.List source) given status old new e same = tt
 saves-none (plan.Check sources json) given status old new e same = tt
-saves-none (plan.Debug source script devices echo) given status old new e same = tt
-saves-none (plan.Run source cards typewriter devices steps printing trace strict keep svg table part) given status old new e same = rw e (inl same)
+saves-none (plan.Debug session) given status old new e same = tt
+saves-none (plan.Run run) given status old new e same = rw e (inl same)
 saves-none plan.Dap given status old new e same = tt

@@ -130,9 +130,9 @@ EndsWith [] status answered = answered ≡ status
 EndsWith (name ∷ names) status answered = (answered ≡ status) ⊎ (answered ≡ 2)
 
 -- a run was made: what it printed and answered is the outcome, and its status is answered, where these files are created for it
-abbrev pub PrintRuns : PrintOutcome → List (List ℕ) → ℕ → Seen → Seen → Type 0
-PrintRuns outcome names status before after =
-    (run : Result PrintAnswer ToolFault) × Prints outcome run before.out after.out × EndsWith (saved_after names run) (status_of_print run) status
+abbrev pub PrintRuns : PrintOutcome → List (List ℕ) → ℕ → Option (List ℕ) → Option (List ℕ) → Type 0
+PrintRuns outcome names status old new =
+    (run : Result PrintAnswer ToolFault) × Prints outcome run old new × EndsWith (saved_after names run) (status_of_print run) status
 
 -- what holds by the status of a run: this if the run has come to its end, and else that; 2 leaves open which
 abbrev pub ByEnd : ℕ → Type 0 → Type 0 → Type 0

@@ -3,29 +3,31 @@ use Rattle.std.specs.Prelude.{◌≡◌, ◌≤◌, ⊤, ℕ, Bool, true, false,
 use Rattle.std.specs.Option.{option_map_or}
 use Rattle.mixal_asm.specs.Assembly.{assembly}
 use Rattle.mix_machine.specs.units.deck.Deck.{deck_of}
-use Rattle.mix_cli.specs.declared.words.AskedTable.{AskedTable}
-use Rattle.mix_cli.specs.declared.words.Format.{Format}
-use Rattle.mix_cli.specs.declared.words.Format.TheVariants as format
-use Rattle.mix_cli.specs.declared.words.Plan.{Plan}
-use Rattle.mix_cli.specs.declared.words.Plan.TheVariants as plan
-use Rattle.mix_cli.specs.declared.words.Printing.{Printing}
-use Rattle.mix_cli.specs.declared.words.TableRows.{TableRows}
-use Rattle.mix_cli.specs.declared.words.TableRows.TheVariants as rows
+use Rattle.mix_plan.specs.declared.plan.DebugPlan.{DebugPlan}
+use Rattle.mix_plan.specs.declared.plan.Plan.{Plan}
+use Rattle.mix_plan.specs.declared.plan.Plan.TheVariants as plan
+use Rattle.mix_plan.specs.declared.run.AskedTable.{AskedTable}
+use Rattle.mix_plan.specs.declared.run.RunPlan.{RunPlan}
+use Rattle.mix_plan.specs.declared.run.TableFormat.{TableFormat}
+use Rattle.mix_plan.specs.declared.run.TableFormat.TheVariants as format
+use Rattle.mix_plan.specs.declared.run.TableOf.{TableOf}
+use Rattle.mix_plan.specs.declared.run.TableOf.TheVariants as rows
+use Rattle.mix_plan.specs.declared.run.UnitSet.{UnitSet}
 use Rattle.mix_run.specs.Check.{Named, check_output}
 use Rattle.mix_run.specs.Debug.{debug_output, origin_given}
 use Rattle.mix_run.specs.Drawn.{Draws}
 use Rattle.mix_run.specs.Output.{bundle_output, list_output}
-use Rattle.mix_run.specs.PrintOutput.{print_output}
+use Rattle.mix_run.specs.PrintOutput.{PrintOutcome, print_output}
 use Rattle.mix_run.specs.declared.print.options.AskedTable.{AskedTable as RunTable}
 use Rattle.mix_run.specs.declared.print.options.PrintOptions.{PrintOptions}
-use Rattle.mix_run.specs.declared.print.options.TableOf.{TableOf}
+use Rattle.mix_run.specs.declared.print.options.TableOf.{TableOf as RunRows}
 use Rattle.mix_run.specs.declared.print.options.TableOf.TheVariants as of
-use Rattle.mix_run.specs.declared.print.options.UnitSet.{UnitSet}
-use Rattle.mix_run.specs.declared.table.TableFormat.{TableFormat}
+use Rattle.mix_run.specs.declared.print.options.UnitSet.{UnitSet as RunUnits}
+use Rattle.mix_run.specs.declared.table.TableFormat.{TableFormat as RunFormat}
 use Rattle.mix_run.specs.declared.table.TableFormat.TheVariants as table
 use Rattle.mix_run.specs.declared.talk.Streams.{Streams}
 use Rattle.mix_run.specs.declared.talk.aside.Talker.{Talker}
-use Rattle.mix_tool.specs.Ending.{PrintRuns, Runs, Saves, Seen, TalkRuns, Tells, not_opened}
+use Rattle.mix_tool.specs.Ending.{PrintRuns, Runs, Saves, Seen, TalkRuns, Tells, not_opened, saved_as}
 use Rattle.mix_run.specs.Opening.{Files, Missing, Saved, missing_of, named, opened_text, text_of}
 use Rattle.mix_tool.specs.declared.texts.Names.{Names}
 use Rattle.mix_tool.specs.declared.texts.Texts.{Texts}
@@ -42,14 +44,20 @@ abbrev pub names_of : Plan → FileNames
 names_of plan.Bundle = record { source = None; deck = None; cards = None; typewriter = None; script = None }
 names_of (plan.List source) = record { source = Some (string_bytes source); deck = None; cards = None; typewriter = None; script = None }
 names_of (plan.Check sources json) = record { source = None; deck = None; cards = None; typewriter = None; script = None }
-names_of (plan.Debug source script devices echo) =
-    record { source = Some (string_bytes source); deck = option_map string_bytes devices; cards = None; typewriter = None; script = option_map string_bytes script }
-names_of (plan.Run source cards typewriter devices steps printing trace strict keep svg table part) =
+names_of (plan.Debug session) =
     record {
-      source = Some (string_bytes source);
-      deck = option_map string_bytes devices;
-      cards = option_map string_bytes cards;
-      typewriter = option_map string_bytes typewriter;
+      source = Some (string_bytes session.source);
+      deck = option_map string_bytes session.devices;
+      cards = None;
+      typewriter = None;
+      script = option_map string_bytes session.script;
+    }
+names_of (plan.Run run) =
+    record {
+      source = Some (string_bytes run.source);
+      deck = option_map string_bytes run.devices;
+      cards = option_map string_bytes run.cards;
+      typewriter = option_map string_bytes run.typewriter;
       script = None;
     }
 names_of plan.Dap = record { source = None; deck = None; cards = None; typewriter = None; script = None }
@@ -63,8 +71,8 @@ abbrev pub sources_of : Plan → List (List ℕ)
 sources_of plan.Bundle = []
 sources_of (plan.List source) = []
 sources_of (plan.Check sources json) = map string_bytes sources.items
-sources_of (plan.Debug source script devices echo) = []
-sources_of (plan.Run source cards typewriter devices steps printing trace strict keep svg table part) = []
+sources_of (plan.Debug session) = []
+sources_of (plan.Run run) = []
 sources_of plan.Dap = []
 
 -- all files of a plan, in the order in which they are opened
@@ -122,18 +130,18 @@ pub record AreFresh {R : Type 0} (failed : R → ℕ) (texts : Texts R) : Type 0
   pub script : option_map_or failed texts.script.reader 0 ≡ 0
 
 -- what is asked of a run
-abbrev pub units_of : Printing → UnitSet
-units_of printing =
-    record { card_punch = printing.punch; printer = printing.printer; typewriter = printing.typewriter; paper_tape = printing.tape }
+abbrev pub units_of : UnitSet → RunUnits
+units_of units =
+    record { card_punch = units.card_punch; printer = units.printer; typewriter = units.typewriter; paper_tape = units.paper_tape }
 
 -- the form of a table
-abbrev pub format_of : Format → TableFormat
+abbrev pub format_of : TableFormat → RunFormat
 format_of format.Csv = table.Csv
 format_of format.Json = table.Json
 format_of format.Latex = table.Latex
 
 -- what a table is of
-abbrev pub rows_of : TableRows → TableOf
+abbrev pub rows_of : TableOf → RunRows
 rows_of rows.Counts = of.Counts
 rows_of rows.Trace = of.Trace
 rows_of rows.Writes = of.Writes
@@ -146,21 +154,35 @@ abbrev pub part_of : Option (List ℕ) → List ℕ
 part_of None = []
 part_of (Some part) = part
 
-abbrev pub options_of : {Name : Type 0} → Option Name → Option Name → Option Name → ℕ → Printing → Bool → Bool → Option Name → Option Name → Option AskedTable
-    → PrintOptions
-options_of devices cards typewriter steps printing trace strict keep svg table =
+abbrev pub options_of : RunPlan → PrintOptions
+options_of run =
     record {
-      steps = steps;
-      units = units_of printing;
-      deck = is_some devices;
-      cards = is_some cards;
-      typewriter = is_some typewriter;
-      trace = trace;
-      strict = strict;
-      keep = is_some keep;
-      table = option_map table_of table;
-      map = is_some svg;
+      steps = run.steps;
+      units = units_of run.units;
+      deck = is_some run.devices;
+      cards = is_some run.cards;
+      typewriter = is_some run.typewriter;
+      trace = run.trace;
+      strict = run.strict;
+      keep = is_some run.keep;
+      table = option_map table_of run.table;
+      map = is_some run.svg;
     }
+
+-- what a run of a plan writes, answers and keeps, by its texts, and which map it draws
+abbrev pub run_output : RunPlan → Given → PrintOutcome
+run_output run given = print_output (options_of run) (part_of (option_map string_bytes run.part)) given.source given.deck given.cards given.typewriter
+
+abbrev pub run_draws : RunPlan → Given → List ℕ → Type 0
+run_draws run given = Draws (options_of run) (part_of (option_map string_bytes run.part)) given.source given.deck given.cards given.typewriter []
+
+-- the files in which a run saves the deck of its units and its map
+abbrev pub saved_names : RunPlan → List (List ℕ)
+saved_names run = named (option_map string_bytes run.keep) ++ named (option_map string_bytes run.svg)
+
+-- and what it saves there
+abbrev pub saved_texts : RunPlan → List ℕ → List ℕ → List Saved
+saved_texts run deck map = saved_as (option_map string_bytes run.keep) deck ++ saved_as (option_map string_bytes run.svg) map
 
 -- what is seen of some streams
 abbrev pub seen : {R W E : Type 0} → (R → Option (List ℕ)) → (W → Option (List ℕ)) → (E → Option (List ℕ)) → (E → ℕ) → Streams R W E → Seen
@@ -170,14 +192,21 @@ seen rest told errors failed s = record { input = rest s.input; out = told s.out
 abbrev pub names_of_session : List ℕ → Option (List ℕ) → Option (List ℕ) → List (List ℕ)
 names_of_session source deck script = source ∷ (named deck ++ named script)
 
--- a session of a source or bundle of this name, with its own deck or with one that is given, by a script, whose commands are echoed or not, or without
--- one by the lines of the input
-abbrev pub DebugsOn : {Name : Type 0} → Files → List ℕ → List (List ℕ) → Bool → Bool → Option Name → Given → Talker → ℕ → Seen → Seen → Type 0
-DebugsOn all name names has_deck echo (Some script) given talker status before after =
-    Runs names (debug_output echo has_deck given.source given.deck given.script) status before after
-DebugsOn all name names has_deck echo None given talker status before after =
+-- by a script, if there is one, and otherwise by the lines of the input
+abbrev pub ScriptedOr : {Name : Type 0} → Option Name → Type 0 → Type 0 → Type 0
+ScriptedOr (Some script) Scripted Talked = Scripted
+ScriptedOr None Scripted Talked = Talked
+
+-- a session of a source or bundle, with its own deck or with one that is given; the commands of its script are echoed or not
+abbrev pub DebugsOn : Files → DebugPlan → Given → Talker → ℕ → Seen → Seen → Type 0
+DebugsOn all session given talker status before after =
+    let name = string_bytes session.source in
+    let has_deck = is_some session.devices in
     let origin = origin_given name has_deck given.source given.deck in
-    (t : List ℕ) → before.input ≡ Some t → TalkRuns all origin (assembly origin.source) (deck_of origin.deck) talker t status before after
+    ScriptedOr session.script
+    (Runs (names_of_session name (option_map string_bytes session.devices) (option_map string_bytes session.script))
+    (debug_output session.echo has_deck given.source given.deck given.script) status before after)
+    ((t : List ℕ) → before.input ≡ Some t → TalkRuns all origin (assembly origin.source) (deck_of origin.deck) talker t status before after)
 
 -- whether a session is by the lines of the input
 abbrev pub is_talk : {Name : Type 0} → Option Name → Bool
@@ -190,12 +219,8 @@ RunsOn all plan.Bundle given talker status before after = (b : List ℕ) → bef
 RunsOn all (plan.List source) given talker status before after = Runs (string_bytes source ∷ []) (list_output given.source) status before after
 RunsOn all (plan.Check sources json) given talker status before after =
     Runs (map string_bytes sources.items) (check_output json (named_of all (map string_bytes sources.items))) status before after
-RunsOn all (plan.Debug source script devices echo) given talker status before after =
-    DebugsOn all (string_bytes source) (names_of_session (string_bytes source) (option_map string_bytes devices) (option_map string_bytes script))
-    (is_some devices) echo script given talker status before after
-RunsOn all (plan.Run source cards typewriter devices steps printing trace strict keep svg table part) given talker status before after =
-    PrintRuns (print_output (options_of devices cards typewriter steps printing trace strict keep svg table) (part_of (option_map string_bytes part)) given.source given.deck given.cards given.typewriter)
-    (named (option_map string_bytes keep) ++ named (option_map string_bytes svg)) status before after
+RunsOn all (plan.Debug session) given talker status before after = DebugsOn all session given talker status before after
+RunsOn all (plan.Run run) given talker status before after = PrintRuns (run_output run given) (saved_names run) status before.out after.out
 RunsOn all plan.Dap given talker status before after = status ≤ 2
 
 -- the first file that can't be opened is told and why, and the status is 2; if there is none, the run is made
@@ -215,8 +240,8 @@ abbrev pub reads_input : Plan → Bool
 reads_input plan.Bundle = true
 reads_input (plan.List source) = false
 reads_input (plan.Check sources json) = false
-reads_input (plan.Debug source script devices echo) = is_talk script
-reads_input (plan.Run source cards typewriter devices steps printing trace strict keep svg table part) = false
+reads_input (plan.Debug session) = is_talk session.script
+reads_input (plan.Run run) = false
 reads_input plan.Dap = false
 
 -- whether a plan hears a client: the debug adapter does
@@ -224,8 +249,8 @@ abbrev pub hears_client : Plan → Bool
 hears_client plan.Bundle = false
 hears_client (plan.List source) = false
 hears_client (plan.Check sources json) = false
-hears_client (plan.Debug source script devices echo) = false
-hears_client (plan.Run source cards typewriter devices steps printing trace strict keep svg table part) = false
+hears_client (plan.Debug session) = false
+hears_client (plan.Run run) = false
 hears_client plan.Dap = true
 
 -- whether nothing is told on the error output but a fault of the tool: of a talk and of a run other things are
@@ -233,8 +258,8 @@ abbrev pub is_quiet : Plan → Bool
 is_quiet plan.Bundle = true
 is_quiet (plan.List source) = true
 is_quiet (plan.Check sources json) = true
-is_quiet (plan.Debug source script devices echo) = not (is_talk script)
-is_quiet (plan.Run source cards typewriter devices steps printing trace strict keep svg table part) = false
+is_quiet (plan.Debug session) = not (is_talk session.script)
+is_quiet (plan.Run run) = false
 is_quiet plan.Dap = true
 
 -- the files that a run creates: for what its units hold, and for its map; no other plan is a run
@@ -242,14 +267,12 @@ abbrev pub creates_of : Plan → Option (List (List ℕ))
 creates_of plan.Bundle = None
 creates_of (plan.List source) = None
 creates_of (plan.Check sources json) = None
-creates_of (plan.Debug source script devices echo) = None
-creates_of (plan.Run source cards typewriter devices steps printing trace strict keep svg table part) = Some (named (option_map string_bytes keep) ++ named (option_map string_bytes svg))
+creates_of (plan.Debug session) = None
+creates_of (plan.Run run) = Some (saved_names run)
 creates_of plan.Dap = None
 
 -- what a run on its texts saves
 abbrev pub SavesOn : Plan → Given → ℕ → Option (List Saved) → Option (List Saved) → Type 0
-SavesOn (plan.Run source cards typewriter devices steps printing trace strict keep svg table part) given status old new =
-    let options = options_of devices cards typewriter steps printing trace strict keep svg table in
-    Saves (print_output options (part_of (option_map string_bytes part)) given.source given.deck given.cards given.typewriter)
-    (Draws options (part_of (option_map string_bytes part)) given.source given.deck given.cards given.typewriter []) (option_map string_bytes keep) (option_map string_bytes svg) status old new
+SavesOn (plan.Run run) given status old new =
+    Saves (run_output run given) (run_draws run given) (option_map string_bytes run.keep) (option_map string_bytes run.svg) status old new
 SavesOn other given status old new = ⊤

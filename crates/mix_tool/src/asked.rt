@@ -1,10 +1,10 @@
 //! What a plan asks for: the names of its files, and what is asked of its run.
 
 ghost use Rattle.std.specs.Prelude.{◌≡◌, option_map, string_bytes};
-ghost use Rattle.mix_tool.specs.Plan.{format_of, names_in, names_of, options_of, part_of, rows_of, table_of};
+ghost use Rattle.mix_tool.specs.Plan.{format_of, names_in, names_of, options_of, part_of, rows_of};
 
 use crate::texts::Names;
-use mix_cli::{Format, Plan, Printing, TableRows};
+use mix_plan::{Plan, RunPlan};
 use mix_run::{AskedTable, PrintOptions, TableFormat, TableOf, UnitSet};
 
 /// The names of the files of a plan.
@@ -26,66 +26,42 @@ pub(crate) fn names_in(plan: &Plan) -> Names<'_>
             typewriter: None,
             script: None,
         },
-        Plan::Debug {
-            source,
-            script,
-            devices,
-            ..
-        } => Names {
-            source: Some(source),
-            deck: devices.as_deref(),
+        Plan::Debug(session) => Names {
+            source: Some(session.source.as_str()),
+            deck: session.devices.as_deref(),
             cards: None,
             typewriter: None,
-            script: script.as_deref(),
+            script: session.script.as_deref(),
         },
-        Plan::Run {
-            source,
-            cards,
-            typewriter,
-            devices,
-            ..
-        } => Names {
-            source: Some(source),
-            deck: devices.as_deref(),
-            cards: cards.as_deref(),
-            typewriter: typewriter.as_deref(),
+        Plan::Run(run) => Names {
+            source: Some(run.source.as_str()),
+            deck: run.devices.as_deref(),
+            cards: run.cards.as_deref(),
+            typewriter: run.typewriter.as_deref(),
             script: None,
         },
     }
 }
 
 // The form of a table.
-fn format_of(format: Format) -> TableFormat
+fn format_of(format: mix_plan::TableFormat) -> TableFormat
     ensures { result ≡ format_of format }
 {
     match format {
-        Format::Csv => TableFormat::Csv,
-        Format::Json => TableFormat::Json,
-        Format::Latex => TableFormat::Latex,
+        mix_plan::TableFormat::Csv => TableFormat::Csv,
+        mix_plan::TableFormat::Json => TableFormat::Json,
+        mix_plan::TableFormat::Latex => TableFormat::Latex,
     }
 }
 
 // What a table is of.
-fn rows_of(rows: TableRows) -> TableOf
+fn rows_of(rows: mix_plan::TableOf) -> TableOf
     ensures { result ≡ rows_of rows }
 {
     match rows {
-        TableRows::Counts => TableOf::Counts,
-        TableRows::Trace => TableOf::Trace,
-        TableRows::Writes => TableOf::Writes,
-    }
-}
-
-// The table that is asked for, if one is.
-fn table_of(table: Option<mix_cli::AskedTable>) -> Option<AskedTable>
-    ensures { result ≡ option_map table_of table }
-{
-    match table {
-        Some(asked) => Some(AskedTable {
-            of: rows_of(asked.of),
-            format: format_of(asked.format),
-        }),
-        None => None,
+        mix_plan::TableOf::Counts => TableOf::Counts,
+        mix_plan::TableOf::Trace => TableOf::Trace,
+        mix_plan::TableOf::Writes => TableOf::Writes,
     }
 }
 
@@ -100,35 +76,30 @@ pub(crate) fn part_of(part: &Option<String>) -> &str
 }
 
 /// What is asked of a run.
-pub(crate) fn options_of(
-    devices: &Option<String>,
-    cards: &Option<String>,
-    typewriter: &Option<String>,
-    steps: u64,
-    printing: Printing,
-    trace: bool,
-    strict: bool,
-    keep: &Option<String>,
-    svg: &Option<String>,
-    table: Option<mix_cli::AskedTable>,
-) -> PrintOptions
-    ensures { result ≡ options_of devices.now cards.now typewriter.now steps printing trace strict keep.now svg.now table }
+pub(crate) fn options_of(plan: &RunPlan) -> PrintOptions
+    ensures { result ≡ options_of plan.now }
 {
     PrintOptions {
-        steps,
+        steps: plan.steps,
         units: UnitSet {
-            card_punch: printing.punch,
-            printer: printing.printer,
-            typewriter: printing.typewriter,
-            paper_tape: printing.tape,
+            card_punch: plan.units.card_punch,
+            printer: plan.units.printer,
+            typewriter: plan.units.typewriter,
+            paper_tape: plan.units.paper_tape,
         },
-        deck: devices.is_some(),
-        cards: cards.is_some(),
-        typewriter: typewriter.is_some(),
-        trace,
-        strict,
-        keep: keep.is_some(),
-        table: table_of(table),
-        map: svg.is_some(),
+        deck: plan.devices.is_some(),
+        cards: plan.cards.is_some(),
+        typewriter: plan.typewriter.is_some(),
+        trace: plan.trace,
+        strict: plan.strict,
+        keep: plan.keep.is_some(),
+        table: match plan.table {
+            Some(asked) => Some(AskedTable {
+                of: rows_of(asked.of),
+                format: format_of(asked.format),
+            }),
+            None => None,
+        },
+        map: plan.svg.is_some(),
     }
 }

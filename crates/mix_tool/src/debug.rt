@@ -1,23 +1,21 @@
 //! A session of a plan.
 
-ghost use Rattle.std.specs.Prelude.{Some, ◌≡◌, ◌≢◌, ◌<◌, ◌≤◌, ◌-◌, ◌^◌, false, is_some, option_map, string_bytes};
+ghost use Rattle.std.specs.Prelude.{Some, ◌≡◌, ◌≢◌, ◌<◌, ◌≤◌, ◌-◌, ◌^◌, false};
 ghost use Rattle.mix_run.specs.Opening.{Files};
-ghost use Rattle.mix_tool.specs.Plan.{AreFresh, DebugsOn, Given, HoldTexts, is_talk, names_of_session, seen};
+ghost use Rattle.mix_tool.specs.Plan.{AreFresh, DebugsOn, Given, HoldTexts, is_talk, seen};
 
 use crate::ending::{status, status_beside, unread};
 use crate::texts::Texts;
+use mix_plan::DebugPlan;
 use mix_run::{Opener, Streams, run_debug, run_talk};
 use mix_stream::{In, Out};
 use std::alloc::Global;
 
 /// A session by a script, or without one by the lines of the input, with the deck that is named, or with that of a bundle.
-pub(crate) fn debug_on<'n, O: Opener, R: In, W: Out, E: Out>(
+pub(crate) fn debug_on<O: Opener, R: In, W: Out, E: Out>(
     files: &mut O,
     alloc: Global,
-    name: &'n str,
-    devices: &'n Option<String>,
-    script: &'n Option<String>,
-    echo: bool,
+    plan: &DebugPlan,
     texts: Texts<O::Reader>,
     streams: &mut Streams<R, W, E>,
 ) -> u8
@@ -26,12 +24,12 @@ pub(crate) fn debug_on<'n, O: Opener, R: In, W: Out, E: Out>(
     requires out_count { W.failed streams.old.out < 2 ^ 64 - 1 }
     requires errors_count { E.failed streams.old.errors < 2 ^ 64 - 1 }
     ensures runs { (all : Files) (given : Given) → O.holds files.old ≡ Some all → HoldTexts O.Reader.rest texts given
-        → DebugsOn all name.now (names_of_session name.now (option_map string_bytes devices.now) (option_map string_bytes script.now)) (is_some devices.now) echo script.now given streams.old.talker result (seen R.rest W.told E.told E.failed streams.old) (seen R.rest W.told E.told E.failed streams.new) }
-    ensures input { is_talk script.now ≡ false → streams.new.input ≡ streams.old.input }
+        → DebugsOn all plan.now given streams.old.talker result (seen R.rest W.told E.told E.failed streams.old) (seen R.rest W.told E.told E.failed streams.new) }
+    ensures input { is_talk plan.now.script ≡ false → streams.new.input ≡ streams.old.input }
     ensures unasked { O.asked files.new ≡ O.asked files.old }
     ensures range { result ≤ 3 }
     ensures written { result ≢ 2 → W.failed streams.new.out ≡ W.failed streams.old.out }
-    ensures quiet { is_talk script.now ≡ false → result ≢ 2 → streams.new.errors ≡ streams.old.errors }
+    ensures quiet { is_talk plan.now.script ≡ false → result ≢ 2 → streams.new.errors ≡ streams.old.errors }
 {
     let Texts {
         source,
@@ -41,8 +39,8 @@ pub(crate) fn debug_on<'n, O: Opener, R: In, W: Out, E: Out>(
         script: lines,
     } = texts;
     let (mut source, mut deck, mut lines) = (source, deck, lines);
-    let given = devices.is_some();
-    match script {
+    let (name, given) = (plan.source.as_str(), plan.devices.is_some());
+    match &plan.script {
         Some(_) => {
             let outcome = run_debug(
                 alloc,
@@ -50,11 +48,11 @@ pub(crate) fn debug_on<'n, O: Opener, R: In, W: Out, E: Out>(
                 &mut deck,
                 given,
                 &mut lines,
-                echo,
+                plan.echo,
                 &mut streams.out,
             );
             let failures = (deck.failures(), lines.failures());
-            let (deck, last) = (devices.as_deref(), script.as_deref());
+            let (deck, last) = (plan.devices.as_deref(), plan.script.as_deref());
             let file = unread(name, deck, last, failures);
             status(alloc, outcome, Some(file), &mut streams.errors)
         }
@@ -62,7 +60,7 @@ pub(crate) fn debug_on<'n, O: Opener, R: In, W: Out, E: Out>(
             let outcome = run_talk(alloc, name, &mut source, &mut deck, given, files, streams);
             let failures = (deck.failures(), 0);
             let file = if source.failures() > 0 || failures.0 > 0 {
-                Some(unread(name, devices.as_deref(), None, failures))
+                Some(unread(name, plan.devices.as_deref(), None, failures))
             } else {
                 None
             };

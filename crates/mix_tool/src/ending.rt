@@ -4,11 +4,11 @@ ghost use Rattle.std.specs.Prelude.{◌≡◌, ◌<◌, ◌-◌, ◌^◌, ◌∷
 ghost use Rattle.mix_tool.specs.Ending.{IsAmong, Tells, TellsRun, Wrote, file_of_fault, memory_line, not_opened, not_written, report, status_of_end, status_of_print, status_of_run};
 ghost use Rattle.mix_run.specs.Opening.{named};
 
+use crate::asked::part_of;
 use crate::conflicts::{conflict_line, tell_conflicts};
 use mix_cli::FAILED;
-use mix_run::{
-    DONE, NOT_DONE, PrintAnswer, RanTo, Reason, Refusal, RunEnd, SOURCE_REFUSED, ToolFault,
-};
+use mix_plan::RunPlan;
+use mix_run::{DONE, NOT_DONE, PrintAnswer, RanTo, Reason, RunEnd, SOURCE_REFUSED, ToolFault};
 use mix_stream::{Out, write_all};
 use std::alloc::{AllocError, Global};
 
@@ -188,11 +188,6 @@ pub(crate) fn place(alloc: Global, name: &str, line: Option<u32>) -> Result<Stri
     }
 }
 
-// Why the part that a table is to be of is none.
-fn no_part_line(alloc: Global, refusal: Refusal, part: &str) -> Result<String, AllocError> {
-    format!(in alloc; "mixrev: {refusal}: {part}\n")
-}
-
 // The status of a run that came to its end.
 fn status_of_end(end: RunEnd) -> u8
     ensures { result ≡ status_of_end end }
@@ -206,10 +201,9 @@ fn status_of_end(end: RunEnd) -> u8
 /// The status of what a run answers; why the part of its table is none is told; which of its steps conflict with a transfer is told, where it came to, if not to a halt, and a fault is.
 pub(crate) fn print_status<E: Out>(
     alloc: Global,
-    name: &str,
+    plan: &RunPlan,
     outcome: Result<PrintAnswer, ToolFault>,
     file: Option<&str>,
-    part: &str,
     errors: &mut E,
 ) -> u8
     ensures { result ≡ status_of_print outcome }
@@ -218,10 +212,12 @@ pub(crate) fn print_status<E: Out>(
         Err(fault) => status_beside(alloc, Err(fault), file, errors),
         Ok(PrintAnswer::Refused(_)) => SOURCE_REFUSED,
         Ok(PrintAnswer::NoPart(refusal)) => {
-            tell_beside(no_part_line(alloc, refusal, part), errors);
+            let part = part_of(&plan.part);
+            let line = format!(in alloc; "mixrev: {refusal}: {part}\n");
+            tell_beside(line, errors);
             FAILED
         }
-        Ok(PrintAnswer::Ran(ran)) => ran_status(alloc, name, &ran, errors),
+        Ok(PrintAnswer::Ran(ran)) => ran_status(alloc, plan.source.as_str(), &ran, errors),
     }
 }
 

@@ -1,11 +1,13 @@
 //! What the units hold at the end of a run, and its map, each saved in a file.
 
-ghost use Rattle.std.specs.Prelude.{◌≡◌, ◌≢◌, ◌≤◌, ◌∷◌, ◌++◌, [], None, true, option_map, string_bytes};
+ghost use Rattle.std.specs.Prelude.{◌≡◌, ◌≢◌, ◌≤◌, [], true, option_map, string_bytes};
 ghost use Rattle.mix_run.specs.Opening.{Asks, named, noted};
 ghost use Rattle.mix_tool.specs.Ending.{EndsWith, saved_after, saved_as};
+ghost use Rattle.mix_tool.specs.Plan.{saved_names, saved_texts};
 
 use crate::ending::{not_opened_line, not_written_line, tell_beside};
 use mix_cli::FAILED;
+use mix_plan::RunPlan;
 use mix_refused::Refused;
 use mix_run::{Opener, PrintAnswer, ToolFault, Unsaved};
 use mix_stream::Out;
@@ -50,58 +52,60 @@ fn is_saved<O: Opener, E: Out>(
     }
 }
 
+/// What a run leaves: what it answered, with its status, the deck of what its units hold, and its map.
+#[derive(Drop)]
+pub(crate) struct Left {
+    pub(crate) outcome: Result<PrintAnswer, ToolFault>,
+    pub(crate) status: u8,
+    pub(crate) deck: Vec<u8>,
+    pub(crate) map: Vec<u8>,
+}
+
 // Saves both texts of a run; the map is saved even if the deck is not.
 fn are_saved<O: Opener, E: Out>(
     files: &mut O,
     alloc: Global,
-    keep: &Option<String>,
-    deck: &[u8],
-    svg: &Option<String>,
-    map: &[u8],
+    plan: &RunPlan,
+    left: &Left,
     errors: &mut E,
 ) -> bool
-    ensures created { Asks (O.created files.old) (O.created files.new) (named (option_map string_bytes keep.now) ++ named (option_map string_bytes svg.now)) }
-    ensures saved { O.saved files.new
-        ≡ noted (O.saved files.old) (saved_as (option_map string_bytes keep.now) deck.now ++ saved_as (option_map string_bytes svg.now) map.now) }
+    ensures created { Asks (O.created files.old) (O.created files.new) (saved_names plan.now) }
+    ensures saved { O.saved files.new ≡ noted (O.saved files.old) (saved_texts plan.now left.now.deck.items left.now.map.items) }
     ensures asked { O.asked files.new ≡ O.asked files.old }
-    ensures unnamed { named (option_map string_bytes keep.now) ++ named (option_map string_bytes svg.now) ≡ [] → result ≡ true }
+    ensures unnamed { saved_names plan.now ≡ [] → result ≡ true }
     ensures quiet { result ≡ true → errors.new ≡ errors.old }
 {
-    let kept = is_saved(files, alloc, keep, deck, errors);
-    let drawn = is_saved(files, alloc, svg, map, errors);
+    let kept = is_saved(files, alloc, &plan.keep, &left.deck, errors);
+    let drawn = is_saved(files, alloc, &plan.svg, &left.map, errors);
     kept && drawn
 }
 
-/// Saves the deck and the map of a run that has come to its end, each in a file, if one is named for it. The status is that of the run, or 2 if one of them
-/// is not saved.
+/// Saves the deck and the map of a run that has come to its end, each in a file, if one is named for it. The status is that of the
+/// run, or 2 if one of them is not saved.
 pub(crate) fn save_files<O: Opener, E: Out>(
     files: &mut O,
     alloc: Global,
-    keep: &Option<String>,
-    deck: &[u8],
-    svg: &Option<String>,
-    map: &[u8],
-    outcome: Result<PrintAnswer, ToolFault>,
-    status: u8,
+    plan: &RunPlan,
+    left: &Left,
     errors: &mut E,
 ) -> u8
-    ensures created { Asks (O.created files.old) (O.created files.new)
-        (saved_after (named (option_map string_bytes keep.now) ++ named (option_map string_bytes svg.now)) outcome) }
-    ensures saved { O.saved files.new ≡ noted (O.saved files.old)
-        (saved_after (saved_as (option_map string_bytes keep.now) deck.now ++ saved_as (option_map string_bytes svg.now) map.now) outcome) }
+    ensures created { Asks (O.created files.old) (O.created files.new) (saved_after (saved_names plan.now) left.now.outcome) }
+    ensures saved { O.saved files.new
+        ≡ noted (O.saved files.old) (saved_after (saved_texts plan.now left.now.deck.items left.now.map.items) left.now.outcome) }
     ensures asked { O.asked files.new ≡ O.asked files.old }
-    ensures status { EndsWith (saved_after (named (option_map string_bytes keep.now) ++ named (option_map string_bytes svg.now)) outcome) status result }
-    ensures range { status ≤ 3 → result ≤ 3 }
-    ensures well { result ≢ 2 → (result ≡ status) × (errors.new ≡ errors.old) }
+    ensures status { EndsWith (saved_after (saved_names plan.now) left.now.outcome) left.now.status result }
+    ensures range { left.now.status ≤ 3 → result ≤ 3 }
+    ensures well { result ≢ 2 → (result ≡ left.now.status) × (errors.new ≡ errors.old) }
 {
+    let outcome = left.outcome;
     match outcome {
         Ok(PrintAnswer::Ran(_)) => {
-            if are_saved(files, alloc, keep, deck, svg, map, errors) {
-                status
+            if are_saved(files, alloc, plan, left, errors) {
+                left.status
             } else {
                 FAILED
             }
         }
-        Ok(PrintAnswer::Refused(_) | PrintAnswer::NoPart(_)) | Err(_) => status,
+        Ok(PrintAnswer::Refused(_) | PrintAnswer::NoPart(_)) | Err(_) => left.status,
     }
 }

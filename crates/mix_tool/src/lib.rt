@@ -8,13 +8,15 @@ mod debug;
 mod ending;
 mod keep;
 mod plan;
+mod run;
 mod save;
 pub mod shelf;
 mod system;
 mod texts;
 
-pub use mix_cli::{FAILED, LineFault, Plan, Printing, line_status, read_words};
+pub use mix_cli::{FAILED, LineFault, line_status, read_words};
 pub use mix_dap::serve;
+pub use mix_plan::{DebugPlan, Plan, RunPlan};
 pub use mix_run::{
     AsmFault, AsmKind, ConflictAt, Conflicts, Counted, DeckFault, DeckKind, Failed, In, MixFault,
     Opener, Out, PrintAnswer, PrintOptions, PrintTexts, RanTo, Reason, Refusal, RunEnd, Session,

@@ -9,15 +9,15 @@ ghost use Rattle.mix_run.specs.Opening.{Asks, Files, asked_of, missing_of};
 ghost use Rattle.mix_tool.specs.Ending.{Creates};
 ghost use Rattle.mix_tool.specs.Plan.{AreFresh, Given, HoldTexts, DoneAfter, IsDone, RunsOn, SavesOn, creates_of, files_of, given_of, hears_client, in_order, is_quiet, names_of, reads_input, seen, sources_of};
 
-use crate::asked::{names_in, options_of, part_of};
+use crate::asked::names_in;
 use crate::check::check_files;
 use crate::debug::debug_on;
-use crate::ending::{print_status, status, tell_not_opened, unread};
-use crate::keep::save_files;
+use crate::ending::{status, tell_not_opened};
+use crate::run::run_texts;
 use crate::texts::{Texts, open_texts};
-use mix_cli::Plan;
 use mix_dap::{Library, serve_from};
-use mix_run::{Opener, Streams, run_bundle, run_list, run_printed};
+use mix_plan::Plan;
+use mix_run::{Opener, Streams, run_bundle, run_list};
 use mix_stream::{In, Out};
 use std::alloc::Global;
 
@@ -67,54 +67,10 @@ fn run_on<O: Opener + Library, C: In, R: In, W: Out, E: Out>(
             status(alloc, outcome, Some(source), &mut streams.errors)
         }
         Plan::Check { sources, json } => check_files(files, alloc, sources, *json, streams),
-        Plan::Debug {
-            source,
-            script,
-            devices,
-            echo,
-        } => debug_on(files, alloc, source, devices, script, *echo, texts, streams),
-        Plan::Run {
-            source,
-            cards,
-            typewriter,
-            devices,
-            steps,
-            printing,
-            trace,
-            strict,
-            keep,
-            svg,
-            table,
-            part,
-        } => {
-            let (steps, trace, strict) = (*steps, *trace, *strict);
-            let options = options_of(
-                devices, cards, typewriter, steps, *printing, trace, strict, keep, svg, *table,
-            );
-            let mut texts = texts.of_run();
-            let part = part_of(part);
+        Plan::Debug(session) => debug_on(files, alloc, session, texts, streams),
+        Plan::Run(run) => {
             let (out, errors) = (&mut streams.out, &mut streams.errors);
-            let (mut deck, mut map) = (Vec::new(alloc), Vec::new(alloc));
-            let outcome = run_printed(
-                alloc,
-                source,
-                &mut texts,
-                options,
-                part.as_bytes(),
-                &mut deck,
-                &mut map,
-                out,
-                errors,
-            );
-            let failures = (texts.deck.failures(), texts.cards.failures());
-            let file = unread(source, devices.as_deref(), cards.as_deref(), failures);
-            let lines = (0, texts.typewriter.failures());
-            let file = unread(file, None, typewriter.as_deref(), lines);
-            // (a copy, since the checker covers no value of this kind that is passed twice)
-            let again = outcome;
-            let status = print_status(alloc, source, outcome, Some(file), part, errors);
-            let (kept, drawn) = (deck.as_slice(), map.as_slice());
-            save_files(files, alloc, keep, kept, svg, drawn, again, status, errors)
+            run_texts(files, alloc, run, texts, out, errors)
         }
         Plan::Dap => {
             let (out, errors) = (&mut streams.out, &mut streams.errors);
