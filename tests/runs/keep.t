@@ -109,5 +109,24 @@ After a refused source or deck the file is as it was; a name is asked for. A das
   OLD
   $ mixrev run print.mixal --keep /dev/stdout </dev/null
   PRINT
+
+On standard output it comes after what is printed. If that is a file, nothing of it is lost, and what is written next comes after it.
+
+  $ printf '%%UNIT 20\nTAPE\n' >tape
+  $ { mixrev run print.mixal --devices tape --keep /dev/stdout </dev/null; echo AFTER; } >all
+  $ cat all
+  PRINT
+  %UNIT 20
+  TAPE
+  AFTER
+  $ mixrev run print.mixal --devices tape --keep /dev/stdout </dev/null >>all
+  $ sed -n '4,$p' all
+  AFTER
+  PRINT
+  %UNIT 20
+  TAPE
+  $ mixrev run print.mixal --svg /dev/stdout </dev/null >all
+  $ sed -n '1p' all
+  PRINT
   $ mixrev run disk.mixal --keep - </dev/null
   $ cmp disk ./-

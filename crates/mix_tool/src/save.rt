@@ -4,20 +4,24 @@ use mix_refused::Refused;
 use mix_run::{Reason, Unsaved};
 use std::alloc::Global;
 use std::fs::{self, File, OpenFile, OpenOptions};
-use std::io::{self, ErrorKind, Write};
+use std::io::{self, ErrorKind, Print, Write};
 use std::rt::Files;
 
 // How many names are tried for the file that is written first.
 const NAMES: u8 = 10;
 
 /// Saves a text in a file of this name. It is written to a new file in the same folder, which then takes the name; so a file that was there holds either
-/// what it held, or the whole text. Of a link the file is saved that it leads to. A device, and all that is under /dev and /proc, is written to as it is.
-pub(crate) fn save_file<F: Files>(
+/// what it held, or the whole text. Of a link the file is saved that it leads to. A device, and all that is under /dev and /proc, is written to as it is;
+/// on standard output the text comes after what was written.
+pub(crate) fn save_file<F: Files + Print>(
     files: &F,
     alloc: Global,
     name: &str,
     text: &[u8],
 ) -> Result<(), Refused<Unsaved>> {
+    if name == "/dev/stdout" {
+        return write_on(io::writer(files), text);
+    }
     if name.starts_with("/dev/") || name.starts_with("/proc/") {
         return write_over(files, name, text);
     }
@@ -32,6 +36,15 @@ pub(crate) fn save_file<F: Files>(
             }
         }
         Err(_) => write_new(files, name, text),
+    }
+}
+
+// A text is written to what is open.
+fn write_on<W: Write + Drop>(to: W, text: &[u8]) -> Result<(), Refused<Unsaved>> {
+    let mut to = to;
+    match to.write_all(text) {
+        Ok(()) => Ok(()),
+        Err(error) => Err(not_written(&error)),
     }
 }
 
@@ -68,10 +81,7 @@ fn not_written(error: &io::Error) -> Refused<Unsaved> {
 // A text is written to what has this name.
 fn write_over<F: Files>(files: &F, name: &str, text: &[u8]) -> Result<(), Refused<Unsaved>> {
     match fs::create(files, name) {
-        Ok(mut file) => match file.write_all(text) {
-            Ok(()) => Ok(()),
-            Err(error) => Err(not_written(&error)),
-        },
+        Ok(file) => write_on(file, text),
         Err(error) => Err(not_opened(&error)),
     }
 }

@@ -10,6 +10,7 @@ use mix_run::{Opener, Reason, Unread, Unsaved};
 use mix_stream::{Counted, read_up_to};
 use std::alloc::Global;
 use std::fs::{self, OpenFile};
+use std::io::Print;
 use std::rt::Files;
 
 /// The files of a system. What they hold is known only when they are read; what is written to them is not followed.
@@ -30,7 +31,7 @@ impl<'f, F: Files> SystemFiles<'f, F> {
     }
 }
 
-impl<F: Files> Opener for SystemFiles<'_, F> {
+impl<F: Files + Print> Opener for SystemFiles<'_, F> {
     type Reader = Counted<F::File>;
 
     ghost use Rattle.std.specs.Prelude.{None};
