@@ -10,44 +10,20 @@
 (require 'compile)
 
 (defun mixrev-in-mixal-mode ()
-  "Let `compile' check the source of this buffer, by columns that count tab stops."
+  "Let `compile' check the source of this buffer, by columns that count characters."
   (when buffer-file-name
     (setq-local compile-command (concat "mixrev check " (shell-quote-argument (file-name-nondirectory buffer-file-name)))))
-  (setq-local compilation-error-screen-columns t))
+  (setq-local compilation-error-screen-columns nil))
 (add-hook 'mixal-mode-hook #'mixrev-in-mixal-mode)
 
 (declare-function flycheck-define-command-checker "ext:flycheck")
-(declare-function flycheck-error-new-at "ext:flycheck")
 (defvar flycheck-checkers)
-
-(defun mixrev--character (buffer line column)
-  "The character of BUFFER in COLUMN of LINE, from 1; columns count tab stops."
-  (with-current-buffer buffer
-    (save-excursion
-      (save-restriction
-        (widen)
-        (goto-char (point-min))
-        (forward-line (1- line))
-        (let ((tab-width 8)) (move-to-column (1- column)))
-        (- (point) (line-beginning-position) -1)))))
-
-(defun mixrev--faults (output checker buffer)
-  "The faults and warnings of BUFFER in the OUTPUT of CHECKER, for Flycheck."
-  (let (found (start 0))
-    (while (string-match "^-:\\([0-9]+\\):\\(?:\\([0-9]+\\):\\)? \\(error\\|warning\\): \\(.*\\)" output start)
-      (setq start (match-end 0))
-      (let ((line (string-to-number (match-string 1 output)))
-            (column (match-string 2 output))
-            (level (intern (match-string 3 output)))
-            (text (match-string 4 output)))
-        (push (flycheck-error-new-at line (and column (mixrev--character buffer line (string-to-number column)))
-                                     level text :checker checker :buffer buffer)
-              found)))
-    (nreverse found)))
 
 (with-eval-after-load 'flycheck
   (flycheck-define-command-checker 'mixrev "The check of a MIXAL source by mixrev."
-    :command '("mixrev" "check" "-") :standard-input t :error-parser #'mixrev--faults :modes '(mixal-mode))
+    :command '("mixrev" "check" "-") :standard-input t :modes '(mixal-mode)
+    :error-patterns '((error line-start "-:" line ":" (optional column ":") " error: " (message) line-end)
+                      (warning line-start "-:" line ":" (optional column ":") " warning: " (message) line-end)))
   (add-to-list 'flycheck-checkers 'mixrev))
 
 (declare-function dap-register-debug-provider "ext:dap-mode")

@@ -5,5 +5,5 @@ endif
 let current_compiler = "mixrev"
 
 CompilerSet makeprg=mixrev\ check
-" The columns count tab stops. The lines between, of the source and of marks, are left out.
-CompilerSet errorformat=%f:%l:%v:\ %trror:\ %m,%f:%l:%v:\ %tarning:\ %m,%f:%l:\ %trror:\ %m,%-G%.%#
+" The columns count characters. The lines between, of the source and of marks, are left out.
+CompilerSet errorformat=%f:%l:%c:\ %trror:\ %m,%f:%l:%c:\ %tarning:\ %m,%f:%l:\ %trror:\ %m,%-G%.%#
