@@ -8,13 +8,6 @@ import { Source } from "./source.js";
 const PAGE = 15; // lines
 const PLACES = ["wrap", "gutter"]; // where a line has its class
 
-// The letter of a line at a column, which counts tab stops at each eighth.
-function letterAt(text, column) {
-  let [at, place] = [0, 1];
-  for (; at < text.length && place < column; at += 1) place += text[at] === "\t" ? 8 - ((place - 1) % 8) : 1;
-  return at;
-}
-
 export class Listing {
   constructor(/** @type {Store} */ store, grammar) {
     this.store = store;
@@ -208,7 +201,8 @@ export class Listing {
     const { cm } = this;
     for (const each of this.marks) each.clear();
     this.marks = found.filter(({ column }) => column).map(({ line, column, endColumn, isFault }) => {
-      const [from, to] = [column, endColumn].map((at) => ({ line: line - 1, ch: letterAt(this.lineText(line), at) }));
+      const letters = [...this.lineText(line)]; // some are two of those that the editor counts
+      const [from, to] = [column, endColumn].map((at) => ({ line: line - 1, ch: letters.slice(0, at - 1).join("").length }));
       return cm.markText(from, to, { className: isFault ? "fault-text" : "warned-text" });
     });
     this.bad = new Set(found.filter(({ isFault }) => isFault).map(({ line }) => line));

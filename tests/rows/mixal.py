@@ -23,11 +23,8 @@ def fault_or(program, source, line, otherwise):
 
 
 def column(text):
-    """The column after some bytes of a line, from 1: a tab goes on to the next eighth one, and a byte that goes on with a character has none."""
-    at = 0
-    for byte in text:
-        at += 8 - at % 8 if byte == 9 else not 0x80 <= byte < 0xc0
-    return at + 1
+    """The column after some bytes of a line, from 1: a byte that goes on with a character has none."""
+    return sum(not 0x80 <= byte < 0xc0 for byte in text) + 1
 
 
 def is_marked(text, found, begin, end):

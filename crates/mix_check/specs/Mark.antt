@@ -1,22 +1,15 @@
 -- How a line of a source is shown: the column of a byte, the line without control bytes, and a mark under some of its bytes.
-use Rattle.std.specs.Prelude.{ℕ, ◌+◌, ◌*◌, ◌/◌, ◌==◌, ◌&&◌, ◌||◌, nat_lt, nat_le, Bool, List, [], ◌∷◌, ◌++◌, take, drop, if◌then◌else◌}
+use Rattle.std.specs.Prelude.{ℕ, ◌+◌, ◌==◌, ◌&&◌, ◌||◌, nat_lt, nat_le, Bool, List, [], ◌∷◌, ◌++◌, take, drop, if◌then◌else◌}
+use Rattle.std.specs.List.{count_by}
 use Rattle.mixal_text.specs.declared.misread.Span.{Span}
 use Rattle.mixal_text.specs.Parts.{is_new}
 use Rattle.mix_check.specs.Place.{bytes_at}
 
 -- ---- columns
 
--- the place after a byte, by its own place, both counted from 0: a tab leads to the next multiple of eight, and a character has one place
-abbrev pub place_after : ℕ → ℕ → ℕ
-place_after place byte = if byte == 9 then (place / 8 + 1) * 8 else if is_new byte then place + 1 else place
-
-abbrev pub place_from : ℕ → List ℕ → ℕ
-place_from place [] = place
-place_from place (byte ∷ rest) = place_from (place_after place byte) rest
-
--- the column of what follows these bytes of a line, counted from 1
+-- the column of what follows these bytes of a line, counted from 1: a tab is one character as others are
 abbrev pub column_after : List ℕ → ℕ
-column_after bytes = place_from 0 bytes + 1
+column_after bytes = count_by is_new bytes + 1
 
 -- ---- the line
 

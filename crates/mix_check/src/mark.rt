@@ -1,41 +1,19 @@
 //! How a line of a source is shown: the column of a byte, the line without control bytes, and a mark under some of its bytes.
 
-ghost use Rattle.std.specs.Prelude.{◌≡◌, ◌<◌, ◌≤◌, ◌+◌, ◌^◌, ◌++◌, OnOk, drop, length};
+ghost use Rattle.std.specs.Prelude.{◌≡◌, ◌<◌, ◌^◌, ◌++◌, OnOk, drop, length};
 ghost use Rattle.mixal_text.specs.Parts.{is_new};
-ghost use Rattle.mix_check.specs.Mark.{column_after, is_control, mark_below, marked, place_after, shown, shown_byte, sign_below, signs_below};
+ghost use Rattle.mix_check.specs.Mark.{column_after, is_control, mark_below, marked, shown, shown_byte, sign_below, signs_below};
 
 use crate::checked::{before, bytes_at};
 use mixal_text::Span;
 use std::alloc::AllocError;
 
-/// The column of what follows some bytes of a line, counted from 1: with tab stops at each eighth column, and one column for each
-/// character.
+/// The column of what follows some bytes of a line, counted in characters from 1.
 pub(crate) fn column_after(bytes: &[u8]) -> u64
     requires { length bytes.now < 2 ^ 40 }
     ensures { result ≡ column_after bytes.now }
 {
-    let mut place = 0;
-    let mut rest = bytes;
-    while let [byte, after @ ..] = rest {
-        place = place_after(place, *byte);
-        rest = after;
-    }
-    place + 1
-}
-
-// The place after a byte, by its own place, both counted from 0.
-fn place_after(place: u64, byte: u8) -> u64
-    requires { place < 2 ^ 60 }
-    ensures is { result ≡ place_after place byte }
-    ensures near { result ≤ place + 8 }
-{
-    if byte == b'\t' {
-        (place / 8 + 1) * 8
-    } else if is_new(byte) {
-        place + 1
-    } else {
-        place
-    }
+    bytes.iter().filter(|byte| is_new(**byte)).count() as u64 + 1
 }
 
 // No byte that continues a character of several bytes in UTF-8.

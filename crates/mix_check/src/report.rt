@@ -16,8 +16,8 @@ use std::alloc::Global;
 
 /// Appends what there is to say of a source to a text, and says whether it has a fault: of each fault `FILE:LINE:COLUMN: error: A7
 /// undefined symbol`, of each warning `FILE:LINE:COLUMN: warning: X is defined nowhere: .. [undefined-symbol]`, the line, and a mark
-/// under what that is about (1.3.2). The columns are counted from 1, with tab stops at each eighth. A fault that is about no part of
-/// a line, as A13, has neither a column nor the line. Control characters of the source are shown as question marks.
+/// under what that is about (1.3.2). Columns count characters, from 1. A fault that is about no part of a line, as A13, has
+/// neither a column nor the line. Control characters of the source are shown as question marks.
 #[tactic(auto, unfolding(crate::specs::Report::report))]
 pub fn add_report(
     alloc: Global,

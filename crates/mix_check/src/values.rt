@@ -14,8 +14,8 @@ use mixal_text::Span;
 use std::alloc::{AllocError, Global};
 
 impl<'s> Checked<'s> {
-    /// The column of the first byte that a diagnostic is about, and that of what follows the last one, counted from 1 with tab stops
-    /// at each eighth; none where it is about no part of a line, as A13.
+    /// The column of the first byte that a diagnostic is about, and that of what follows the last one, counted in characters from 1;
+    /// none where it is about no part of a line, as A13.
     pub fn columns(&mut self, diagnostic: &Diagnostic) -> Option<(u64, u64)>
         ensures is { result ≡ option_map columns_of (shown_of self.old diagnostic.now) }
         ensures same { self.new ≡ self.old }
