@@ -36,10 +36,12 @@ WHOLE = [(b"Content-Length: 2\r\n\r\n{}", b""), (b"Content-Length: 2\r\n\r\n{}",
 # Beginnings of a frame: nothing is heard yet, and the input is cut; none at all is its end.
 PARTIAL = [b"", b"Content-Length: 2", b"Content-Length: 2\r\n", b"Content-Length: 2\r\n\r", b"Content-Length: 2\r\n\r\n", b"Content-Length: 2\r\n\r\n{"]
 
-# Frames that are no request, and what is said of each: no length, JSON that is broken off, and an
-# event.
-UNHEARD = [(b"hello\r\n\r\n", "a header without Content-Length"), (frame(b"{"), "a message that is not JSON"),
-           (frame(b'{"seq":1,"type":"event","event":"x"}'), "a message that is not a request")]
+# What is no request, and what is told of it: JSON that is broken off, bytes that are no text, an event, a request without a number, and a header without a
+# length.
+UNHEARD = [(frame(b"{"), "a message that is not JSON\\n"), (frame(b'"\xff"'), "a message that is not JSON\\n"),
+           (frame(b'{"seq":1,"type":"event","event":"x"}'), "a message that is not a request\\n"),
+           (frame(b'{"type":"request","command":"threads"}'), "a message that is not a request\\n"), (b"hello\r\n\r\n", "a header without Content-Length\\n")]
+UNCLEAR = '{"body":{"category":"important","output":"%s"},"event":"output","seq":%d,"type":"event"}'
 
 # A request by its name and its arguments, the location after it, and how many changes are done.
 LEADS = [("configurationDone", {}, 0, 0), ("stepBack", {}, 0, 0), ("next", {}, 1, 1), ("stepBack", {}, 0, 0), ("next", {}, 1, 1),
@@ -129,7 +131,9 @@ VIEWS = [
      '"body":{"breakpoints":[{"instructionReference":"0x000c","verified":true},{"message":"no such cell","verified":false}]}'),
     ("setDataBreakpoints", {"breakpoints": [{"dataId": "cell A"}, {"dataId": "B"}]},
      '"body":{"breakpoints":[{"verified":true},{"message":"no such part of the machine","verified":false}]}'),
-    ("setDataBreakpoints", {"breakpoints": []}, '"body":{"breakpoints":[]}'), ("setFunctionBreakpoints", {"breakpoints": [{"name": "A"}]}, '"body":{"breakpoints":[]}'),
+    ("setDataBreakpoints", {"breakpoints": []}, '"body":{"breakpoints":[]}'), ("setFunctionBreakpoints", {"breakpoints": []}, '"body":{"breakpoints":[]}'),
+    ("setFunctionBreakpoints", {"breakpoints": [{"name": "A"}, {"name": "B"}]},
+     '"body":{"breakpoints":[{"message":"no such function","verified":false},{"message":"no such function","verified":false}]}'),
     # refusals of commands, by number and text
     ("evaluate", {"expression": "stop", "context": "repl"}, '"format":"C1 no such command","id":201,'),
     ("evaluate", {"expression": "set A", "context": "repl"}, '"format":"C2 bad argument","id":202,'),
@@ -138,10 +142,22 @@ VIEWS = [
     ("setVariable", {"variablesReference": 1, "name": "cell", "value": "100 5"}, '"id":306'), ("setVariable", {"variablesReference": 1, "name": "loc", "value": "5"}, '"id":306'),
     ("setVariable", {"variablesReference": 2, "name": "A", "value": "5"}, '"id":306'), ("setVariable", {"variablesReference": 1000, "name": "0100", "value": "5"}, '"id":306'),
     ("setVariable", {"variablesReference": 3, "name": "16", "value": "5"}, '"id":306'), ("setVariable", {"variablesReference": 2, "name": "clock", "value": "5"}, '"id":202'),
+    # nor has one in more digits or in fewer, as a cell and a unit may be written elsewhere
+    ("setVariable", {"variablesReference": 1000, "name": "5", "value": "5"}, '"id":306'), ("setVariable", {"variablesReference": 1000, "name": "00005", "value": "5"}, '"id":306'),
+    ("dataBreakpointInfo", {"variablesReference": 1000, "name": "5"}, '"dataId":null'), ("dataBreakpointInfo", {"variablesReference": 1000, "name": "0005"}, '"dataId":"cell 0005"'),
+    ("dataBreakpointInfo", {"variablesReference": 3, "name": "016"}, '"dataId":null'), ("dataBreakpointInfo", {"variablesReference": 3, "name": "00"}, '"dataId":null'),
+    ("dataBreakpointInfo", {"variablesReference": 3, "name": "0"}, '"dataId":"unit 0"'),
     # the same by expressions: a part is set, and shown as it is then; a W-value, as a symbol is, a
     # unit, the clock, no value, and one that the machine refuses
     ("setExpression", {"expression": "cell A+1", "value": "7"}, '"body":{"value":"+ 00 00 00 00 07 = 7"}'), ("evaluate", {"expression": "cell 101"}, '"result":"+ 00 00 00 00 07 = 7"'),
-    ("setExpression", {"expression": "rI2", "value": "-3"}, '"body":{"value":"- 00 03 = -3"}'), ("setExpression", {"expression": "over", "value": "on"}, '"body":{"value":"on"}'),
+    ("setExpression", {"expression": " rI2\t", "value": "-3"}, '"body":{"value":"- 00 03 = -3"}'),
+    ("mix/writes", {"part": "I2"}, '"body":{"writes":[{"after":{"characters":" C","number":"-3","word":"- 00 03"},"before":{"characters":"  ","number":"0","word":"+ 00 00"},"number":5}]}'),
+    # blanks around a watch are no part of it, whatever it shows
+    *[("evaluate", {"expression": text}, '"result":"%s"' % shown) for text, shown in (
+        ("5 ", "+ 00 00 00 00 05 = 5"), (" A", "+ 00 00 00 01 36 = 100"), ("\trI2 ", "- 00 03 = -3"), (" I2 ", "- 00 03 = -3"), (" over ", "off"), ("clock ", "4"),
+        (" cell  A ", "+ 00 00 00 00 12 = 12"))],
+    ("evaluate", {"expression": "r I2"}, '"id":202'), ("evaluate", {"expression": "1 +1"}, '"id":202'), ("evaluate", {"expression": " "}, '"id":202'),
+    ("setExpression", {"expression": "over", "value": "on"}, '"body":{"value":"on"}'),
     ("setExpression", {"expression": "loc", "value": "1"}, '"body":{"value":"0001"}'), ("setExpression", {"expression": "A+1", "value": "7"}, '"id":306'),
     ("setExpression", {"expression": "A", "value": "7"}, '"id":306'), ("setExpression", {"expression": "a", "value": "7"}, '"id":306'),
     ("setExpression", {"expression": "unit 16", "value": "7"}, '"id":306'), ("setExpression", {"expression": "clock", "value": "7"}, '"id":202'),
@@ -197,6 +213,7 @@ FIRST_CELL, SECOND_CELL = '"address":"0x0000"', '"address":"0x0006"'
 # word is there.
 TWICE = " NOP\n NOP\n ORIG 0\n NOP\n END 0\n"
 STAYS = '"body":{"breakpoints":[{"line":2},{"line":4}]}'
+MOVED = '"body":{"breakpoints":[{"instructionReference":"0x0000","line":4,"verified":true},{"instructionReference":"0x0006","line":2,"verified":true}]}'
 
 # A line that is altered while it is printed, until 0 + 1 + 10: by changes 2 and 3; change 11 is
 # behind it.
@@ -277,10 +294,13 @@ def frames(command, count):
         count.same(f"{whole}, and {rest} behind it", texts(command, whole + rest)[1], [CUT, 2] if rest else GOOD)
     for partial in PARTIAL:
         count.same(f"{partial}", sent(command, partial), (b"", CUT, 2) if partial else (b"", *GOOD))
-    for whole, said in UNHEARD:
-        found, ended = texts(command, whole)
-        wanted = [{"seq": 1, "type": "event", "event": "output", "body": {"category": "important", "output": said + "\n"}}]
-        count.same(f"{whole} is no request", ([json.loads(text) for text in found], ended), (wanted, GOOD))
+    for given, text in UNHEARD:
+        count.same(f"{given} is no request", texts(command, given), ([UNCLEAR % (text, 1)], GOOD))
+    # the numbers go on, before a launch and after it
+    asked = [told(("initialize", {})), told(launch(HI)), told(DONE, ("next", {}))]
+    found, ended = texts(command, b"".join(given + each for (given, _), each in zip(UNHEARD, asked)))
+    count.same("numbers of messages", ([json.loads(text)["seq"] for text in found], ended), (list(range(1, len(found) + 1)), GOOD))
+    count.row("each is told in its turn", [text for text in found if "important" in text] == [UNCLEAR % (text, number) for (_, text), number in zip(UNHEARD, (1, 3, 6))], found)
 
 
 def messages(command, count):
@@ -339,9 +359,10 @@ def views(command, count):
 
 def locations(command, count):
     asked = ("breakpointLocations", {"line": 1, "endLine": 5})
-    found, _ = texts(command, told(asked, launch(TWICE), asked))
+    found, _ = texts(command, told(asked, launch(TWICE), asked, ("setBreakpoints", {"breakpoints": [{"line": 1}, {"line": 2}]})))
     count.row("no line before a launch", '"id":303' in found[0], found)
-    count.row(STAYS, any(STAYS in message for message in found), found)
+    for wanted in (STAYS, MOVED):
+        count.row(wanted, any(wanted in message for message in found), found)
 
 
 def wrong(command, count):

@@ -8,6 +8,7 @@ use Rattle.std.proofs.lemmas.List.{length-append, map-append, take-append-drop, 
 use Rattle.serde_json.specs.Data.{Data}
 use Rattle.dap_frame.specs.Frame.{frame_of}
 use Rattle.dap_message.specs.Message.{IsTextOf}
+use Rattle.dap_stream.specs.Asked.{Frame}
 use Rattle.dap_stream.specs.BrokenOff.{Begins, BrokenOff, SendsFront}
 use Rattle.dap_stream.specs.Heard.{Hears}
 use Rattle.dap_stream.specs.Sent.{SendsAll, frames_of}
@@ -69,9 +70,9 @@ pub ruleset fronts = (front-none, front-one)
 
 -- ---- one exchange
 
-module _ {S : Type 0} (step : Phase S → Option Data → List Data → Phase S → Type 0) where
+module _ {S : Type 0} (step : Phase S → Frame → List Data → Phase S → Type 0) where
   -- the first exchange is broken off
-  pub broken-one : (s : S) (frame : Option Data) (messages : List Data) (old new told now : Option (List ℕ)) → Hears old (frame ∷ []) new
+  pub broken-one : (s : S) (frame : Frame) (messages : List Data) (old new told now : Option (List ℕ)) → Hears old (frame ∷ []) new
       → Begins step s frame messages → SendsFront messages told now → BrokenOff step s old new told now
   broken-one s frame messages old new told now hears begins sends = record {
     state = s;
@@ -87,7 +88,7 @@ module _ {S : Type 0} (step : Phase S → Option Data → List Data → Phase S 
   }
 
   -- before anything is sent
-  pub broken-unsent : (s : S) (frame : Option Data) (old new told : Option (List ℕ)) → Hears old (frame ∷ []) new → BrokenOff step s old new told told
+  pub broken-unsent : (s : S) (frame : Frame) (old new told : Option (List ℕ)) → Hears old (frame ∷ []) new → BrokenOff step s old new told told
   broken-unsent s frame old new told hears = broken-one s frame [] old new told told hears (inl refl) (front-none [] told)
 
   -- after a part of a talk

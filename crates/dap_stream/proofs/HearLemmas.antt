@@ -1,6 +1,6 @@
 -- What is heard of the bytes that were read is heard of all bytes.
 use Rattle.std.proofs.Common.{◌≡◌, ℕ, Bool, true, false, cond, Option, None, Some, Result, Ok, Err, List, [], ◌∷◌, ◌++◌, refl, sym, ap, subst, ◌∙◌, append_assoc, append-nil}
-use Rattle.std.specs.Prelude.{option_and_then, is_some, IsUtf8}
+use Rattle.std.specs.Prelude.{is_some, IsUtf8}
 use Rattle.std.specs.Str.{is_utf8}
 use Rattle.std.specs.Io.KnownBytes.{Consumes, IsAtEnd, Keeps, prepend_known}
 use Rattle.std.proofs.KnownBytes.{Keeps-refl, Keeps-trans}
@@ -17,7 +17,7 @@ use Rattle.dap_message.specs.Reads.{ReadsAs, Says}
 use Rattle.dap_message.specs.declared.request.MessageFault.{MessageFault}
 use Rattle.dap_message.specs.declared.request.MessageFault.TheVariants.{NotJson, NotRequest}
 use Rattle.dap_message.specs.declared.request.Request.{Request}
-use Rattle.dap_stream.specs.Asked.{IsRequest, if_request, message_in, request_in}
+use Rattle.dap_stream.specs.Asked.{Frame, IsRequest, frame_in, frame_with, message_in}
 use Rattle.dap_stream.specs.Heard.{BeginsWith, Hears}
 use Rattle.dap_stream.specs.Hearing.{HearsAs, IsOver, IsNotOver, OnlyBegins}
 use Rattle.dap_stream.specs.declared.broken.Broken.{Broken}
@@ -32,38 +32,32 @@ says body message is = rw (is_utf8-from_IsUtf8 body is.0) is.1
 
 -- what is read as a request is the request that the body is
 pub body-request : (body : List ℕ) (request : Request) → Says body (view request.message) × (request_seq (view request.message) ≡ Some request.seq)
-    → (message : Data) × IsRequest request message × (Some message ≡ request_in body)
+    → (message : Data) × IsRequest request message × (Ok message ≡ frame_in body)
 body-request body request is =
     let message = view request.message in
-    let there : if_request message ≡ Some message = ap (λ (s : Option ℕ). cond (is_some s) (Some message) None) is.1 in
-    (message, (refl, is.1), sym (ap (option_and_then if_request) (says body message is.0) ∙ there))
+    let there : frame_with (Some message) ≡ Ok message = ap (λ (s : Option ℕ). cond (is_some s) (Ok message) (Err (Some NotRequest))) is.1 in
+    (message, (refl, is.1), sym (ap frame_with (says body message is.0) ∙ there))
 
 not-json : (body : List ℕ) (b : Bool) → is_utf8 body ≡ b → (IsUtf8 body → read body ≡ None) → cond b (read body) None ≡ None
 not-json body true is none = none (IsUtf8-from_is_utf8 body is)
 not-json body false is none = refl
 
-pub body-no_json : (body : List ℕ) → (IsUtf8 body → read body ≡ None) → None ≡ request_in body
-body-no_json body none = sym (ap (option_and_then if_request) (not-json body (is_utf8 body) refl none))
-
-pub body-no_request : (body : List ℕ) → ((message : Data) × Says body message × (request_seq message ≡ None)) → None ≡ request_in body
-body-no_request body is =
-    let there : if_request is.0 ≡ None = ap (λ (s : Option ℕ). cond (is_some s) (Some is.0) None) is.2 in
-    sym (ap (option_and_then if_request) (says body is.0 is.1) ∙ there)
-
-pub body-fault : (body : List ℕ) (fault : MessageFault) → ReadsAs body (Err (refused.Fault fault)) → None ≡ request_in body
-body-fault body NotJson is = body-no_json body is
-body-fault body NotRequest is = body-no_request body is
+pub body-fault : (body : List ℕ) (fault : MessageFault) → ReadsAs body (Err (refused.Fault fault)) → Err (Some fault) ≡ frame_in body
+body-fault body NotJson is = sym (ap frame_with (not-json body (is_utf8 body) refl is))
+body-fault body NotRequest is =
+    let there : frame_with (Some is.0) ≡ Err (Some NotRequest) = ap (λ (s : Option ℕ). cond (is_some s) (Ok is.0) (Err (Some NotRequest))) is.2 in
+    sym (ap frame_with (says body is.0 is.1) ∙ there)
 
 pub ruleset bodies = (body-request, body-fault)
 
 -- ---- the bytes that were read, and those that follow
 
-known-first : (text rest more : List ℕ) (frame : Option Data) (next : First) → next ≡ first_frame (text ++ more) → BeginsWith next frame (rest ++ more)
+known-first : (text rest more : List ℕ) (frame : Frame) (next : First) → next ≡ first_frame (text ++ more) → BeginsWith next frame (rest ++ more)
     → Hears (Some (text ++ more)) (frame ∷ []) (Some (rest ++ more))
 known-first text rest more frame next e is = (rest ++ more, subst (λ n. BeginsWith n frame (rest ++ more)) e is, refl)
 
 -- a whole frame is heard
-pub hears-body : (text body rest : List ℕ) (frame : Option Data) → first_frame text ≡ whole body rest → frame ≡ request_in body
+pub hears-body : (text body rest : List ℕ) (frame : Frame) → first_frame text ≡ whole body rest → frame ≡ frame_in body
     → (more : Option (List ℕ)) → Hears (prepend_known text more) (frame ∷ []) (prepend_known rest more)
 hears-body text body rest frame is same None = tt
 hears-body text body rest frame is same (Some more) =
@@ -71,11 +65,11 @@ hears-body text body rest frame is same (Some more) =
     known-first text rest more frame (whole body (rest ++ more)) (sym next) (same, refl)
 
 pub hears-no_length : (text rest : List ℕ) → first_frame text ≡ without_length rest
-    → (more : Option (List ℕ)) → Hears (prepend_known text more) (None ∷ []) (prepend_known rest more)
+    → (more : Option (List ℕ)) → Hears (prepend_known text more) (Err None ∷ []) (prepend_known rest more)
 hears-no_length text rest is None = tt
 hears-no_length text rest is (Some more) =
     let next = subst (λ f. Longer f more (first_frame (text ++ more))) is (longer text more) in
-    known-first text rest more None (without_length (rest ++ more)) (sym next) (refl, refl)
+    known-first text rest more (Err None) (without_length (rest ++ more)) (sym next) (refl, refl)
 
 pub hears-too_long : (text : List ℕ) → first_frame text ≡ too_long → (more : Option (List ℕ)) → OnlyBegins too_long (prepend_known text more)
 hears-too_long text is None = tt
@@ -89,7 +83,7 @@ read-keeps bytes part None new is = tt
 read-keeps bytes part (Some all) None is = absurd is
 read-keeps bytes part (Some all) (Some left) is = append_assoc bytes part left ∙ ap (λ l. bytes ++ l) (sym is)
 
-hears-kept : (a b c : Option (List ℕ)) (frames : List (Option Data)) → Keeps a b → Hears b frames c → Hears a frames c
+hears-kept : (a b c : Option (List ℕ)) (frames : List Frame) → Keeps a b → Hears b frames c → Hears a frames c
 hears-kept None b c frames same is = tt
 hears-kept (Some text) None c frames same is = absurd same
 hears-kept (Some text) (Some same_text) None frames same is = is

@@ -1,15 +1,13 @@
 -- What is sent for a frame, and a talk made of such exchanges.
-use Rattle.std.proofs.Common.{◌≡◌, inl, inr, ℕ, ◌+◌, ◌-◌, ◌≤◌, ◌^◌, Option, None, Some, Result, Ok, Err, List, [], ◌∷◌, ◌++◌, refl, sym, ap, subst, ◌∙◌, arith}
-use Rattle.std.specs.Prelude.{codes, OnOk}
+use Rattle.std.proofs.Common.{inl, inr, ℕ, ◌+◌, ◌-◌, ◌≤◌, ◌^◌, Option, None, Some, Ok, Err, List, refl, sym, subst, arith}
 use Rattle.serde_json.specs.Data.{Data}
-use Rattle.dap_message.specs.Message.{Adds, output_message, waits}
-use Rattle.dap_message.specs.declared.outbox.Outbox.{Outbox}
 use Rattle.dap_message.specs.declared.request.Request.{Request}
+use Rattle.dap_stream.specs.Asked.{Frame}
 use Rattle.dap_stream.specs.Broken.{IsMemoryOrWrite}
 use Rattle.dap_stream.specs.BrokenOff.{BrokenOff, SendsFront}
 use Rattle.dap_stream.specs.Hearing.{HearsAs}
 use Rattle.dap_stream.specs.Sent.{SendsAll}
-use Rattle.dap_stream.specs.Serving.{IsUnclear, Phase, going, over, Steps, Takes}
+use Rattle.dap_stream.specs.Serving.{Phase, going, over, Steps, Takes}
 use Rattle.dap_stream.specs.Talk.{Talks}
 use Rattle.dap_stream.specs.Talked.{Ended, IsEnd, Stuck, TakenAs, TalkedAs, TurnAs}
 use Rattle.dap_stream.specs.declared.broken.Broken.{Broken}
@@ -20,25 +18,16 @@ use Rattle.dap_stream.specs.declared.serves.Turn.TheVariants as turn
 use Rattle.dap_stream.proofs.BrokenLemmas.{broken-after, broken-one, broken-unsent}
 use Rattle.dap_stream.proofs.Talking.{talks-none, talks-one, talks-then}
 
-pub unclear-told : (old new : List Data) (seq : ℕ) (text : List ℕ) → old ≡ [] → new ≡ old ++ output_message seq (codes "important") text ∷ [] → IsUnclear new
-unclear-told old new seq text none told = record {
-  seq = seq;
-  text = text;
-  told = told ∙ ap (λ l. l ++ output_message seq (codes "important") text ∷ []) none;
-}
-
-pub on-unclear : {T E : Type 0} (result : Result T E) (old new : Outbox) (text : List ℕ) → waits old ≡ []
-    → OnOk result (Adds old new (λ seq. output_message seq (codes "important") text)) → OnOk result (IsUnclear (waits new))
-on-unclear (Ok done) old new text none told = unclear-told (waits old) (waits new) _ text none told.0
-on-unclear (Err why) old new text none told = tt
-
 -- ---- one exchange
 
-module _ {S : Type 0} (serves : S → Request → List Data → Turn → S → Type 0) where
-  abbrev step : Phase S → Option Data → List Data → Phase S → Type 0
+module _ {B : Type 0} (serves : B × ℕ → Request → List Data → Turn → B × ℕ → Type 0) where
+  abbrev S : Type 0
+  S = B × ℕ
+
+  abbrev step : Phase S → Frame → List Data → Phase S → Type 0
   step = Steps serves
 
-  stepped : (next : Turn) (s t : S) (frame : Option Data) (told : List Data) → Takes serves s frame told next t → (to : Phase S) × step (going s) frame told to
+  stepped : (next : Turn) (s t : S) (frame : Frame) (told : List Data) → Takes serves s frame told next t → (to : Phase S) × step (going s) frame told to
   stepped turn.On s t frame told is = (going t, is)
   stepped turn.Over s t frame told is = (over t, is)
 

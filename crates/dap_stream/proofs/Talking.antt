@@ -2,6 +2,7 @@
 use Rattle.std.proofs.Common.{◌≡◌, ℕ, ◌+◌, Option, None, Some, List, [], ◌∷◌, ◌++◌, length, refl, sym, ap, subst, ◌∙◌, append_assoc, append-nil}
 use Rattle.std.proofs.lemmas.List.{length-append}
 use Rattle.serde_json.specs.Data.{Data}
+use Rattle.dap_stream.specs.Asked.{Frame}
 use Rattle.dap_stream.specs.Heard.{Hears, Holds}
 use Rattle.dap_stream.specs.Sent.{SendsAll}
 use Rattle.dap_stream.specs.Talk.{Exchange, Leads, Talks, Trades, frames, messages}
@@ -9,11 +10,11 @@ use Rattle.dap_stream.proofs.SendLemmas.{sends-none, sends-then}
 
 -- ---- what was heard
 
-holds-then : (text mid left : List ℕ) (xs ys : List (Option Data)) → Holds text xs mid → Holds mid ys left → Holds text (xs ++ ys) left
+holds-then : (text mid left : List ℕ) (xs ys : List Frame) → Holds text xs mid → Holds mid ys left → Holds text (xs ++ ys) left
 holds-then text mid left [] ys p q = subst (λ t. Holds t ys left) p q
 holds-then text mid left (x ∷ xs) ys p q = (p.0, p.1, holds-then p.0 mid left xs ys p.2 q)
 
-hears-then : (a b c : Option (List ℕ)) (xs ys : List (Option Data)) → Hears a xs b → Hears b ys c → Hears a (xs ++ ys) c
+hears-then : (a b c : Option (List ℕ)) (xs ys : List Frame) → Hears a xs b → Hears b ys c → Hears a (xs ++ ys) c
 hears-then None b c xs ys p q = tt
 hears-then (Some text) None c xs ys p q = absurd p
 hears-then (Some text) (Some mid) None xs ys p q = absurd q
@@ -33,13 +34,13 @@ messages-append : (xs ys : List Exchange) → messages (xs ++ ys) ≡ messages x
 messages-append [] ys = refl
 messages-append (x ∷ xs) ys = ap (λ l. x.told ++ l) (messages-append xs ys) ∙ sym (append_assoc x.told (messages xs) (messages ys))
 
-leads-then : {S : Type 0} (step : S → Option Data → List Data → S → Type 0) (s m t : S) (xs ys : List Exchange) → Leads step s xs m → Leads step m ys t
+leads-then : {S : Type 0} (step : S → Frame → List Data → S → Type 0) (s m t : S) (xs ys : List Exchange) → Leads step s xs m → Leads step m ys t
     → Leads step s (xs ++ ys) t
 leads-then step s m t [] ys p q = subst (λ v. Leads step v ys t) p q
 leads-then step s m t (x ∷ xs) ys p q = (p.0, p.1, leads-then step p.0 m t xs ys p.2 q)
 
 -- nothing is heard and nothing is sent
-pub talks-none : {S : Type 0} (step : S → Option Data → List Data → S → Type 0) (s : S) (old told : Option (List ℕ)) → Talks step s s 0 old old told told
+pub talks-none : {S : Type 0} (step : S → Frame → List Data → S → Type 0) (s : S) (old told : Option (List ℕ)) → Talks step s s 0 old old told told
 talks-none step s old told = record {
   exchanges = [];
   counts = refl;
@@ -49,7 +50,7 @@ talks-none step s old told = record {
 }
 
 -- one exchange
-pub talks-one : {S : Type 0} (step : S → Option Data → List Data → S → Type 0) (s t : S) (frame : Option Data) (old new told now : Option (List ℕ))
+pub talks-one : {S : Type 0} (step : S → Frame → List Data → S → Type 0) (s t : S) (frame : Frame) (old new told now : Option (List ℕ))
     → Hears old (frame ∷ []) new → Trades step s frame t told now → Talks step s t 1 old new told now
 talks-one step s t frame old new told now hears trades = record {
   exchanges = record { frame = frame; told = trades.0 } ∷ [];
@@ -60,7 +61,7 @@ talks-one step s t frame old new told now hears trades = record {
 }
 
 -- a part, and then another
-pub talks-then : {S : Type 0} (step : S → Option Data → List Data → S → Type 0) (s m t : S) (first then : ℕ) (a b c told mid now : Option (List ℕ))
+pub talks-then : {S : Type 0} (step : S → Frame → List Data → S → Type 0) (s m t : S) (first then : ℕ) (a b c told mid now : Option (List ℕ))
     → Talks step s m first a b told mid → Talks step m t then b c mid now → Talks step s t (first + then) a c told now
 talks-then step s m t first then a b c told mid now p q = record {
   exchanges = p.exchanges ++ q.exchanges;

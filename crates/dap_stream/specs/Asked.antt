@@ -1,23 +1,29 @@
--- What a client asks for: the request that a body is.
-use Rattle.std.specs.Prelude.{◌≡◌, ℕ, List, Option, None, Some, is_some, option_and_then, if◌then◌else◌}
+-- A frame as it is heard: the request that its body is, or why it is none.
+use Rattle.std.specs.Prelude.{◌≡◌, ℕ, List, Option, None, Some, is_some, Result, Ok, Err, if◌then◌else◌}
 use Rattle.std.specs.Str.{is_utf8}
 use Rattle.serde_json.specs.Data.{Data}
 use Rattle.serde_json.specs.Read.{read}
 use Rattle.serde_json.specs.View.{view}
 use Rattle.dap_message.specs.Members.{request_seq}
+use Rattle.dap_message.specs.declared.request.MessageFault.{MessageFault}
+use Rattle.dap_message.specs.declared.request.MessageFault.TheVariants.{NotJson, NotRequest}
 use Rattle.dap_message.specs.declared.request.Request.{Request}
+
+-- the message of a request, or the fault of its body; none where its header gives no length of a body
+abbrev pub Frame : Type 0
+Frame = Result Data (Option MessageFault)
 
 -- the message that a body is: its JSON, where it is UTF-8
 abbrev pub message_in : List ℕ → Option Data
 message_in body = if is_utf8 body then read body else None
 
--- a message, if it is a request
-abbrev pub if_request : Data → Option Data
-if_request message = if is_some (request_seq message) then Some message else None
+abbrev pub frame_with : Option Data → Frame
+frame_with None = Err (Some NotJson)
+frame_with (Some message) = if is_some (request_seq message) then Ok message else Err (Some NotRequest)
 
--- the message of the request that a body is
-abbrev pub request_in : List ℕ → Option Data
-request_in body = option_and_then if_request (message_in body)
+-- the frame of a body
+abbrev pub frame_in : List ℕ → Frame
+frame_in body = frame_with (message_in body)
 
 -- the request that a message is, as the program has it: with its number
 abbrev pub IsRequest : Request → Data → Type 0

@@ -2,6 +2,7 @@
 use Rattle.std.specs.Prelude.{◌≡◌, ◌⊎◌, ◌≤◌, ◌-◌, ◌^◌, ℕ, List, [], ◌∷◌, Option, None, Some, Result, Ok, Err}
 use Rattle.serde_json.specs.Data.{Data}
 use Rattle.dap_message.specs.declared.request.Request.{Request}
+use Rattle.dap_stream.specs.Asked.{Frame}
 use Rattle.dap_stream.specs.BrokenOff.{BrokenOff}
 use Rattle.dap_stream.specs.Heard.{Hears}
 use Rattle.dap_stream.specs.Hearing.{HearsAs}
@@ -24,7 +25,7 @@ state_in (over s) = s
 
 -- A talk was had to its end, from a state to another: its frames were heard, one after the other, and the messages of each exchange were sent, and nothing
 -- else.
-pub record Ended {S : Type 0} (step : Phase S → Option Data → List Data → Phase S → Type 0) (s t : S) (old new told now : Option (List ℕ)) : Type 0 where
+pub record Ended {S : Type 0} (step : Phase S → Frame → List Data → Phase S → Type 0) (s t : S) (old new told now : Option (List ℕ)) : Type 0 where
   pub phase : Phase S
   pub count : ℕ
   pub rest : Option (List ℕ)
@@ -33,7 +34,7 @@ pub record Ended {S : Type 0} (step : Phase S → Option Data → List Data → 
   pub end : IsEnd phase count rest new
 
 -- A talk was had up to where the bytes that are still to be heard break it off, or reading them does: all frames that were heard are answered.
-pub record Stuck {S : Type 0} (step : Phase S → Option Data → List Data → Phase S → Type 0) (why : Broken) (s : S) (old new told now : Option (List ℕ)) : Type 0 where
+pub record Stuck {S : Type 0} (step : Phase S → Frame → List Data → Phase S → Type 0) (why : Broken) (s : S) (old new told now : Option (List ℕ)) : Type 0 where
   pub state : S
   pub count : ℕ
   pub rest : Option (List ℕ)
@@ -42,8 +43,8 @@ pub record Stuck {S : Type 0} (step : Phase S → Option Data → List Data → 
 
 -- How it came to this result. Where a read fails, all frames that were heard are answered; where a write fails, all but the last one, and of what is told
 -- for that one a beginning is sent; where memory is refused, it is the one or the other.
-abbrev pub TalkedAs : {S : Type 0} → (S → Request → List Data → Turn → S → Type 0)
-    → Result Unit Broken → S → S → Option (List ℕ) → Option (List ℕ) → Option (List ℕ) → Option (List ℕ) → Type 0
+abbrev pub TalkedAs : {S : Type 0} → (S × ℕ → Request → List Data → Turn → S × ℕ → Type 0)
+    → Result Unit Broken → S × ℕ → S × ℕ → Option (List ℕ) → Option (List ℕ) → Option (List ℕ) → Option (List ℕ) → Type 0
 TalkedAs serves (Ok done) s t old new told now = Ended (Steps serves) s t old new told now
 TalkedAs serves (Err broken.Cut) s t old new told now = Stuck (Steps serves) broken.Cut s old new told now
 TalkedAs serves (Err broken.TooLong) s t old new told now = Stuck (Steps serves) broken.TooLong s old new told now
@@ -53,15 +54,15 @@ TalkedAs serves (Err broken.Memory) s t old new told now =
     Stuck (Steps serves) broken.Memory s old new told now ⊎ BrokenOff (Steps serves) s old new told now
 
 -- the same of one frame: it is one exchange, after which the talk goes on, or the end
-abbrev pub TurnAs : {S : Type 0} → (S → Request → List Data → Turn → S → Type 0)
-    → Result Turn Broken → S → S → Option (List ℕ) → Option (List ℕ) → Option (List ℕ) → Option (List ℕ) → Type 0
+abbrev pub TurnAs : {S : Type 0} → (S × ℕ → Request → List Data → Turn → S × ℕ → Type 0)
+    → Result Turn Broken → S × ℕ → S × ℕ → Option (List ℕ) → Option (List ℕ) → Option (List ℕ) → Option (List ℕ) → Type 0
 TurnAs serves (Ok turn.On) s t old new told now = Talks (Steps serves) (going s) (going t) 1 old new told now
 TurnAs serves (Ok turn.Over) s t old new told now = TalkedAs serves (Ok tt) s t old new told now
 TurnAs serves (Err why) s t old new told now = TalkedAs serves (Err why) s t old new told now
 
 -- What waits to be sent for the next frame: its answer. At the end there is no frame; what breaks it off is not heard, or memory is refused for its answer.
-abbrev pub TakenAs : {S : Type 0} → (S → Request → List Data → Turn → S → Type 0)
-    → Result (Option Turn) Broken → S → S → Option (List ℕ) → Option (List ℕ) → List Data → Type 0
+abbrev pub TakenAs : {S : Type 0} → (S × ℕ → Request → List Data → Turn → S × ℕ → Type 0)
+    → Result (Option Turn) Broken → S × ℕ → S × ℕ → Option (List ℕ) → Option (List ℕ) → List Data → Type 0
 TakenAs serves (Ok None) s t old new waits = HearsAs (Ok heard.End) old new × (t ≡ s)
-TakenAs serves (Ok (Some next)) s t old new waits = (frame : Option Data) × Hears old (frame ∷ []) new × Takes serves s frame waits next t
-TakenAs serves (Err why) s t old new waits = HearsAs (Err why) old new ⊎ ((why ≡ broken.Memory) × (frame : Option Data) × Hears old (frame ∷ []) new)
+TakenAs serves (Ok (Some next)) s t old new waits = (frame : Frame) × Hears old (frame ∷ []) new × Takes serves s frame waits next t
+TakenAs serves (Err why) s t old new waits = HearsAs (Err why) old new ⊎ ((why ≡ broken.Memory) × (frame : Frame) × Hears old (frame ∷ []) new)

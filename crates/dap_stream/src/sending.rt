@@ -16,11 +16,12 @@ use mix_stream::{Out, write_all};
 use serde_json::Value;
 use std::alloc::Global;
 
-/// Sends all messages that wait, one after the other, and then none waits. Where memory is refused or a write fails, some may be sent, and all wait.
+/// Sends all messages that wait, one after the other, and then none waits; the numbers go on after theirs. Where memory is refused or a write fails, some may be sent, and all wait.
 pub fn send<W: Out>(alloc: Global, outbox: &mut Outbox, out: &mut W) -> Result<(), Broken>
     requires { W.failed out.old < 2 ^ 64 - 1 }
     ensures sent { OnOk result (SendsAll (waits outbox.old) (W.told out.old) (W.told out.new)) }
     ensures none { OnOk result (waits outbox.new ≡ []) }
+    ensures seq { outbox.new.seq ≡ outbox.old.seq }
     ensures begun { OnErr result (SendsFront (waits outbox.old) (W.told out.old) (W.told out.new)) }
     ensures failed { CountsFailure (result ≡ Err broken.Write) (W.failed out.old) (W.failed out.new) }
     ensures only { IfErr result IsMemoryOrWrite }

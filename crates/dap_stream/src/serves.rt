@@ -1,6 +1,6 @@
 //! What answers a client, request by request.
 
-ghost use Rattle.std.specs.Prelude.{◌≡◌, List, [], IfOk};
+ghost use Rattle.std.specs.Prelude.{◌≡◌, ℕ, List, [], IfOk};
 ghost use Rattle.serde_json.specs.Data.{Data};
 ghost use Rattle.dap_message.specs.Message.{waits};
 
@@ -21,11 +21,11 @@ pub trait Serves {
     ghost use Rattle.dap_message.specs.declared.request.Request.{Request};
     ghost use Rattle.dap_stream.specs.declared.serves.Turn.{Turn};
 
-    // These messages answer a request, and so the talk goes on.
-    ghost serves: { Self → Request → List Data → Turn → Self → Type 0 };
+    // These messages answer a request, after one of this number, and so the talk goes on; the last of them has the number at the end.
+    ghost serves: { Self × ℕ → Request → List Data → Turn → Self × ℕ → Type 0 };
 
     /// Answers a request.
     fn serve(&mut self, request: &Request, outbox: &mut Outbox) -> Result<Turn, Memory>
         requires { waits outbox.old ≡ [] }
-        ensures { IfOk result (λ turn. serves self.old request.now (waits outbox.new) turn self.new) };
+        ensures { IfOk result (λ turn. serves (self.old, outbox.old.seq) request.now (waits outbox.new) turn (self.new, outbox.new.seq)) };
 }

@@ -2,10 +2,10 @@
 
 ghost use Rattle.std.specs.Prelude.{◌≡◌, ◌<◌, ◌-◌, ◌^◌, [], Ok, Err, OnOk};
 ghost use Rattle.mix_stream.specs.Stream.{CountsFailure};
-ghost use Rattle.dap_message.specs.Message.{waits};
+ghost use Rattle.dap_message.specs.Message.{next_seq, waits};
 ghost use Rattle.dap_frame.specs.Frame.{first_frame, partial};
 ghost use Rattle.dap_stream.specs.Hearing.{kept, unheard};
-ghost use Rattle.dap_stream.specs.Serving.{IsUnclear};
+ghost use Rattle.dap_stream.specs.Serving.{unclear_text, unclear_told};
 ghost use Rattle.dap_stream.specs.Talked.{TakenAs, TalkedAs, TurnAs};
 ghost use Rattle.dap_stream.specs.declared.broken.Broken.TheVariants as broken;
 ghost use Rattle.dap_stream.specs.declared.serves.Turn.TheVariants as turn;
@@ -30,10 +30,11 @@ pub struct Talk {
 }
 
 impl Talk {
-    /// Nothing is read yet, and no message waits.
+    /// Nothing is read yet, and no message waits; the first one will have the number 1.
     pub fn new(alloc: Global) -> Talk
         ensures ear { kept result.ear ≡ [] }
         ensures outbox { waits result.outbox ≡ [] }
+        ensures seq { result.outbox.seq ≡ 0 }
     {
         Talk {
             alloc,
@@ -53,7 +54,7 @@ impl Talk {
         requires none { waits self.old.outbox ≡ [] }
         requires read { R.failed input.old < 2 ^ 64 - 1 }
         requires written { W.failed out.old < 2 ^ 64 - 1 }
-        ensures talked { TalkedAs S.serves result served.old served.new
+        ensures talked { TalkedAs S.serves result (served.old, self.old.outbox.seq) (served.new, self.new.outbox.seq)
             (unheard self.old.ear (R.rest input.old)) (unheard self.new.ear (R.rest input.new)) (W.told out.old) (W.told out.new) }
         ensures read { CountsFailure (result ≡ Err broken.Read) (R.failed input.old) (R.failed input.new) }
         ensures written { CountsFailure (result ≡ Err broken.Write) (W.failed out.old) (W.failed out.new) }
@@ -79,7 +80,7 @@ impl Talk {
         requires none { waits self.old.outbox ≡ [] }
         requires read { R.failed input.old < 2 ^ 64 - 1 }
         requires written { W.failed out.old < 2 ^ 64 - 1 }
-        ensures talked { TurnAs S.serves result served.old served.new
+        ensures talked { TurnAs S.serves result (served.old, self.old.outbox.seq) (served.new, self.new.outbox.seq)
             (unheard self.old.ear (R.rest input.old)) (unheard self.new.ear (R.rest input.new)) (W.told out.old) (W.told out.new) }
         ensures none { result ≡ Ok turn.On → waits self.new.outbox ≡ [] }
         ensures read { CountsFailure (result ≡ Err broken.Read) (R.failed input.old) (R.failed input.new) }
@@ -103,7 +104,7 @@ impl Talk {
     ) -> Result<Option<Turn>, Broken>
         requires none { waits self.old.outbox ≡ [] }
         requires read { R.failed input.old < 2 ^ 64 - 1 }
-        ensures taken { TakenAs S.serves result served.old served.new
+        ensures taken { TakenAs S.serves result (served.old, self.old.outbox.seq) (served.new, self.new.outbox.seq)
             (unheard self.old.ear (R.rest input.old)) (unheard self.new.ear (R.rest input.new)) (waits self.new.outbox) }
         ensures read { CountsFailure (result ≡ Err broken.Read) (R.failed input.old) (R.failed input.new) }
         ensures written { result ≡ Err broken.Write → ⊥ }
@@ -126,13 +127,18 @@ impl Talk {
 // A frame that is no request is told as that.
 fn tell_unclear(outbox: &mut Outbox, fault: Option<MessageFault>) -> Result<(), Memory>
     requires { waits outbox.old ≡ [] }
-    ensures { OnOk result (IsUnclear (waits outbox.new)) }
+    ensures told { OnOk result (waits outbox.new ≡ unclear_told outbox.old.seq fault) }
+    ensures seq { OnOk result (outbox.new.seq ≡ next_seq outbox.old.seq) }
+{
+    outbox.output("important", unclear_text(fault))
+}
+
+fn unclear_text(fault: Option<MessageFault>) -> &'static str
+    ensures { result.now ≡ unclear_text fault }
 {
     match fault {
-        None => outbox.output("important", "a header without Content-Length\n"),
-        Some(MessageFault::NotJson) => outbox.output("important", "a message that is not JSON\n"),
-        Some(MessageFault::NotRequest) => {
-            outbox.output("important", "a message that is not a request\n")
-        }
+        None => "a header without Content-Length\n",
+        Some(MessageFault::NotJson) => "a message that is not JSON\n",
+        Some(MessageFault::NotRequest) => "a message that is not a request\n",
     }
 }

@@ -118,8 +118,8 @@ rows-all rows at all old new so_far none =
 
 -- ---- outboxes in which none waits
 
-pub sends-all : (adds : Outbox → Outbox → Type 0) (old new : Outbox) → waits old ≡ [] → adds old new → Sends (waits new) adds
-sends-all adds old new none is = record { old = old; new = new; none = none; all = refl; added = is }
+pub sends-all : (adds : Outbox → Outbox → Type 0) (old new : Outbox) → waits old ≡ [] → adds old new → Sends (waits new) old.seq new.seq adds
+sends-all adds old new none is = record { old = old; new = new; none = none; all = refl; follow = refl; lead = refl; added = is }
 
 -- ---- refusals
 

@@ -2,7 +2,7 @@
 -- or what refuses it.
 use Rattle.std.specs.Prelude.{ℕ, ◌==◌, List, [], ◌∷◌, codes, Bool, true, false, Option, None, Some, option_and_then, Result, Ok, Err, ok_or, nat_lt, if◌then◌else◌}
 use Rattle.std.specs.Option.{option_map, option_or}
-use Rattle.std.specs.Str.{bytes_eq}
+use Rattle.std.specs.Str.{bytes_eq, trim}
 use Rattle.mixal_text.specs.Steps.{◌>>=◌}
 use Rattle.mixal_text.specs.WValue.{w_value_of}
 use Rattle.mixal_text.specs.declared.misread.Misread.{Misread}
@@ -123,8 +123,12 @@ abbrev pub worth_by : Result WordValue Misread → Option Part → Option Worth
 worth_by (Ok word) meant = Some (worth.Word word)
 worth_by (Err fault) meant = option_map worth.Held meant
 
+abbrev pub worth_in : SessionState → List ℕ → Option Worth
+worth_in s text = worth_by (w_value_of (names_of s.program) (plus (world_of s.timeline).loc) text) (part_meant s text)
+
+-- blanks around it are no part of it
 abbrev pub worth_of : SessionState → List ℕ → Option Worth
-worth_of s text = worth_by (w_value_of (names_of s.program) (plus (world_of s.timeline).loc) text) (part_meant s text)
+worth_of s text = worth_in s (trim text)
 
 -- the part that holds what an expression is worth; the word of a W-value is in none
 abbrev pub holder_of : Option Worth → Option Part

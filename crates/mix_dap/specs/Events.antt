@@ -32,12 +32,14 @@ pub record AddsAnswer (message : ℕ → Data) (events : List Event) (old new : 
   pub told : waits new ≡ waits old ++ message (next_seq old.seq) ∷ event_messages (next_seq old.seq) events
   pub seq : new.seq ≡ last_seq (next_seq old.seq) events
 
--- these messages are those that come to an outbox in which none waits
-pub record Sends (messages : List Data) (adds : Outbox → Outbox → Type 0) : Type 0 where
+-- these messages are those that come to an outbox in which none waits: the last one before them has this number, and the last of them that one
+pub record Sends (messages : List Data) (before last : ℕ) (adds : Outbox → Outbox → Type 0) : Type 0 where
   pub old : Outbox
   pub new : Outbox
   pub none : waits old ≡ []
   pub all : waits new ≡ messages
+  pub follow : old.seq ≡ before
+  pub lead : new.seq ≡ last
   pub added : adds old new
 
 -- the program stopped, for this reason

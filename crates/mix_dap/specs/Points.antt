@@ -132,12 +132,12 @@ abbrev pub with_lines : SessionState → List ℕ → ℕ → Request → Points
 with_lines s name first r points =
     if is_source name r then record points { lines = filter_map (line_point s first) (asked_in r) } else points
 
-abbrev pub elsewhere : Data → Data
-elsewhere entry = unverified (codes "another source")
+abbrev pub none_told : List ℕ → Data → Data
+none_told why entry = unverified why
 
 abbrev pub lines_told : SessionState → List ℕ → ℕ → Request → Data
 lines_told s name first r =
-    if is_source name r then answer_by (λ entry. line_told first (line_asked s first entry)) (asked_in r) else answer_by elsewhere (asked_in r)
+    if is_source name r then answer_by (λ entry. line_told first (line_asked s first entry)) (asked_in r) else answer_by (none_told (codes "another source")) (asked_in r)
 
 -- ---- breakpoints of instructions: at the cell of a reference, with an offset in bytes
 
@@ -202,7 +202,12 @@ with_filters r points = record points { filters = filter_map filter_point (filte
 abbrev pub filters_told : Request → Data
 filters_told r = answer_by (λ entry. filter_told (filter_point entry)) (filters_in r)
 
--- ---- by what they are set on: those of a kind take the place of those that stand; on functions there are none
+-- ---- on functions there are none
+
+abbrev pub functions_told : Request → Data
+functions_told r = answer_by (none_told (codes "no such function")) (asked_in r)
+
+-- ---- by what they are set on: those of a kind take the place of those that stand
 
 abbrev pub points_after : Target → SessionState → List ℕ → ℕ → Request → PointsState → PointsState
 points_after target.Lines s name first r points = with_lines s name first r points
@@ -216,4 +221,4 @@ points_told target.Lines s name first r = lines_told s name first r
 points_told target.Instructions s name first r = instructions_told s r
 points_told target.Data s name first r = watched_told s r
 points_told target.Exceptions s name first r = filters_told r
-points_told target.Nothing s name first r = list_alone (codes "breakpoints") []
+points_told target.Nothing s name first r = functions_told r

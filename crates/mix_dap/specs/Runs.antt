@@ -47,10 +47,10 @@ end_of_leg way leg = end_of (effect_of_leg way leg).answer
 abbrev pub timeline_after : Way → Leg → Timeline
 timeline_after way leg = after (effect_of_leg way leg)
 
--- the breakpoints after it: if it has come to a cell of some, that is counted
+-- the breakpoints after it: if its last change has come to a cell of some, that is counted, whatever else that change has met
 abbrev pub counted_by : End → WorldState → PointsState → PointsState
-counted_by ends.Halt w points = points
-counted_by (ends.Until index) w points = points
+counted_by ends.Halt w points = with_arrivals w points
+counted_by (ends.Until index) w points = with_arrivals w points
 counted_by ends.Break w points = with_arrivals w points
 counted_by ends.Arrived w points = points
 counted_by ends.Limit w points = points

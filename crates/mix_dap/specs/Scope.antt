@@ -1,5 +1,5 @@
 -- The scopes of variables, by their references, and which part of the machine a variable of a scope is.
-use Rattle.std.specs.Prelude.{ℕ, ◌+◌, ◌-◌, ◌/◌, ◌==◌, ◌&&◌, List, codes, Option, None, Some, nat_lt, option_and_then, if◌then◌else◌}
+use Rattle.std.specs.Prelude.{ℕ, ◌+◌, ◌-◌, ◌/◌, ◌==◌, ◌&&◌, List, codes, length, Option, None, Some, nat_lt, option_and_then, if◌then◌else◌}
 use Rattle.std.specs.Option.{option_map}
 use Rattle.std.specs.Str.{bytes_eq}
 use Rattle.mix_lines.specs.Number.{decimal_number}
@@ -22,18 +22,19 @@ flag_named name =
     if bytes_eq name (codes "over") then Some part.Over else if bytes_eq name (codes "cmp") then Some part.Cmp else
     if bytes_eq name (codes "loc") then Some part.Loc else if bytes_eq name (codes "clock") then Some part.Clock else None
 
--- a cell of a page, by its number
-abbrev pub cell_of_page : ℕ → ℕ → Option Part
-cell_of_page page n = if nat_lt n 4000 && n / 100 == page then Some (part.Cell n) else None
+-- a cell of a page by its number, which its name gives in four digits
+abbrev pub cell_of_page : ℕ → List ℕ → ℕ → Option Part
+cell_of_page page name n = if length name == 4 && nat_lt n 4000 && n / 100 == page then Some (part.Cell n) else None
 
-abbrev pub unit_numbered : ℕ → Option Part
-unit_numbered n = if nat_lt n unit_count then Some (part.Unit n) else None
+-- a unit by its number, which its name gives in no more digits than it takes
+abbrev pub unit_named : List ℕ → ℕ → Option Part
+unit_named name n = if length name == (if nat_lt n 10 then 1 else 2) && nat_lt n unit_count then Some (part.Unit n) else None
 
--- the part of the machine that the variable of a scope with a name is
+-- the part of the machine that the variable of a scope is, by the name that the scope shows, and by no other
 unfoldable pub part_of : Scope → List ℕ → Option Part
 part_of scope.Registers name = option_map part.Register (register_named name)
 part_of scope.Flags name = flag_named name
-part_of scope.Units name = option_and_then unit_numbered (decimal_number name)
+part_of scope.Units name = option_and_then (unit_named name) (decimal_number name)
 part_of scope.Memory name = None
 part_of (scope.Unit n) name = None
-part_of (scope.Page page) name = option_and_then (cell_of_page page) (decimal_number name)
+part_of (scope.Page page) name = option_and_then (cell_of_page page name) (decimal_number name)

@@ -1,10 +1,10 @@
 -- How a client is served where its dialogue is.
-use Rattle.std.specs.Prelude.{◌≡◌, List, [], Bool, true, false}
+use Rattle.std.specs.Prelude.{◌≡◌, ℕ, List, [], Bool, true, false}
 use Rattle.serde_json.specs.Data.{Data}
 use Rattle.dap_message.specs.declared.request.Request.{Request}
 use Rattle.dap_stream.specs.declared.serves.Turn.{Turn}
 use Rattle.dap_stream.specs.declared.serves.Turn.TheVariants as turn
-use Rattle.mix_dap.specs.Dialogue.{BeforeSteps, Stage, debugs, done, waiting}
+use Rattle.mix_dap.specs.Dialogue.{BeforeSteps, Reached, Stage, debugs, done, waiting}
 use Rattle.mix_dap.specs.Served.{AdapterServes}
 use Rattle.mix_dap.specs.declared.adapter.Adapter.{Adapter}
 use Rattle.mix_dap.specs.declared.served.Holds.{Holds}
@@ -28,12 +28,12 @@ turn_at (debugs a) = turn.On
 turn_at done = turn.Over
 
 -- a request is answered; one of a client that is done is not
-abbrev pub StageAnswers : Stage → Request → List Data → Stage → Type 0
-StageAnswers (waiting client) request told next = BeforeSteps client request told next
-StageAnswers (debugs a) request told (waiting client) = ⊥
-StageAnswers (debugs a) request told (debugs b) = AdapterServes a request told turn.On b
-StageAnswers (debugs a) request told done = (b : Adapter) × AdapterServes a request told turn.Over b
-StageAnswers done request told next = (told ≡ []) × (next ≡ done)
+abbrev pub StageAnswers : Stage → ℕ → Request → List Data → Stage → ℕ → Type 0
+StageAnswers (waiting client) before request told next last = BeforeSteps client before request told next last
+StageAnswers (debugs a) before request told (waiting client) last = ⊥
+StageAnswers (debugs a) before request told (debugs b) last = AdapterServes (a, before) request told turn.On (b, last)
+StageAnswers (debugs a) before request told done last = (b : Adapter) × AdapterServes (a, before) request told turn.Over (b, last)
+StageAnswers done before request told next last = (told ≡ []) × (next ≡ done)
 
-abbrev pub StageServes : Stage → Request → List Data → Turn → Stage → Type 0
-StageServes stage request told next now = (next ≡ turn_at now) × StageAnswers stage request told now
+abbrev pub StageServes : Reached → Request → List Data → Turn → Reached → Type 0
+StageServes from request told next to = (next ≡ turn_at to.0) × StageAnswers from.0 from.1 request told to.0 to.1

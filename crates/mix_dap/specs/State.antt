@@ -3,11 +3,9 @@ use Rattle.std.specs.Prelude.{ℕ, ◌-◌, Bool, false, ◌&&◌, List, [], ◌
 use Rattle.serde_json.specs.Data.{Data, Members, array, boolean, string, number, unsigned, object, no_members, put}
 use Rattle.serde_json.specs.View.{items_of}
 use Rattle.mixal_text.specs.Steps.{◌>>=◌}
-use Rattle.mix_word.specs.Word.{WordValue}
-use Rattle.mix_word.specs.Instruction.{number_text, instruction_text}
+use Rattle.mix_word.specs.Instruction.{instruction_text}
 use Rattle.mix_word.specs.Register.{all_registers, name_of_register}
 use Rattle.mix_word.specs.declared.register.Reg.{Reg}
-use Rattle.mix_word.specs.declared.register.Reg.TheVariants as reg
 use Rattle.mix_machine.specs.Do.{is_halt_next}
 use Rattle.mix_machine.specs.World.{WorldState, register_of, cell_of}
 use Rattle.mix_machine.specs.declared.old.Change.{Change}
@@ -16,17 +14,14 @@ use Rattle.mix_session.specs.Change.{world_at}
 use Rattle.mix_session.specs.Client.{change_numbered}
 use Rattle.mix_session.specs.Counts.{is_step}
 use Rattle.mix_session.specs.Keyword.{indicator_name}
-use Rattle.mix_session.specs.Show.{value_text}
-use Rattle.mix_session.specs.ShowUnit.{letters_text}
 use Rattle.mix_session.specs.Session.{SessionState}
-use Rattle.mix_session.specs.ShowValue.{short_letters}
 use Rattle.mix_session.specs.Timeline.{Timeline, world_of}
 use Rattle.mix_session.specs.declared.altered.Altered.{Altered}
 use Rattle.dap_message.specs.Request.{flag_of}
 use Rattle.dap_message.specs.declared.request.Request.{Request}
 use Rattle.mix_dap.specs.Asked.{is_asked, ranges_asked}
 use Rattle.mix_dap.specs.List.{numbered}
-use Rattle.mix_dap.specs.View.{put_digits, put_texts, put_word, part_name}
+use Rattle.mix_dap.specs.View.{put_digits, put_register, put_word, part_name}
 use Rattle.mix_dap.specs.declared.fault.Fault.{Fault}
 
 -- the location, the clock, the toggle and the indicator
@@ -35,22 +30,8 @@ put_flags w members =
     put (codes "cmp") (string (indicator_name w.cmp)) (put (codes "over") (boolean w.over)
     (put_digits (codes "clock") w.clock (put (codes "location") (number (unsigned w.loc)) members)))
 
--- the characters of a register: five of rA and rX, two of the others
-abbrev pub letters_of : Reg → WordValue → List ℕ
-letters_of reg.A word = letters_text word
-letters_of reg.X word = letters_text word
-letters_of reg.I1 word = short_letters word
-letters_of reg.I2 word = short_letters word
-letters_of reg.I3 word = short_letters word
-letters_of reg.I4 word = short_letters word
-letters_of reg.I5 word = short_letters word
-letters_of reg.I6 word = short_letters word
-letters_of reg.J word = short_letters word
-
 abbrev pub register_shown : WorldState → Reg → Data
-register_shown w r =
-    let word = register_of w r in
-    object (put_texts (value_text r word) (number_text word) (letters_of r word) (put (codes "name") (string (name_of_register r)) no_members))
+register_shown w r = object (put_register r (register_of w r) (put (codes "name") (string (name_of_register r)) no_members))
 
 -- a cell, with its word as an instruction
 abbrev pub cell_shown : WorldState → ℕ → Data

@@ -2,10 +2,13 @@
 use Rattle.std.specs.Prelude.{ℕ, List, ◌++◌, codes, decimal}
 use Rattle.serde_json.specs.Data.{Data, Members, string, object, no_members, put}
 use Rattle.mix_word.specs.Word.{WordValue}
-use Rattle.mix_word.specs.Text.{word_text}
+use Rattle.mix_word.specs.Text.{short_text, word_text}
 use Rattle.mix_word.specs.Instruction.{number_text}
 use Rattle.mix_word.specs.Register.{name_of_register}
+use Rattle.mix_word.specs.declared.register.Reg.{Reg}
+use Rattle.mix_session.specs.Show.{by_width}
 use Rattle.mix_session.specs.ShowUnit.{letters_text}
+use Rattle.mix_session.specs.ShowValue.{short_letters}
 use Rattle.mix_session.specs.declared.altered.Altered.{Altered}
 use Rattle.mix_session.specs.declared.altered.Altered.TheVariants as part
 
@@ -24,6 +27,14 @@ put_word word members = put_texts (word_text word) (number_text word) (letters_t
 -- a word alone
 abbrev pub word_shown : WordValue → Data
 word_shown word = object (put_word word no_members)
+
+-- the two bytes of an index register and of rJ
+abbrev pub put_short : WordValue → Members → Members
+put_short word members = put_texts (short_text word) (number_text word) (short_letters word) members
+
+-- the word of a register: five bytes of rA and rX, two of the others
+abbrev pub put_register : Reg → WordValue → Members → Members
+put_register r word members = by_width r (put_word word members) (put_short word members)
 
 -- the name of a part of the machine, as after `until` in a command
 abbrev pub part_name : Altered → List ℕ

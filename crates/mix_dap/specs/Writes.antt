@@ -2,9 +2,11 @@
 use Rattle.std.specs.Prelude.{ℕ, List, codes, length, map, min, nat_lt, take, Result, Ok, Err, ok_or, unwrap_or, if◌then◌else◌}
 use Rattle.serde_json.specs.Data.{Data, Members, boolean, number, string, unsigned, object, no_members, put}
 use Rattle.mixal_text.specs.Steps.{◌>>=◌}
+use Rattle.mix_word.specs.Word.{WordValue}
 use Rattle.mix_machine.specs.declared.part.Mark.{Mark}
 use Rattle.mix_machine.specs.declared.part.Mark.TheVariants as mark
 use Rattle.mix_machine.specs.declared.part.Part.{Part}
+use Rattle.mix_machine.specs.declared.part.Part.TheVariants as part
 use Rattle.mix_session.specs.Keyword.{indicator_name}
 use Rattle.mix_session.specs.Session.{SessionState}
 use Rattle.mix_session.specs.Timeline.{Timeline}
@@ -13,27 +15,32 @@ use Rattle.mix_session.specs.declared.writes.Write.{Write}
 use Rattle.dap_message.specs.Request.{text_of, number_of}
 use Rattle.dap_message.specs.declared.request.Request.{Request}
 use Rattle.mix_dap.specs.List.{list_alone}
-use Rattle.mix_dap.specs.View.{put_digits, word_shown}
+use Rattle.mix_dap.specs.View.{put_digits, put_register, word_shown}
 use Rattle.mix_dap.specs.Watch.{part_named}
 use Rattle.mix_dap.specs.declared.fault.Fault.{Fault}
 use Rattle.mix_dap.specs.declared.fault.Fault.TheVariants as fault
 
+-- the word that a part held: of a register as many bytes as it has
+abbrev pub held_shown : Part → WordValue → Data
+held_shown (part.Register r) v = object (put_register r v no_members)
+held_shown other v = word_shown v
+
 -- what a part held, by its mark
-abbrev pub put_mark : List ℕ → Mark → Members → Members
-put_mark name (mark.Word v) members = put name (word_shown v) members
-put_mark name (mark.Toggle b) members = put name (boolean b) members
-put_mark name (mark.Indicator c) members = put name (string (indicator_name c)) members
-put_mark name (mark.Location n) members = put name (number (unsigned n)) members
-put_mark name (mark.Time t) members = put_digits name t members
+abbrev pub put_mark : Part → List ℕ → Mark → Members → Members
+put_mark p name (mark.Word v) members = put name (held_shown p v) members
+put_mark p name (mark.Toggle b) members = put name (boolean b) members
+put_mark p name (mark.Indicator c) members = put name (string (indicator_name c)) members
+put_mark p name (mark.Location n) members = put name (number (unsigned n)) members
+put_mark p name (mark.Time t) members = put_digits name t members
 
 -- a change by its number, and what the part held before and after it
-abbrev pub write_shown : Write → Data
-write_shown write =
-    object (put_mark (codes "after") write.after (put_mark (codes "before") write.before (put (codes "number") (number (unsigned write.number)) no_members)))
+abbrev pub write_shown : Part → Write → Data
+write_shown p write =
+    object (put_mark p (codes "after") write.after (put_mark p (codes "before") write.before (put (codes "number") (number (unsigned write.number)) no_members)))
 
 -- the last ones of the first `until` changes done
 abbrev pub writes_shown : Timeline → Part → ℕ → ℕ → Data
-writes_shown t part until most = list_alone (codes "writes") (map write_shown (take most (writes_back t part (min until (length t.changes)))))
+writes_shown t p until most = list_alone (codes "writes") (map (write_shown p) (take most (writes_back t p (min until (length t.changes)))))
 
 -- a number that is asked for, if none is greater
 abbrev pub up_to : ℕ → ℕ → Result ℕ Fault
@@ -44,6 +51,6 @@ up_to most n = if nat_lt most n then Err fault.BadArgument else Ok n
 abbrev pub writes_asked : SessionState → Request → Result Data Fault
 writes_asked s r = do
   name ← ok_or (text_of r (codes "part")) fault.BadArgument
-  part ← ok_or (part_named s name) fault.NoSuchThing
+  p ← ok_or (part_named s name) fault.NoSuchThing
   most ← up_to 1000 (unwrap_or (number_of r (codes "count")) 1000)
-  Ok (writes_shown s.timeline part (unwrap_or (number_of r (codes "until")) (length s.timeline.changes)) most)
+  Ok (writes_shown s.timeline p (unwrap_or (number_of r (codes "until")) (length s.timeline.changes)) most)

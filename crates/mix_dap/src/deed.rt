@@ -2,7 +2,7 @@
 
 ghost use Rattle.std.specs.Prelude.{◌≡◌, codes};
 ghost use Rattle.dap_message.specs.Request.{text_of, number_of};
-ghost use Rattle.mix_dap.specs.Deed.{or_refusal, goto_cell, goto_deed, is_settable, scope_asked, settable_part, change_deed, set_deed, is_console_of, line_deed, register_written, unless_unit, part_meant, worth_by, worth_of, holder_of, set_expression_deed, looked_at, evaluate_deed, deed_of};
+ghost use Rattle.mix_dap.specs.Deed.{or_refusal, goto_cell, goto_deed, is_settable, scope_asked, settable_part, change_deed, set_deed, is_console_of, line_deed, register_written, unless_unit, part_meant, worth_by, worth_in, worth_of, holder_of, set_expression_deed, looked_at, evaluate_deed, deed_of};
 
 use crate::fault::Fault;
 use crate::kind::Act;
@@ -171,9 +171,16 @@ fn looked_at(worth: Option<Worth>) -> Result<Deed, Fault>
     }
 }
 
-/// What an expression is worth, in which the asterisk stands for the location, if it is worth anything.
+/// What an expression is worth, in which the asterisk stands for the location, if it is worth anything. Blanks around it are no part of it.
 pub(crate) fn worth_of(session: &Session, text: &str) -> Option<Worth>
     ensures { result ≡ worth_of session.now text.now }
+{
+    worth_in(session, text.trim())
+}
+
+// The same of a text without blanks around it.
+fn worth_in(session: &Session, text: &str) -> Option<Worth>
+    ensures { result ≡ worth_in session.now text.now }
 {
     let here = Word::of(Sign::Plus, u32::from(session.world().loc()));
     match w_value(text.as_bytes(), session.program(), here) {

@@ -3,8 +3,7 @@
 ghost use Rattle.std.specs.Prelude.{◌≡◌, ◌<◌, ◌-◌, ◌^◌, Err};
 ghost use Rattle.mix_stream.specs.Stream.{CountsFailure};
 ghost use Rattle.dap_stream.specs.declared.broken.Broken.TheVariants as broken;
-ghost use Rattle.mix_dap.specs.Capabilities.{unknown_client};
-ghost use Rattle.mix_dap.specs.Dialogue.{GoesOnAs, waiting};
+ghost use Rattle.mix_dap.specs.Dialogue.{GoesOnAs, at_first};
 ghost use Rattle.mix_dap.specs.Stage.{is_over};
 
 use crate::launch::Library;
@@ -16,7 +15,7 @@ use std::alloc::Global;
 use std::marker::Model;
 use std::mem::replace;
 
-/// A dialogue with a client, which goes on where it was.
+/// A dialogue with a client, which goes on where it was, and so do the numbers of its messages.
 #[derive(Drop)]
 pub struct Dialogue {
     alloc: Global,
@@ -25,19 +24,19 @@ pub struct Dialogue {
 }
 
 impl Model for Dialogue {
-    ghost use Rattle.mix_dap.specs.Dialogue.{Stage};
+    ghost use Rattle.mix_dap.specs.Dialogue.{Reached};
 
-    ghost Value = { Stage };
+    ghost Value = { Reached };
 
     ghost use Rattle.mix_dap.specs.Stage.{stage_of};
 
-    ghost view = { λ d. stage_of d.holds };
+    ghost view = { λ d. (stage_of d.holds, d.talk.outbox.seq) };
 }
 
 impl Dialogue {
     /// No request was heard yet. It takes no memory.
     pub fn new(alloc: Global) -> Dialogue
-        ensures { result ≡ waiting unknown_client }
+        ensures { result ≡ at_first }
     {
         Dialogue {
             alloc,
@@ -48,7 +47,7 @@ impl Dialogue {
 
     // Whether the client is done, or the dialogue was broken off.
     fn is_over(&self) -> bool
-        ensures { result ≡ is_over self.now }
+        ensures { result ≡ is_over self.now.0 }
     {
         match self.holds {
             Holds::Waiting(_) | Holds::Program(_) => false,

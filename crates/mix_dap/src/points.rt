@@ -18,7 +18,8 @@ use breakpoint::{Breakpoint, count_all, stop_any};
 use dap_message::Request;
 pub(crate) use entry::entries_of;
 use filters::Filters;
-use kinds::{Instructions, Lines, Other, Parts, set_all};
+pub(crate) use kinds::never;
+use kinds::{Instructions, Lines, Parts, set_all};
 pub(crate) use line::cell_of_line;
 pub(crate) use locations::breakpoint_locations;
 use mix_machine::{Place, World};
@@ -130,8 +131,7 @@ impl Points {
         ensures told { IfOk result (λ v. view v ≡ lines_told session.now name.now first request.now) }
     {
         if !is_source(name, request) {
-            let (_, told) = set_all(alloc, &Other, request, "breakpoints")?;
-            return Ok(told);
+            return never(alloc, "another source", request);
         }
         let (lines, told) = set_all(alloc, &Lines { session, first }, request, "breakpoints")?;
         let cells = cells_of(alloc, lines.as_slice(), self.instructions.as_slice())?;

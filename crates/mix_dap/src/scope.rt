@@ -2,7 +2,7 @@
 
 ghost use Rattle.std.specs.Prelude.{◌≡◌, Some, None, nat_lt, if◌then◌else◌};
 ghost use Rattle.mix_word.specs.Uses.{unit_count};
-ghost use Rattle.mix_dap.specs.Scope.{scope_of, flag_named, cell_of_page, unit_numbered, part_of};
+ghost use Rattle.mix_dap.specs.Scope.{scope_of, flag_named, cell_of_page, unit_named, part_of};
 
 use mix_lines::number;
 use mix_machine::{Part, Place, Reg, UnitNo};
@@ -62,8 +62,8 @@ pub(crate) fn part_of(scope: Scope, name: &str) -> Option<Part>
     match scope {
         Scope::Registers => Some(Part::Register(Reg::named(name.as_bytes())?)),
         Scope::Flags => flag_named(name),
-        Scope::Units => unit_numbered(number(name.as_bytes())?),
-        Scope::Page(page) => cell_of_page(page, number(name.as_bytes())?),
+        Scope::Units => unit_named(name, number(name.as_bytes())?),
+        Scope::Page(page) => cell_of_page(page, name, number(name.as_bytes())?),
         Scope::Memory | Scope::Unit(_) => None,
     }
 }
@@ -85,22 +85,29 @@ pub(crate) fn flag_named(name: &str) -> Option<Part>
     }
 }
 
-// A cell of a page, by its number.
-fn cell_of_page(page: u16, number: u64) -> Option<Part>
-    ensures { result ≡ cell_of_page page number }
+// A cell of a page by its number, which its name gives in four digits.
+fn cell_of_page(page: u16, name: &str, number: u64) -> Option<Part>
+    ensures { result ≡ cell_of_page page name.now number }
 {
     let place = u16::try_from(number).ok().and_then(Place::of)?;
-    if place.number() / PAGE == page {
+    if name.len() == 4 && place.number() / PAGE == page {
         Some(Part::Cell(place))
     } else {
         None
     }
 }
 
-fn unit_numbered(number: u64) -> Option<Part>
-    ensures { result ≡ unit_numbered number }
+// A unit by its number, which its name gives in no more digits than it takes.
+fn unit_named(name: &str, number: u64) -> Option<Part>
+    ensures { result ≡ unit_named name.now number }
 {
-    Some(Part::Unit(unit_of(number)?))
+    let digits = if number < 10 { 1 } else { 2 };
+    let unit = unit_of(number)?;
+    if name.len() == digits {
+        Some(Part::Unit(unit))
+    } else {
+        None
+    }
 }
 
 // The unit of this number.

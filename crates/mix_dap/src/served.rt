@@ -71,7 +71,7 @@ impl<'l, L: Library> Served<'l, L> {
 }
 
 impl<L: Library> Serves for Served<'_, L> {
-    ghost serves = { λ s request told next t. StageServes (stage_of s.holds) request told next (stage_of t.holds) };
+    ghost serves = { λ s request told next t. StageServes (stage_of s.0.holds, s.1) request told next (stage_of t.0.holds, t.1) };
 
     fn serve(&mut self, request: &Request, outbox: &mut Outbox) -> Result<Turn, Memory> {
         match replace(&mut self.holds, Holds::Nothing) {
@@ -99,7 +99,7 @@ fn ask_before<L: Library>(
     outbox: &mut Outbox,
 ) -> Result<(Turn, Holds), Memory>
     requires { waits outbox.old ≡ [] }
-    ensures { IfOk result (λ r. StageServes (waiting before.client) request.now (waits outbox.new) r.0 (stage_of r.1)) }
+    ensures { IfOk result (λ r. StageServes (waiting before.client, outbox.old.seq) request.now (waits outbox.new) r.0 (stage_of r.1, outbox.new.seq)) }
 {
     let mut before = before;
     match before.receive(library, request, outbox)? {
@@ -134,7 +134,7 @@ fn ask_program(
     outbox: &mut Outbox,
 ) -> Result<(Turn, Holds), Memory>
     requires { waits outbox.old ≡ [] }
-    ensures { IfOk result (λ r. StageServes (debugs adapter) request.now (waits outbox.new) r.0 (stage_of r.1)) }
+    ensures { IfOk result (λ r. StageServes (debugs adapter, outbox.old.seq) request.now (waits outbox.new) r.0 (stage_of r.1, outbox.new.seq)) }
 {
     let mut adapter = adapter;
     match adapter.receive(request, outbox)? {

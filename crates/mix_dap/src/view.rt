@@ -5,7 +5,7 @@ ghost use Rattle.serde_json.specs.Data.{put, string};
 ghost use Rattle.serde_json.specs.View.{view};
 ghost use Rattle.mix_word.specs.Instruction.{number_text};
 ghost use Rattle.dap_message.specs.Fields.{members_in};
-ghost use Rattle.mix_dap.specs.View.{put_digits, put_word, word_shown, part_name};
+ghost use Rattle.mix_dap.specs.View.{put_digits, put_texts, put_word, put_short, put_register, word_shown, part_name};
 
 mod asked;
 mod change;
@@ -22,10 +22,10 @@ pub(crate) use change::change_view;
 pub(crate) use check::check_view;
 pub(crate) use counts::counts_view;
 use dap_message::Fields;
-use mix_machine::Word;
+use mix_machine::{Reg, Word};
 use mix_refused::Memory;
-use mix_session::{Altered, Letters};
-use mix_word::Number;
+use mix_session::{Altered, Letters, ShortLetters};
+use mix_word::{Number, Short};
 pub use next::next_law;
 pub(crate) use next::next_view;
 pub(crate) use path::path_view;
@@ -48,12 +48,46 @@ fn put_digits(alloc: Global, fields: &mut Fields, name: &str, number: u128) -> R
 fn put_word(alloc: Global, fields: &mut Fields, word: Word) -> Result<(), Memory>
     ensures { OnOk result (members_in fields.new ≡ put_word word (members_in fields.old)) }
 {
-    let bytes = format!(in alloc; "{word}")?;
-    fields.text("word", bytes.as_str())?;
-    put_number(alloc, fields, word)?;
     let letters = Letters(word);
+    let bytes = format!(in alloc; "{word}")?;
     let characters = format!(in alloc; "{letters}")?;
-    fields.text("characters", characters.as_str())
+    put_texts(alloc, fields, bytes.as_str(), word, characters.as_str())
+}
+
+// The two bytes of an index register and of rJ.
+fn put_short(alloc: Global, fields: &mut Fields, word: Word) -> Result<(), Memory>
+    ensures { OnOk result (members_in fields.new ≡ put_short word (members_in fields.old)) }
+{
+    let (short, letters) = (Short(word), ShortLetters(word));
+    let bytes = format!(in alloc; "{short}")?;
+    let characters = format!(in alloc; "{letters}")?;
+    put_texts(alloc, fields, bytes.as_str(), word, characters.as_str())
+}
+
+// The word of a register: five bytes of rA and rX, two of the others.
+fn put_register(alloc: Global, fields: &mut Fields, register: Reg, word: Word) -> Result<(), Memory>
+    ensures { OnOk result (members_in fields.new ≡ put_register register word (members_in fields.old)) }
+{
+    match register {
+        Reg::A | Reg::X => put_word(alloc, fields, word),
+        Reg::I1 | Reg::I2 | Reg::I3 | Reg::I4 | Reg::I5 | Reg::I6 | Reg::J => {
+            put_short(alloc, fields, word)
+        }
+    }
+}
+
+fn put_texts(
+    alloc: Global,
+    fields: &mut Fields,
+    bytes: &str,
+    word: Word,
+    characters: &str,
+) -> Result<(), Memory>
+    ensures { OnOk result (members_in fields.new ≡ put_texts bytes.now (number_text word) characters.now (members_in fields.old)) }
+{
+    fields.text("word", bytes)?;
+    put_number(alloc, fields, word)?;
+    fields.text("characters", characters)
 }
 
 // A word alone.

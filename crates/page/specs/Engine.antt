@@ -2,23 +2,22 @@
 use Rattle.std.specs.Prelude.{◌≡◌, ◌<◌, ◌≤◌, ℕ, List, [], Option, None, Some, Result, Ok, Err, length, take, drop}
 use Rattle.dap_stream.specs.declared.broken.Broken.{Broken}
 use Rattle.dap_stream.specs.declared.broken.Broken.TheVariants as broken
-use Rattle.mix_dap.specs.Capabilities.{unknown_client}
-use Rattle.mix_dap.specs.Dialogue.{GoesOnAs, Stage, waiting}
+use Rattle.mix_dap.specs.Dialogue.{GoesOnAs, Reached, at_first}
 
 pub record EngineValue : Type 0 where
-  -- where the dialogue is
-  pub stage : Stage
+  -- where the dialogue is, and the number of its last message
+  pub reached : Reached
   -- what was sent in it and is not given yet
   pub unread : List ℕ
 
 -- nothing was heard yet
 abbrev pub opened : EngineValue
-opened = record { stage = waiting unknown_client; unread = [] }
+opened = record { reached = at_first; unread = [] }
 
 -- the dialogue goes on over messages, and what is sent stands behind what was sent before
 abbrev pub Asks : EngineValue → List ℕ → Result Unit Broken → EngineValue → Type 0
 Asks from messages result to =
-    (left : List ℕ) × GoesOnAs from.stage result to.stage (Some messages) (Some left) (Some from.unread) (Some to.unread)
+    (left : List ℕ) × GoesOnAs from.reached result to.reached (Some messages) (Some left) (Some from.unread) (Some to.unread)
 
 -- the status of a call in which the dialogue was broken off: memory was refused, or the messages are no whole frames
 abbrev pub status_of : Broken → ℕ

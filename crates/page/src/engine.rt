@@ -1,7 +1,6 @@
 //! A dialogue that stays between two calls, with what the client has not been given yet.
 ghost use Rattle.std.specs.Prelude.{◌≡◌, ◌<◌, [], true, false, length};
-ghost use Rattle.mix_dap.specs.Capabilities.{unknown_client};
-ghost use Rattle.mix_dap.specs.Dialogue.{waiting};
+ghost use Rattle.mix_dap.specs.Dialogue.{at_first};
 ghost use Rattle.page.specs.Engine.{Asks, IsGiven};
 
 use crate::put_both;
@@ -25,13 +24,13 @@ impl Model for Engine {
 
     ghost Value = { EngineValue };
 
-    ghost view = { λ e. record { stage = e.dialogue; unread = e.sent.items } };
+    ghost view = { λ e. record { reached = e.dialogue; unread = e.sent.items } };
 }
 
 impl Engine {
     /// Nothing was heard yet, and nothing sent. It takes no memory.
     pub fn new(alloc: Global) -> Engine
-        ensures { result ≡ record { stage = waiting unknown_client; unread = [] } }
+        ensures { result ≡ record { reached = at_first; unread = [] } }
     {
         Engine {
             alloc,

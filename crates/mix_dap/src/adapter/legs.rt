@@ -77,13 +77,13 @@ fn awaited_by(way: Way) -> Option<u16>
     }
 }
 
-// A run that has ended so is counted, if it has come to a cell of breakpoints.
+// A run whose last change has ended it so is counted, if it has come to a cell of breakpoints.
 fn count_by(end: End, world: &World, points: &mut Points)
     ensures { points.new ≡ counted_by end world.now points.old }
 {
     match end {
-        End::Break => points.count(world),
-        End::Halt | End::Fault(_) | End::Until(_) | End::Arrived | End::Limit | End::Start => {}
+        End::Halt | End::Until(_) | End::Break => points.count(world),
+        End::Fault(_) | End::Arrived | End::Limit | End::Start => {}
     }
 }
 

@@ -12,10 +12,9 @@ use crate::completions::completions;
 use crate::disassembly::disassemble;
 use crate::fault::Fault;
 use crate::kind::{Look, Target};
-use crate::list::list_alone;
 use crate::look::{Name, put_exception, scopes, stack_trace, threads};
 use crate::memory::read_memory;
-use crate::points::breakpoint_locations;
+use crate::points::{breakpoint_locations, never};
 use crate::set::goto_targets;
 use crate::variables::variables;
 use crate::view::{
@@ -79,7 +78,7 @@ impl Adapter {
             Target::Instructions => { self.points.set_instructions(alloc, &self.session, request) }
             Target::Data => self.points.set_data(alloc, &self.session, request),
             Target::Exceptions => self.points.set_filters(alloc, request),
-            Target::Nothing => list_alone(alloc, "breakpoints", Vec::new(alloc)),
+            Target::Nothing => never(alloc, "no such function", request),
         }
     }
 }

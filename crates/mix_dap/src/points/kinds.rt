@@ -1,13 +1,13 @@
 //! Breakpoints by their kinds: where each that is asked for stands, and how it is told.
 
-ghost use Rattle.std.specs.Prelude.{◌≡◌, ◌++◌, IfOk, OnOk, Option, None};
+ghost use Rattle.std.specs.Prelude.{◌≡◌, ◌++◌, IfOk, OnOk, Option, None, codes};
 ghost use Rattle.std.specs.Option.{option_to_list};
 ghost use Rattle.std.specs.List.{filter_map};
 ghost use Rattle.serde_json.specs.Data.{Data};
 ghost use Rattle.serde_json.specs.View.{view};
 ghost use Rattle.dap_message.specs.Fields.{members_in};
 ghost use Rattle.mix_dap.specs.Entries.{entries_of};
-ghost use Rattle.mix_dap.specs.Points.{answer_by, verified, verified_at, unverified, line_asked, line_point, line_told, instruction_cell, instruction_asked, instruction_point, instruction_told, data_point, data_told, elsewhere};
+ghost use Rattle.mix_dap.specs.Points.{answer_by, verified, verified_at, unverified, line_asked, line_point, line_told, instruction_cell, instruction_asked, instruction_point, instruction_told, data_point, data_told, none_told};
 
 use crate::layout::{cell_of_reference, reference_of};
 use crate::list::{add, list_alone};
@@ -181,16 +181,18 @@ impl PointKind for Parts<'_> {
     }
 }
 
-/// Those of another source, of which none stands.
+/// Those of which none stands, for this reason.
 #[derive(Clone, Copy)]
-pub(crate) struct Other;
+struct Unset {
+    why: &'static str,
+}
 
-impl PointKind for Other {
+impl PointKind for Unset {
     type Point = Breakpoint;
 
     ghost point = { λ _ _. None };
 
-    ghost told = { λ _. elsewhere };
+    ghost told = { λ kind. none_told kind.why.now };
 
     fn add(
         &self,
@@ -198,8 +200,16 @@ impl PointKind for Other {
         _entry: &Value,
         _points: &mut Vec<Breakpoint>,
     ) -> Result<Value, Memory> {
-        unverified(alloc, "another source")
+        unverified(alloc, self.why)
     }
+}
+
+/// The answer to a request for breakpoints of which none stands, for this reason.
+pub(crate) fn never(alloc: Global, why: &'static str, request: &Request) -> Result<Value, Memory>
+    ensures { IfOk result (λ v. view v ≡ answer_by (none_told why.now) (entries_of request.now (codes "breakpoints"))) }
+{
+    let (_, told) = set_all(alloc, &Unset { why }, request, "breakpoints")?;
+    Ok(told)
 }
 
 /// That one stands.

@@ -1,29 +1,28 @@
 //! `mix/state`: the machine as it is.
 
-ghost use Rattle.std.specs.Prelude.{◌≡◌, ◌&&◌, IfOk, OnOk, length, map, string_bytes};
+ghost use Rattle.std.specs.Prelude.{◌≡◌, ◌&&◌, IfOk, OnOk, length, map};
 ghost use Rattle.serde_json.specs.Data.{string};
 ghost use Rattle.serde_json.specs.View.{view};
 ghost use Rattle.mix_word.specs.Register.{all_registers};
 ghost use Rattle.mix_machine.specs.Do.{is_halt_next};
-ghost use Rattle.mix_machine.specs.World.{register_of};
 ghost use Rattle.mix_session.specs.Altered.{alterations};
 ghost use Rattle.mix_session.specs.Timeline.{world_of};
 ghost use Rattle.mix_session.specs.Client.{change_numbered};
 ghost use Rattle.mix_session.specs.Counts.{is_step};
 ghost use Rattle.dap_message.specs.Fields.{members_in};
 ghost use Rattle.mix_dap.specs.List.{Shows};
-ghost use Rattle.mix_dap.specs.State.{put_flags, letters_of, register_shown, names_of, put_altered, put_last, put_counts, machine_members, state_of, state_asked};
+ghost use Rattle.mix_dap.specs.State.{put_flags, register_shown, names_of, put_altered, put_last, put_counts, machine_members, state_of, state_asked};
 ghost use Rattle.mix_dap.specs.View.{part_name};
 
 use crate::fault::Fault;
 use crate::list::{add, list_of};
 use crate::value::held;
 use crate::view::asked::{AskedCells, ranges_asked};
-use crate::view::{part_name, put_digits, put_number};
+use crate::view::{part_name, put_digits, put_register};
 use dap_message::{Fields, Request};
 use mix_machine::{Change, Reg, World};
 use mix_refused::{Memory, Refused};
-use mix_session::{Altered, Letters, Session, ShortLetters, alterations};
+use mix_session::{Altered, Session, alterations};
 use serde_json::Value;
 use std::alloc::Global;
 
@@ -107,26 +106,8 @@ fn register_shown(alloc: Global, world: &World, register: Reg) -> Result<Value, 
 {
     let mut fields = Fields::new(alloc);
     fields.text("name", register.name())?;
-    let bytes = held(alloc, world, Altered::Register(register))?;
-    fields.text("word", bytes.as_str())?;
-    put_number(alloc, &mut fields, world.register(register))?;
-    let characters = letters_of(alloc, world, register)?;
-    fields.text("characters", characters.as_str())?;
+    put_register(alloc, &mut fields, register, world.register(register))?;
     Ok(fields.done())
-}
-
-// The characters of a register: five of rA and rX, two of the others.
-fn letters_of(alloc: Global, world: &World, register: Reg) -> Result<String, Memory>
-    ensures { IfOk result (λ s. string_bytes s ≡ letters_of register (register_of world.now register)) }
-{
-    let word = world.register(register);
-    let text = match register {
-        Reg::A | Reg::X => format!(in alloc; "{}", Letters(word))?,
-        Reg::I1 | Reg::I2 | Reg::I3 | Reg::I4 | Reg::I5 | Reg::I6 | Reg::J => {
-            format!(in alloc; "{}", ShortLetters(word))?
-        }
-    };
-    Ok(text)
 }
 
 // What the last change that is done altered, and whether it was a HLT.

@@ -5,14 +5,14 @@ ghost use Rattle.serde_json.specs.View.{view};
 ghost use Rattle.mix_session.specs.Keyword.{indicator_name};
 ghost use Rattle.dap_message.specs.Fields.{members_in};
 ghost use Rattle.mix_dap.specs.List.{Shows};
-ghost use Rattle.mix_dap.specs.Writes.{put_mark, write_shown, writes_shown, up_to, writes_asked};
+ghost use Rattle.mix_dap.specs.Writes.{held_shown, put_mark, write_shown, writes_shown, up_to, writes_asked};
 
 use crate::fault::Fault;
 use crate::list::{add, list_alone};
-use crate::view::{put_digits, word_shown};
+use crate::view::{put_digits, put_register, word_shown};
 use crate::watch::part_named;
 use dap_message::{Fields, Request};
-use mix_machine::{Cmp, Mark, Part};
+use mix_machine::{Cmp, Mark, Part, Word};
 use mix_refused::{Memory, Refused};
 use mix_session::{Session, Write};
 use serde_json::Value;
@@ -53,37 +53,58 @@ fn writes_shown(
 ) -> Result<Value, Memory>
     ensures { IfOk result (λ v. view v ≡ writes_shown session.now.timeline part until most) }
 {
+    let written = part;
     let writes = session.writes(alloc, part, until, most)?;
-    let list = all_shown(alloc, &writes)?;
+    let list = all_shown(alloc, &written, &writes)?;
     list_alone(alloc, "writes", list)
 }
 
-fn all_shown(alloc: Global, writes: &[Write]) -> Result<Vec<Value>, Memory>
-    ensures { IfOk result (λ list. map view list.items ≡ map write_shown writes.now) }
+fn all_shown(alloc: Global, part: &Part, writes: &[Write]) -> Result<Vec<Value>, Memory>
+    ensures { IfOk result (λ list. map view list.items ≡ map (write_shown part.now) writes.now) }
 {
     let mut list = Vec::new(alloc);
     for write in writes {
-        add(&mut list, write_shown(alloc, *write)?)?;
+        add(&mut list, write_shown(alloc, part, *write)?)?;
     }
     Ok(list)
 }
 
-fn write_shown(alloc: Global, write: Write) -> Result<Value, Memory>
-    ensures { IfOk result (λ v. view v ≡ write_shown write) }
+fn write_shown(alloc: Global, part: &Part, write: Write) -> Result<Value, Memory>
+    ensures { IfOk result (λ v. view v ≡ write_shown part.now write) }
 {
     let mut fields = Fields::new(alloc);
     fields.number("number", write.number as u64)?;
-    put_mark(alloc, &mut fields, "before", write.before)?;
-    put_mark(alloc, &mut fields, "after", write.after)?;
+    put_mark(alloc, &mut fields, part, "before", write.before)?;
+    put_mark(alloc, &mut fields, part, "after", write.after)?;
     Ok(fields.done())
 }
 
+// The word that a part held: of a register as many bytes as it has.
+fn held_shown(alloc: Global, part: &Part, word: Word) -> Result<Value, Memory>
+    ensures { IfOk result (λ v. view v ≡ held_shown part.now word) }
+{
+    match part {
+        Part::Register(register) => {
+            let mut fields = Fields::new(alloc);
+            put_register(alloc, &mut fields, *register, word)?;
+            Ok(fields.done())
+        }
+        _ => word_shown(alloc, word),
+    }
+}
+
 // What a part held, by its mark.
-fn put_mark(alloc: Global, fields: &mut Fields, name: &str, mark: Mark) -> Result<(), Memory>
-    ensures { OnOk result (members_in fields.new ≡ put_mark name.now mark (members_in fields.old)) }
+fn put_mark(
+    alloc: Global,
+    fields: &mut Fields,
+    part: &Part,
+    name: &str,
+    mark: Mark,
+) -> Result<(), Memory>
+    ensures { OnOk result (members_in fields.new ≡ put_mark part.now name.now mark (members_in fields.old)) }
 {
     match mark {
-        Mark::Word(word) => fields.put(name, word_shown(alloc, word)?),
+        Mark::Word(word) => fields.put(name, held_shown(alloc, part, word)?),
         Mark::Toggle(is_on) => fields.flag(name, is_on),
         Mark::Indicator(indicator) => fields.text(name, indicator_name(indicator)),
         Mark::Location(location) => fields.number(name, u64::from(location)),

@@ -15,7 +15,7 @@ returns-clause-done g c well = absurd (well refl)
 pub returns-clause-broken : goal.returns-clause-broken
 returns-clause-broken g c two = (
   c.in-Err.broken,
-  dialogue-as (Err c.in-Err.broken) _ _ _ _ _ _ c.in-Err.ensures.dialogue c.new.ensures,
+  dialogue-as (Err c.in-Err.broken) _ c.go_on.new.self _ _ _ _ c.in-Err.ensures.dialogue c.new.ensures,
   counts-why _ _ _ _ c.in-Err.ensures.read,
   counts-why _ _ _ _ c.in-Err.ensures.written,
   c.tell.ensures,

@@ -8,7 +8,7 @@ use Rattle.dap_stream.proofs.talk.Talk.with.Given as goal
 
 abbrev pub invariant-turns : goal.invariant-turns
 invariant-turns g l = record {
-  talks : Talks (Steps g.S.Serves.serves) (going l.fn.served) (going l.served) l.turns
+  talks : Talks (Steps g.S.Serves.serves) (going (l.fn.served, l.fn.self.outbox.seq)) (going (l.served, l.self.outbox.seq)) l.turns
       (unheard l.fn.self.ear (g.R.In.rest l.fn.input)) (unheard l.self.ear (g.R.In.rest l.input)) (g.W.Out.told l.fn.out) (g.W.Out.told l.out);
   none : waits l.self.outbox ≡ [];
   read : g.R.In.failed l.input ≡ g.R.In.failed l.fn.input;
