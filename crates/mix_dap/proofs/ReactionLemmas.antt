@@ -17,7 +17,8 @@ use Rattle.mix_dap.specs.Fault.{fault_number, fault_text, fault_place}
 use Rattle.mix_dap.specs.Leaves.{refusal_in}
 use Rattle.mix_dap.specs.Output.{all_told, outputs}
 use Rattle.mix_dap.specs.Points.{PointsState}
-use Rattle.mix_dap.specs.Reaction.{Answered, Beside, GoesOn, IsSame, Leaving, Reaction, ReactsAs, Runs, RunsPartly, acted, asked_done, beside, evaluated, flow_after, flow_of, is_done, reaction, reaction_to, refuses, still, unless, written}
+use Rattle.mix_dap.specs.Reaction.{Beside, Reaction, acted, asked_done, beside, evaluated, reaction, reaction_to, refuses, still, unless, written}
+use Rattle.mix_dap.specs.Reacts.{Answered, GoesOn, IsSame, Leaving, ReactsAs, Runs, RunsPartly, flow_after, flow_of, is_done}
 use Rattle.mix_dap.specs.Replies.{answer_message}
 use Rattle.mix_dap.specs.Runs.{RunBroken, RunDone, why_of_run}
 use Rattle.mix_dap.specs.Stopped.{fault_at, out_of_memory}

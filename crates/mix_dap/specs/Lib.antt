@@ -30,6 +30,7 @@ pub mod Path
 pub mod Points
 pub mod Program
 pub mod Reaction
+pub mod Reacts
 pub mod Replies
 pub mod Runs
 pub mod Scope

@@ -5,7 +5,7 @@ use Rattle.dap_message.specs.declared.request.Request.{Request}
 use Rattle.dap_stream.specs.declared.serves.Turn.{Turn}
 use Rattle.dap_stream.specs.declared.serves.Turn.TheVariants as turn
 use Rattle.mix_dap.specs.Events.{Sends}
-use Rattle.mix_dap.specs.Reaction.{KeepsSaid, Reacts}
+use Rattle.mix_dap.specs.Reacts.{KeepsSaid, Reacts}
 use Rattle.mix_dap.specs.declared.adapter.Adapter.{Adapter}
 use Rattle.mix_dap.specs.declared.adapter.Flow.{Flow}
 use Rattle.mix_dap.specs.declared.adapter.Flow.TheVariants as flow

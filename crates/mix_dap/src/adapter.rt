@@ -8,7 +8,8 @@ ghost use Rattle.mix_dap.specs.Events.{AddsAnswer};
 ghost use Rattle.mix_dap.specs.Fault.{fault_number, fault_text, fault_place};
 ghost use Rattle.mix_dap.specs.Launched.{launched_of};
 ghost use Rattle.mix_dap.specs.Output.{none_told};
-ghost use Rattle.mix_dap.specs.Reaction.{GoesOn, KeepsSaid, Leaving, Reacts, ReactsAs, ReactsPartly, RunsPartly, flow_after, reaction};
+ghost use Rattle.mix_dap.specs.Reaction.{reaction};
+ghost use Rattle.mix_dap.specs.Reacts.{GoesOn, KeepsSaid, Leaving, Reacts, ReactsAs, ReactsPartly, RunsPartly, flow_after};
 ghost use Rattle.mix_dap.specs.Replies.{answer_message};
 
 mod act;

@@ -1,14 +1,15 @@
 //! The breakpoints of the client, and the kinds of exceptions that stop a run. They stand outside the machine, so no change of it takes one away.
 
-ghost use Rattle.std.specs.Prelude.{◌≡◌, ◌++◌, IfOk, OnOk, OnErr};
+ghost use Rattle.std.specs.Prelude.{◌≡◌, IfOk, OnOk, OnErr};
 ghost use Rattle.serde_json.specs.View.{view};
 ghost use Rattle.mix_session.specs.Stops.{is_awaited};
-ghost use Rattle.mix_dap.specs.Points.{no_points, cells_of, is_filter, passes, reason_at, with_arrivals, with_lines, lines_told, with_instructions, instructions_told, with_watched, watched_told, with_filters, filters_told};
+ghost use Rattle.mix_dap.specs.Points.{no_points, is_filter, passes, reason_at, with_arrivals, with_lines, lines_told, with_instructions, instructions_told, with_watched, watched_told, with_filters, filters_told};
 ghost use Rattle.mix_dap.specs.Runs.{stops_of};
 
 mod breakpoint;
 mod entry;
 mod filters;
+mod joined;
 mod kinds;
 mod line;
 mod locations;
@@ -18,6 +19,7 @@ use breakpoint::{Breakpoint, count_all, stop_any};
 use dap_message::Request;
 pub(crate) use entry::entries_of;
 use filters::Filters;
+use joined::{both, cells_of};
 pub(crate) use kinds::never;
 use kinds::{Instructions, Lines, Parts, set_all};
 pub(crate) use line::cell_of_line;
@@ -202,20 +204,6 @@ impl Points {
     }
 }
 
-// What is watched, and then kinds of exceptions.
-fn both(
-    alloc: Global,
-    watched: &[Condition],
-    filters: &[Condition],
-) -> Result<Vec<Condition>, Memory>
-    ensures { IfOk result (λ conditions. conditions.items ≡ watched.now ++ filters.now) }
-{
-    let mut conditions = Vec::new(alloc);
-    conditions.extend_from_slice(watched)?;
-    conditions.extend_from_slice(filters)?;
-    Ok(conditions)
-}
-
 // Whether the location is the one that is waited for.
 fn is_awaited(location: Option<u16>, world: &World) -> bool
     ensures { result ≡ is_awaited location world.now }
@@ -224,28 +212,4 @@ fn is_awaited(location: Option<u16>, world: &World) -> bool
         Some(location) => world.loc() == location,
         None => false,
     }
-}
-
-// The cells of breakpoints of lines, and then those of instructions.
-#[tactic(auto, using(crate::proofs::PointLemmas::cells_joined))]
-fn cells_of(
-    alloc: Global,
-    lines: &[Breakpoint],
-    instructions: &[Breakpoint],
-) -> Result<Vec<Place>, Memory>
-    ensures { IfOk result (λ cells. cells.items ≡ cells_of (lines.now ++ instructions.now)) }
-{
-    let mut cells = Vec::new(alloc);
-    add_cells(&mut cells, lines)?;
-    add_cells(&mut cells, instructions)?;
-    Ok(cells)
-}
-
-fn add_cells(cells: &mut Vec<Place>, breakpoints: &[Breakpoint]) -> Result<(), Memory>
-    ensures { OnOk result (cells.new.items ≡ cells.old.items ++ cells_of breakpoints.now) }
-{
-    for breakpoint in breakpoints {
-        cells.push(breakpoint.cell)?;
-    }
-    Ok(())
 }

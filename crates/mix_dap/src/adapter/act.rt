@@ -7,7 +7,8 @@ ghost use Rattle.mix_session.specs.declared.command.stops.Way.TheVariants as way
 ghost use Rattle.mix_session.specs.declared.request.Request.TheVariants.{BackAll};
 ghost use Rattle.mix_dap.specs.Deed.{deed_of, effect_of_deed};
 ghost use Rattle.mix_dap.specs.Leaves.{Does, Leaves, unless_refused};
-ghost use Rattle.mix_dap.specs.Reaction.{Answered, AnsweredOr, Keeps, asked_done, beside, deed_done, restarted, written};
+ghost use Rattle.mix_dap.specs.Reaction.{asked_done, beside, deed_done, restarted, written};
+ghost use Rattle.mix_dap.specs.Reacts.{Answered, AnsweredOr, Keeps};
 ghost use Rattle.mix_dap.specs.Written.{Writes, write_asked};
 
 use crate::adapter::{Adapter, Then};

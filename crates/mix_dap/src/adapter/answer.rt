@@ -6,7 +6,8 @@ ghost use Rattle.mix_refused.specs.Refused.{IfMemory};
 ghost use Rattle.mix_dap.specs.Events.{AddsAnswer, stopped, terminated};
 ghost use Rattle.mix_dap.specs.Replies.{answer_message};
 ghost use Rattle.mix_dap.specs.Stopped.{only};
-ghost use Rattle.mix_dap.specs.Reaction.{AnsweredOr, Begins, KeepsSaid, reaction};
+ghost use Rattle.mix_dap.specs.Reaction.{reaction};
+ghost use Rattle.mix_dap.specs.Reacts.{AnsweredOr, Begins, KeepsSaid};
 
 use crate::adapter::{Adapter, Then};
 use crate::capabilities::capabilities;

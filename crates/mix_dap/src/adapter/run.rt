@@ -2,7 +2,8 @@
 
 ghost use Rattle.std.specs.Prelude.{◌≡◌, IfOk, OnErr, OnOk, None};
 ghost use Rattle.mix_dap.specs.Events.{AddsEvents, beginning};
-ghost use Rattle.mix_dap.specs.Reaction.{Keeps, KeepsSaid, Runs, RunsPartly, begun};
+ghost use Rattle.mix_dap.specs.Reaction.{begun};
+ghost use Rattle.mix_dap.specs.Reacts.{Keeps, KeepsSaid, Runs, RunsPartly};
 ghost use Rattle.mix_dap.specs.declared.adapter.Then.TheVariants as then;
 
 use crate::adapter::legs::run_legs;

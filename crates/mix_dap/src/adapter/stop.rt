@@ -8,7 +8,7 @@ ghost use Rattle.mix_session.specs.Conflicts.{conflict_text};
 ghost use Rattle.mix_session.specs.Timeline.{world_of};
 ghost use Rattle.mix_dap.specs.Events.{AddsEvents, all_areas, invalidated, out_of_date, stopped};
 ghost use Rattle.mix_dap.specs.Output.{all_told, outputs};
-ghost use Rattle.mix_dap.specs.Reaction.{Keeps};
+ghost use Rattle.mix_dap.specs.Reacts.{Keeps};
 ghost use Rattle.mix_dap.specs.Runs.{before_last, conflict_met, meets_filter, why_of_run, word_at};
 ghost use Rattle.mix_dap.specs.Stopped.{reason_of, fault_at, out_of_memory, why_of, why_with};
 

@@ -5,7 +5,8 @@ ghost use Rattle.std.specs.Prelude.{◌≡◌, [], true, Ok, IfOk, OnOk};
 ghost use Rattle.mix_session.specs.Timeline.{world_of};
 ghost use Rattle.mix_dap.specs.Answer.{value_body, result_body};
 ghost use Rattle.mix_dap.specs.Events.{AddsAnswer, invalidated};
-ghost use Rattle.mix_dap.specs.Reaction.{Answered, Keeps, acted, beside, evaluated, restarted, stepped};
+ghost use Rattle.mix_dap.specs.Reaction.{acted, beside, evaluated, restarted, stepped};
+ghost use Rattle.mix_dap.specs.Reacts.{Answered, Keeps};
 ghost use Rattle.mix_dap.specs.Replies.{answer_message};
 ghost use Rattle.mix_dap.specs.Stopped.{end_of};
 

@@ -1,6 +1,6 @@
 -- What is told for a request is what its contract says, and nothing waited before it.
 use Rattle.std.proofs.Common.{refl, rules}
-use Rattle.mix_dap.specs.Reaction.{Reacts}
+use Rattle.mix_dap.specs.Reacts.{Reacts}
 use Rattle.mix_dap.proofs.EventLemmas.{sends-all}
 use Rattle.mix_dap.proofs.served.ask_program.Goals as goal
 
