@@ -81,6 +81,7 @@ VIEWS = [
     ("mix/units", {"unit": 16, "block": 1}, '"block":[{"characters":" SECO","number":'),
     # a step that is told and not done
     ("mix/next", {}, '"body":{"items":[{"after":"+ 00 00 00 00 05","before":"+ 00 00 00 00 00","part":"A"}],"location":0,"number":1,"text":"ENTA 5","time":"1"}'),
+    ("mix/next", {"field": 5}, '"items":[{"after":"+ 00 00 00 00 05","afterValue":"5","before":"+ 00 00 00 00 00","beforeValue":"0","part":"A"}],"location":0'),
     ("mix/state", {}, '"done":0,"halted":false,"location":0'),
     ("next", {}, '"reason":"step"'), ("next", {}, '"reason":"step"'), ("next", {}, '"reason":"step"'),
     ("mix/next", {}, '"body":{"items":[],"location":3,"number":4,"text":"HLT","time":"10"}'),
@@ -89,6 +90,17 @@ VIEWS = [
     ("mix/state", {"nonzero": True}, '"registers":[{"characters":"    K","name":"A","number":"12","word":"+ 00 00 00 00 12"}'),
     ("mix/counts", {}, '{"cell":2,"count":"1","time":"2"}],"count":"3","time":"4"'),
     ("mix/change", {"number": 2}, '"items":[{"after":"+ 00 00 00 00 12","before":"+ 00 00 00 00 05","part":"A"}],"location":1,"number":2,"text":"INCA 7","time":"1"'),
+    # the numbers of a field: of both words of rA, of the first four bytes, and of no register; a code that is no field
+    ("mix/change", {"number": 2, "field": 5}, '{"after":"+ 00 00 00 00 12","afterValue":"12","before":"+ 00 00 00 00 05","beforeValue":"5","part":"A"}'),
+    ("mix/change", {"number": 2, "field": 4}, '{"after":"+ 00 00 00 00 12","afterValue":"0","before":"+ 00 00 00 00 05","beforeValue":"0","part":"A"}'),
+    ("mix/change", {"number": 3, "field": 37}, '{"after":"+ 00 00 00 00 12","afterValue":"12","before":"+ 00 00 00 00 00","beforeValue":"0","part":"cell 100"}'),
+    ("mix/change", {"number": 2, "field": 6}, '"id":306'), ("mix/next", {"field": 16}, '"id":306'), ("mix/state", {"field": 46}, '"id":306'),
+    # an instruction in its parts, with M and the field of the cell M as they are now: STA 100, HLT, and a word that is LD4 0(0:0)
+    ("mix/state", {"cells": [[2, 2]], "field": 2, "instructions": True}, '"cells":[{"cell":2,"characters":"A6 EU","instruction":{"address":"100","field":5,"index":0,'
+     '"operation":"STA","value":"12"},"number":"26214744","text":"STA 100","value":"100","word":"+ 01 36 00 05 24"}]'),
+    ("mix/state", {"cells": [[3, 3]], "instructions": True}, '"instruction":{"address":"0","field":2,"index":0,"operation":"HLT"},"number":'),
+    ("mix/state", {"cells": [[100, 100]], "instructions": True}, '"instruction":{"address":"0","field":0,"index":0,"operation":"LD4","value":"0"}'),
+    ("mix/state", {"cells": [[100, 100]], "field": 37}, '"text":"LD4 0(0:0)","value":"12","word":"+ 00 00 00 00 12"}]'),
     # where the changes were done: each in a column, two in the first of two, and of a range that
     # ends behind the last
     ("mix/path", {"columns": 3}, '"body":{"columns":[{"cells":[{"cell":0,"count":1}]},{"cells":[{"cell":1,"count":1}]},{"cells":[{"cell":2,"count":1}]}],"from":0,"until":3}'),
@@ -173,6 +185,14 @@ VIEWS = [
     # a text where a number is due, a number where a text is, and each as it is to be
     ("setVariable", {"variablesReference": "1", "name": "A", "value": "1"}, '"id":302'), ("setVariable", {"variablesReference": 1, "name": 1, "value": "1"}, '"id":302'),
     ("setVariable", {"variablesReference": 1, "name": "A", "value": "1"}, '"success":true'),
+    # by an index register that holds -3: LDA 100,2, whose cell 97 holds 0, and LDA 1,2, which has no cell; FADD, which is no operation; the sign of -0
+    ("setExpression", {"expression": "cell 50", "value": "100(0:2),2(3:3),5(4:4),8(5:5)"}, '"success":true'),
+    ("setExpression", {"expression": "cell 51", "value": "1(0:2),2(3:3),5(4:4),8(5:5)"}, '"success":true'),
+    ("setExpression", {"expression": "cell 52", "value": "6(4:4),1(5:5)"}, '"success":true'), ("setExpression", {"expression": "cell 53", "value": "-0"}, '"success":true'),
+    ("mix/state", {"cells": [[50, 50]], "instructions": True}, '"instruction":{"address":"97","field":5,"index":2,"operation":"LDA","value":"0"}'),
+    ("mix/state", {"cells": [[51, 51]], "instructions": True}, '"instruction":{"address":"-2","field":5,"index":2,"operation":"LDA"},"number"'),
+    ("mix/state", {"cells": [[52, 52]], "instructions": True}, '"cells":[{"cell":52,"characters":"   FA","number":"385","text":"CON 385","word":"+ 00 00 00 06 01"}]'),
+    ("mix/state", {"cells": [[53, 53]], "field": 0}, '"value":"-0"'), ("mix/state", {"cells": [[53, 53]], "field": 9}, '"value":"0"'),
     # a step from a state that was set, and one that would be refused
     ("mix/next", {}, '"body":{"items":[{"after":"+ 00 00 00 00 08","before":"+ 00 00 00 00 01","part":"A"}],"location":1,'),
     ("setExpression", {"expression": "cell 1", "value": "197"}, '"success":true'),
@@ -202,7 +222,9 @@ WRONG = [
     ("breakpointLocations", {"line": 2, "endLine": "3"}, "endLine"), ("dataBreakpointInfo", {"name": "A", "variablesReference": "1"}, "variablesReference"),
     ("mix/path", {"columns": 501}, "columns"), ("mix/path", {"columns": 2, "until": "3"}, "until"), ("mix/writes", {"part": "A", "count": 1001}, "count"),
     ("mix/writes", {"part": "A", "until": -1}, "until"), ("mix/state", {"cells": 5}, "cells"), ("mix/state", {"nonzero": 1}, "nonzero"), ("mix/units", {"unit": "16"}, "unit"),
-    ("mix/units", {"unit": 16, "block": "0"}, "block"), ("mix/change", {"number": 18446744073709551616}, "number"), ("mix/check", {"source": 5}, "source"),
+    ("mix/units", {"unit": 16, "block": "0"}, "block"), ("mix/change", {"number": 18446744073709551616}, "number"),
+    ("mix/change", {"number": 1, "field": 64}, "field"), ("mix/change", {"number": 1, "conflict": 1}, "conflict"), ("mix/next", {"field": "5"}, "field"),
+    ("mix/state", {"field": -1}, "field"), ("mix/state", {"instructions": "yes"}, "instructions"), ("mix/check", {"source": 5}, "source"),
     ("initialize", {"linesStartAt1": 0}, "linesStartAt1"), ("launch", {"sourceText": SOURCE, "stopOnEntry": "yes"}, "stopOnEntry"), ("evaluate", [], "arguments"), ("threads", 5, "arguments")]
 # An offset of 6 as JSON may write it, and one of 0, or none.
 WHOLE_NUMBERS = [b"6", b"6.0", b"6e0", b"0.6e1", b"60E-1", b"600.00e-2"]
@@ -225,7 +247,10 @@ HALT, WATCHED = '"reason":"halt"', '"reason":"data breakpoint"'
 # A request by its name and its arguments, a part of what it is told, the location after it, and how
 # many changes are done.
 CONFLICTS = [
-    ("continue", {}, HALT, 6, 12), ("reverseContinue", {}, '"reason":"entry"', 0, 0),
+    ("continue", {}, HALT, 6, 12), ("mix/change", {"number": 2, "conflict": True},
+     '"body":{"conflict":{"cell":9,"text":"cell 0009 is altered while unit 18 prints it until 11","unit":18,"until":"11"},"items":[', 6, 12),
+    ("mix/change", {"number": 1, "conflict": True}, '"body":{"items":[', 6, 12), ("mix/change", {"number": 2}, '"body":{"items":[', 6, 12),
+    ("reverseContinue", {}, '"reason":"entry"', 0, 0),
     ("setExceptionBreakpoints", {"filters": ["all", "conflict"]}, '"body":{"breakpoints":[{"message":"no such filter","verified":false},{"verified":true}]}', 0, 0),
     ("continue", {}, FIRST, 2, 2), ("exceptionInfo", {}, '"id":306', 2, 2), ("continue", {}, SECOND, 3, 3), ("continue", {}, HALT, 6, 12),
     ("reverseContinue", {}, SECOND, 2, 2), ("reverseContinue", {}, FIRST, 1, 1), ("next", {}, '"reason":"step"', 2, 2), ("stepBack", {}, '"reason":"step"', 1, 1),

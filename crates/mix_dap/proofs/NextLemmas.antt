@@ -1,10 +1,11 @@
 -- A step is told before it is done as it is told when it is done.
-use Rattle.std.proofs.Common.{◌≡◌, ℕ, ◌+◌, ◌-◌, List, [], ◌∷◌, ◌++◌, length, take, Some, None, IsSome, Ok, Err, refl, sym, ap, ◌∙◌, arith}
+use Rattle.std.proofs.Common.{◌≡◌, ℕ, ◌+◌, ◌-◌, List, [], ◌∷◌, ◌++◌, length, take, Option, Some, None, IsSome, Ok, Err, refl, sym, ap, ◌∙◌, arith}
 use Rattle.std.proofs.lemmas.List.{append-nil, length-append}
 use Rattle.std.proofs.Math.Seq.{take-append_seam, take-length}
 use Rattle.std.specs.Option.{option_and_then}
 use Rattle.std.specs.Result.{result_ok}
 use Rattle.undo_core.specs.Replay.{replay}
+use Rattle.mix_word.specs.Field.{FieldValue}
 use Rattle.mix_machine.specs.Do.{does}
 use Rattle.mix_machine.specs.World.{WorldState}
 use Rattle.mix_machine.specs.declared.old.Change.{Change}
@@ -37,9 +38,9 @@ pub machine_now : (t : Timeline) → world_at t (length t.changes) ≡ world_of 
 unfolding world_at world_of
 machine_now t = rw (take-append_seam t.changes t.ahead) refl
 
-next-done : (t : Timeline) (u v : WorldState) → replay does t.first t.changes ≡ Some u → does (world_of t) Step ≡ Ok v →
-    next_shown t ≡ change_shown (with_change t Step) (length t.changes + 1) Step
-next-done t u v came given =
+next-done : (t : Timeline) (field : Option FieldValue) (u v : WorldState) → replay does t.first t.changes ≡ Some u → does (world_of t) Step ≡ Ok v →
+    next_shown t field ≡ change_shown (with_change t Step) (length t.changes + 1) field None Step
+next-done t field u v came given =
     let now : world_of t ≡ u = now-is t u came in
     let all : all_changes (with_change t Step) ≡ t.changes ++ Step ∷ [] = append-nil (t.changes ++ Step ∷ []) in
     let one : length t.changes + 1 - 1 ≡ length t.changes = omega arith in
@@ -52,9 +53,9 @@ next-done t u v came given =
     (replay-more t.first t.changes Step (world_of t) v (came ∙ ap Some (sym now)) given) in
     rw (given, before, after) refl
 
-pub next_told : (t : Timeline) (v : WorldState) → IsSome (replay does t.first t.changes) → does (world_of t) Step ≡ Ok v →
-    next_shown t ≡ change_shown (with_change t Step) (length t.changes + 1) Step
-next_told t v stands given =
+pub next_told : (t : Timeline) (field : Option FieldValue) (v : WorldState) → IsSome (replay does t.first t.changes) → does (world_of t) Step ≡ Ok v →
+    next_shown t field ≡ change_shown (with_change t Step) (length t.changes + 1) field None Step
+next_told t field v stands given =
     (elim (replay does t.first t.changes) as (λ o. replay does t.first t.changes ≡ o → IsSome o →
-    next_shown t ≡ change_shown (with_change t Step) (length t.changes + 1) Step)
-    [ Some u ↦ λ e _. next-done t u v e given | None ↦ λ _ h. absurd (cc) ]) refl stands
+    next_shown t field ≡ change_shown (with_change t Step) (length t.changes + 1) field None Step)
+    [ Some u ↦ λ e _. next-done t field u v e given | None ↦ λ _ h. absurd (cc) ]) refl stands

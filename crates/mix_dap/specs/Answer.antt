@@ -47,7 +47,7 @@ shown_of look.Path r a = path_asked a.session r
 shown_of look.State r a = state_asked a.session r
 shown_of look.Units r a = units_asked (world_of a.session.timeline) r
 shown_of look.Change r a = change_asked a.session r
-shown_of look.Next r a = Ok (next_asked a.session)
+shown_of look.Next r a = next_asked a.session r
 shown_of look.Writes r a = writes_asked a.session r
 
 -- a run of all threads goes on

@@ -29,6 +29,10 @@ use Rattle.mix_dap.specs.declared.kind.Target.TheVariants as target
 abbrev any_number : Form
 any_number = form.Natural (2 ^ 64 - 1)
 
+-- a byte of MIX, as the code of a field is
+abbrev any_byte : Form
+any_byte = form.Natural 63
+
 -- one that has to be there, and one that may be missing
 abbrev needs : ArgumentName → Form → Argument
 needs called form = argument.One (member.Needs called form)
@@ -56,9 +60,10 @@ arguments_of (kind.Look look.Watch) = needs name.Name form.Text ∷ may name.Var
 arguments_of (kind.Look look.Locations) = argument.Source ∷ needs name.Line any_number ∷ may name.EndLine any_number ∷ []
 arguments_of (kind.Look look.Completions) = needs name.Text form.Text ∷ needs name.Column any_number ∷ []
 arguments_of (kind.Look look.Path) = needs name.Columns (form.Natural 500) ∷ may name.From any_number ∷ may name.Until any_number ∷ []
-arguments_of (kind.Look look.State) = argument.Cells ∷ may name.Nonzero form.Flag ∷ []
+arguments_of (kind.Look look.State) = argument.Cells ∷ may name.Nonzero form.Flag ∷ may name.Field any_byte ∷ may name.Instructions form.Flag ∷ []
 arguments_of (kind.Look look.Units) = may name.Unit any_number ∷ may name.Block any_number ∷ []
-arguments_of (kind.Look look.Change) = needs name.Number any_number ∷ []
+arguments_of (kind.Look look.Change) = needs name.Number any_number ∷ may name.Field any_byte ∷ may name.Conflict form.Flag ∷ []
+arguments_of (kind.Look look.Next) = may name.Field any_byte ∷ []
 arguments_of (kind.Look look.Writes) = needs name.Part form.Text ∷ may name.Count (form.Natural 1000) ∷ may name.Until any_number ∷ []
 arguments_of (kind.Act act.Goto) = needs name.TargetId any_number ∷ []
 arguments_of (kind.Act act.SetVariable) = needs name.VariablesReference any_number ∷ needs name.Name form.Text ∷ needs name.Value form.Text ∷ []
@@ -69,7 +74,6 @@ arguments_of (kind.Look look.Scopes) = []
 arguments_of (kind.Look look.Fault) = []
 arguments_of (kind.Look look.Program) = []
 arguments_of (kind.Look look.Counts) = []
-arguments_of (kind.Look look.Next) = []
 arguments_of kind.Pause = []
 arguments_of kind.Terminate = []
 arguments_of kind.Restart = []

@@ -9,6 +9,7 @@ pub mod Change
 pub mod Check
 pub mod Completions
 pub mod Counts
+pub mod Decoded
 pub mod Deed
 pub mod Dialogue
 pub mod Disassembly

@@ -1,6 +1,6 @@
 //! Views: what a page shows of the program, the machine and its changes, as values. They only look.
 
-ghost use Rattle.std.specs.Prelude.{◌≡◌, IfOk, OnOk, codes, string_bytes};
+ghost use Rattle.std.specs.Prelude.{◌≡◌, IfOk, OnOk, string_bytes};
 ghost use Rattle.serde_json.specs.Data.{put, string};
 ghost use Rattle.serde_json.specs.View.{view};
 ghost use Rattle.mix_word.specs.Instruction.{number_text};
@@ -11,6 +11,7 @@ mod asked;
 mod change;
 mod check;
 mod counts;
+mod decoded;
 mod next;
 mod path;
 mod program;
@@ -86,7 +87,7 @@ fn put_texts(
     ensures { OnOk result (members_in fields.new ≡ put_texts bytes.now (number_text word) characters.now (members_in fields.old)) }
 {
     fields.text("word", bytes)?;
-    put_number(alloc, fields, word)?;
+    put_number(alloc, fields, "number", word)?;
     fields.text("characters", characters)
 }
 
@@ -100,12 +101,12 @@ fn word_shown(alloc: Global, word: Word) -> Result<Value, Memory>
 }
 
 // The number of a word, with its sign: that of -0 too.
-fn put_number(alloc: Global, fields: &mut Fields, word: Word) -> Result<(), Memory>
-    ensures { OnOk result (members_in fields.new ≡ put (codes "number") (string (number_text word)) (members_in fields.old)) }
+fn put_number(alloc: Global, fields: &mut Fields, name: &str, word: Word) -> Result<(), Memory>
+    ensures { OnOk result (members_in fields.new ≡ put name.now (string (number_text word)) (members_in fields.old)) }
 {
     let number = Number(word);
     let number = format!(in alloc; "{number}")?;
-    fields.text("number", number.as_str())
+    fields.text(name, number.as_str())
 }
 
 // The name of a part of the machine, as after `until` in a command.

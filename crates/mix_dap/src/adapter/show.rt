@@ -57,7 +57,7 @@ impl Adapter {
             Look::State => state_view(alloc, session, request),
             Look::Units => units_view(alloc, session.world(), request),
             Look::Change => change_view(alloc, session, request),
-            Look::Next => Ok(next_view(alloc, session)?),
+            Look::Next => next_view(alloc, session, request),
             Look::Writes => writes_view(alloc, session, request),
         }
     }

@@ -11,6 +11,9 @@ use crate::kind::{Act, Kind, Look, Target};
 // A whole number, zero or more.
 const ANY: Form = Form::Natural(u64::MAX);
 
+// A byte of MIX, as the code of a field is.
+const FIELD: Form = Form::Natural(63);
+
 /// What a request reads of its arguments.
 #[rattlefmt::skip]
 pub(crate) fn arguments_of(kind: Kind) -> &'static [Argument]
@@ -35,9 +38,10 @@ pub(crate) fn arguments_of(kind: Kind) -> &'static [Argument]
         Kind::Look(Look::Locations) => &[Source, One(Needs(Name::Line, ANY)), One(May(Name::EndLine, ANY))],
         Kind::Look(Look::Completions) => &[One(Needs(Name::Text, Form::Text)), One(Needs(Name::Column, ANY))],
         Kind::Look(Look::Path) => &[One(Needs(Name::Columns, Form::Natural(500))), One(May(Name::From, ANY)), One(May(Name::Until, ANY))],
-        Kind::Look(Look::State) => &[Cells, One(May(Name::Nonzero, Form::Flag))],
+        Kind::Look(Look::State) => &[Cells, One(May(Name::Nonzero, Form::Flag)), One(May(Name::Field, FIELD)), One(May(Name::Instructions, Form::Flag))],
         Kind::Look(Look::Units) => &[One(May(Name::Unit, ANY)), One(May(Name::Block, ANY))],
-        Kind::Look(Look::Change) => &[One(Needs(Name::Number, ANY))],
+        Kind::Look(Look::Change) => &[One(Needs(Name::Number, ANY)), One(May(Name::Field, FIELD)), One(May(Name::Conflict, Form::Flag))],
+        Kind::Look(Look::Next) => &[One(May(Name::Field, FIELD))],
         Kind::Look(Look::Writes) => &[One(Needs(Name::Part, Form::Text)), One(May(Name::Count, Form::Natural(1_000))), One(May(Name::Until, ANY))],
         Kind::Act(Act::Goto) => &[One(Needs(Name::TargetId, ANY))],
         Kind::Act(Act::SetVariable) => &[One(Needs(Name::VariablesReference, ANY)), One(Needs(Name::Name, Form::Text)), One(Needs(Name::Value, Form::Text))],
@@ -48,7 +52,6 @@ pub(crate) fn arguments_of(kind: Kind) -> &'static [Argument]
         | Kind::Look(Look::Fault)
         | Kind::Look(Look::Program)
         | Kind::Look(Look::Counts)
-        | Kind::Look(Look::Next)
         | Kind::Pause
         | Kind::Terminate
         | Kind::Restart

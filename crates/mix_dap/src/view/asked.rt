@@ -4,18 +4,20 @@ ghost use Rattle.std.specs.Prelude.{◌≡◌, ◌≤◌, IfOk};
 ghost use Rattle.std.specs.List.{list_any};
 ghost use Rattle.std.specs.Option.{option_map};
 ghost use Rattle.serde_json.specs.View.{view, items_view};
+ghost use Rattle.dap_message.specs.Fields.{members_in};
 ghost use Rattle.mix_dap.specs.Asked.{two_in, cells_from, range_of, IsRange, cells_in, range_within, ranges_in, ranges_asked, is_plus_zero, is_in, is_asked};
 ghost use Rattle.mix_dap.specs.List.{Gives};
-ghost use Rattle.mix_dap.specs.State.{cell_shown, cell_if_asked};
+ghost use Rattle.mix_dap.specs.State.{cell_members, cell_shown, cell_if_asked};
 
 use crate::fault::Fault;
 use crate::list::{Numbered, add};
 use crate::value::place_at;
+use crate::view::decoded::{put_field, put_instruction};
 use crate::view::put_word;
 use dap_message::{Fields, Request, natural};
 use mix_machine::{Place, Sign, Word, World};
 use mix_refused::{Memory, Refused};
-use mix_word::{CELLS, Instruction};
+use mix_word::{CELLS, Field, Instruction};
 use serde_json::Value;
 use std::alloc::Global;
 
@@ -112,10 +114,12 @@ fn cells_from(first: u64, last: u64) -> Result<(u16, u16), Fault>
     Ok((first as u16, last as u16))
 }
 
-/// The cells that are asked for.
+/// The cells that are asked for, and what of each beside its word and its text: the number of a field, and the instruction in its parts.
 #[derive(Clone, Copy)]
 pub(crate) struct AskedCells<'a> {
     pub world: &'a World,
+    pub field: Option<Field>,
+    pub instructions: bool,
     pub nonzero: bool,
     pub ranges: &'a [(u16, u16)],
 }
@@ -123,7 +127,7 @@ pub(crate) struct AskedCells<'a> {
 impl Numbered for AskedCells<'_> {
     ghost size = { λ _. 4000 };
 
-    ghost shown = { λ cells. cell_if_asked cells.world.now cells.nonzero cells.ranges.now };
+    ghost shown = { λ cells. cell_if_asked cells.world.now cells.field cells.instructions cells.nonzero cells.ranges.now };
 
     fn size(&self) -> u16 {
         CELLS
@@ -131,16 +135,19 @@ impl Numbered for AskedCells<'_> {
 
     fn add(&self, alloc: Global, number: u16, list: &mut Vec<Value>) -> Result<(), Memory> {
         let place = place_at(number);
-        if is_asked(*self, place) {
-            add(list, cell_shown(alloc, self.world, place)?)
+        if is_asked(self, place) {
+            add(
+                list,
+                cell_shown(alloc, self.world, self.field, self.instructions, place)?,
+            )
         } else {
             Ok(())
         }
     }
 }
 
-fn is_asked(cells: AskedCells<'_>, place: Place) -> bool
-    ensures { result ≡ is_asked cells.entry.world.now cells.entry.nonzero cells.entry.ranges.now place }
+fn is_asked(cells: &AskedCells<'_>, place: Place) -> bool
+    ensures { result ≡ is_asked cells.now.world.now cells.now.nonzero cells.now.ranges.now place }
 {
     is_in_any(cells.ranges, place.number())
         || (cells.nonzero && !is_plus_zero(cells.world.cell(place)))
@@ -163,8 +170,26 @@ fn is_plus_zero(word: Word) -> bool
     }
 }
 
-fn cell_shown(alloc: Global, world: &World, place: Place) -> Result<Value, Memory>
-    ensures { IfOk result (λ v. view v ≡ cell_shown world.now place) }
+fn cell_shown(
+    alloc: Global,
+    world: &World,
+    field: Option<Field>,
+    instructions: bool,
+    place: Place,
+) -> Result<Value, Memory>
+    ensures { IfOk result (λ v. view v ≡ cell_shown world.now field instructions place) }
+{
+    let word = world.cell(place);
+    let mut fields = cell_fields(alloc, world, place)?;
+    put_field(alloc, &mut fields, field, "value", word)?;
+    if instructions {
+        put_instruction(alloc, &mut fields, world, word)?;
+    }
+    Ok(fields.done())
+}
+
+fn cell_fields(alloc: Global, world: &World, place: Place) -> Result<Fields, Memory>
+    ensures { IfOk result (λ f. members_in f ≡ cell_members world.now place) }
 {
     let word = world.cell(place);
     let mut fields = Fields::new(alloc);
@@ -173,5 +198,5 @@ fn cell_shown(alloc: Global, world: &World, place: Place) -> Result<Value, Memor
     let instruction = Instruction(word);
     let text = format!(in alloc; "{instruction}")?;
     fields.text("text", text.as_str())?;
-    Ok(fields.done())
+    Ok(fields)
 }

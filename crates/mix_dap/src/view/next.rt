@@ -1,29 +1,46 @@
 //! `mix/next`: what one step more would be.
 
-ghost use Rattle.std.specs.Prelude.{◌≡◌, ◌+◌, ℕ, IfOk, IsSome, Ok, length};
+ghost use Rattle.std.specs.Prelude.{◌≡◌, ◌+◌, ℕ, IfOk, IsSome, None, Ok, Option, length};
+ghost use Rattle.serde_json.specs.Data.{object};
 ghost use Rattle.serde_json.specs.View.{view};
 ghost use Rattle.undo_core.specs.Replay.{replay};
+ghost use Rattle.mix_word.specs.Field.{FieldValue};
 ghost use Rattle.mix_machine.specs.Do.{does};
 ghost use Rattle.mix_machine.specs.World.{WorldState};
 ghost use Rattle.mix_machine.specs.declared.old.Change.TheVariants.{Step};
 ghost use Rattle.mix_session.specs.Timeline.{Timeline, with_change, world_of};
-ghost use Rattle.mix_dap.specs.Change.{change_shown};
+ghost use Rattle.mix_dap.specs.Change.{change_members, change_shown};
+ghost use Rattle.mix_dap.specs.List.{Shows};
 ghost use Rattle.mix_dap.specs.Next.{next_asked, next_refused, next_shown};
 
+use crate::fault::Fault;
 use crate::look::put_exception;
 use crate::view::change::{Worlds, change_between};
-use dap_message::Fields;
+use crate::view::decoded::field_asked;
+use dap_message::{Fields, Request};
 use mix_machine::{Change, MixFault, World};
 use mix_refused::{Memory, Refused};
 use mix_session::{Session, change_text};
+use mix_word::Field;
 use serde_json::Value;
 use std::alloc::Global;
 use undo_core::{Kept, Undo};
 
 /// The change that one step more would be, told and not done; or the fault that it would meet.
+pub(crate) fn next_view(
+    alloc: Global,
+    session: &Session,
+    request: &Request,
+) -> Result<Value, Refused<Fault>>
+    ensures { Shows (next_asked session.now request.now) result }
+{
+    let field = field_asked(request)?;
+    Ok(next_shown(alloc, session, field)?)
+}
+
 #[tactic(auto, using(crate::proofs::NextLemmas::machine_now))]
-pub(crate) fn next_view(alloc: Global, session: &Session) -> Result<Value, Memory>
-    ensures { IfOk result (λ v. view v ≡ next_asked session.now) }
+fn next_shown(alloc: Global, session: &Session, field: Option<Field>) -> Result<Value, Memory>
+    ensures { IfOk result (λ v. view v ≡ next_shown session.now.timeline field) }
 {
     let done = session.changes().len();
     // (no journal has room for one more)
@@ -34,18 +51,24 @@ pub(crate) fn next_view(alloc: Global, session: &Session) -> Result<Value, Memor
     let mut kept = Kept::new(alloc);
     let before = session.world();
     match after.apply(&Change::Step, &mut kept) {
-        Ok(()) => change_between(
+        Ok(()) => next_step(
             alloc,
             number,
-            Change::Step,
-            Worlds {
+            &Worlds {
                 before,
                 after: &after,
+                field,
             },
         ),
         Err(Refused::Fault(fault)) => next_refused(alloc, number, before, fault),
         Err(Refused::Memory) => Err(Memory),
     }
+}
+
+fn next_step(alloc: Global, number: u64, worlds: &Worlds<'_>) -> Result<Value, Memory>
+    ensures { IfOk result (λ v. view v ≡ object (change_members number worlds.now.field Step worlds.now.before.now worlds.now.after.now)) }
+{
+    Ok(change_between(alloc, number, Change::Step, worlds)?.done())
 }
 
 fn next_refused(alloc: Global, number: u64, world: &World, fault: MixFault) -> Result<Value, Memory>
@@ -61,6 +84,6 @@ fn next_refused(alloc: Global, number: u64, world: &World, fault: MixFault) -> R
 
 /// What `mix/next` tells is what `mix/change` tells of that step when it is done.
 pub fn next_law()
-    ensures { (t : Timeline) (v : WorldState) → IsSome (replay does t.first t.changes) → does (world_of t) Step ≡ Ok v →
-        next_shown t ≡ change_shown (with_change t Step) (length t.changes + 1) Step }
+    ensures { (t : Timeline) (field : Option FieldValue) (v : WorldState) → IsSome (replay does t.first t.changes) → does (world_of t) Step ≡ Ok v →
+        next_shown t field ≡ change_shown (with_change t Step) (length t.changes + 1) field None Step }
 {}

@@ -90,7 +90,7 @@ fn symbol_shown(alloc: Global, symbol: &Symbol, value: Word) -> Result<Value, Me
     fields.text("name", name_of(alloc, symbol)?.as_str())?;
     let bytes = format!(in alloc; "{value}")?;
     fields.text("value", bytes.as_str())?;
-    put_number(alloc, &mut fields, value)?;
+    put_number(alloc, &mut fields, "number", value)?;
     Ok(fields.done())
 }
 

@@ -18,6 +18,7 @@ use crate::fault::Fault;
 use crate::list::{add, list_of};
 use crate::value::held;
 use crate::view::asked::{AskedCells, ranges_asked};
+use crate::view::decoded::field_asked;
 use crate::view::{part_name, put_digits, put_register};
 use dap_message::{Fields, Request};
 use mix_machine::{Change, Reg, World};
@@ -35,42 +36,36 @@ pub(crate) fn state_view(
     ensures { Shows (state_asked session.now request.now) result }
 {
     let ranges = ranges_asked(alloc, request)?;
-    let nonzero = request.flag("nonzero");
-    Ok(state(alloc, session, nonzero, ranges.as_slice())?)
+    let field = field_asked(request)?;
+    let cells = AskedCells {
+        world: session.world(),
+        field,
+        instructions: request.flag("instructions"),
+        nonzero: request.flag("nonzero"),
+        ranges: ranges.as_slice(),
+    };
+    Ok(state(alloc, session, &cells)?)
 }
 
-fn state(
-    alloc: Global,
-    session: &Session,
-    nonzero: bool,
-    ranges: &[(u16, u16)],
-) -> Result<Value, Memory>
-    ensures { IfOk result (λ v. view v ≡ state_of session.now.timeline nonzero ranges.now) }
+fn state(alloc: Global, session: &Session, cells: &AskedCells<'_>) -> Result<Value, Memory>
+    requires { cells.now.world.now ≡ world_of session.now.timeline }
+    ensures { IfOk result (λ v. view v ≡ state_of session.now.timeline cells.now.field cells.now.instructions cells.now.nonzero cells.now.ranges.now) }
 {
-    let mut body = machine(alloc, session, nonzero, ranges)?;
+    let mut body = machine(alloc, session, cells)?;
     put_last(alloc, &mut body, session)?;
     Ok(body.done())
 }
 
-fn machine(
-    alloc: Global,
-    session: &Session,
-    nonzero: bool,
-    ranges: &[(u16, u16)],
-) -> Result<Fields, Memory>
-    ensures { IfOk result (λ f. members_in f ≡ machine_members session.now.timeline nonzero ranges.now) }
+fn machine(alloc: Global, session: &Session, cells: &AskedCells<'_>) -> Result<Fields, Memory>
+    requires { cells.now.world.now ≡ world_of session.now.timeline }
+    ensures { IfOk result (λ f. members_in f ≡ machine_members session.now.timeline cells.now.field cells.now.instructions cells.now.nonzero cells.now.ranges.now) }
 {
     let world = session.world();
     let mut body = Fields::new(alloc);
     put_counts(&mut body, session)?;
     put_flags(alloc, &mut body, world)?;
     body.list("registers", registers(alloc, world)?)?;
-    let cells = AskedCells {
-        world,
-        nonzero,
-        ranges,
-    };
-    body.list("cells", list_of(alloc, &cells)?)?;
+    body.list("cells", list_of(alloc, cells)?)?;
     Ok(body)
 }
 
