@@ -39,7 +39,10 @@ fn all_shown(alloc: Global, source: &[u8], diagnostics: &[Diagnostic]) -> Result
     let mut checked = Checked::of(alloc, source)?;
     let mut list = Vec::new(alloc);
     for diagnostic in diagnostics {
-        add(&mut list, diagnostic_shown(alloc, &mut checked, diagnostic)?)?;
+        add(
+            &mut list,
+            diagnostic_shown(alloc, &mut checked, diagnostic)?,
+        )?;
     }
     Ok(list)
 }
