@@ -64,10 +64,10 @@ what both say with docs/FORMATS.md.
   and the paper tape in the order in which they are printed, without the blanks at their ends, and a page mark as a form feed.
   If a step meets a fault, or the steps are used up, one line on standard error says where. It cannot go back.
   A step that uses cells of a transfer that is not over is a mistake, such as a store into a line that is still printed.
-  The first of them is told there, and how many there are; with --strict the run ends before it.
+  The first of them is printed there, and how many there are; with --strict the run ends before it.
   With --trace the line of each step, with what it altered, comes before what it prints.
   With --keep the tapes and disks are there for the next program: it reads that file with --devices.
-  With --svg the picture has the lines of the source against the steps of the run, the darker, the oftener a line was executed.
+  With --svg the picture has the lines of the source against the steps of the run: darker where a line was executed more often.
   With --counts a table has a row for each instruction that was executed: the line of the source, the location, how often, and
   the time in u. With --writes it has a row for each change of a part, with its values before and after. With --trace and one
   of --csv, --json and --latex it has a row for each step. A run with --svg or --counts keeps its history, so a program without
@@ -90,8 +90,8 @@ what both say with docs/FORMATS.md.
         --echo            Writes each command of SCRIPT before its reply
     -h, --help            Print help
   
-  Without a script it is interactive: each line of standard input is a command, which is done and answered before the next is
-  read. At a terminal, help lists the commands, and quit ends the session, as the end of the input does.
+  Without a script it is interactive: it reads a command from standard input, executes it and prints its reply before it reads
+  the next. At a terminal, help lists the commands, and quit ends the session, as the end of the input does.
   
   A script is a text file of commands, one a line: step N and run N go on, trace N shows each step, back N takes changes back,
   forth N does them again, goto N goes to the state after the first N, set, break and clear change the machine, and show shows
@@ -157,22 +157,24 @@ A session whose input is a terminal; the echo and the prompts are left out.
   stderr: set, break, clear    change the machine, set a breakpoint, take one away
   stderr: show                 shows the machine, its code, its past, counts
   stderr: quit                 ends the session
-  stderr: Beginnings will do: s for step, b for break, ba for back, u for until; n is step too, c is run.
+  stderr: A command may be shortened: s is step, b break, ba back, u until; n is step too, c is run.
   stderr: back and forth alone take 1, run alone 1000000. Who wrote cell 100? run, then back until cell 100.
-  stderr: watch COND stops run, back and forth at that from now on; delete forgets all.
+  stderr: watch COND makes run, back and forth stop there from now on; delete ends that.
   stderr: print shows a register, cell E or a word W; list shows the source, where what comes next.
   stderr: display shows what print shows after each stop; undisplay ends that.
   stderr: save FILE saves what was done, as a bundle: mixrev < FILE does it again.
   stderr: source FILE does the lines of FILE, as if they were typed.
   stderr: reload reads the source again, and does there what was done so far.
-  stderr: help COMMAND explains one, as help back. A blank line repeats the last step or back.
+  stderr: help COMMAND explains one, as help back. A blank line repeats the last command.
   stderr: 
   $ talk 'help step\nhelp run\nhelp trace\nhelp back\nhelp forth\nhelp goto\nhelp set\nhelp break\nhelp clear\nhelp show\nhelp quit\nhelp until\nhelp cond\nhelp print\nhelp x\nhelp where\nhelp list\nhelp watch\nhelp delete\nhelp display\nhelp undisplay\nhelp save\nhelp source\nhelp reload\nhelp help\nhelp me\n'
   stderr: Type a command, such as step, back 1 or show regs; help lists them all, quit ends.
   stderr: step             does one step
   stderr: step N           does N steps, 1 to 1000000, fewer if a halt or a fault comes
+  stderr: After a halt, step and run without a number do nothing. rs takes one step back.
   stderr: run N            does N steps, 1 to 1000000, fewer if a halt, a fault or a breakpoint comes
   stderr: run N until COND also stops when a step reaches COND, and shows that step
+  stderr: advance E is run until loc E.
   stderr: trace            does one step and shows what it altered
   stderr: trace N          does N steps as step N, and shows each
   stderr: back N           takes the last N changes back
@@ -215,42 +217,46 @@ A session whose input is a terminal; the echo and the prompts are left out.
   stderr: what it names, by leading to location E, or by a conflict with a transfer under way. As:
   stderr: run 1000 until A, back until cell 100, run 1000 until conflict. Up to eight may be joined
   stderr: by or: run 1000 until A or loc LOOP ends with the first step that reaches one of them.
-  stderr: print A          shows the registers; print alone does too
+  stderr: print A          shows rA; print over, cmp, loc, clock that; print alone the registers
   stderr: print cell E     shows cell E as bytes, as a number and in characters; x E does too
-  stderr: print W          shows the word W in the same way; a symbol is its cell
+  stderr: print W          shows the word W in the same way; a symbol is its location
+  stderr: If a symbol has a register's name, print X and watch X mean the symbol, and rX the register.
   stderr: where            shows what comes next, as show code
-  stderr: list             shows the lines of the source around what comes next
+  stderr: list             shows the lines of the source around what comes next; again those after them
   stderr: list LINE        shows those around a line, or around the line of a symbol
-  stderr: print A          shows the registers; print alone does too
+  stderr: print A          shows rA; print over, cmp, loc, clock that; print alone the registers
   stderr: print cell E     shows cell E as bytes, as a number and in characters; x E does too
-  stderr: print W          shows the word W in the same way; a symbol is its cell
+  stderr: print W          shows the word W in the same way; a symbol is its location
+  stderr: If a symbol has a register's name, print X and watch X mean the symbol, and rX the register.
   stderr: where            shows what comes next, as show code
-  stderr: list             shows the lines of the source around what comes next
+  stderr: list             shows the lines of the source around what comes next; again those after them
   stderr: list LINE        shows those around a line, or around the line of a symbol
-  stderr: print A          shows the registers; print alone does too
+  stderr: print A          shows rA; print over, cmp, loc, clock that; print alone the registers
   stderr: print cell E     shows cell E as bytes, as a number and in characters; x E does too
-  stderr: print W          shows the word W in the same way; a symbol is its cell
+  stderr: print W          shows the word W in the same way; a symbol is its location
+  stderr: If a symbol has a register's name, print X and watch X mean the symbol, and rX the register.
   stderr: where            shows what comes next, as show code
-  stderr: list             shows the lines of the source around what comes next
+  stderr: list             shows the lines of the source around what comes next; again those after them
   stderr: list LINE        shows those around a line, or around the line of a symbol
-  stderr: print A          shows the registers; print alone does too
+  stderr: print A          shows rA; print over, cmp, loc, clock that; print alone the registers
   stderr: print cell E     shows cell E as bytes, as a number and in characters; x E does too
-  stderr: print W          shows the word W in the same way; a symbol is its cell
+  stderr: print W          shows the word W in the same way; a symbol is its location
+  stderr: If a symbol has a register's name, print X and watch X mean the symbol, and rX the register.
   stderr: where            shows what comes next, as show code
-  stderr: list             shows the lines of the source around what comes next
+  stderr: list             shows the lines of the source around what comes next; again those after them
   stderr: list LINE        shows those around a line, or around the line of a symbol
   stderr: watch COND       run stops there too from now on, back and forth alone go up to it: until COND
   stderr: delete           nothing is watched any more
   stderr: Each watch adds to what is watched, up to eight conditions. COND is as after until; help until
-  stderr: says more.
+  stderr: says more. A symbol alone is its cell.
   stderr: watch COND       run stops there too from now on, back and forth alone go up to it: until COND
   stderr: delete           nothing is watched any more
   stderr: Each watch adds to what is watched, up to eight conditions. COND is as after until; help until
-  stderr: says more.
-  stderr: display A        shows the registers now, and after each stop from now on
+  stderr: says more. A symbol alone is its cell.
+  stderr: display A        shows rA now, and after each stop from now on
   stderr: display cell E   shows cell E, and display W a word, in the same way: as print does
   stderr: undisplay        nothing is displayed any more
-  stderr: display A        shows the registers now, and after each stop from now on
+  stderr: display A        shows rA now, and after each stop from now on
   stderr: display cell E   shows cell E, and display W a word, in the same way: as print does
   stderr: undisplay        nothing is displayed any more
   stderr: save FILE        saves the source, the deck and what was done in FILE, as a bundle
@@ -265,15 +271,15 @@ A session whose input is a terminal; the echo and the prompts are left out.
   stderr: set, break, clear    change the machine, set a breakpoint, take one away
   stderr: show                 shows the machine, its code, its past, counts
   stderr: quit                 ends the session
-  stderr: Beginnings will do: s for step, b for break, ba for back, u for until; n is step too, c is run.
+  stderr: A command may be shortened: s is step, b break, ba back, u until; n is step too, c is run.
   stderr: back and forth alone take 1, run alone 1000000. Who wrote cell 100? run, then back until cell 100.
-  stderr: watch COND stops run, back and forth at that from now on; delete forgets all.
+  stderr: watch COND makes run, back and forth stop there from now on; delete ends that.
   stderr: print shows a register, cell E or a word W; list shows the source, where what comes next.
   stderr: display shows what print shows after each stop; undisplay ends that.
   stderr: save FILE saves what was done, as a bundle: mixrev < FILE does it again.
   stderr: source FILE does the lines of FILE, as if they were typed.
   stderr: reload reads the source again, and does there what was done so far.
-  stderr: help COMMAND explains one, as help back. A blank line repeats the last step or back.
+  stderr: help COMMAND explains one, as help back. A blank line repeats the last command.
   stderr: There is no help on that; help alone names the commands.
   stderr: 
 
@@ -301,7 +307,7 @@ Wrong words are answered with the right ones.
   stderr: goto takes a number
   stderr: set takes REG W, cell E W, loc E, over on, over off or cmp L, E, G
   stderr: break takes E, a cell, or line N
-  stderr: clear takes E, a cell, or line N
+  stderr: clear takes E, a cell, or line N: one at a time; show breaks lists them
   stderr: show takes regs, all, cells E E, unit N, code, value W, values, last N, writes COND, diff N,
   stderr: counts, conflicts, clock, breaks, changes or symbols
   stderr: watch takes COND: a register, over, cmp, cell E, unit N, loc E or conflict
@@ -326,106 +332,105 @@ Wrong words are answered with the right ones.
   stderr: watch takes no more than eight conditions; delete forgets them
   stderr: 
 
-Commands of gdb and of mixvm.
-  $ talk 'load\nfile\nstart\ninfo\ni\npreg\npflags\npc\npstat\npall\npmem\n'
-  ? C1 no such command
-  ? C1 no such command
-  ? C1 no such command
-  ? C1 no such command
-  ? C1 no such command
-  ? C1 no such command
-  ? C1 no such command
-  ? C1 no such command
-  ? C1 no such command
-  ? C1 no such command
-  ? C1 no such command
-  stderr: Type a command, such as step, back 1 or show regs; help lists them all, quit ends.
-  stderr: mixrev debug SOURCE opens a source; quit ends this session
-  stderr: mixrev debug SOURCE opens a source; quit ends this session
-  stderr: run takes a number, 1 to 1000000, until COND, both or nothing
-  stderr: show takes regs, all, cells E E, unit N, code, value W, values, last N, writes COND, diff N,
-  stderr: counts, conflicts, clock, breaks, changes or symbols
-  stderr: show takes regs, all, cells E E, unit N, code, value W, values, last N, writes COND, diff N,
-  stderr: counts, conflicts, clock, breaks, changes or symbols
-  stderr: print shows the registers, print A too; show regs has the toggle and the indicator
-  stderr: print shows the registers, print A too; show regs has the toggle and the indicator
-  stderr: print shows the registers, print A too; show regs has the toggle and the indicator
-  stderr: print shows the registers, print A too; show regs has the toggle and the indicator
-  stderr: show all shows everything in use
-  stderr: print cell E shows a cell, x E E cells
-  stderr: 
-  $ talk 'psym\nweval\nw2d\nsreg\nsmem\nscmp\nsover\nssym\njump\nsbp\nsbpa\n'
-  ? C1 no such command
-  ? C1 no such command
-  ? C1 no such command
-  ? C1 no such command
-  ? C1 no such command
-  ? C1 no such command
-  ? C1 no such command
-  ? C1 no such command
-  ? C1 no such command
-  ? C1 no such command
-  ? C1 no such command
-  stderr: Type a command, such as step, back 1 or show regs; help lists them all, quit ends.
-  stderr: show symbols shows them all, print SYMBOL one
-  stderr: print takes W, a word
-  stderr: print takes W, a word
-  stderr: set REG W sets a register, set cell E W a cell, set over on the toggle, set cmp L
-  stderr: set REG W sets a register, set cell E W a cell, set over on the toggle, set cmp L
-  stderr: set REG W sets a register, set cell E W a cell, set over on the toggle, set cmp L
-  stderr: set REG W sets a register, set cell E W a cell, set over on the toggle, set cmp L
-  stderr: set REG W sets a register, set cell E W a cell, set over on the toggle, set cmp L
-  stderr: set loc E sets the location; goto takes a number of changes
-  stderr: break takes E, a cell, or line N; watch takes COND
-  stderr: break takes E, a cell, or line N; watch takes COND
-  stderr: 
-  $ talk 'sbpr\nsbpm\nsbpc\nsbpo\ntbreak\ncbp\ncbpa\ncabp\nstrace\npbt\nsbt\n'
-  ? C1 no such command
-  ? C1 no such command
-  ? C1 no such command
-  ? C1 no such command
-  ? C1 no such command
-  ? C1 no such command
-  ? C1 no such command
-  ? C1 no such command
-  ? C1 no such command
-  ? C1 no such command
-  ? C1 no such command
-  stderr: Type a command, such as step, back 1 or show regs; help lists them all, quit ends.
-  stderr: break takes E, a cell, or line N; watch takes COND
-  stderr: break takes E, a cell, or line N; watch takes COND
-  stderr: break takes E, a cell, or line N; watch takes COND
-  stderr: break takes E, a cell, or line N; watch takes COND
-  stderr: break takes E, a cell, or line N; watch takes COND
-  stderr: clear takes E, a cell, or line N
-  stderr: clear takes E, a cell, or line N
-  stderr: clear takes E, a cell, or line N
-  stderr: show last N shows what the last N changes altered; trace N shows each step
-  stderr: show last N shows what the last N changes altered; trace N shows each step
-  stderr: show last N shows what the last N changes altered; trace N shows each step
-  stderr: 
-  $ talk 'bt\nbacktrace\nstime\nptime\nfinish\nreverse-step\nreverse-continue\nrs\nrc\nundo\npline\n'
-  ? C1 no such command
-  ? C1 no such command
-  ? C1 no such command
-  ? C1 no such command
-  ? C1 no such command
-  ? C1 no such command
-  ? C1 no such command
-  ? C1 no such command
-  ? C1 no such command
-  ? C1 no such command
-  ? C1 no such command
-  stderr: Type a command, such as step, back 1 or show regs; help lists them all, quit ends.
-  stderr: show last N shows what the last N changes altered; trace N shows each step
-  stderr: show last N shows what the last N changes altered; trace N shows each step
-  stderr: show clock shows the time
-  stderr: show clock shows the time
-  stderr: run takes a number, 1 to 1000000, until COND, both or nothing
-  stderr: back takes a number, all, break or until COND
-  stderr: back takes a number, all, break or until COND
-  stderr: back takes a number, all, break or until COND
-  stderr: back takes a number, all, break or until COND
-  stderr: back takes a number, all, break or until COND
-  stderr: list takes the number of a line, a symbol, or nothing
-  stderr: 
+Commands of gdb and of mixvm: each is refused, and what to type here is written. Capitals count the same.
+  $ hints() { talk "$(printf '%s\\n' "$@")" | grep -v -e '^stderr: $' -e 'Type a command' | uniq -c; }
+  $ hints load file
+        2 ? C1 no such command
+        2 stderr: mixrev debug SOURCE opens a source; quit ends this session
+  $ hints start
+        1 ? C1 no such command
+        1 stderr: run takes a number, 1 to 1000000, until COND, both or nothing
+  $ hints info
+        1 ? C1 no such command
+        1 stderr: show takes regs, all, cells E E, unit N, code, value W, values, last N, writes COND, diff N,
+        1 stderr: counts, conflicts, clock, breaks, changes or symbols
+  $ hints i
+        1 ? C1 no such command
+        1 stderr: show takes regs, all, cells E E, unit N, code, value W, values, last N, writes COND, diff N,
+        1 stderr: counts, conflicts, clock, breaks, changes or symbols
+  $ hints preg pflags pc pstat
+        4 ? C1 no such command
+        4 stderr: print shows the registers, print A rA alone; show regs has the toggle and the indicator
+  $ hints pall
+        1 ? C1 no such command
+        1 stderr: show all shows everything in use
+  $ hints pmem
+        1 ? C1 no such command
+        1 stderr: print cell E shows a cell, x E E cells
+  $ hints psym
+        1 ? C1 no such command
+        1 stderr: show symbols shows them all, print SYMBOL one
+  $ hints weval
+        1 ? C1 no such command
+        1 stderr: print takes W, a word
+  $ hints w2d
+        1 ? C1 no such command
+        1 stderr: print takes W, a word: 5 or LOOP+1
+  $ hints sreg smem scmp sover
+        4 ? C1 no such command
+        4 stderr: set REG W sets a register, set cell E W a cell, set over on the toggle, set cmp L
+  $ hints ssym
+        1 ? C1 no such command
+        1 stderr: a symbol keeps its value; set cell E W sets the cell
+  $ hints jump
+        1 ? C1 no such command
+        1 stderr: set loc E sets the location; goto takes a number of changes
+  $ hints sbp sbpa sbpr sbpm sbpc sbpo rwatch enable
+        8 ? C1 no such command
+        8 stderr: break takes E, a cell, or line N; watch takes COND
+  $ hints tbreak
+        1 ? C1 no such command
+        1 stderr: run until loc E stops at E once; break E each time
+  $ hints condition ignore commands
+        3 ? C1 no such command
+        3 stderr: a breakpoint has no condition: run until COND stops once, watch COND each time
+  $ hints cbp cbpa cabp disable
+        4 ? C1 no such command
+        4 stderr: clear takes E, a cell, or line N: one at a time; show breaks lists them
+  $ hints cbpr cbpm cbpc cbpo
+        4 ? C1 no such command
+        4 stderr: delete forgets what is watched
+  $ hints strace pbt sbt bt backtrace history when
+        7 ? C1 no such command
+        7 stderr: show last N shows what the last N changes altered; trace N shows each step
+  $ hints stime ptime
+        2 ? C1 no such command
+        2 stderr: show clock shows the time
+  $ hints finish up down
+        3 ? C1 no such command
+        3 stderr: run until loc E stops at E: print J shows where a subroutine returns to
+  $ hints reverse-finish
+        1 ? C1 no such command
+        1 stderr: back until loc E goes back to E: the JMP that called
+  $ hints reverse-continue rc undo
+        3 ? C1 no such command
+        3 stderr: back takes a number, all, break or until COND
+  $ hints seek record
+        2 ? C1 no such command
+        2 stderr: all is recorded: back takes changes back, goto N goes to one
+  $ hints restart
+        1 ? C1 no such command
+        1 stderr: back all begins anew
+  $ hints pline psrc pprog layout
+        4 ? C1 no such command
+        4 stderr: list takes the number of a line, a symbol, or nothing
+  $ hints edit compile sedit pedit sasm pasm
+        6 ? C1 no such command
+        6 stderr: edit the source elsewhere: reload reads it again
+  $ hints shell '!' '!ls' sddir pddir scm scmf slog prompt
+        9 ? C1 no such command
+        9 stderr: a shell has that: quit ends this session
+  $ hints x/ x/4x
+        2 ? C1 no such command
+        2 stderr: x E shows a cell, x E E those from the first to the second
+  $ hints p/ p/x print/ print/x
+        4 ? C1 no such command
+        4 stderr: print shows bytes, number and characters at once
+  $ hints '&'
+        1 ? C1 no such command
+        1 stderr: a symbol is its location: x X shows the cell
+  $ hints LOAD Bt X/4X
+        3 ? C1 no such command
+        1 stderr: mixrev debug SOURCE opens a source; quit ends this session
+        1 stderr: show last N shows what the last N changes altered; trace N shows each step
+        1 stderr: x E shows a cell, x E E those from the first to the second
