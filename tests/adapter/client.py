@@ -165,3 +165,11 @@ class Client:
             self.count.row(f"{self.name}: schema", not wrong, f"{wrong} in {message}")
         numbers = [message["seq"] for message in self.messages]
         self.count.row(f"{self.name}: numbers of messages", numbers == sorted(set(numbers)), numbers)
+
+
+def run(*parts):
+    """Runs parts of a test on the adapter that the words of the command line start, and gives the status."""
+    count = Count()
+    for part in parts:
+        part([os.path.abspath(sys.argv[1]), *sys.argv[2:]], count)
+    return count.ended()

@@ -9,7 +9,7 @@ import sys
 sys.dont_write_bytecode = True
 sys.path.insert(0, os.path.dirname(os.path.abspath(__file__)))
 
-from client import Count
+from client import run
 from exact import DONE, GOOD, launch, texts, told
 
 # The text of a line, the column of the cursor, the words, and the column and the length of the word
@@ -60,14 +60,5 @@ def missing(command, count):
     count.same("what is missing", numbers, [303, 302, 302, 302, 302])
 
 
-def main():
-    command = [os.path.abspath(sys.argv[1]), *sys.argv[2:]]
-    count = Count()
-    completes(command, count)
-    missing(command, count)
-    print(f"{count.passed} passed, {count.failed} failed")
-    return 1 if count.failed else 0
-
-
 if __name__ == "__main__":
-    sys.exit(main())
+    sys.exit(run(completes, missing))

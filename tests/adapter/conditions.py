@@ -11,7 +11,7 @@ import sys
 sys.dont_write_bytecode = True
 sys.path.insert(0, os.path.dirname(os.path.abspath(__file__)))
 
-from client import Count
+from client import run
 from exact import DONE, GOOD, launch, texts, told
 from talks import AFTER, CALLS, program
 
@@ -150,14 +150,5 @@ def answers(command, count):
     count.row("a line without a word is told first", any('"message":"no word from this line on"' in text for text in found), found)
 
 
-def main():
-    command = [os.path.abspath(sys.argv[1]), *sys.argv[2:]]
-    count = Count()
-    for part in (runs, long_runs, answers):
-        part(command, count)
-    print(f"{count.passed} passed, {count.failed} failed")
-    return 1 if count.failed else 0
-
-
 if __name__ == "__main__":
-    sys.exit(main())
+    sys.exit(run(runs, long_runs, answers))

@@ -133,8 +133,7 @@ def main():
                 compared += was_compared
     count.row("states are compared", compared > given.mutants // 4, compared)
     print(f"{len(cuts)} cuts, {given.mutants} mutants, {compared} states at their end against the model")
-    print(f"{count.passed} passed, {count.failed} failed")
-    return 1 if count.failed else 0
+    return count.ended()
 
 
 if __name__ == "__main__":

@@ -29,7 +29,7 @@ sys.dont_write_bytecode = True
 HERE = os.path.dirname(os.path.abspath(__file__))
 sys.path.insert(0, HERE)
 
-from client import Client, Count
+from client import Client, run
 
 PROGRAMS = os.path.join(HERE, "programs")
 CALLS = os.path.join(PROGRAMS, "calls.mixal")
@@ -399,19 +399,13 @@ def talked(command, count, talk, **initialize):
         client.kill()
 
 
-def main():
-    command = [os.path.abspath(sys.argv[1]), *sys.argv[2:]]
-    count = Count()
+def talks(command, count):
     for talk in TALKS:
         talked(command, count, talk)
     talked(command, count, from_zero, linesStartAt1=False, columnsStartAt1=False)
-    named(command, count)
-    over_sockets(command, count)
-    print(f"{count.passed} passed, {count.failed} failed")
-    return 1 if count.failed else 0
 
 
 if __name__ == "__main__":
-    status = main()
+    status = run(talks, named, over_sockets)
     sys.stdout.flush()
     os._exit(status)

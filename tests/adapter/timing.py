@@ -64,8 +64,7 @@ def main():
     print(f"a step with its three views: {min(medians):.0f} microseconds")
     talk.process.stdin.close()
     count.same("status at the end", talk.process.wait(10), 0)
-    print(f"{count.passed} passed, {count.failed} failed")
-    return 1 if count.failed else 0
+    return count.ended()
 
 
 if __name__ == "__main__":

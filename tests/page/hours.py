@@ -174,8 +174,7 @@ def main(program, place, minutes, seed="1"):
             count.same(f"{number}: the browser complains of nothing", page.errors(), [])
         number += 1
     print(f"{done} actions in {minutes} minutes, seeds {seed} to {number - 1}")
-    print(f"{count.passed} passed, {count.failed} failed")
-    return 1 if count.failed else 0
+    return count.ended()
 
 
 if __name__ == "__main__":

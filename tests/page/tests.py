@@ -82,8 +82,7 @@ def main(words):
     row("walks", lambda: one(walks.walks, WALKS))
     if browser is Page:
         row("pictures", lambda: looks.pictures(open_page, count))
-    print(f"{count.passed} passed, {count.failed} failed")
-    return 1 if count.failed else 0
+    return count.ended()
 
 
 if __name__ == "__main__":
