@@ -18,7 +18,6 @@ import { Store } from "./store.js";
 import { Talk } from "./talk.js";
 import { Time } from "./time.js";
 import { Output, Units } from "./units.js";
-import { conflictOf } from "./views.js";
 import { Who } from "./who.js";
 
 export class App {
@@ -131,11 +130,9 @@ export class App {
     this.store.show(view, answer, before);
   }
 
-  // Does a command; `conflict` is the text of the conflict at which it ends, if there is one.
-  async act(command, before, conflict) {
-    const found = await this.store.session.act([command]);
-    if (conflict) found.view.conflict = conflictOf(conflict);
-    this.did(found, before);
+  // Does a command, at whose end a change that conflicts is `met`, if there is one.
+  act(command, before, met) {
+    return this.did(this.store.session.act([command], { met }), before);
   }
 
   // Does a command, after all that was asked for before.
@@ -178,7 +175,7 @@ export class App {
       const out = Number(registers.find(({ name: each }) => each === "J").number);
       const filters = $("conflicts").checked ? ["conflict"] : [];
       const commands = commandsOf(name, session, { cells: listing.breakCells, filters, over: location + 1, out });
-      for await (const [command, conflict] of commands) await this.act(command, view, conflict);
+      for await (const [command, met] of commands) await this.act(command, view, met);
     });
   }
 

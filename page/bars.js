@@ -103,8 +103,9 @@ export class Bars {
     const arrows = this.arrows(view.state, cells[0], cells[cells.length - 1]);
     const by = isByField ? ` (${field >> 3}:${field & 7})` : "";
     const title = `Cells ${this.range.ends.join(" to ")} by ${this.by}${by}`;
-    const conflict = view.conflict && cells.includes(view.conflict.cell) ? view.conflict : null;
-    const text = textOf(bars, arrows) + (conflict ? ` Conflict at ${conflict.cell}: ${conflict.use}.` : "");
+    const { cell: met, unit, until } = view.conflict || {};
+    const conflict = cells.includes(met) ? { cell: met, use: `unit ${unit} until ${until}` } : null;
+    const text = textOf(bars, arrows) + (conflict ? ` Conflict at ${met}: ${conflict.use}.` : "");
     const after = `after ${counted(view.state.done, "change")}`;
     $("bars").replaceChildren(barsOf({ title: `${title}, ${after}`, text, bars, arrows, conflict }));
     this.strip.show({ cells, field, title });

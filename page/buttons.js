@@ -2,7 +2,7 @@
 
 import { STEPS } from "./sentence.js";
 
-// The commands that a button asks for, one after another, each perhaps with the text of the conflict at which it ends.
+// The commands that a button asks for, one after another, each perhaps with the change that conflicts at its end.
 // There are breakpoints at `cells`, and `filters` of exceptions, none or `conflict`: the engine says where one is met,
 // and what is kept are the steps. `over` is the cell behind the next instruction, `out` the one to which rJ leads.
 export async function* commandsOf(name, session, points) {
@@ -14,7 +14,7 @@ export async function* commandsOf(name, session, points) {
   if (name === "to-start" && done > 0) yield ["back all"];
   if (name === "to-break" && done > 0) {
     const end = await session.stop("reverseContinue", points);
-    yield [end.reason === "entry" ? "back all" : `back ${done - end.done}`, end.conflict];
+    yield [end.reason === "entry" ? "back all" : `back ${done - end.done}`, end.met];
   }
   if (name === "run") yield* runOf(session, points);
 }
@@ -25,11 +25,10 @@ async function* runOf(session, points) {
   const { cells, filters } = points;
   if (session.ahead > 0) {
     const met = await session.next([...cells.map((cell) => `loc ${cell}`), ...filters]);
-    const before = met && filters.length > 0 ? await session.stop("reverseContinue", points, met) : {};
-    yield met ? [`forth ${met - session.done}`, before.done === met - 1 && before.conflict] : ["forth all"];
+    yield met ? [`forth ${met - session.done}`, filters.length > 0 && met] : ["forth all"];
     if (met || session.isHalted) return;
   }
   const isWatched = cells.length + filters.length > 0;
   const end = isWatched ? await session.stop("continue", points) : { done: session.done + STEPS };
-  yield [`run ${end.done - session.done + (end.isFault ? 1 : 0)}`, end.conflict];
+  yield [`run ${end.done - session.done + (end.isFault ? 1 : 0)}`, end.met];
 }

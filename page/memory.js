@@ -115,7 +115,7 @@ export class Memory {
     const { operation, address } = (view.next && view.wordIn(view.state.location).instruction) || {};
     const isUse = OPERATIONS.get(operation)?.uses === "cell" && Number(address) >= 0 && Number(address) < CELLS;
     const used = isUse ? Number(address) : null;
-    const { cell: met, use } = view.conflict || {};
+    const { cell: met, unit, until } = view.conflict || {};
     if (met !== undefined || used !== null) this.middle = met ?? used;
     else if (this.middle < 0) this.middle = Math.min(view.state.location, CELLS - 1);
     const near = upTo(Math.max(0, this.middle - 8), this.middle + 16);
@@ -139,7 +139,7 @@ export class Memory {
       mark(element, "data-cell", cell);
       mark(element.querySelector("button"), "tabindex", cell === current ? "0" : "-1");
     });
-    note("cells-use", use ? `Cell ${fourDigits(met)}: ${use}` : "");
+    note("cells-use", until ? `Cell ${fourDigits(met)}: unit ${unit} until ${until}` : "");
     const more = all.length - shown.length;
     const none = all.length === 0 ? "All cells are zero." : "";
     note("cells-more", more > 0 ? `${more} more are not shown: choose a range.` : none);

@@ -3,7 +3,6 @@
 
 import { replyOf } from "./machine.js";
 import { Path } from "./path.js";
-import { withViews } from "./views.js";
 
 const MOST_WRITES = 1000; // that the engine tells at once
 export const WHOLE = 5; // the field (0:5)
@@ -54,8 +53,7 @@ export class Session {
     const answers = await this.machine.ask(this, [...way, ...requests]);
     if (isLost) [, this.launched] = answers;
     this.at = at;
-    const found = answers.slice(way.length);
-    return found.map((answer, index) => ({ ...answer, body: withViews(requests[index], answer.body) }));
+    return answers.slice(way.length);
   }
 
   // The answers to commands, and what the machine looks like after them.
@@ -120,9 +118,12 @@ export class Session {
     return this.see([], at);
   }
 
-  // Does commands: the answer to the last one, and a view. One that is tried is not kept if it is refused.
-  async act(commands, { from = this.done, isTried = false } = {}) {
+  // Does commands: the answer to the last one, and a view, with the conflict of the change that is
+  // `met`. One that is tried is not kept if it is refused.
+  async act(commands, { from = this.done, isTried = false, met = 0 } = {}) {
     const { answers, view } = await this.see(commands, from);
+    const asked = met ? [["mix/change", { number: met, conflict: true }]] : [];
+    for (const { body: { conflict } } of await this.ask(asked, this.at)) view.conflict = conflict;
     const answer = answers[commands.length - 1];
     if (isTried && !answer.success) return { view, answer };
     this.log.push(...commands.map((command, index) => ({ command, reply: replyOf(answers[index]) })));
@@ -142,17 +143,17 @@ export class Session {
   }
 
   // Where and why the program stops that runs from a moment, with breakpoints at some cells, and filters of exceptions.
-  // None of it is kept. Where a fault is next, `isFault` says so; of a step that conflicts, `conflict` is the text.
+  // None of it is kept. If a fault is next, `isFault` says so; `met` is the number of a change that conflicts.
   async stop(way, { cells, filters }, from = this.done) {
     const breakpoints = cells.map((cell) => ({ instructionReference: String(6 * cell) }));
     const sets = [["setInstructionBreakpoints", { breakpoints }], ["setExceptionBreakpoints", { filters }]];
     const goes = [[way, { threadId: 1 }], ["exceptionInfo", { threadId: 1 }], WHERE];
     for (let [at, requests] = [from, [...sets, ...goes]]; ; [at, requests] = [this.at, goes]) {
       const answers = await this.ask(requests, at);
-      const [{ stopped: { reason, text } }, { success: isFault }, { body: { done } }] = answers.slice(-3);
+      const [{ stopped: { reason } }, { success: isFault }, { body: { done } }] = answers.slice(-3);
       this.at = done;
-      const conflict = reason === "exception" && !isFault ? text : "";
-      if (reason !== "pause" || way === "continue") return { done, reason, isFault, conflict };
+      const met = reason === "exception" && !isFault ? done + (way === "continue" ? 0 : 1) : 0;
+      if (reason !== "pause" || way === "continue") return { done, reason, isFault, met };
     }
   }
 

@@ -29,7 +29,7 @@ interface Answer { success: boolean; body: any; message?: string; stopped?: { re
 type Asked = [command: string, given: object]; // a request
 
 interface Texts { source: string; deck: string; cards: string; apart: number }
-interface Conflict { text: string; cell: number; use: string }
+interface Conflict { text: string; cell: number; unit: number; until: string }
 interface Logged { command: string; reply: string; slidFrom?: number }
 
 // A moment of the machine, as all parts are shown it.

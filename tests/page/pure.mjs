@@ -8,7 +8,6 @@ import { Path } from "../../page/path.js";
 import { bundleIn, fragmentOf } from "../../page/share.js";
 import { tooLarge } from "../../page/source.js";
 import { barsOf, stripOf, valuesOf } from "../../page/svg.js";
-import { conflictOf, withViews } from "../../page/views.js";
 
 const packs = (() => { try { return new CompressionStream("deflate-raw"); } catch { return false; } })(); // not in Node 18
 const read = (name) => readFileSync(new URL(`../../${name}`, import.meta.url), "utf8");
@@ -53,18 +52,6 @@ for (const group of read("editors/samples.txt").split("\n\n")) {
     row(`colours: ${line}`, wrong, []);
   }
 }
-
-// A word is a number, and so is each of its fields: bytes L to R, with the sign where L is 0.
-const fieldOf = (word, field) => withViews(["mix/change", { field }], { items: [{ part: "A", before: word, after: word }] }).items[0].afterValue;
-for (const [word, number] of [["+ 00 00 00 00 12", "12"], ["- 00 00 00 00 00", "-0"], ["+ 46 61", "3005"], ["- 63 63 63 63 63", "-1073741823"]]) row(`number of ${word}`, fieldOf(word, 5), number);
-for (let round = 0; round < 200; round += 1) {
-  const [sign, magnitude, left, right] = ["+-"[drawn(2)], drawn(64 ** 5), drawn(6), drawn(6)];
-  const bytes = [4, 3, 2, 1, 0].map((place) => String(Math.floor(magnitude / 64 ** place) % 64).padStart(2, "0"));
-  const first = Math.max(left, 1);
-  const value = first > right ? 0 : Math.floor(magnitude / 64 ** (5 - right)) % 64 ** (right - first + 1);
-  if (left <= right) row(`field (${left}:${right}) of ${sign}${magnitude}`, fieldOf([sign, ...bytes].join(" "), 8 * left + right), `${sign === "-" && left === 0 ? "-" : ""}${value}`);
-}
-row("a conflict", conflictOf("cell 2001 is altered while unit 18 prints it until 726"), { text: "cell 2001 is altered while unit 18 prints it until 726", cell: 2001, use: "unit 18 until 726" });
 
 // How often cells were executed is what the changes say, at moments in any order, also when later changes are others.
 for (let round = 0; round < 20; round += 1) {
