@@ -1,4 +1,4 @@
-// The page: what a person asks for, by buttons, keys, commands and the slider, and the parts that show it.
+// The page: what a person asks for, and the parts that show it.
 
 import { Bars } from "./bars.js";
 import { commandsOf } from "./buttons.js";
@@ -53,14 +53,13 @@ export class App {
     place();
   }
 
-  // What is to be assembled and loaded. Cards of which one looks like a header go apart, to be refused as cards.
+  // Cards of which one looks like a header go apart, to be refused as cards.
   get texts() {
     const [source, deck, cards] = [this.listing.text, $("deck").value, $("cards").value];
     if (/^%/m.test(cards)) return { source, deck, cards, apart: 0 };
     return { source, deck: withCards(deck, cards), apart: linesIn(cards).length };
   }
 
-  // Shows what was found in the texts, and the program or why they are refused.
   showTexts({ found, refusal, program, view, texts }) {
     const { store, listing } = this;
     listing.setProgram(program);
@@ -71,7 +70,6 @@ export class App {
     else store.warning = showSymbols(program, found, this.memory);
   }
 
-  // Tells what a moment is, and how one came there.
   told(view, answer, before) {
     const { did, next, isFault, last } = toldOf({ answer, before, view, listing: this.listing });
     view.did = last;
@@ -89,13 +87,12 @@ export class App {
     put($("next"), next);
   }
 
-  // Whether what is done takes long, so that it may be stopped. After it the status says what was told last.
+  // What takes long may be stopped; after it the status says what was told last.
   slow(isSlow) {
     $("stop").hidden = !isSlow;
     this.showStatus(...(isSlow ? ["Working …"] : this.said));
   }
 
-  // Tells what went wrong, and shows the last view again.
   failed(fault) {
     const { session, view } = this.store;
     this.time.isDragged = false;
@@ -113,7 +110,7 @@ export class App {
     this.tell(isDone ? `${name} is copied.` : "This browser does not let the page copy.", !isDone);
   }
 
-  // The texts were changed. A bundle that was pasted is opened.
+  // A bundle that was pasted is opened.
   edited(changes = []) {
     this.isEdited = true;
     const isMore = changes.some(({ text }) => text.some((line) => line.startsWith("%")));
@@ -121,7 +118,6 @@ export class App {
     else this.store.assembleSoon();
   }
 
-  // Shows what something did with the session, perhaps when it is done.
   async did(found, before = this.store.view) {
     const { answer, view } = await found;
     this.isEdited = true;
@@ -135,7 +131,6 @@ export class App {
     return this.did(this.store.session.act([command], { met }), before);
   }
 
-  // Does a command, after all that was asked for before.
   go(command) {
     this.store.enqueue(() => this.act(command));
   }
@@ -144,7 +139,7 @@ export class App {
     this.store.enqueue(() => this.did(this.store.session.slide(moment)));
   }
 
-  // A command that was typed. A `set` that would drop what is ahead is done when it is given twice.
+  // A `set` that would drop what is ahead is done when it is given twice.
   given(command) {
     const { store } = this;
     const work = () => {
@@ -157,14 +152,14 @@ export class App {
     store.enqueue(work, () => this.talk.answer(command, `Not done, since the text is refused. ${store.refusal}.`));
   }
 
-  // Does the first lines of the script; where that fails, they are still to be done.
+  // The first lines of the script; if one fails, they are still to be done.
   async actScript(lines) {
     const found = await this.store.session.act(lines);
     this.talk.setScript(this.talk.lines.slice(lines.length));
     return this.did(found);
   }
 
-  // What a button asks for. What a key that is held down asks for does not pile up.
+  // What a key that is held down asks for does not pile up.
   press(name) {
     const { store, listing } = this;
     if (store.left > 2) return;
@@ -191,7 +186,7 @@ export class App {
     this.tell(`${isSet ? "Breakpoint at" : "No breakpoint at"} line ${line}${why}.`);
   }
 
-  // Puts a program in, with its deck; does the lines of the script that are done, and shows those that are left.
+  // The lines of the script that are done are done again, and those that are left are shown.
   open({ source, deck, done, left, breaks, bars, shown }) {
     const { store, listing } = this;
     store.drop();
@@ -219,7 +214,6 @@ export class App {
     });
   }
 
-  // The parts of the bundle of what is here: the commands that were done, and what the page keeps beside them.
   partsFor(lesson) {
     const { source, deck } = this.texts;
     const { session } = this.store;

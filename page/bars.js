@@ -1,4 +1,4 @@
-// A range of cells as bars, with the index registers that point into it, by the view of a moment alone.
+// A range of cells as bars, with the index registers that point into it.
 
 import { $, counted, mark, note, on } from "./dom.js";
 import { Strip, keepsPictures } from "./pictures.js";
@@ -46,17 +46,16 @@ export class Bars {
     return left <= right ? 8 * Number(left) + Number(right) : null;
   }
 
-  // The cells that are drawn.
   get cells() { return this.isOpen ? this.range.cells.slice(0, MAX_BARS) : []; }
 
-  // What is kept of it: the ends of the range, by what the bars are drawn, and whether with the strip; "" if shut.
+  // What a file keeps of it; "" if it is shut.
   get kept() {
     const by = this.by === "field" ? $("bars-field").value.trim() : this.by;
     const kept = [...this.range.ends, by, ...(this.strip.isOpen ? ["strip"] : [])];
     return this.isOpen && kept.every((word) => /^\S+$/.test(word)) ? kept.join(" ") : "";
   }
 
-  // Another program was opened: the bars that were kept with it, or the widest range of cells that its script shows.
+  // Another program: the bars that were kept, or the widest range of cells that its script shows.
   async open(kept, script) {
     const [from, to, by, strip] = kept.split(" ");
     const named = script.map((line) => SHOWS.exec(line)).filter(Boolean).map(([, first, last]) => [first, last]);
@@ -113,8 +112,6 @@ export class Bars {
     note("bars-more", all > cells.length ? `These are the first ${MAX_BARS} of ${counted(all, "cell")}.` : "");
   }
 
-  // What is drawn of each cell: its value; what it was before the last change, if that wrote it;
-  // what it will be.
   bars(/** @type {View} */ { inField: { change, next }, wordIn }, cells) {
     return cells.map((cell) => {
       const { value, characters } = wordIn(cell);
@@ -125,8 +122,8 @@ export class Bars {
     });
   }
 
-  // The index registers that point to a cell of the range, or to the one before or behind it: of each the cell that the
-  // first instruction that uses one of these by the register would use now.
+  // The index registers that point to a cell of the range, or beside it: of each the cell that the
+  // first instruction that uses it for one of these would use now.
   arrows(/** @type {State} */ { cells }, from, to) {
     const found = new Map();
     for (const { cell, instruction } of cells) {

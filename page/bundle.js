@@ -1,5 +1,5 @@
-// The bundle: a source, then perhaps `%DEVICES` and a deck, then perhaps `%SCRIPT` and a script. The cards, which the
-// page shows apart from the rest of the deck. And what the page keeps in a script as remarks.
+// The bundle: a source, perhaps `%DEVICES` and a deck, perhaps `%SCRIPT` and a script. Cards are
+// shown apart from the rest of the deck. What the page keeps in a script are remarks.
 
 const HEADER_OF_CARDS = /^%unit[ \t]+0?16(?![0-9])/i;
 const KEPT = "* Kept by the page, and no commands:";
@@ -23,23 +23,21 @@ function partsOf(text) {
   return { source: part(0, devices), deck: part(devices + 1, script), script: part(script + 1, lines.length) };
 }
 
-// The bundle of its parts; a part that is empty has no marker.
 export function bundleOf({ source, deck, script }) {
   const rest = (deck === "" ? "" : `%DEVICES\n${whole(deck)}`) + (script === "" ? "" : `%SCRIPT\n${whole(script)}`);
   return rest === "" ? source : whole(source) + rest;
 }
 
-// Whether a text holds a marker, so that it is more than a source.
 export const isBundle = (text) => linesOf(text).some((line) => line === "%DEVICES" || line === "%SCRIPT");
 
-// A script of the commands that were done, and behind them, as remarks, what else the page holds.
+// A script of the commands that were done, and what else the page holds, as remarks.
 export function scriptOf({ done, left, breaks, bars, shown, lesson }) {
   const named = [[LESSON, lesson], [BREAKS, breaks.join(" ")], [BARS, bars], [SHOWN, shown]].filter(([, text]) => text);
   const kept = [...named.map((pair) => pair.join("")), ...left.map((line) => LEFT + line)];
   return textOfLines(kept.length > 0 ? [...done, KEPT, ...kept] : done);
 }
 
-// What a script holds: the lines that are to be done at once (all, where the page kept nothing), and what it kept.
+// Where the page kept nothing, all lines of a script are to be done at once.
 function keptIn(script) {
   const lines = linesIn(script);
   const at = lines.includes(KEPT) ? lines.lastIndexOf(KEPT) : lines.length;
@@ -55,14 +53,14 @@ function keptIn(script) {
   };
 }
 
-// What a bundle holds, to be opened; one that waits has nothing that is done at once.
+// One that waits has nothing that is done at once.
 export function openedOf(bundle, waits) {
   const { script, ...parts } = partsOf(bundle);
   const kept = keptIn(script);
   return { ...parts, ...kept, ...(waits ? { done: [], left: [...kept.done, ...kept.left] } : {}) };
 }
 
-// Where the cards are in the lines of a deck: after the header of unit 16, up to the next header.
+// After the header of unit 16, up to the next header.
 function placeOfCards(lines) {
   const from = lines.findIndex((line) => HEADER_OF_CARDS.test(line)) + 1;
   if (from === 0) return null;
@@ -70,7 +68,6 @@ function placeOfCards(lines) {
   return [from, more < 0 ? lines.length : from + more];
 }
 
-// The cards of a deck, and the deck without them.
 export function cardsApart(deck) {
   const lines = linesOf(deck);
   const [from, to] = placeOfCards(lines) || [0, 0];
@@ -88,7 +85,7 @@ export function withCards(deck, cards) {
   return textOfLines(lines);
 }
 
-// Where a line of a deck with its cards is seen: among the cards, or in the deck that has so many lines of them apart.
+// Where a line of a deck is seen, of which so many lines are cards and stand apart.
 export function placeOf(deck, line, apart) {
   const [from, to] = placeOfCards(linesOf(deck)) || [0, 0];
   if (line > from && line <= to) return `Card ${line - from}`;

@@ -2,9 +2,9 @@
 
 import { STEPS } from "./sentence.js";
 
-// The commands that a button asks for, one after another, each perhaps with the change that conflicts at its end.
-// There are breakpoints at `cells`, and `filters` of exceptions, none or `conflict`: the engine says where one is met,
-// and what is kept are the steps. `over` is the cell behind the next instruction, `out` the one to which rJ leads.
+// The commands of a button, one after another, each perhaps with a change that conflicts at its end.
+// The engine says where one of the breakpoints at `cells` is met, or one of `filters`, and what is
+// kept are the steps. `over` is the cell behind the next instruction, `out` the one in rJ.
 export async function* commandsOf(name, session, points) {
   const { done, ahead } = session;
   if (name === "step" || name === "beyond") yield [ahead > 0 ? "forth 1" : "step 1"];
@@ -19,8 +19,8 @@ export async function* commandsOf(name, session, points) {
   if (name === "run") yield* runOf(session, points);
 }
 
-// Run does again what was taken back, up to a breakpoint, to a conflict, or to its end. Then it goes on, by one step
-// more where it stops at a fault, which is told then.
+// Does again what was taken back, then goes on, by one step more where it stops at a fault, which
+// is told then.
 async function* runOf(session, points) {
   const { cells, filters } = points;
   if (session.ahead > 0) {

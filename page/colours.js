@@ -1,4 +1,4 @@
-// Colours of the source, by the grammar of the editors: rules that match, or begin and end, and groups with rules.
+// Colours of the source, by the grammar of the editors.
 
 const OTHERS = "comment|entity|support|string|constant|punctuation|invalid";
 const KINDS = new RegExp(`^(${OTHERS}|keyword\\.(control|operator|other)|variable(\\.language)?)\\b`);
@@ -21,7 +21,7 @@ export class Grammar {
     return this.lists.get(patterns);
   }
 
-  // The first match of a pattern from a place on; it is made in JavaScript's signs.
+  // The first match of a pattern from a place on, in JavaScript's signs.
   find(pattern, text, at) {
     const flags = pattern.includes("(?i)") ? "dgi" : "dg";
     if (!this.made.has(pattern)) this.made.set(pattern, new RegExp(pattern.replace("(?i)", ""), flags));
@@ -61,7 +61,7 @@ export class Grammar {
     }
   }
 
-  // The name of each letter of a line, and the rule that is open behind it; `open` is the one that is open before it.
+  // The name of each letter of a line, and the rule that is open behind it.
   line(line, open) {
     const names = new Array(line.length).fill((open && open.contentName) || "");
     for (let at = 0; ; ) {
@@ -82,5 +82,4 @@ export class Grammar {
   }
 }
 
-// The class of what has a name in the grammar; "" where it has no colour.
 export const kindOf = (name) => (KINDS.exec(name) || ["", ""])[1].replace(".", "-");

@@ -1,5 +1,5 @@
-// Two runs side by side: the one that is shown, and another one that was kept, after as many changes. The other one has
-// an engine of its own, which does its commands again.
+// Two runs side by side after as many changes. The one that was kept has an engine of its own, and
+// does its commands again.
 
 import { $, all, counted, fourDigits, keepRows, make, note, on, put } from "./dom.js";
 import { Machine } from "./machine.js";
@@ -13,7 +13,6 @@ const MOST_NAMES = 30; // of what differs
 
 const valueIn = ({ number, characters }) => `${number} “${characters}”`;
 
-// What is compared of a moment: names with what they hold.
 const comparedIn = (/** @type {View} */ { state }) => [
   ...state.registers.map((register) => [`r${register.name}`, valueIn(register)]),
   ...flagsOf(state).map(({ name, text }) => [name, text]),
@@ -32,7 +31,6 @@ export class Compare extends Picture {
 
   get isOpen() { return Boolean(this.session); }
 
-  // Keeps the run that is shown as the other one.
   keep() {
     const { texts, log, state } = this.store.session;
     const other = new Session(this.machine, texts, () => ({ blocks: [], field: WHOLE }));
@@ -52,7 +50,7 @@ export class Compare extends Picture {
     $("compare-open").focus();
   }
 
-  // The other run as it is after as many changes as are done; after all of its changes if these are fewer.
+  // After all of its changes, if more are done here.
   async find() {
     const { session, of: { state: { done } } } = this;
     return (await session.look(Math.min(done, session.total))).view;
@@ -86,7 +84,6 @@ export class Compare extends Picture {
   }
 }
 
-// The output is seen if one of both runs has written something.
 function showOutput() {
   $("output").hidden = $("papers").childElementCount + $("other-papers").childElementCount === 0;
 }
@@ -99,13 +96,12 @@ function saidOf(names) {
 
 const freshRow = () => make("tr", {}, make("th", { scope: "row" }), make("td"), make("td"));
 
-// The cells that hold something else.
 function differingCells(/** @type {View} */ view, /** @type {View} */ other) {
   const cells = new Set([...view.state.cells, ...other.state.cells].map(({ cell }) => cell));
   return [...cells].filter((cell) => view.wordIn(cell).word !== other.wordIn(cell).word).sort((a, b) => a - b);
 }
 
-// Marks the rows that were written by one run alone, or otherwise by both; their names.
+// Marks rows that only one run has written, or that differ; their names.
 function markRows() {
   const rowsOf = (box, unit) => all(`#${box} [data-unit="${unit}"] .paper div:not(.page)`);
   const units = new Set(all(":is(#papers, #other-papers) [data-unit]").map(({ dataset }) => dataset.unit));

@@ -6,7 +6,7 @@ export const all = (selector, within = document) => /** @type {any[]} */ ([...wi
 
 export const on = (id, event, work) => $(id).addEventListener(event, work);
 
-// An element with attributes and children; a child that is a text stays a text. Numbers have a tenth at most.
+// A child that is a text stays a text. Numbers have a tenth at most.
 export function furnished(element, given, children) {
   for (const [key, value] of Object.entries(given)) {
     if (typeof value === "function") element.addEventListener(key, value);
@@ -29,23 +29,20 @@ export function mark(element, name, value) {
 
 export const isPressed = (id) => $(id).getAttribute("aria-pressed") === "true";
 
-// Shows a sentence, or nothing where it is empty.
 export function note(id, text) {
   $(id).hidden = text === "";
   put($(id), text);
 }
 
-// Of the buttons of a box the one to which the tab key comes.
+// The button to which the tab key comes.
 export const stopIn = (box) => box.querySelector("button[tabindex='0']");
 
-// How far the arrow keys go, where a page has so many.
 export function stepOf(key, page) {
   return { ArrowUp: -1, ArrowDown: 1, PageUp: -page, PageDown: page, Home: -Infinity, End: Infinity }[key];
 }
 
 export const between = (least, number, most) => Math.max(least, Math.min(most, number));
 
-// Lets the arrow keys walk among the buttons of a box.
 export function walks(id, page) {
   on(id, "keydown", (event) => {
     const step = stepOf(event.key, page);
@@ -66,7 +63,6 @@ export function saved(text, type, name) {
   setTimeout(() => URL.revokeObjectURL(link.href), 60000);
 }
 
-// Copies a text; whether the browser has done it.
 export async function copied(text) {
   try {
     await navigator.clipboard.writeText(text);
@@ -84,13 +80,13 @@ export async function copied(text) {
   }
 }
 
-// Calls back when an element has another size: in the next frame, since to alter a size in the same one is an error.
+// In the next frame, since to alter a size in the same one is an error.
 export function onResize(element, work) {
   new ResizeObserver(() => requestAnimationFrame(work)).observe(element);
 }
 
-// The rows of a list by their keys. A row whose key is still there keeps its element, and so the focus in it; `create`
-// makes a new one, and `update` shows what it holds now. Where the focus was in a row that is gone, it goes to the box.
+// The rows of a list by their keys. A row whose key is still there keeps its element, and the focus
+// in it. If the focus was in a row that is gone, it goes to the box.
 export function keepRows(box, items, keyOf, create, update) {
   const keys = new Set(items.map((item) => String(keyOf(item))));
   const gone = [...box.children].filter((row) => !keys.has(row.dataset.key));

@@ -1,5 +1,5 @@
-// The proved engine as a module of WebAssembly. It holds one session of the debug adapter from call to call: what a
-// client sends goes in as bytes, what it is sent comes out as bytes. Nothing here knows what a request does.
+// The proved engine as a module of WebAssembly: what a client sends goes in as bytes, what it is
+// sent comes out. It keeps one session, and nothing here knows what a request does.
 
 const [DONE, MEMORY, NO_ROOM] = [0, 1, 3]; // statuses of a call
 const FIRST_ROOM = 1 << 18;
@@ -12,14 +12,13 @@ export class Engine {
   exports = null;
   handle = 0n; // of 16 bytes in the module's memory, by which it knows the session
 
-  // The engine of a module's bytes.
   static async load(bytes) {
     const engine = new this();
     engine.module = await WebAssembly.compile(bytes);
     return engine;
   }
 
-  // Begins a session, in which nothing was heard yet, in the place of the one before.
+  // Begins a session in the place of the one before.
   open() {
     this.safely(() => {
       if (this.memory > LARGE) this.exports = null;
@@ -32,7 +31,6 @@ export class Engine {
     });
   }
 
-  // The bytes that answer some frames, after all that the session has heard before.
   ask(frames) {
     return this.safely(() => {
       const [input, count] = [this.room(frames.length), this.room(8)];
@@ -51,10 +49,9 @@ export class Engine {
     });
   }
 
-  // The bytes of memory that the instance has; 0 where it was thrown away.
   get memory() { return this.exports ? this.exports.memory.buffer.byteLength : 0; }
 
-  // Does something with the instance. Where it fails, that is thrown away with its session; `open` makes another one.
+  // If this fails, the instance is thrown away with its session; `open` makes another one.
   safely(work) {
     try {
       return work();

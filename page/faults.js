@@ -1,4 +1,4 @@
-// What is wrong with a text: each fault and warning of the source in a list, with its remedy; why a text is refused.
+// What is wrong with a text, in a list, with remedies; why a text is refused.
 
 import { $, counted, keepRows, make, note, put } from "./dom.js";
 import { placeOf } from "./bundle.js";
@@ -7,7 +7,6 @@ import { CHARACTERS, namesOfAll } from "./operations.js";
 const isError = ({ severity }) => severity === "error";
 const textOfFound = (each) => (isError(each) ? `${each.code} ${each.text}` : each.text);
 
-// Shows all that was found in a source, at its lines and in the list, each with a way to it.
 export function showFound(found, listing) {
   const all = found.map((each) => ({ ...each, isFault: isError(each), text: textOfFound(each) }));
   listing.setFound(all);
@@ -23,7 +22,6 @@ export function showFound(found, listing) {
   });
 }
 
-// The sentence that tells why the texts are refused; "" where they are not.
 export function toldRefusal(refusal, found, texts, listing) {
   note("deck-fault", "");
   if (!refusal) return "";
@@ -44,7 +42,7 @@ export function toldRefusal(refusal, found, texts, listing) {
   return told;
 }
 
-// Warnings of a program that is accepted: it has no HLT, or there is a text behind its END.
+// Warnings of a program that is accepted.
 export function missing(listing, { rows }, { wordIn }) {
   const lines = listing.text.split("\n");
   const end = lines.findIndex((line) => /^[^*\s]*[ \t]+END(\s|$)/i.test(line)) + 1;
@@ -57,10 +55,9 @@ export function missing(listing, { rows }, { wordIn }) {
 
 const isOperation = (word) => namesOfAll().includes(word.toUpperCase());
 
-// A word without each of its letters.
 const withoutOne = (word) => [...word].map((_, at) => word.slice(0, at) + word.slice(at + 1));
 
-// An operation that is nearly a word: by a letter more or less, by another one, or with two neighbours exchanged.
+// By a letter more or less, by another one, or with two neighbours exchanged.
 function nearTo(word) {
   const [given, names] = [word.toUpperCase(), namesOfAll()];
   const parts = withoutOne(given);
@@ -69,7 +66,6 @@ function nearTo(word) {
     || names.find((name) => name.length === given.length && withoutOne(name).some(isAlike));
 }
 
-// What is mostly the cause of a fault on a line; "" where the page has no guess.
 function causeOf(what, line) {
   const [, first, operation, address] = /^(\S*)[ \t]*(\S*)[ \t]*(.*)$/.exec(line);
   const number = what.split(" ")[0];

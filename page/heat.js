@@ -1,5 +1,5 @@
-// Heat, for who asks for it: a tint of each line by how often it was executed so far, and of each cell that is shown by
-// how many of all changes altered it. The numbers are texts too: beside the line, and in the row of the cell.
+// Heat: a tint of each line by how often it was executed so far, and of each cell that is shown by
+// how many of all changes altered it, which its row says too.
 
 import { $, all, counted, isPressed, mark, on, put } from "./dom.js";
 import { Picture } from "./pictures.js";
@@ -46,7 +46,6 @@ export class Heat extends Picture {
   }
 }
 
-// How dark a number is: 1 for the largest of some, 0 for none.
 function heats(numbers) {
   const most = Math.log(1 + Math.max(1, ...numbers));
   return (number) => (Math.log(1 + number) / most).toFixed(2);

@@ -16,12 +16,10 @@ const FRESH = "* What the program does\n        ORIG 1000\nSTART   ENTA 5       
 const EMBED = new URLSearchParams(window.location.search).get("embed"); // the parts that a frame shows, if it is one
 export const IN_FRAME = EMBED !== null;
 
-// The address of the page with a fragment; `search` is what is between both.
 const addressOf = (fragment, search = "") => window.location.href.split(/[?#]/)[0] + search + fragment;
 
 const sourceOf = (bundle) => openedOf(bundle, true).source;
 
-// How many lines of words two texts have in common.
 function sharedLines(text, other) {
   const lines = new Set(other.split("\n").filter((line) => line.trim() !== ""));
   return text.split("\n").filter((line) => lines.has(line)).length;
@@ -57,7 +55,6 @@ export class Keep {
     if (IN_FRAME) app.store.on("view", () => this.linkWhole());
   }
 
-  // Whether what is here may be left: the page asks, if something was done.
   isFree() {
     if (!this.app.isEdited) return Promise.resolve(true);
     const box = $("leave");
@@ -73,12 +70,11 @@ export class Keep {
     showNotes(lesson || undefined);
   }
 
-  // Whether a text is that of a lesson or of its answer.
   isOf(lesson, text) {
     return Boolean(lesson) && [lesson.bundle, lesson.solution].some((bundle) => bundle && sourceOf(bundle) === text);
   }
 
-  // Names the text: a lesson, which it becomes again by undo; an edited one; or one's own, which has no line of it.
+  // Names the text: a lesson, an edited one, or one's own, which has no line of it.
   recognize() {
     const { talk, listing: { text } } = this.app;
     const other = this.isOf(this.lesson, text) ? null : this.lessons.find((lesson) => this.isOf(lesson, text));
@@ -99,20 +95,18 @@ export class Keep {
     this.recognize();
   }
 
-  // Opens what a bundle holds, under the name of a lesson or of none.
   async put(lesson, opened) {
     this.setLesson(lesson);
     await this.app.open(opened);
     this.held ??= this.bundle; // what is opened first is what this address says
   }
 
-  // Opens a lesson, or its solution, or a program of none; the script waits.
   async openLesson(lesson, bundle = lesson.bundle) {
     if (!(await this.isFree())) return;
     await this.put(lesson, openedOf(bundle, true));
   }
 
-  // Opens a bundle that was saved or shared: what was done is done, the rest waits. Or the reason why not.
+  // A bundle that was saved or shared; the reason why it is not opened.
   async openBundle(bundle) {
     const opened = openedOf(bundle, false);
     const reason = tooLarge(opened.source);
@@ -128,7 +122,7 @@ export class Keep {
     if (reason) this.app.tell(`${file.name} was not opened: ${reason}.`, true);
   }
 
-  // Opens what the link holds; whether it is a link of the page.
+  // Whether it is a link of the page.
   async openLink() {
     let told = "is cut or was changed: it holds no program";
     try {
@@ -147,7 +141,6 @@ export class Keep {
 
   get title() { return this.lesson ? `${this.lesson.title}${this.isOther ? ", edited" : ""}` : "A program"; }
 
-  // What is printed above the listing: the lesson, the moment, the day.
   get heading() {
     const { session } = this.app.store;
     const moment = session ? `, change ${session.done} of ${session.total}` : "";
@@ -162,7 +155,7 @@ export class Keep {
     this.app.isEdited = false;
   }
 
-  // Holds all that is here in the address, so that nothing is lost by a reload. What is too long is not held.
+  // Holds all in the address, so that nothing is lost by a reload. What is too long is not held.
   async hold() {
     const { app: { store, time }, bundle, held } = this;
     if (store.isBusy || time.isDragged || held === undefined || bundle === held) return;
@@ -172,7 +165,7 @@ export class Keep {
     window.history.replaceState(null, "", this.held ? fragment : addressOf("#no-tour", window.location.search));
   }
 
-  // In a frame the parts that its author chose stand beside the program; without a choice all but the memory.
+  // The parts that the author of a frame chose stand beside the program.
   frame() {
     const asked = EMBED.split(",").filter((name) => FRAMED.includes(name));
     for (const name of asked.length > 0 ? asked : FRAMED.slice(0, 3)) {
@@ -182,14 +175,13 @@ export class Keep {
     }
   }
 
-  // The frame that Share gives, with the parts that are ticked.
   putFrame() {
     const parts = FRAMED.filter((name) => $(`frame-${name}`).checked).join(",");
     const given = { title: this.lesson ? this.title : "A program of MIX", width: 800, height: 500 };
     $("frame-text").value = make("iframe", { src: addressOf(this.fragment, `?embed=${parts}`), ...given }).outerHTML;
   }
 
-  // In a frame a link leads to the whole page, with the same program, commands and moment.
+  // In a frame a link leads to the whole page.
   async linkWhole() {
     const { bundle } = this;
     const fragment = await fragmentOf(bundle);
@@ -210,7 +202,6 @@ export class Keep {
     $("link-text").select();
   }
 
-  // The moment as a text, with what it is of, as on paper.
   copyMoment() {
     const { memory, bars, listing, store: { session, view, refusal } } = this.app;
     const cells = [...new Set([...memory.shownCells, ...bars.cells])].sort((a, b) => a - b);

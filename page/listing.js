@@ -1,5 +1,5 @@
-// Beside each line of the source its location, its word and how often it was executed. The lines of the last step and
-// of the next one are marked, with a bow where a jump lies between, and so are those with a fault.
+// Beside each line its location, its word and how often it was executed. The lines of the last and
+// of the next step are marked, with a bow where a jump lies between, and those with a fault.
 
 import { $, between, fourDigits, isPressed, make, mark, on, onResize, put, stepOf } from "./dom.js";
 import { ZERO } from "./session.js";
@@ -46,7 +46,6 @@ export class Listing {
 
   get text() { return this.source.text; }
 
-  // Another text, with no breakpoints.
   set text(text) {
     this.points.clear();
     this.setProgram(null);
@@ -61,13 +60,13 @@ export class Listing {
     this.store.emit("edited", changes);
   }
 
-  // The lines with a breakpoint, which goes with its line.
+  // A breakpoint goes with its line.
   get breaks() {
     const lines = [...this.points].map((handle) => this.cm.getLineNumber(handle));
     return lines.filter((line) => line !== null).map((line) => line + 1).sort((a, b) => a - b);
   }
 
-  // Sets a breakpoint, or takes it away; whether it is set now.
+  // Whether it is set now.
   toggle(line) {
     const handle = this.cm.getLineHandle(line - 1);
     const isSet = Boolean(handle) && !this.points.delete(handle);
@@ -76,7 +75,7 @@ export class Listing {
     return isSet;
   }
 
-  // Where the words of the program are; none while the text is refused.
+  // No program while the text is refused.
   setProgram(program) {
     const rows = program ? program.rows : [];
     this.program = program;
@@ -88,7 +87,6 @@ export class Listing {
     this.draw();
   }
 
-  // Whether the columns beside the lines are shut.
   get isShut() { return !isPressed("columns"); }
 
   shut(isShut) {
@@ -109,7 +107,7 @@ export class Listing {
     return [...new Set(cells)].filter((cell) => cell !== undefined).sort((a, b) => a - b);
   }
 
-  // Shows a moment: marked are the line at the location, or that of a HLT which was done, and the line that was left.
+  // Marks the line at the location, or that of a HLT which was done, and the one that was left.
   show(/** @type {View} */ { state, times, change, wordIn }) {
     Object.assign(this, { times, wordIn });
     this.marked = this.lineOf.get(state.halted ? change.location : state.location) || 0;
@@ -138,7 +136,6 @@ export class Listing {
     Object.assign(this.bow.style, { top: `${top}px`, height: `${bottom - top}px`, left: "" });
   }
 
-  // Shows each row in view in which something is another.
   draw() {
     const { cm } = this;
     const { from, to } = cm.getViewport();
@@ -176,14 +173,12 @@ export class Listing {
     mark(parts.button, "aria-pressed", isSet);
   }
 
-  // Location, word and times of a line; nothing where it has no cell.
   knownOf(line) {
     const cell = this.cellOf.get(line);
     if (cell === undefined) return { loc: "", word: "", times: "" };
     return { loc: fourDigits(cell), word: this.wordIn(cell).word, times: String(this.times[cell] || "") };
   }
 
-  // The arrow keys walk from line to line at the left.
   walk(event) {
     const row = event.target.closest(".line");
     const step = stepOf(event.key, PAGE);
@@ -196,7 +191,6 @@ export class Listing {
     this.rows.get(this.stop).button.focus();
   }
 
-  // Marks what has a fault or a warning: the line, and the letters that it is about.
   setFound(found) {
     const { cm } = this;
     for (const each of this.marks) each.clear();

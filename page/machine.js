@@ -1,11 +1,10 @@
-// The engine as the page sees it: requests of the debug adapter go in, answers come out, and the page is not held up.
+// The engine as the page sees it: requests go in, answers come out, and the page is not held up.
 
 export const STOPPED = "it was stopped";
 const BRACE = 123; // with which the body of a frame begins; a header has none
 const HEADER = "Content-Length: ";
 const [writer, reader] = [new TextEncoder(), new TextDecoder()];
 
-// The frames of requests, each a pair of a command and its arguments; they are numbered from 1.
 export function framesOf(requests) {
   const frames = requests.map(([command, given], index) => {
     const body = JSON.stringify({ seq: index + 1, type: "request", command, arguments: given });
@@ -14,7 +13,7 @@ export function framesOf(requests) {
   return writer.encode(frames.join(""));
 }
 
-// The answers in some frames, in their order. Where the program has stopped after one, `stopped` tells why.
+// Where the program has stopped after a request, `stopped` says why.
 function answersOf(bytes) {
   const answers = [];
   for (let at = 0; at < bytes.length; ) {
@@ -28,23 +27,20 @@ function answersOf(bytes) {
   return answers;
 }
 
-// The text of a refusal; nothing where a request was done.
 export function refusalOf(/** @type {Answer} */ { success, body, message }) {
   return success ? "" : body?.error?.format || message;
 }
 
-// The reply to a command of the script: that of the machine, or the line of its refusal.
 export function replyOf(answer) {
   if (answer.success) return answer.body.result;
   const number = answer.body?.error?.id || 0;
   return `${number >= 200 && number < 300 ? "?" : "??"} ${refusalOf(answer)}\n`;
 }
 
-// What makes a call fail: no memory, a trap, or that it was stopped. The session of the engine is lost then.
+// No memory, a trap, or a stop: the session of the engine is lost then.
 export class Broken extends Error {}
 
 export class Machine {
-  // The text of the worker's program, and the bytes of the module.
   constructor(program, module) {
     this.program = program;
     this.module = module;
@@ -54,7 +50,7 @@ export class Machine {
     this.drop = null;
   }
 
-  // The answers to requests of a holder, in their order. Where the engine does not hold its session, they begin one.
+  // Where the engine does not hold the session of the holder, the requests begin one.
   async ask(holder, requests) {
     if (!this.worker) {
       this.worker = new Worker(this.url);
@@ -77,14 +73,13 @@ export class Machine {
     return answers;
   }
 
-  // Ends the call that is under way, if there is one; the next one gets a new worker.
+  // Ends the call that is under way; the next one gets a new worker.
   stop() {
     if (!this.drop) return;
     this.end();
     this.drop();
   }
 
-  // Ends the thread, and with it the session that it holds.
   end() {
     if (this.worker) this.worker.terminate();
     Object.assign(this, { worker: null, holder: null });

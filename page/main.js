@@ -1,4 +1,4 @@
-// The beginning: engine, lessons, grammar and tables are in the page itself, in blocks that `assemble` has put there.
+// The beginning: what the page needs is in it, in blocks that `assemble` has put there.
 
 import { App } from "./app.js";
 import { Grammar } from "./colours.js";

@@ -1,5 +1,5 @@
-// What the machine holds: registers and flags, cells of the memory, symbols. What the last change altered is marked,
-// with what it was before; each name asks who wrote it.
+// Registers and flags, cells, symbols. What the last change altered is marked, with what it was
+// before; each name asks who wrote it.
 
 import { $, fourDigits, keepRows, make, mark, note, on, put, stopIn, walks } from "./dom.js";
 import { CELLS, CellRange, upTo } from "./range.js";
@@ -8,7 +8,6 @@ import { COMPARED, itemOf } from "./sentence.js";
 
 const CELLS_SHOWN = 500; // rows
 
-// A row of a word: a button that asks who wrote it; sign and bytes, number, characters, what it was before.
 function wordRow(name, label, asked) {
   const button = make("button", { type: "button", "aria-label": `${name}: who wrote it?` }, label);
   const unseen = [1, 2].map(() => make("span", { class: "unseen" }));
@@ -21,8 +20,6 @@ function wordRow(name, label, asked) {
   return make("tr", { click: clicked, role: "row" }, head, ...cells);
 }
 
-// Shows the word of a part in such a row, with what it was if it was altered, and what the next
-// step will make of it.
 function showWord(row, part, { word, number, characters }, /** @type {View} */ { altered, change, next }, more = []) {
   const isAltered = altered.has(part);
   const [was, will] = [itemOf(change, part), itemOf(next, part)];
@@ -33,7 +30,7 @@ function showWord(row, part, { word, number, characters }, /** @type {View} */ {
   put(row.querySelector(".unseen"), [isAltered && "altered", ...more].filter(Boolean).join(", "));
 }
 
-// Flags, location and clock: of each its name, the part that may be asked for, and what it holds.
+// Flags, location and clock, with the part that may be asked for.
 export const flagsOf = (/** @type {State} */ state) => [
   { name: "overflow", part: "over", text: state.over ? "on" : "off" },
   { name: "comparison", part: "cmp", text: COMPARED[state.cmp] },
@@ -63,7 +60,7 @@ export function showRegisters(store, /** @type {View} */ view) {
   });
 }
 
-// A moment as a text, to copy: registers, flags, location and clock, and some cells.
+// A moment as a text, to copy.
 export function momentOf(/** @type {View} */ { state, wordIn }, shown, lineOf) {
   const row = (name, { word, number, characters }) => {
     return `${name.padEnd(4)} ${word.padEnd(16)} ${number.padStart(11)}  “${characters}”`;
@@ -76,7 +73,7 @@ export function momentOf(/** @type {View} */ { state, wordIn }, shown, lineOf) {
   return [...registers, flags.join(", "), ...shown.map((cell) => row(fourDigits(cell), wordIn(cell))), ""].join("\n");
 }
 
-// Cells of the memory: those around M, the cell that the next step uses; those that are not zero; or a range.
+// The cells around M, which the next step uses; those that are not zero; or a range.
 export class Memory {
   constructor(/** @type {Store} */ store) {
     this.store = store;
@@ -146,7 +143,6 @@ export class Memory {
     this.reveal(met ?? shown.find((cell) => view.altered.has(`cell ${cell}`)) ?? used);
   }
 
-  // Scrolls its box so that a cell is seen.
   reveal(cell) {
     const [row, box] = [$("cell-rows").querySelector(`[data-cell="${cell}"]`), $("cells-box")];
     if (!row) return;
@@ -156,7 +152,7 @@ export class Memory {
   }
 }
 
-// Shows the symbols of a program, each with a button where it may be a cell; the warnings of undefined ones.
+// Gives the warnings of symbols that are not defined.
 export function showSymbols({ symbols }, found, memory) {
   const warnings = [...new Set(found.filter(({ code }) => code === "undefined-symbol").map(({ text }) => text))];
   const missing = new Set(warnings.map((text) => text.split(" ")[0].toUpperCase()));

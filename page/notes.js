@@ -1,8 +1,7 @@
-// The notes of a lesson, which `assemble` has made HTML of; and the menu of lessons.
+// The notes of a lesson, which `assemble` has made HTML of, and the menu of lessons.
 
 import { $, make } from "./dom.js";
 
-// Shows the notes of a lesson, or none. The answer of its exercise is shut.
 export function showNotes({ title = "", notes = "", answer = "", solution = "" } = {}) {
   const isHidden = { notes: !notes, "no-notes": notes, answer: !answer && !solution, "answer-open": !solution };
   for (const [id, is] of Object.entries(isHidden)) $(id).hidden = Boolean(is);

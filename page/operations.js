@@ -1,8 +1,8 @@
-// The operations: of each its code C, its F where that names it, its time, what it uses M for, and a sentence. All that
-// the page says of an operation comes from here: what the next step will do, the help at the pointer, and the card.
+// All that the page says of an operation: what the next step will do, the help at the pointer, and
+// the card.
 //
-// In a sentence {r} is the register, {V} the value of field F of cell M, {cell} the field of the cell that is written,
-// {M} the address, {line} the place that is jumped to, {F} the field F as a number.
+// In a sentence {r} is the register, {V} the value of field F of cell M, {cell} the field that is
+// written, {M} the address, {line} the place that is jumped to, {F} the field as a number.
 
 import { $, make, on } from "./dom.js";
 
@@ -18,10 +18,9 @@ export const PSEUDO = new Map([
   ["END", "the end of the program; it begins at this location"],
 ]);
 
-// All names that a line may have as its operation.
 export const namesOfAll = () => [...OPERATIONS.keys(), ...PSEUDO.keys()];
 
-// Takes the tables docs/operations.tsv and docs/characters.tsv. F is null where it does not name the operation.
+// Takes the tables of docs. F is null where it does not name the operation.
 export function takeTables(operations, characters) {
   const rowsOf = (table) => table.split("\n").slice(1, -1).map((line) => line.split("\t"));
   const rows = rowsOf(operations);
@@ -38,13 +37,12 @@ export function takeTables(operations, characters) {
   CHARACTERS.push(...rowsOf(characters).map(([, character]) => character));
 }
 
-// A sentence with what stands in the places of its names; those that are not given stand as they are read.
+// What is not given stands as it is read.
 export function filled(sentence, given) {
   const general = { V: "V", cell: "field F of cell M", M: "M", line: "M", F: "F", r: "the register", ...given };
   return sentence.replace(/\{(\w+)\}/g, (_, name) => general[name]);
 }
 
-// What a word of the source is, for who points at it; nothing where it is no operation.
 export function explained(word) {
   const name = word.toUpperCase();
   const row = OPERATIONS.get(name);
@@ -53,7 +51,6 @@ export function explained(word) {
   return `${name}: ${sentence}. C = ${row.code}${row.f === null ? "" : `, F = ${row.f}`}, ${row.time} u.`;
 }
 
-// Fills the card of operations, to look at and to print.
 export function fillCard() {
   const codeOf = ({ name, code }) => `${code}${name.includes("r") ? "+r" : ""}`;
   const rows = CARD.map((row) => [row.name, codeOf(row), String(row.f ?? ""), row.time, filled(row.sentence, {})]);

@@ -1,5 +1,5 @@
-// How often each cell was executed in the course of the changes: in columns of the same width, each
-// asked for once. So a moment takes no more than what is done since the column before it.
+// How often each cell was executed, in columns of the same width, each asked for once. So a moment
+// takes no more than what is done since the column before it.
 
 import { CELLS } from "./range.js";
 
@@ -9,7 +9,7 @@ export class Path {
   width = 1; // of a column, in changes
   sums = [new Uint32Array(CELLS)]; // how often each cell was executed before each column, and behind the last one
 
-  // The requests for what is not known up to a number of changes: by whole columns, and the rest.
+  // What is not known up to a number of changes: whole columns, and the rest.
   requestsTo(until) {
     for (; until > this.width * MOST_COLUMNS; this.width *= 2) this.sums = this.sums.filter((_, at) => at % 2 === 0);
     const whole = Math.floor(until / this.width);
@@ -20,7 +20,6 @@ export class Path {
     });
   }
 
-  // How often each cell was executed by so many changes, by the answers to these requests.
   timesAt(until, bodies) {
     const { sums, width } = this;
     const whole = Math.floor(until / width);
@@ -33,14 +32,12 @@ export class Path {
     return times;
   }
 
-  // All of it up to a number of changes, behind which it is `times`.
   upTo(until, times) {
     const { sums, width } = this;
     const whole = Math.floor(until / width);
     return { width, sums: [...sums.slice(0, whole + 1), ...(whole * width < until ? [times] : [])] };
   }
 
-  // Changes behind so many may be others now.
   cut(done) {
     this.sums.length = Math.min(this.sums.length, 1 + Math.floor(done / this.width));
   }

@@ -6,8 +6,8 @@ import { fileOf, mapOf, stripOf } from "./svg.js";
 const COLUMNS = 60; // of the strip, at most
 const MAX_ROWS = 120; // of the map
 
-// One ask of the engine gives all of a picture; it is asked again only where the changes, or what is asked, are others.
-// `isOpen` says whether it is seen, `find` asks a session for what is drawn, `draw` draws what was found, or nothing.
+// One ask gives all of a picture; it is asked again only where the changes, or what is asked, are
+// others. `find` asks a session for what is drawn, `draw` draws what was found, or nothing.
 export class Picture {
   constructor(/** @type {Store} */ store) {
     this.store = store;
@@ -28,7 +28,6 @@ export class Picture {
     this.draw();
   }
 
-  // Draws it, of something that is asked for where it is not that which was found.
   look(of) {
     const { session } = this.store;
     if (!this.isOpen || !session) return;
@@ -48,14 +47,13 @@ export class Picture {
   }
 }
 
-// The buttons that save and copy pictures as a file, of which the ids begin with a name.
 export function keepsPictures(store, name, what, selector) {
   const file = () => fileOf(all(selector));
   on(`${name}-save`, "click", () => saved(file(), "image/svg+xml", `${name}.svg`));
   on(`${name}-copy`, "click", () => store.emit("copy", file(), `The ${what}, as SVG,`));
 }
 
-// A column for each of some moments of all changes, a row for each cell, as dark as its value is large.
+// A column for each of some moments, a row for each cell, as dark as its value is large.
 export class Strip extends Picture {
   constructor(store) {
     super(store);
@@ -77,7 +75,6 @@ export class Strip extends Picture {
     if (this.shown) this.show(this.shown);
   }
 
-  // Shows some cells by a field.
   show(shown) {
     this.shown = shown;
     this.look([shown.field, ...shown.cells].join());
@@ -105,8 +102,8 @@ export class Strip extends Picture {
   }
 }
 
-// Which lines were executed: a row for each, a column for each stretch of changes, darker where it was oftener; below
-// them marks for what was written to units, and to the part of which somebody asked last who wrote it.
+// Which lines were executed: a row for each, darker where it was oftener; below what was written
+// to units, and to the part of which somebody asked last who wrote it.
 export class TimeMap extends Picture {
   constructor(store, /** @type {Listing} */ listing) {
     super(store);
@@ -129,7 +126,6 @@ export class TimeMap extends Picture {
     super.forget();
   }
 
-  // A part of which somebody asked who wrote it.
   watch(part) {
     this.part = part;
     this.show();

@@ -9,7 +9,7 @@ export function choose(name) {
   for (const tab of all("#tabs button")) tab.setAttribute("aria-pressed", String(tab.dataset.tab === name));
 }
 
-// The pictures go below the listing or into a column of their own; what is scrolled to comes below the bar.
+// Pictures stand below the listing or in a column of their own; what is scrolled to, below the bar.
 export function place() {
   for (const tab of all("#tabs button")) tab.addEventListener("click", () => choose(tab.dataset.tab));
   const setPicture = () => (WIDEST.matches ? $("talk").before($("picture")) : $("shelf").append($("picture")));

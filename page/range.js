@@ -1,4 +1,4 @@
-// A range of cells, whose ends a person writes as W-values: numbers, or symbols of the program.
+// A range of cells, whose ends a person writes as W-values.
 
 import { $, mark, note } from "./dom.js";
 
@@ -10,7 +10,7 @@ export function upTo(from, to) {
 }
 
 export class CellRange {
-  // The ids of its fields begin with `name`. It is asked for while it `isWanted`; `taken` hears of another range.
+  // `name` begins the ids of its fields; `taken` hears of another range.
   constructor(/** @type {Store} */ store, name, isWanted, taken) {
     this.store = store;
     this.isWanted = isWanted;
@@ -34,7 +34,6 @@ export class CellRange {
     if (numbers) this.take(ends, numbers);
   }
 
-  // Takes a range of which the ends have these numbers, or says why it is none.
   take(ends, numbers) {
     const faults = ends.flatMap((end, index) => {
       const isCell = numbers[index] >= 0 && numbers[index] < CELLS;

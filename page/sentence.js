@@ -1,5 +1,5 @@
-// What the last change did and what the next step will do, as a sentence each, and the status.
-// Values are those of the engine: of the change that was done, and of the one that a step would be.
+// What the last change did and what the next step will do, as a sentence each, by the values of the
+// engine; the status.
 
 import { counted, fourDigits } from "./dom.js";
 import { refusalOf } from "./machine.js";
@@ -13,10 +13,8 @@ const MOST_PARTS = 4; // that are named
 
 const THAN = { L: "less than", E: "equal to", G: "greater than" };
 
-// Whether a change was a command, and no step.
 export const isCommand = (/** @type {Change} */ { time }) => time === "0";
 
-// What a change makes of a part; nothing where it does not alter it.
 export const itemOf = (change, part) => change?.items?.find((item) => item.part === part);
 
 const fieldName = (f) => (f === WHOLE ? "" : `(${f >> 3}:${f & 7})`);
@@ -29,7 +27,7 @@ function whereIs(location, { lineOf }) {
   return lineOf.get(location) ? `line ${lineOf.get(location)}` : `location ${fourDigits(location)}`;
 }
 
-// An instruction at a location: its line, and operation and address as they are in the source, if they come from there.
+// Operation and address are as they are in the source, if they come from there.
 function named(location, text, listing) {
   const line = listing.lineOf.get(location);
   const [, operation, address = ""] = (line ? listing.lineText(line) : "").split(/[ \t]+/);
@@ -38,7 +36,7 @@ function named(location, text, listing) {
   return `${line || fourDigits(location)} ${isThere ? `${operation} ${isBare ? "" : address}`.trimEnd() : text}`;
 }
 
-// What a change alters in each part of the machine. A unit has `written` so many rows with it.
+// A unit has `written` so many rows with the change.
 function alterationsOf(/** @type {Change} */ { items }, written, isControl) {
   return items.map(({ part, what, block, before, after, beforeValue, afterValue }) => {
     if (part === "over") return `overflow goes ${after}`;
@@ -55,12 +53,11 @@ function alterationsOf(/** @type {Change} */ { items }, written, isControl) {
   }).filter(Boolean);
 }
 
-// How many rows a unit has written, with so many more.
 const rowsOf = (/** @type {View} */ { units }, more) => (part) => {
   return more + (units.find(({ unit }) => `unit ${unit}` === part)?.rows?.length || 0);
 };
 
-// What decides whether the program jumps, as it is now.
+// What decides whether the program jumps.
 function factOf({ sentence, register }, f, /** @type {View} */ { state, units }) {
   if (!sentence.includes(" if ")) return "";
   const { clock, cmp, over, registers } = state;
@@ -99,15 +96,13 @@ function nextOf(/** @type {View} */ view, /** @type {Listing} */ listing) {
   return `${name}: ${will}${more}`;
 }
 
-// Whether a jump was taken, after which the machine is at a location; nothing where that can't be
-// seen.
+// Nothing where that can't be seen.
 function isTaken({ location, text, items }, { state, wordIn }) {
   if (/^(JMP|JSJ)\b/.test(text) || state.location !== location + 1 || itemOf({ items }, "J")) return true;
   return wordIn(location).instruction?.address === String(location + 1) ? undefined : false;
 }
 
-// What the last change did, after which the machine is as in a view; its line is that of where it
-// was done.
+// A view as it is after the change.
 function didOf(/** @type {Change} */ change, /** @type {View} */ view, listing) {
   const { location, text, time } = change;
   const row = isCommand(change) ? undefined : OPERATIONS.get(text.split(" ")[0]);
@@ -121,14 +116,13 @@ function didOf(/** @type {Change} */ change, /** @type {View} */ view, listing) 
   return row ? `${named(location, text, listing)}: ${did} (${time} u)` : `${text}: ${did}`;
 }
 
-// What a refusal means, for who meets it first.
 const MEANINGS = {
   "C1 no such command": ", Help has a list of the commands",
   "C4 fewer changes than asked": ", there are not so many changes to go over",
 };
 
-// What is told of a moment: `did`, `next`, whether it is of a fault, and `last`, what the last change did. `answer` is
-// that to the command which led to it from the view `before`; without one the moment is only looked at.
+// What is told of a moment. `answer` is that to the command which led to it from the view `before`;
+// without one the moment is only looked at.
 export function toldOf(/** @type {Shown} */ { answer, before, view, listing }) {
   const { state, change, next: step } = view;
   const was = before ? before.state.done : state.done;
@@ -157,14 +151,12 @@ function haltedAt(/** @type {State} */ { done, clock }, was) {
 
 const rowsIn = (/** @type {View} */ view) => view.units.reduce((sum, { rows }) => sum + (rows ? rows.length : 0), 0);
 
-// The rows that were written, or taken back, between two views.
 function printed(before, view) {
   const rows = before ? rowsIn(view) - rowsIn(before) : 0;
   if (rows === 0) return "";
   return rows > 0 ? ` ${counted(rows, "row")} printed.` : ` ${counted(-rows, "row")} taken back.`;
 }
 
-// Which way was gone to a moment, from so many changes.
 function wayOf(/** @type {View} */ before, was, /** @type {State} */ { done, ahead }, last, rows) {
   if (done === was) return (done === 0 ? "At the start." : `Did ${last}.`) + rows;
   if (done === was - 1) return `Taken back: ${before.did}.${rows}`;

@@ -1,5 +1,5 @@
-// A session: a program with its units, and the commands that were given to it, each with its reply. The engine holds
-// the session; where it was lost, or holds that of another text, it does the commands again.
+// A program with its units, and the commands that were given to it, each with its reply. Where the
+// engine has lost the session, or holds that of another text, it does the commands again.
 
 import { replyOf } from "./machine.js";
 import { Path } from "./path.js";
@@ -22,8 +22,7 @@ function openingOf({ deck, cards, source }) {
 }
 
 export class Session {
-  // `shown` gives the requests for `blocks` of tapes and disks, and the `field` of which numbers of
-  // cells are shown.
+  // `shown` gives the requests for blocks of tapes and disks, and the field of cells that is shown.
   constructor(machine, texts, shown) {
     this.machine = machine;
     this.texts = texts;
@@ -41,7 +40,6 @@ export class Session {
   get ahead() { return this.state.ahead; }
   get total() { return this.done + this.ahead; }
 
-  // Whether the last change was a HLT and nothing is ahead of it.
   get isHalted() { return this.ahead === 0 && this.state.halted; }
 
   /** @returns {Promise<any[]>} The answers to requests, of which the first finds so many changes done. */
@@ -56,7 +54,6 @@ export class Session {
     return answers.slice(way.length);
   }
 
-  // The answers to commands, and what the machine looks like after them.
   async see(commands, at = this.done) {
     const { blocks, field } = this.shown();
     const all = ["mix/state", { cells: [], nonzero: true, instructions: true, field }];
@@ -77,8 +74,8 @@ export class Session {
     return { answers, view };
   }
 
-  // What is around a moment: the last change and the next one, which a step would do, each with the
-  // numbers of whole words, and in a field too; how often cells were executed.
+  // The last change and the next step, with the numbers of whole words, and in a field; how often
+  // cells were executed.
   async momentOf({ done, ahead, halted }, field) {
     const last = done > 0 ? [["mix/change", { number: done }]] : [];
     const next = ahead > 0 ? ["mix/change", { number: done + 1 }] : ["mix/next", {}];
@@ -92,8 +89,7 @@ export class Session {
     return { ...ends(0), inField, times: this.path.timesAt(done, bodies.slice(asked.length)) };
   }
 
-  // What is not known any more after commands: all that may be another now. To go to a moment
-  // alters nothing.
+  // Forgets what may be another now. To go to a moment alters nothing.
   noticed(commands, { done, ahead }) {
     if (commands.every((command) => /^\s*(back|forth|goto)\b/i.test(command))) return;
     const isAlone = commands.length === 1;
@@ -103,7 +99,6 @@ export class Session {
     if (!isAlone || this.ahead > 0) this.written.clear();
   }
 
-  // Begins it: what was found in the source, with the refusal, or with the program and what the machine looks like.
   async begin() {
     const [check, program] = await this.ask([["mix/check", { source: this.texts.source }], ["mix/program", {}]]);
     const found = check.body.diagnostics;
@@ -113,13 +108,12 @@ export class Session {
     return { found, program: program.body, view };
   }
 
-  // What the machine looks like after so many changes.
   look(at = this.done) {
     return this.see([], at);
   }
 
-  // Does commands: the answer to the last one, and a view, with the conflict of the change that is
-  // `met`. One that is tried is not kept if it is refused.
+  // The answer to the last command, and a view, with the conflict of the change that is `met`. What
+  // is tried is not kept if it is refused.
   async act(commands, { from = this.done, isTried = false, met = 0 } = {}) {
     const { answers, view } = await this.see(commands, from);
     const asked = met ? [["mix/change", { number: met, conflict: true }]] : [];
@@ -131,7 +125,7 @@ export class Session {
     return { view, answer };
   }
 
-  // Goes to a moment by the slider. It takes the place of a slide before it, so that such a way is one command.
+  // A slide takes the place of one before it, so that such a way is one command.
   async slide(moment) {
     const last = this.log[this.log.length - 1];
     const isSlide = last && last.slidFrom !== undefined;
@@ -142,8 +136,8 @@ export class Session {
     return found;
   }
 
-  // Where and why the program stops that runs from a moment, with breakpoints at some cells, and filters of exceptions.
-  // None of it is kept. If a fault is next, `isFault` says so; `met` is the number of a change that conflicts.
+  // Where and why a run stops, with breakpoints at cells, and filters of exceptions; none of it is
+  // kept. `isFault` says that a fault is next; `met` is the number of a change that conflicts.
   async stop(way, { cells, filters }, from = this.done) {
     const breakpoints = cells.map((cell) => ({ instructionReference: String(6 * cell) }));
     const sets = [["setInstructionBreakpoints", { breakpoints }], ["setExceptionBreakpoints", { filters }]];
@@ -157,7 +151,7 @@ export class Session {
     }
   }
 
-  // The first of the moments ahead at which a condition of `until` holds; none where it holds at none of them.
+  // The first of the moments ahead at which a condition of `until` holds.
   async next(conditions) {
     const back = repl(`goto ${this.done}`);
     const answers = await this.ask(conditions.flatMap((condition) => [repl(`forth until ${condition}`), WHERE, back]));
@@ -165,13 +159,12 @@ export class Session {
     return moments.length > 0 ? Math.min(...moments) : undefined;
   }
 
-  // The numbers that W-values are where one is; NaN for one that is refused.
+  // The numbers of W-values; NaN for one that is refused.
   async values(expressions) {
     const answers = await this.ask(expressions.map((expression) => ["evaluate", { expression, context: "watch" }]));
     return answers.map(({ success, body }) => (success ? Number(body.result.split(" = ")[1]) : NaN));
   }
 
-  // The numbers of a field that cells hold after each of some numbers of changes.
   async cellsAt(moments, cells, field) {
     const look = ["mix/state", { cells: [[cells[0], cells[cells.length - 1]]], nonzero: false, field }];
     const answers = await this.ask(moments.flatMap((moment) => [repl(`goto ${moment}`), look]));
@@ -179,8 +172,6 @@ export class Session {
     return moments.map((_, index) => answers[2 * index + 1].body.cells.map(({ value }) => Number(value)));
   }
 
-  // How often each cell was executed before each column of all changes; the changes that wrote to
-  // units and to a part.
   async mapWith(part) {
     const { path, total } = this;
     const answers = await this.ask([["mix/units", {}], ...path.requestsTo(total)], total);
@@ -188,8 +179,8 @@ export class Session {
     return { ...path.upTo(total, path.timesAt(total, bodies)), marks: await this.marksOf(part, units) };
   }
 
-  // The last changes that wrote to each unit that has written a row, and to a part, in their order.
-  // Of a unit that only prints, no more are asked for than it has printed since.
+  // The last changes that wrote to units and to a part. Of a unit that only prints, no more are
+  // asked for than it has printed since.
   async marksOf(part, units) {
     const { total, written } = this;
     const printed = units.filter(({ rows }) => rows && rows.length > 0);
@@ -211,14 +202,13 @@ export class Session {
     return marks;
   }
 
-  // How many of all changes altered each of some cells, a thousand at most.
   async altersOf(cells) {
     const answers = await this.ask(cells.map((cell) => ["mix/writes", { part: `cell ${cell}` }]), this.total);
     return new Map(cells.map((cell, index) => [cell, answers[index].body.writes.length]));
   }
 
-  // Of a part: the changes around this moment that wrote it, the first one first, and whether there may be more before
-  // or behind them; the last one that is done, with its line; the first one that is ahead.
+  // The changes around this moment that wrote a part, and whether there may be more before or behind
+  // them; the last one that is done, with its line; the first one that is ahead.
   async writesOf(part) {
     const { done, total } = this;
     const writesUpTo = async (ends) => {
@@ -226,7 +216,7 @@ export class Session {
       return answers.map(({ body }) => body.writes.reverse());
     };
     const [before, all = before] = await writesUpTo(done < total ? [done, total] : [done]);
-    // Of those ahead the last are known; if these do not reach back to here, those of the next changes are asked for.
+    // The last of all, if they reach back to here; else the last of those that are near.
     const reaches = (writes) => writes.length < MOST_WRITES || writes[0].number <= done;
     const near = reaches(all) ? [] : await writesUpTo([done + MOST_WRITES, done + 32 * MOST_WRITES]);
     const ahead = [...near, all].filter(reaches).pop().filter(({ number }) => number > done);

@@ -1,8 +1,7 @@
-// A bundle in the fragment of a link: compressed by the browser's streams, in letters that a link may hold.
+// A bundle in the fragment of a link: compressed, in letters that a link may hold.
 
 const MOST = 4194304; // bytes of what a link holds
 
-// What a stream makes of some bytes, if it is not more than so many.
 async function through(stream, bytes, most = Infinity) {
   const reader = new Blob([bytes]).stream().pipeThrough(stream).getReader();
   const parts = [];
@@ -31,13 +30,12 @@ export async function fragmentOf(bundle) {
   return `#mix=${lettersOf(await through(new CompressionStream("deflate-raw"), new TextEncoder().encode(bundle)))}`;
 }
 
-// The bundle that a fragment holds; nothing where it is none of ours. A RangeError where it holds too much.
+// Nothing where the fragment is none of ours; a RangeError where it holds too much.
 export async function bundleIn(fragment) {
   const given = new URLSearchParams(fragment.replace(/^#/, ""));
   return given.has("mix") ? new TextDecoder().decode(await inflate(given.get("mix"), MOST)) : null;
 }
 
-// The bytes of one of the page's own blocks of data.
 export const bytesOfBlock = (id) => inflate(document.getElementById(id).textContent.trim());
 
 export const textOfBlock = async (id) => new TextDecoder().decode(await bytesOfBlock(id));

@@ -1,4 +1,4 @@
-// The source in CodeMirror: the colours of the editors' grammar, keys for columns, finding, folding, completion.
+// The source in CodeMirror: colours, keys for columns, finding, folding, completion.
 
 import { kindOf } from "./colours.js";
 import { $, all, furnished, on } from "./dom.js";
@@ -9,7 +9,6 @@ const PASTED = 100; // letters; what is typed at once is less
 const FIELD_COLUMNS = [0, 8, 13, 26]; // where label, operation, address and remark begin
 const SHOWN_AROUND = 25; // lines beside those in view that are drawn too
 
-// Why a text can't be a source, before anything is made of it; "" where it may be one.
 export function tooLarge(text) {
   const lines = text.split("\n").length - (text.endsWith("\n") ? 1 : 0);
   const bytes = text.length * 3 < LIMITS.bytes ? 0 : new TextEncoder().encode(text).length;
@@ -20,14 +19,12 @@ export function tooLarge(text) {
 
 const isRemark = (text) => text.startsWith("*");
 
-// Where the operation of a line begins; nothing where it has none.
 function operationAt(text) {
   const [before] = (isRemark(text) ? null : /^\S*[ \t]+(?=\S)/.exec(text)) || [""];
   return before.length || undefined;
 }
 
-// The grammar as a mode of the editor. A new line begins at the column of the operation above;
-// behind a remark, at the first one.
+// A new line begins at the column of the operation above; behind a remark, at the first one.
 function modeOf(grammar) {
   const begin = (text, state) => {
     const column = operationAt(text) ?? state.column;
@@ -48,7 +45,7 @@ function modeOf(grammar) {
   });
 }
 
-// What is folded at the first of some remark lines: all up to the next of such lines.
+// At the first of some remark lines: all up to the next of such lines.
 function foldAt(cm, { line }) {
   if (!isRemark(cm.getLine(line)) || (line > 0 && isRemark(cm.getLine(line - 1)))) return undefined;
   let last = line;
@@ -59,7 +56,7 @@ function foldAt(cm, { line }) {
   return { from: end(line), to: end(last) };
 }
 
-// Goes to the next column, over blanks or over the rest of a word; behind the text it makes blanks.
+// Over blanks or over the rest of a word; behind the text it makes blanks.
 function nextColumn(cm) {
   const { line, ch } = cm.getCursor();
   const text = cm.getLine(line);
@@ -72,7 +69,7 @@ function nextColumn(cm) {
   return cm.replaceSelection(" ".repeat(column - text.length), "end", "+input");
 }
 
-// Goes to the column before; from blanks that nothing follows it takes them away.
+// Blanks that nothing follows are taken away.
 function columnBefore(cm) {
   const { line, ch } = cm.getCursor();
   const text = cm.getLine(line);
@@ -82,8 +79,8 @@ function columnBefore(cm) {
 }
 
 export class Source {
-  // `edited` is called after each edit with the changes, `refused` with the reason why a text was not taken, `drawn`
-  // when other lines are drawn, `said` gives what is said of a line, and `symbols` those of the program.
+  // `edited` and `drawn` are called after an edit and when other lines are drawn, `refused` with
+  // the reason why a text was not taken; `said` gives what is said of a line.
   constructor(grammar, { edited, refused, drawn, said, symbols }) {
     const { CodeMirror } = window;
     CodeMirror.defineMode("mixal", modeOf(grammar));
@@ -129,14 +126,13 @@ export class Source {
 
   get text() { return this.cm.getValue(); }
 
-  // Another text; the edit that brings the one before back is kept.
+  // The edit that brings the text before back is kept.
   set text(text) {
     const isFirst = this.cm.historySize().undo === 0 && this.text === "";
     this.cm.setValue(text);
     if (isFirst) this.cm.clearHistory();
   }
 
-  // Why a change would make too large a text.
   tooMuch({ from, to, text }) {
     const { cm } = this;
     const lines = cm.lineCount() + text.length - 1 - (to.line - from.line);
@@ -146,14 +142,12 @@ export class Source {
     return tooLarge(cm.getRange({ line: 0, ch: 0 }, from) + text.join("\n") + cm.getRange(to, end));
   }
 
-  // The line of the cursor, and what its operation does.
   get caretLine() { return this.cm.getCursor().line + 1; }
 
   get caretExplained() {
     return this.cm.getLine(this.caretLine - 1).split(/[ \t]+/).slice(0, 2).reverse().map(explained).find(Boolean) || "";
   }
 
-  // What the word before the cursor may become: an operation, or a symbol of the program.
   hints(cm, symbols) {
     const { line, ch } = cm.getCursor();
     const before = cm.getLine(line).slice(0, ch);
@@ -165,14 +159,12 @@ export class Source {
     return { list: shown, from: { line, ch: ch - word.length }, to: { line, ch } };
   }
 
-  // Scrolls so that a line is seen, with some lines around it.
   reveal(line) {
     const { cm } = this;
     const around = Math.min(60, cm.getScrollInfo().clientHeight / 4);
     if (line > 0 && line <= cm.lineCount()) cm.scrollIntoView({ line: line - 1, ch: 0 }, around);
   }
 
-  // Goes to a line, and to the first letter of what is wrong there.
   goTo(line, ch = 0) {
     this.cm.focus();
     this.cm.setCursor({ line: line - 1, ch });

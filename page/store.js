@@ -1,5 +1,5 @@
-// What the page is about: the texts, the session of what they say, and the moment that is seen. What is asked for is
-// done in its turn, and who has subscribed is told of what is new.
+// The texts, the session of what they say, and the moment that is seen. What is asked for is done
+// in its turn, and who has subscribed is told of what is new.
 
 import { counted } from "./dom.js";
 import { Session } from "./session.js";
@@ -9,8 +9,7 @@ const SESSIONS = 5; // sessions of other texts that can come back
 const SLOW = 400; // milliseconds before a stop is offered
 
 export class Store {
-  // `read` gives the texts as they are now, and `shown` what a session has to look at beside the
-  // rest.
+  // `read` gives the texts as they are now, and `shown` what a session has to look at too.
   constructor(machine, read, shown) {
     this.machine = machine;
     this.read = read;
@@ -29,16 +28,16 @@ export class Store {
   }
 
   // Calls `work` whenever something is new:
-  // - "texts": they are others; with what was found in them, the refusal or the program, and the first view
+  // - "texts": others; with what was found in them, the refusal or the program, and the first view
   // - "program": it is accepted; "forget": another program was opened
   // - "view": a moment is seen, with the answer that led to it and the view before
   // - "tell": something; "busy", "slow": whether it is; "failed": what went wrong
-  // - "ask": who wrote a part; "slide": to a moment; "toggle": a breakpoint; "edited": the source; "copy": a named text
+  // - "ask": who wrote a part; "slide": to a moment; "toggle", "edited"; "copy": a named text
   on(what, work) {
     this.subscribers.set(what, [...(this.subscribers.get(what) || []), work]);
   }
 
-  // Tells all who have subscribed, also where one of them has a fault, which is thrown then.
+  // All are told, also where one of them has a fault, which is thrown then.
   emit(what, ...given) {
     const faults = [];
     for (const work of this.subscribers.get(what) || []) {
@@ -57,7 +56,7 @@ export class Store {
 
   get isBusy() { return this.left > 0 || this.timer !== 0; }
 
-  // Does something after all that was asked for before; what it gives, or nothing where it fails or was dropped.
+  // What it gives, or nothing where it fails or was dropped.
   add(work) {
     const { generation } = this;
     this.left += 1;
@@ -87,7 +86,7 @@ export class Store {
     this.machine.stop();
   }
 
-  // Does something on the session of the texts as they are; where they are refused, `unready` answers.
+  // `unready` answers where the texts are refused.
   enqueue(work, unready = () => this.tell(`${this.refusal}. Nothing was done.`, true)) {
     return this.add(async () => {
       await this.assemble();
@@ -95,7 +94,6 @@ export class Store {
     });
   }
 
-  // The texts are assembled when nothing is altered for a moment, or before the next thing is done.
   assembleSoon() {
     clearTimeout(this.timer);
     this.timer = setTimeout(() => {
@@ -105,7 +103,7 @@ export class Store {
     this.emit("busy", true);
   }
 
-  // A session of the texts as they are now. One that was left for other texts comes back when its texts do.
+  // A session that was left for other texts comes back when its texts do.
   async assemble() {
     const texts = this.read();
     const key = JSON.stringify([texts.source, texts.deck, texts.cards]);
@@ -132,13 +130,12 @@ export class Store {
     else if (this.warning) this.tell(this.warning);
   }
 
-  // Shows a moment of the machine; `answer` is that to the command which led here from the moment of the view `before`.
+  // `answer` is that to the command which led here from the moment of the view `before`.
   show(view, answer = null, before = null) {
     this.view = view;
     this.emit("view", view, answer, before);
   }
 
-  // Looks at the moment once more, for what is to be shown now.
   look() {
     return this.enqueue(async () => {
       const { view } = await this.session.look(this.view.state.done);
@@ -146,7 +143,6 @@ export class Store {
     });
   }
 
-  // Begins anew with the texts as they are.
   begin() {
     this.kept.clear();
     Object.assign(this, { session: null, assembled: "" });

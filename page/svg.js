@@ -1,5 +1,5 @@
-// Pictures of cells as SVG, which can be saved as they are: bars, a strip of moments, a map of time, and values over
-// time. Their colours are those of the light page; in the window the style of the page overrides them.
+// Pictures of cells as SVG, which can be saved as they are. Their colours are those of the light
+// page; in the window the style of the page overrides them.
 
 import { fourDigits, furnished } from "./dom.js";
 
@@ -23,7 +23,6 @@ const label = (x, y, text, kind, more = {}) => {
   return shape("text", { x, y, ...solid(kind), "font-size": 10, "text-anchor": "middle", ...more }, text);
 };
 
-// A picture of a size, with its title and its text for those who do not see it.
 function picture({ id, title, text, width, height }, shapes) {
   const given = {
     viewBox: `0 0 ${Math.round(width)} ${Math.round(height)}`, width, height, role: "img",
@@ -33,23 +32,21 @@ function picture({ id, title, text, width, height }, shapes) {
   return shape("svg", given, named, told, ...shapes);
 }
 
-// The largest and the least of some numbers and 0, and how high up a number is between both, in so many points.
+// How high up numbers are between the least and the largest of some and 0, in so many points.
 function scaled(numbers, top, high) {
   const [most, least] = [Math.max(0, ...numbers), Math.min(0, ...numbers)];
   return { most, least, y: (value) => top + (high * (most - value)) / (most - least || 1) };
 }
 
-// The runs of the same number in a row, without those of 0: the number, where it begins, and where
-// the next one does.
+// The number of each run that is not 0, where it begins, and where the next one does.
 function runsOf(numbers) {
   const begins = numbers.flatMap((number, at) => (at === 0 || number !== numbers[at - 1] ? [at] : []));
   const runs = begins.map((from, index) => [numbers[from], from, begins[index + 1] ?? numbers.length]);
   return runs.filter(([number]) => number !== 0);
 }
 
-// The bars: of each its `cell`, `value`, `text`; whether the last change wrote it, and what it
-// `was` before; whether the next step writes it, and what it `will` be. `arrows` have a `name` and
-// a `cell`, perhaps one beside the bars. `conflict` has the `cell` that a unit uses, and its `use`.
+// `arrows` have a `name` and a `cell`, perhaps one beside the bars; `conflict` the `cell` that a
+// unit uses, and its `use`.
 export function barsOf({ title, text, bars, arrows, conflict }) {
   const longest = LETTER * Math.max(...bars.map((bar) => bar.text.length));
   const pitch = Math.min(Math.max(32, longest + 6), Math.max(7, 880 / bars.length));
@@ -90,7 +87,6 @@ export function barsOf({ title, text, bars, arrows, conflict }) {
   return picture({ id: "bars", title, text, width, height: height + 20 }, [...shapes, frame, use]);
 }
 
-// The strip: of each column its `moment` and the `values` of the cells; `done` is the moment that is shown.
 export function stripOf({ title, cells, columns, done }) {
   const [wide, high] = [Math.min(24, WIDE / columns.length), Math.max(3, Math.min(12, 160 / cells.length))];
   const most = Math.max(1, ...columns.flatMap(({ values }) => values.map(Math.abs)));
@@ -112,9 +108,8 @@ export function stripOf({ title, cells, columns, done }) {
   return picture({ id: "strip", title: name, text, width: columns.length * wide, height }, shapes);
 }
 
-// The map of time: `rows` have a `cell`, the `line` it comes from, whether it `isBreak`, and the
-// `counts`, how often it was executed in each stretch of `width` changes; `marks` the `number` of a
-// change that wrote a `part`, each part on a row of its own; `done` of `total` changes are done.
+// `counts` is how often a row was executed in each stretch of `width` changes; `marks` have the
+// `number` of a change that wrote a `part`, each part on a row of its own.
 export function mapOf({ title, text, rows, width, marks, total, done }) {
   const parts = [...new Set(marks.map(({ part }) => part))];
   const high = Math.max(3, Math.min(12, 300 / rows.length));
@@ -150,8 +145,8 @@ export function mapOf({ title, text, rows, width, marks, total, done }) {
   return picture({ id: "map", title, text, width: left + WIDE + 4, height }, shapes);
 }
 
-// The values of a part over time: `writes` have the `number` of a change and the value `before` and `after` it. What is
-// before the first of them, or behind the last, is drawn unless `isCut` says that there are more.
+// What is before the first of the writes, or behind the last, is drawn unless `isCut` says that
+// there are more.
 export function valuesOf({ title, text, writes, isCut, total, done }) {
   const { most, least, y } = scaled(writes.flatMap(({ before, after }) => [before, after]), 6, 70);
   const x = (number) => 4 + (number / Math.max(1, total)) * 480;
@@ -167,7 +162,6 @@ export function valuesOf({ title, text, writes, isCut, total, done }) {
   return picture({ id: "values", title, text, width: 570, height: 82 }, shapes);
 }
 
-// The file of some pictures, one below the other.
 export function fileOf(pictures) {
   const sizes = pictures.map((svg) => ["width", "height"].map((name) => Number(svg.getAttribute(name))));
   const heightOf = (count) => sizes.slice(0, count).reduce((sum, [, size]) => sum + size, 0);

@@ -1,4 +1,4 @@
-// The commands with their replies, the line for one more, and the script that came with a program.
+// The commands with their replies, and the script that came with a program.
 
 import { $, make, note, on } from "./dom.js";
 
@@ -35,13 +35,12 @@ export class Talk {
     $("command").value = this.typed[this.at] || "";
   }
 
-  // Says why a command was not done, and gives it back to the line.
   answer(command, text) {
     if (command) $("command").value = command;
     note("command-note", text);
   }
 
-  // The first lines of the script that is still to be done, with so many commands; comments and blank lines are none.
+  // The first lines of the script with so many commands; comments and blank lines are none.
   first(count) {
     let end = 0;
     for (let left = count; end < this.lines.length && left > 0; end += 1) {
@@ -56,7 +55,7 @@ export class Talk {
     $("script-lines").replaceChildren(...lines.map((line) => make("li", {}, line || " ")));
   }
 
-  // Shows the commands with their replies. Only what was typed is read out from here; the status tells the rest.
+  // Only what was typed is read out from here; the status tells the rest.
   show(log) {
     const box = $("log");
     const isMore = this.shown.every((entry, index) => entry === log[index]);

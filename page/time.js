@@ -43,8 +43,8 @@ export class Time {
     app.store.on("view", (view) => this.show(app.store.session, view.state));
   }
 
-  // Shows a moment while the slider is dragged; where more come than can be shown, the last. A key on the slider ends
-  // at once what it begins, so nothing is looked at before the events that come together are done.
+  // Where more moments come than can be shown, the last. A key ends at once what it begins, so
+  // nothing is looked at before the events that come together are done.
   async preview(moment) {
     const { store } = this.app;
     const isUnderWay = this.wanted !== undefined;
@@ -73,7 +73,6 @@ export class Time {
     else if (!$(KEYS[key]).disabled && !$(KEYS[key]).hasAttribute("aria-disabled")) $(KEYS[key]).click();
   }
 
-  // Where one is in a session: so many changes done, of so many; what can't be done is disabled.
   show({ done, ahead, total }, state) {
     if (!this.isDragged) {
       $("slider").max = total;
@@ -99,7 +98,6 @@ export class Time {
     if (is) button.removeAttribute("aria-disabled");
   }
 
-  // No program is loaded, so nothing can be done.
   hide() {
     for (const id of [...Object.values(KEYS), "slider", "moment"]) $(id).disabled = true;
     $("beyond").hidden = true;

@@ -1,6 +1,6 @@
-// A tour of six steps for who opens the page first: a card in the corner, and a frame around what it speaks of. It
-// takes no key and no click from the page, and goes away when something else is done before its second step. An address
-// that ends in #no-tour, as it does after it was closed, opens without it.
+// A tour of six steps for who opens the page first. It takes no key and no click from the page, and
+// goes away when something else is done before its second step. After it was closed the address
+// ends in #no-tour, and opens without it.
 
 import { $, all, on, put } from "./dom.js";
 import { choose } from "./place.js";
@@ -30,7 +30,6 @@ export class Tour {
     }
   }
 
-  // Shows a step; behind the last the tour is over.
   go(at) {
     const step = this.steps[at];
     if (!step) return this.close();

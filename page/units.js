@@ -1,4 +1,4 @@
-// The units: what the program has written, cards and lines that are still to be read, tapes and disks by block.
+// The units: what was written, what is still to be read, tapes and disks by block.
 
 import { $, all, counted, keepRows, make, put } from "./dom.js";
 
@@ -7,7 +7,6 @@ const CARDS_SHOWN = 200; // cards
 const capital = (text) => text[0].toUpperCase() + text.slice(1);
 const busyOf = ({ until }, { clock }) => (BigInt(until) > BigInt(clock) ? `, busy until ${until} u` : "");
 
-// Which units are busy, what is still to be read, and the blocks of tapes and disks.
 export class Units {
   constructor(/** @type {Store} */ store) {
     this.store = store;
@@ -20,7 +19,6 @@ export class Units {
     this.open.clear();
   }
 
-  // The requests for the blocks that are shown.
   get requests() {
     const named = [...this.open].map((key) => key.split(" ").map(Number));
     return named.map(([unit, block]) => ["mix/units", { unit, block }]);
@@ -48,7 +46,6 @@ export class Units {
     });
   }
 
-  // Cards or lines that are still to be read; the first is the next.
   unread({ kind, unit, unread, place, blocks }) {
     if (blocks === 0 && unread.length === 0 && kind !== "card reader") return [];
     const thing = kind === "card reader" ? "cards" : "lines";
@@ -61,7 +58,6 @@ export class Units {
     return [make("p", {}, `${read}; still to be read:`), region];
   }
 
-  // The blocks of a tape or a disk; the words of one are asked for when it is opened.
   blocks({ unit, place, blocks }, found) {
     const list = Array.from({ length: blocks }, (_, block) => {
       const key = `${unit} ${block}`;
@@ -91,7 +87,7 @@ function regionOf(name, label, given, ...children) {
   return make(name, { tabindex: "0", role: "region", "aria-label": label, ...given }, ...children);
 }
 
-// The paper of the printer, the typewriter's and the punched rows, in a box; `whose` begins their names.
+// The paper of units, in a box; `whose` begins their names.
 export class Papers {
   constructor(id, whose = "") {
     this.id = id;
@@ -99,12 +95,10 @@ export class Papers {
     this.drawn = new Map(); // of each unit the lines that are shown
   }
 
-  // Another program was opened: its paper begins at its first row.
   forget() {
     this.show({ units: [] });
   }
 
-  // Shows what was written; the units that have written something.
   show(/** @type {Partial<View>} */ { state, units, altered }) {
     const written = units.filter(({ rows, pages }) => rows && rows.length + pages.length > 0);
     for (const unit of this.drawn.keys()) if (!written.some((other) => other.unit === unit)) this.drawn.delete(unit);
@@ -123,7 +117,7 @@ export class Papers {
     return make("div", { class: "unit", "data-unit": unit }, title, paper);
   }
 
-  // Shows the rows of a unit; when more are written, the first of them is in view.
+  // When more rows are written, the first of them is in view.
   update(box, { unit, rows, pages }, isAltered, busy) {
     const paper = box.querySelector(".paper");
     const lines = withPages(rows, pages);
@@ -143,7 +137,6 @@ export class Papers {
   }
 }
 
-// What the program has written, beside it as soon as there is some.
 export class Output extends Papers {
   constructor(store) {
     super("papers");
@@ -161,7 +154,6 @@ export class Output extends Papers {
   }
 }
 
-// The rows, and nothing where a new page begins.
 function withPages(rows, pages) {
   const marksAt = (at) => pages.filter((page) => page === at).map(() => null);
   const last = pages.filter((page) => page >= rows.length).map(() => null);

@@ -1,4 +1,4 @@
-// Who wrote this? The last change of a register, a cell or a flag, all others, the ways there, and a field to set it.
+// Who wrote this? The last change of a part, all others, the ways there, and a field to set it.
 
 import { $, counted, fourDigits, make, note, on, put } from "./dom.js";
 import { refusalOf } from "./machine.js";
@@ -6,7 +6,7 @@ import { CHARACTERS } from "./operations.js";
 import { COMPARED, isCommand } from "./sentence.js";
 import { valuesOf } from "./svg.js";
 
-// What was typed as a W-value: also a word byte by byte and five characters in quotes, as the page shows them.
+// As a W-value: also a word byte by byte and five characters in quotes, as the page shows them.
 function valueOf(typed) {
   const text = typed.trim();
   const letters = (/^["“]([^"”]{1,5})["”]$/.exec(text.toUpperCase()) || [])[1];
@@ -20,7 +20,6 @@ function valueOf(typed) {
   return [...(text.startsWith("-") ? ["-0(0:0)"] : []), ...parts].join(",") || "0";
 }
 
-// What a part of the machine holds, for people.
 function heldBy(part, { state: { registers, over, cmp }, wordIn }) {
   if (part === "over") return over ? "on" : "off";
   if (part === "cmp") return COMPARED[cmp];
@@ -28,7 +27,6 @@ function heldBy(part, { state: { registers, over, cmp }, wordIn }) {
   return `${word} = ${number} = “${characters}”`;
 }
 
-// What may be set in a part.
 function allowedIn(part) {
   const others = { over: "Write on or off.", cmp: "Write L, E or G." };
   if (others[part]) return others[part];
@@ -58,7 +56,7 @@ export class Who {
     this.app.go(`goto ${moment}`);
   }
 
-  // Opens the box for a part: what comes after `until` in a command, and its name.
+  // A part is what comes after `until` in a command.
   async open(part, name) {
     const { session, view } = this.app.store;
     const { done, ahead } = session;
@@ -83,7 +81,6 @@ export class Who {
     $(!last ? "who-value" : last.number === done ? "who-before" : "who-back").focus();
   }
 
-  // The changes around this moment that wrote it, each to click on, how many there are, and their values as a curve.
   showWrites(name, writes, isCut, { done, total }) {
     const of = (value) => value.number ?? String(value);
     const here = writes.filter(({ number }) => number <= done).length - 1;
@@ -120,7 +117,6 @@ export class Who {
     return `Change ${number}: ${text} at location ${fourDigits(location)}${line ? `, line ${line}` : ""}.`;
   }
 
-  // Sets the part, if the command is accepted; else the box says why not.
   async set(value) {
     const { app, part } = this;
     const found = await app.store.session.act([`set ${part} ${value}`], { isTried: true });

@@ -1,5 +1,4 @@
-// The engine in a thread of its own: it is given the module once, and then bytes of requests, and gives bytes of
-// answers back, or tells what went wrong. This follows the text of engine.js in the worker's program.
+// The engine in a thread of its own. This follows the text of engine.js in the worker's program.
 
 let engine = null;
 
