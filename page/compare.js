@@ -1,7 +1,7 @@
 // Two runs side by side after as many changes. The one that was kept has an engine of its own, and
 // does its commands again.
 
-import { $, all, counted, fourDigits, keepRows, make, note, on, put } from "./dom.js";
+import { $, all, counted, fourDigits, keepRows, listed, make, note, on, put } from "./dom.js";
 import { Machine } from "./machine.js";
 import { flagsOf } from "./memory.js";
 import { Picture } from "./pictures.js";
@@ -89,9 +89,7 @@ function showOutput() {
 }
 
 function saidOf(names) {
-  const more = names.length - MOST_NAMES;
-  const listed = names.slice(0, MOST_NAMES).join(", ");
-  return names.length === 0 ? "Nothing is different." : `Different: ${listed}${more > 0 ? `, and ${more} more` : ""}.`;
+  return names.length === 0 ? "Nothing is different." : `Different: ${listed(names, MOST_NAMES)}.`;
 }
 
 const freshRow = () => make("tr", {}, make("th", { scope: "row" }), make("td"), make("td"));

@@ -105,6 +105,12 @@ export function keepRows(box, items, keyOf, create, update) {
   if (isLost) (stopIn(box) || box.closest("[tabindex]") || box).focus();
 }
 
+// Some names, and how many more there are.
+export function listed(names, most) {
+  const more = names.length - most;
+  return `${names.slice(0, most).join(", ")}${more > 0 ? `, and ${more} more` : ""}`;
+}
+
 export const fourDigits = (cell) => String(cell).padStart(4, "0");
 
 // "1 row", "2 rows", "12,000 rows".

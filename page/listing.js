@@ -196,8 +196,8 @@ export class Listing {
     for (const each of this.marks) each.clear();
     this.marks = found.filter(({ column }) => column).map(({ line, column, endColumn, isFault }) => {
       const letters = [...this.lineText(line)]; // some are two of those that the editor counts
-      const [from, to] = [column, endColumn].map((at) => ({ line: line - 1, ch: letters.slice(0, at - 1).join("").length }));
-      return cm.markText(from, to, { className: isFault ? "fault-text" : "warned-text" });
+      const place = (at) => ({ line: line - 1, ch: letters.slice(0, at - 1).join("").length });
+      return cm.markText(place(column), place(endColumn), { className: isFault ? "fault-text" : "warned-text" });
     });
     this.bad = new Set(found.filter(({ isFault }) => isFault).map(({ line }) => line));
     this.said = new Map();

@@ -2,7 +2,7 @@
 // before; each name asks who wrote it.
 
 import { $, fourDigits, keepRows, make, mark, note, on, put, stopIn, walks } from "./dom.js";
-import { CELLS, CellRange, upTo } from "./range.js";
+import { CELLS, CellRange, isCell, upTo } from "./range.js";
 import { OPERATIONS } from "./operations.js";
 import { COMPARED, itemOf } from "./sentence.js";
 
@@ -83,16 +83,12 @@ export class Memory {
     on("cells-which", "change", () => this.chosen());
     store.on("view", () => this.show());
     store.on("program", () => this.range.ask());
-    store.on("forget", () => this.forget());
+    store.on("forget", () => Object.assign(this, { middle: -1 }));
     walks("cell-rows", 10);
     walks("register-rows", 9);
   }
 
   get which() { return $("cells-which").value; }
-
-  forget() {
-    this.middle = -1;
-  }
 
   chosen() {
     $("cells-range").hidden = this.which !== "range";
@@ -110,8 +106,7 @@ export class Memory {
     const { view } = this.store;
     if (!view) return;
     const { operation, address } = (view.next && view.wordIn(view.state.location).instruction) || {};
-    const isUse = OPERATIONS.get(operation)?.uses === "cell" && Number(address) >= 0 && Number(address) < CELLS;
-    const used = isUse ? Number(address) : null;
+    const used = OPERATIONS.get(operation)?.uses === "cell" && isCell(address) ? Number(address) : null;
     const { cell: met, unit, until } = view.conflict || {};
     if (met !== undefined || used !== null) this.middle = met ?? used;
     else if (this.middle < 0) this.middle = Math.min(view.state.location, CELLS - 1);
@@ -159,11 +154,11 @@ export function showSymbols({ symbols }, found, memory) {
   const row = ({ name, value, number }) => {
     const label = `${name}: show the cells from there on`;
     const button = make("button", { type: "button", "aria-label": label, click: () => memory.showFrom(name) }, name);
-    const isCell = Number(number) >= 0 && Number(number) < CELLS;
     const isWrong = missing.has(name);
     const cells = [["number", number], ["word", value], ["", isWrong ? "not defined" : ""]];
+    const head = make("th", { scope: "row" }, isCell(number) ? button : name);
     const parts = cells.map(([kind, text]) => make("td", { class: kind }, text));
-    return make("tr", { class: isWrong && "wrong" }, make("th", { scope: "row" }, isCell ? button : name), ...parts);
+    return make("tr", { class: isWrong && "wrong" }, head, ...parts);
   };
   $("no-symbols").hidden = symbols.length > 0;
   $("symbol-table").hidden = symbols.length === 0;

@@ -4,6 +4,8 @@ import { $, mark, note } from "./dom.js";
 
 export const CELLS = 4000;
 
+export const isCell = (number) => number >= 0 && number < CELLS;
+
 export function upTo(from, to) {
   const last = Math.min(to, CELLS - 1);
   return Array.from({ length: Math.max(0, last - from + 1) }, (_, index) => from + index);
@@ -36,9 +38,8 @@ export class CellRange {
 
   take(ends, numbers) {
     const faults = ends.flatMap((end, index) => {
-      const isCell = numbers[index] >= 0 && numbers[index] < CELLS;
-      mark(this.fields[index], "aria-invalid", !isCell);
-      if (isCell) return [];
+      mark(this.fields[index], "aria-invalid", !isCell(numbers[index]));
+      if (isCell(numbers[index])) return [];
       const number = `is ${numbers[index]}, and cells are 0 to 3999`;
       const none = "has no value: write a number or a symbol of the program, as TABLE+1";
       return [`“${end || "nothing"}” ${Number.isNaN(numbers[index]) ? none : number}`];

@@ -1,7 +1,7 @@
 // What the last change did and what the next step will do, as a sentence each, by the values of the
 // engine; the status.
 
-import { counted, fourDigits } from "./dom.js";
+import { counted, fourDigits, listed } from "./dom.js";
 import { refusalOf } from "./machine.js";
 import { OPERATIONS, filled } from "./operations.js";
 import { WHOLE } from "./session.js";
@@ -18,10 +18,6 @@ export const isCommand = (/** @type {Change} */ { time }) => time === "0";
 export const itemOf = (change, part) => change?.items?.find((item) => item.part === part);
 
 const fieldName = (f) => (f === WHOLE ? "" : `(${f >> 3}:${f & 7})`);
-const listed = (parts) => {
-  const more = parts.length - MOST_PARTS;
-  return `${parts.slice(0, MOST_PARTS).join(", ")}${more > 0 ? `, and ${counted(more, "part")} more` : ""}`;
-};
 
 function whereIs(location, { lineOf }) {
   return lineOf.get(location) ? `line ${lineOf.get(location)}` : `location ${fourDigits(location)}`;
@@ -31,9 +27,9 @@ function whereIs(location, { lineOf }) {
 function named(location, text, listing) {
   const line = listing.lineOf.get(location);
   const [, operation, address = ""] = (line ? listing.lineText(line) : "").split(/[ \t]+/);
-  const isBare = ["HLT", "NUM", "CHAR", "NOP"].includes(text.split(" ")[0]);
-  const isThere = operation && operation.toUpperCase() === text.split(" ")[0];
-  return `${line || fourDigits(location)} ${isThere ? `${operation} ${isBare ? "" : address}`.trimEnd() : text}`;
+  const [name] = text.split(" ");
+  const shown = OPERATIONS.get(name)?.uses === "-" ? operation : `${operation} ${address}`.trimEnd();
+  return `${line || fourDigits(location)} ${operation?.toUpperCase() === name ? shown : text}`;
 }
 
 // A unit has `written` so many rows with the change.
@@ -73,7 +69,7 @@ function factOf({ sentence, register }, f, /** @type {View} */ { state, units })
 
 function nextOf(/** @type {View} */ view, /** @type {Listing} */ listing) {
   const { next, wordIn, state: { location, cmp, registers } } = view;
-  if (isCommand(next)) return `${next.text}: ${listed(alterationsOf(next, rowsOf(view, 0)))}`;
+  if (isCommand(next)) return `${next.text}: ${listed(alterationsOf(next, rowsOf(view, 0)), MOST_PARTS)}`;
   const name = named(location, next.text, listing);
   if (!next.items) return `${name}: a step would be a fault, ${next.exceptionId} ${next.description}`;
   const { operation, field: f, address: m, value } = wordIn(location).instruction;
@@ -92,8 +88,8 @@ function nextOf(/** @type {View} */ view, /** @type {Listing} */ listing) {
   const parts = alterationsOf(next, rowsOf(view, 1), row.name === "IOC");
   const subject = `${will.split(" becomes ")[0]} `;
   const isPlain = parts.length === 1 && parts[0].startsWith(`${subject}from`);
-  const more = isPlain ? `, ${parts[0].slice(subject.length)}` : parts.length > 0 ? `: ${listed(parts)}` : "";
-  return `${name}: ${will}${more}`;
+  if (isPlain) return `${name}: ${will}, ${parts[0].slice(subject.length)}`;
+  return [name, will, ...(parts.length > 0 ? [listed(parts, MOST_PARTS)] : [])].join(": ");
 }
 
 // Nothing where that can't be seen.
@@ -112,7 +108,7 @@ function didOf(/** @type {Change} */ change, /** @type {View} */ view, listing) 
   if (row?.uses === "jump") parts.unshift(jumps[isTaken(change, view)] || `goes on at ${at}`);
   if (parts.length === 0 && row?.name.startsWith("CMP")) parts.push(`the comparison stays ${COMPARED[view.state.cmp]}`);
   if (row?.name === "HLT") parts.push("halts");
-  const did = listed(parts) || "nothing is altered";
+  const did = listed(parts, MOST_PARTS) || "nothing is altered";
   return row ? `${named(location, text, listing)}: ${did} (${time} u)` : `${text}: ${did}`;
 }
 

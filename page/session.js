@@ -42,6 +42,12 @@ export class Session {
 
   get isHalted() { return this.ahead === 0 && this.state.halted; }
 
+  // The bodies of the answers to requests that only look.
+  async bodies(requests, at = this.done) {
+    const answers = await this.ask(requests, at);
+    return answers.map(({ body }) => body);
+  }
+
   /** @returns {Promise<any[]>} The answers to requests, of which the first finds so many changes done. */
   async ask(requests, at = this.done) {
     if (requests.length === 0) return [];
@@ -82,8 +88,7 @@ export class Session {
     const both = halted ? last : [...last, next];
     const fields = [...new Set([WHOLE, field])];
     const asked = fields.flatMap((each) => both.map(([name, given]) => [name, { ...given, field: each }]));
-    const answers = await this.ask([...asked, ...this.path.requestsTo(done)], done);
-    const bodies = answers.map(({ body }) => body);
+    const bodies = await this.bodies([...asked, ...this.path.requestsTo(done)], done);
     const ends = (at) => ({ change: done > 0 ? bodies[at] : null, next: halted ? null : bodies[at + last.length] });
     const inField = ends(asked.length - both.length);
     return { ...ends(0), inField, times: this.path.timesAt(done, bodies.slice(asked.length)) };
@@ -100,12 +105,12 @@ export class Session {
   }
 
   async begin() {
-    const [check, program] = await this.ask([["mix/check", { source: this.texts.source }], ["mix/program", {}]]);
-    const found = check.body.diagnostics;
+    const [check, program] = await this.bodies([["mix/check", { source: this.texts.source }], ["mix/program", {}]]);
+    const found = check.diagnostics;
     if (!this.launched.success) return { found, refusal: this.launched.body.error };
     const { view } = await this.look();
     this.state = view.state;
-    return { found, program: program.body, view };
+    return { found, program, view };
   }
 
   look(at = this.done) {
@@ -117,7 +122,7 @@ export class Session {
   async act(commands, { from = this.done, isTried = false, met = 0 } = {}) {
     const { answers, view } = await this.see(commands, from);
     const asked = met ? [["mix/change", { number: met, conflict: true }]] : [];
-    for (const { body: { conflict } } of await this.ask(asked, this.at)) view.conflict = conflict;
+    for (const { conflict } of await this.bodies(asked, this.at)) view.conflict = conflict;
     const answer = answers[commands.length - 1];
     if (isTried && !answer.success) return { view, answer };
     this.log.push(...commands.map((command, index) => ({ command, reply: replyOf(answers[index]) })));
@@ -167,15 +172,14 @@ export class Session {
 
   async cellsAt(moments, cells, field) {
     const look = ["mix/state", { cells: [[cells[0], cells[cells.length - 1]]], nonzero: false, field }];
-    const answers = await this.ask(moments.flatMap((moment) => [repl(`goto ${moment}`), look]));
+    const found = await this.bodies(moments.flatMap((moment) => [repl(`goto ${moment}`), look]));
     this.at = moments[moments.length - 1];
-    return moments.map((_, index) => answers[2 * index + 1].body.cells.map(({ value }) => Number(value)));
+    return moments.map((_, index) => found[2 * index + 1].cells.map(({ value }) => Number(value)));
   }
 
   async mapWith(part) {
     const { path, total } = this;
-    const answers = await this.ask([["mix/units", {}], ...path.requestsTo(total)], total);
-    const [{ units }, ...bodies] = answers.map(({ body }) => body);
+    const [{ units }, ...bodies] = await this.bodies([["mix/units", {}], ...path.requestsTo(total)], total);
     return { ...path.upTo(total, path.timesAt(total, bodies)), marks: await this.marksOf(part, units) };
   }
 
@@ -193,8 +197,8 @@ export class Session {
       const isMore = size - known.size <= MOST_WRITES; // otherwise all are asked for
       const count = isMore ? size - known.size : MOST_WRITES;
       const asked = count > 0 ? [["mix/writes", { part: of, count }]] : [];
-      const [{ body } = { body: { writes: [] } }] = await this.ask(asked, total);
-      const more = body.writes.map(({ number }) => number).reverse();
+      const [{ writes } = { writes: [] }] = await this.bodies(asked, total);
+      const more = writes.map(({ number }) => number).reverse();
       const numbers = [...(isMore ? known.numbers : []), ...more].slice(-MOST_WRITES);
       written.set(of, { size, numbers });
       marks.push(...numbers.map((number) => ({ number, part: of })));
@@ -203,8 +207,8 @@ export class Session {
   }
 
   async altersOf(cells) {
-    const answers = await this.ask(cells.map((cell) => ["mix/writes", { part: `cell ${cell}` }]), this.total);
-    return new Map(cells.map((cell, index) => [cell, answers[index].body.writes.length]));
+    const found = await this.bodies(cells.map((cell) => ["mix/writes", { part: `cell ${cell}` }]), this.total);
+    return new Map(cells.map((cell, index) => [cell, found[index].writes.length]));
   }
 
   // The changes around this moment that wrote a part, and whether there may be more before or behind
@@ -212,8 +216,8 @@ export class Session {
   async writesOf(part) {
     const { done, total } = this;
     const writesUpTo = async (ends) => {
-      const answers = await this.ask(ends.map((until) => ["mix/writes", { part, until }]), total);
-      return answers.map(({ body }) => body.writes.reverse());
+      const found = await this.bodies(ends.map((until) => ["mix/writes", { part, until }]), total);
+      return found.map(({ writes }) => writes.reverse());
     };
     const [before, all = before] = await writesUpTo(done < total ? [done, total] : [done]);
     // The last of all, if they reach back to here; else the last of those that are near.
@@ -222,9 +226,9 @@ export class Session {
     const ahead = [...near, all].filter(reaches).pop().filter(({ number }) => number > done);
     const last = before[before.length - 1];
     const asked = last ? [["mix/change", { number: last.number }], repl("show last 1")] : [];
-    const [change, line] = last ? await this.ask(asked, last.number) : [{}, { body: { result: "" } }];
+    const [change, line] = last ? await this.bodies(asked, last.number) : [undefined, { result: "" }];
     const next = ahead.length > 0 ? ahead[0].number : await this.next([part]);
     const isCut = [before.length === MOST_WRITES, !reaches(all)];
-    return { writes: [...before, ...ahead], isCut, last: change.body, line: line.body.result.trim(), next };
+    return { writes: [...before, ...ahead], isCut, last: change, line: line.result.trim(), next };
   }
 }

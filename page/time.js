@@ -73,7 +73,7 @@ export class Time {
     else if (!$(KEYS[key]).disabled && !$(KEYS[key]).hasAttribute("aria-disabled")) $(KEYS[key]).click();
   }
 
-  show({ done, ahead, total }, state) {
+  show({ done, ahead, total, isHalted }, state) {
     if (!this.isDragged) {
       $("slider").max = total;
       for (const id of ["slider", "moment"]) $(id).value = done;
@@ -84,7 +84,6 @@ export class Time {
     $("slider").setAttribute("aria-valuetext", `change ${state.done} of ${total}, ${where}`);
     for (const id of ["back", "to-break", "to-start"]) this.enable(id, done > 0);
     this.enable("to-end", ahead > 0);
-    const isHalted = state.halted && ahead === 0;
     for (const id of ["step", "over", "out", "run"]) this.enable(id, !isHalted);
     $("beyond").hidden = !isHalted;
     for (const id of ["slider", "moment"]) $(id).disabled = total === 0;

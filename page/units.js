@@ -12,11 +12,7 @@ export class Units {
     this.store = store;
     this.open = new Set(); // the blocks that are shown, as "8 0"
     store.on("view", (view) => this.show(view));
-    store.on("forget", () => this.forget());
-  }
-
-  forget() {
-    this.open.clear();
+    store.on("forget", () => this.open.clear());
   }
 
   get requests() {

@@ -2,8 +2,9 @@
 
 import { $, counted, fourDigits, make, note, on, put } from "./dom.js";
 import { refusalOf } from "./machine.js";
+import { flagsOf } from "./memory.js";
 import { CHARACTERS } from "./operations.js";
-import { COMPARED, isCommand } from "./sentence.js";
+import { isCommand } from "./sentence.js";
 import { valuesOf } from "./svg.js";
 
 // As a W-value: also a word byte by byte and five characters in quotes, as the page shows them.
@@ -20,10 +21,11 @@ function valueOf(typed) {
   return [...(text.startsWith("-") ? ["-0(0:0)"] : []), ...parts].join(",") || "0";
 }
 
-function heldBy(part, { state: { registers, over, cmp }, wordIn }) {
-  if (part === "over") return over ? "on" : "off";
-  if (part === "cmp") return COMPARED[cmp];
-  const { word, number, characters } = registers.find(({ name }) => name === part) || wordIn(Number(part.slice(5)));
+function heldBy(part, { state, wordIn }) {
+  const flag = flagsOf(state).find((each) => each.part === part);
+  if (flag) return flag.text;
+  const register = state.registers.find(({ name }) => name === part);
+  const { word, number, characters } = register || wordIn(Number(part.slice(5)));
   return `${word} = ${number} = “${characters}”`;
 }
 
