@@ -1,9 +1,9 @@
-//! Rows of text for public calls whose answer no whole run shows; `tests/rows` has those that one does.
-//! Each is answered by its call, and what differs from what is wanted is printed.
+//! Rows of text for public calls whose answer no whole run shows; `tests/rows` has those that one
+//! does. Each is answered by its call, and what differs from what is wanted is printed.
 //!
-//! A row is `LIBRARY KIND |INPUT| WANTED`, where the input is one field or more, parted by bars. A word
-//! is its sign and its five bytes, or its sign and a number. Empty lines and those that begin with `#`
-//! are no rows. Rows of a kind stand together: after the last one their number is printed.
+//! A row is `LIBRARY KIND |INPUT| WANTED`, where the input is one field or more, parted by bars. A
+//! word is its sign and its five bytes, or its sign and a number. Empty lines and those that begin
+//! with `#` are no rows. Rows of a kind stand together: after the last one their number is printed.
 #![tactic(auto)]
 
 mod counter;
