@@ -1,4 +1,5 @@
 """Where things are said: a fault at its line, a step once, on paper the lesson and the moment."""
+import pathlib
 import re
 
 from browser import EDITOR
@@ -7,19 +8,6 @@ from selenium.webdriver.common.by import By
 from selenium.webdriver.common.keys import Keys
 from uses import FIRST
 
-# Each step of the sort: what it did, and what the next one will do, by the rules of the book.
-SENTENCES = [
-    ("At the start.", "Next: 8 LDX KEY+1: rX becomes 50 (cell 1000), from 0 to 50."),
-    ("Did 8 LDX KEY+1: rX from 0 to 50 (2 u).", "Next: 9 STX KEY+2: cell 1001 becomes rX, from 20 to 50."),
-    ("Did 9 STX KEY+2: cell 1001 from 20 to 50 (2 u).", "Next: 10 ENT2 3: rI2 becomes 3, from 0 to 3."),
-    ("Did 10 ENT2 3: rI2 from 0 to 3 (1 u).", "Next: 11 DEC2 1: rI2 becomes rI2 - 1, from 3 to 2."),
-    ("Did 11 DEC2 1: rI2 from 3 to 2 (1 u).", "Next: 12 CMPX KEY,2: 50 is equal to 50 (cell 1001), so the comparison stays equal."),
-    ("Did 12 CMPX KEY,2: the comparison stays equal (2 u).", "Next: 13 JE OUT: jumps to line 15 if the comparison is equal; it is equal."),
-    ("Did 13 JE OUT: jumps to line 15, rJ from 0 to 3006 (1 u).", "Next: 15 JOV BACK: jumps to line 11 if overflow is on, which goes off; it is off."),
-    ("Did 15 JOV BACK: does not jump (1 u).", "Next: 16 LD3 KEY+3(4:5): rI3 becomes 70 (cell 1002(4:5)), from 0 to 70."),
-    ("Did 16 LD3 KEY+3(4:5): rI3 from 0 to 70 (2 u).", "Next: 17 ENNA -5: rA becomes -(-5), from 0 to 5."),
-    ("Did 17 ENNA -5: rA from 0 to 5 (1 u).", "Next: 18 HLT: halts."),
-]
 # Steps of which the outcome depends on what the machine holds, and on what it does with it.
 VALUES = """BIG     CON  1073741823
 FIVE    CON  5
@@ -41,22 +29,7 @@ START   LDA  FIVE
         LD1  BIG
         END  START
 """
-VALUES_SAID = [
-    ("At the start.", "Next: 4 LDA FIVE: rA becomes 5 (cell 1), from 0 to 5."),
-    ("Did 4 LDA FIVE: rA from 0 to 5 (2 u).", "Next: 5 CMPA BIG: 5 is less than 1073741823 (cell 0), so the comparison becomes less."),
-    ("Did 5 CMPA BIG: the comparison goes from equal to less (2 u).", "Next: 6 MUL FIVE: rA and rX become the product of rA and 5 (cell 1): rA from 5 to 0, rX from 0 to 25."),
-    ("Did 6 MUL FIVE: rA from 5 to 0, rX from 0 to 25 (10 u).", "Next: 7 LDA BIG: rA becomes 1073741823 (cell 0), from 0 to + 63 63 63 63 63."),
-    ("Did 7 LDA BIG: rA from 0 to + 63 63 63 63 63 (2 u).", "Next: 8 ADD FIVE: rA becomes rA + 5 (cell 1): rA from + 63 63 63 63 63 to 4, overflow goes on."),
-    ("Did 8 ADD FIVE: rA from + 63 63 63 63 63 to 4, overflow goes on (2 u).", "Next: 9 JNOV START: jumps to line 4 if overflow is off; otherwise it goes off; it is on."),
-    ("Did 9 JNOV START: does not jump, overflow goes off (1 u).", "Next: 10 CMPA FIVE(1:4): rA(1:4) is equal to 0 (cell 1(1:4)), so the comparison becomes equal."),
-    ("Did 10 CMPA FIVE(1:4): the comparison goes from less to equal (2 u).", "Next: 11 ENT1 4: rI1 becomes 4, from 0 to 4."),
-    ("Did 11 ENT1 4: rI1 from 0 to 4 (1 u).", "Next: 12 J1P *+1: jumps to line 13 if rI1 is positive; it is 4."),
-    ("Did 12 J1P *+1: jumps to line 13, rJ from 0 to 11 (1 u).", "Next: 13 STX 200(5:5): cell 200(5:5) becomes rX: cell 200 from 0 to 25."),
-    ("Did 13 STX 200(5:5): cell 200 from 0 to 25 (2 u).", "Next: 14 MOVE 0(2): 2 words are copied, from cell 0 on to the cell in rI1 on; rI1 becomes rI1 + 2: rI1 from 4 to 6, cell 4 from 262467 to + 63 63 63 63 63, cell 5 from 328 to 5."),
-]
-# What each next step of these alters, of the registers, the flags and cell 200, as it is shown in grey.
-WILL_BE = [{"A": " → 5"}, {"comparison": " → less"}, {"A": " → 0", "X": " → 25"}, {"A": " → 1073741823"}, {"A": " → 4", "overflow": " → on"}, {"overflow": " → off"},
-           {"comparison": " → equal"}, {"I1": " → 4"}, {"J": " → 11"}, {"200": " → 25"}, {"I1": " → 6"}]
+# The key of each row that will be altered, and what it will be.
 WILL = """return [...document.querySelectorAll('#register-rows tr, #flags > div, #cell-rows tr')].map((row) => [row.dataset.key, row.querySelector('.will').textContent]).filter(([, text]) => text)"""
 
 
@@ -64,18 +37,29 @@ def status(page):
     return page.told(), page.text("next")
 
 
-def sentences(page, native, count):
+def stepped(page, count, part):
+    """The sentences of a part of sentences.txt, each found after its step; those of what comes next."""
     page.lesson(0)
-    page.put("text", SORT)
-    for number, wanted in enumerate(SENTENCES):
+    page.put("text", SORT if part == "sort" else VALUES)
+    text = pathlib.Path(__file__).with_name("sentences.txt").read_text().partition(f"[{part}]\n")[2].partition("\n\n")[0]
+    rows = re.findall(r"^(.*)\n(Next: .*)(?:\nwill: (.*))?$", text, re.M)
+    for number, (done, after, will) in enumerate(rows):
         if number > 0:
             page.click("step")
         found = status(page)
-        count.same(f"sentences: after {number} steps", (found[0] if number else "At the start.", found[1]), wanted)
+        count.same(f"sentences: {part}, after {number} steps", (found[0] if number else "At the start.", found[1]), (done, after))
+        if will:
+            wanted = dict(re.findall(r"(\w+)( → [^;]*)", will))
+            count.same(f"sentences: what will be altered, after {number} steps", {name: text for name, text in page.script(WILL) if name in wanted}, wanted)
+    return [after for _, after, _ in rows]
+
+
+def sentences(page, native, count):
+    nexts = stepped(page, count, "sort")
     page.click("back")
-    count.same("sentences: taken back", status(page), ("Taken back: 17 ENNA -5: rA from 0 to 5 (1 u).", SENTENCES[8][1]))
+    count.same("sentences: taken back", status(page), ("Taken back: 17 ENNA -5: rA from 0 to 5 (1 u).", nexts[8]))
     page.slide(3)
-    count.same("sentences: at a moment", status(page)[1], SENTENCES[3][1])
+    count.same("sentences: at a moment", status(page)[1], nexts[3])
     page.click("run")
     count.same("sentences: a run to the end", page.told(), "Halted after 10 changes, clock 23 u, the last 7 now.")
     page.put("text", " JSJ *+1\n JMP *+1\n ENT1 4\n JMP *+1\n IOC 0(18)\n OUT 100(18)\n HLT\n END 0\n")
@@ -86,13 +70,7 @@ def sentences(page, native, count):
         page.click("step")
         found.append(page.told())
     count.same("sentences: a jump to the next line, a new page and a row", found, said)
-    page.lesson(0)
-    page.put("text", VALUES)
-    for number, wanted in enumerate(VALUES_SAID):
-        if number > 0:
-            page.click("step")
-        count.same(f"sentences: with values, after {number} steps", (status(page)[0] if number else "At the start.", status(page)[1]), wanted)
-        count.same(f"sentences: what will be altered, after {number} steps", {name: text for name, text in page.script(WILL) if name in WILL_BE[number] or not WILL_BE[number]}, WILL_BE[number])
+    stepped(page, count, "values")
     page.lesson(1)
     page.lesson(0)
     page.click("step")
