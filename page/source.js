@@ -7,6 +7,7 @@ import { explained, namesOfAll } from "./operations.js";
 const LIMITS = { lines: 20000, bytes: 1048576 }; // of a source
 const PASTED = 100; // letters; what is typed at once is less
 const FIELD_COLUMNS = [0, 8, 13, 26]; // where label, operation, address and remark begin
+const TAB = 8; // columns
 const SHOWN_AROUND = 25; // lines beside those in view that are drawn too
 
 export function tooLarge(text) {
@@ -24,17 +25,22 @@ function operationAt(text) {
   return before.length || undefined;
 }
 
-// A new line begins at the column of the operation above; behind a remark, at the first one.
+// A new line begins at the column of the operation above; behind a remark, at the first one. What
+// is broken off stays at its column, and so does an operation.
 function modeOf(grammar) {
   const begin = (text, state) => {
     const column = operationAt(text) ?? state.column;
-    Object.assign(state, grammar.line(text, state.open), { column, indented: isRemark(text) ? 0 : column });
+    const isBlank = text !== "" && text.trim() === "";
+    Object.assign(state, grammar.line(text, state.open), { column, isBlank, indented: isRemark(text) ? 0 : column });
   };
   return () => ({
     startState: () => ({ open: null, names: [], column: FIELD_COLUMNS[1], indented: FIELD_COLUMNS[1] }),
     copyState: (state) => ({ ...state }),
     blankLine: (state) => begin("", state),
-    indent: ({ indented }) => indented,
+    indent({ indented, isBlank }, after, line) {
+      const isKept = after !== "" && (!isBlank || isRemark(after));
+      return isKept ? window.CodeMirror.countColumn(line, null, TAB) : indented;
+    },
     token(stream, state) {
       if (stream.sol()) begin(stream.string, state);
       const { names } = state;
@@ -91,7 +97,7 @@ export class Source {
     const off = { maxHighlightLength: 2000, electricChars: false, dragDrop: false };
     this.cm = CodeMirror($("listing"), {
       mode: "mixal", theme: "mix", lineWrapping: true, gutters, foldGutter: { rangeFinder: foldAt }, extraKeys,
-      tabSize: 8, viewportMargin: SHOWN_AROUND, screenReaderLabel: "Source", undoDepth: 1000, ...off,
+      tabSize: TAB, viewportMargin: SHOWN_AROUND, screenReaderLabel: "Source", undoDepth: 1000, ...off,
     });
     const { cm } = this;
     furnished(cm.getInputField(), {

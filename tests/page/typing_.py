@@ -63,6 +63,16 @@ def columns(page, native, count):
     count.same("columns: broken before its operation, which keeps its column", page.value("text").split("\n")[1:3], ["        ", "        INCA 7"])
     page.chord(Keys.CONTROL, "z")
     count.same("columns: undone", page.value("text"), wanted)
+    for typed, above in (((" NOP", Keys.ENTER), " NOP"), ((Keys.ENTER,), "")):
+        page.caret(1)
+        page.press(*typed)
+        count.same(f"columns: a line is typed before a label: {above!r}", page.value("text"), f"{above}\n{wanted}")
+        page.put("text", wanted)
+    page.put("text", f"* a remark\n{wanted}")
+    page.caret(1)
+    page.press(" NOP", Keys.ENTER)
+    count.same("columns: a line is typed before a remark", page.value("text"), f" NOP\n* a remark\n{wanted}")
+    page.put("text", wanted)
     page.caret(1, 0)
     places = []
     for _ in range(3):
