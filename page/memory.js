@@ -108,8 +108,8 @@ export class Memory {
     const { operation, address } = (view.next && view.wordIn(view.state.location).instruction) || {};
     const used = OPERATIONS.get(operation)?.uses === "cell" && isCell(address) ? Number(address) : null;
     const { cell: met, unit, until } = view.conflict || {};
-    if (met !== undefined || used !== null) this.middle = met ?? used;
-    else if (this.middle < 0) this.middle = Math.min(view.state.location, CELLS - 1);
+    const first = this.middle < 0 ? Math.min(view.state.location, CELLS - 1) : null; // of another program
+    this.middle = met ?? used ?? first ?? this.middle;
     const near = upTo(Math.max(0, this.middle - 8), this.middle + 16);
     const filled = view.state.cells.map(({ cell }) => cell);
     const all = { near, filled, range: this.range.cells }[this.which];
@@ -135,7 +135,7 @@ export class Memory {
     const more = all.length - shown.length;
     const none = all.length === 0 ? "All cells are zero." : "";
     note("cells-more", more > 0 ? `${more} more are not shown: choose a range.` : none);
-    this.reveal(met ?? shown.find((cell) => view.altered.has(`cell ${cell}`)) ?? used);
+    this.reveal(met ?? shown.find((cell) => view.altered.has(`cell ${cell}`)) ?? used ?? first);
   }
 
   reveal(cell) {

@@ -81,7 +81,7 @@ function nextOf(/** @type {View} */ view, /** @type {Listing} */ listing) {
     const becomes = `the comparison ${after === cmp ? "stays" : "becomes"} ${COMPARED[after]}`;
     return `${name}: ${whole || row.register + fieldName(f)} is ${THAN[after]} ${V}, so ${becomes}`;
   }
-  const M = row.uses === "number" && m.startsWith("-") ? `(${m})` : m;
+  const M = /[-+] ?\{M\}/.test(row.sentence) && m.startsWith("-") ? `(${m})` : m;
   const [cell, line] = [`cell ${m}${fieldName(f)}`, whereIs(Number(m), listing)];
   const will = filled(row.sentence, { r: row.register, M, V, cell, line, F: String(f) });
   if (row.uses === "jump") return `${name}: ${will}${factOf(row, f, view)}`;

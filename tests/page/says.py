@@ -62,6 +62,8 @@ def sentences(page, native, count):
     count.same("sentences: at a moment", status(page)[1], nexts[3])
     page.click("run")
     count.same("sentences: a run to the end", page.told(), "Halted after 10 changes, clock 23 u, the last 7 now.")
+    page.put("text", " ENT1 -2\n HLT\n END 0\n")
+    count.same("sentences: a number with a sign", status(page)[1], "Next: 1 ENT1 -2: rI1 becomes -2, from 0 to -2.")
     page.put("text", " JSJ *+1\n JMP *+1\n ENT1 4\n JMP *+1\n IOC 0(18)\n OUT 100(18)\n HLT\n END 0\n")
     said = ["Did 1 JSJ *+1: jumps to line 2 (1 u).", "Did 2 JMP *+1: jumps to line 3, rJ from 0 to 2 (1 u).", "Did 3 ENT1 4: rI1 from 0 to 4 (1 u).", "Did 4 JMP *+1: jumps to line 5, rJ from 2 to 4 (1 u).",
             "Did 5 IOC 0(18): unit 18 begins a new page (1 u).", "Did 6 OUT 100(18): unit 18 writes row 1 (1 u). 1 row printed."]
