@@ -85,7 +85,7 @@ class Page:
                 raise TimeoutError("the page is still busy")
             time.sleep(0.01)
 
-    def wait(self, test, seconds=5):
+    def wait(self, test, seconds=30):
         """Waits until something holds, for some seconds at most."""
         end = time.monotonic() + seconds
         while not test() and time.monotonic() < end:

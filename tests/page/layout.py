@@ -54,7 +54,7 @@ def reach(page, native, count):
         for tab, name, selector in LAST:
             page.tab(tab)
             if name == "listing":
-                page.wait(lambda: page.script(TO_END), 3)
+                page.wait(lambda: page.script(TO_END))
             found = page.driver.find_elements(By.CSS_SELECTOR, selector)  # nothing else may scroll
             count.row(f"{width} x {height}: {name}: is there", bool(found))
             if found:

@@ -223,7 +223,7 @@ def memory(page, native, count):
         count.same(f"{name}: the script", len(page.all("#script-lines li")), 100)
 
     page.one("script-all").click()
-    end = time.monotonic() + 10
+    end = time.monotonic() + 60
     while not page.one("stop").is_displayed() and time.monotonic() < end:
         time.sleep(0.02)
     page.click("stop")

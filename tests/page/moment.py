@@ -19,7 +19,7 @@ def row(name, word, number, characters):
 def copied(page):
     page.script("window.copiedText = null; " + COPIED)
     page.click("moment-copy")
-    page.wait(lambda: page.script("return Boolean(window.copiedText)"), 2)
+    page.wait(lambda: page.script("return Boolean(window.copiedText)") or page.told().endswith("Nothing was copied."))
     return page.script("return window.copiedText")
 
 

@@ -15,7 +15,7 @@ NAME = "const menu = document.getElementById('lessons'); return menu.options[men
 def held(page):
     """Waits until the address holds what is here."""
     old, text = "", page.value("text")
-    for _ in range(9):
+    for _ in range(20):
         time.sleep(1.5)
         now = page.script("return location.hash")
         packed = now.removeprefix("#mix=")
@@ -30,7 +30,7 @@ def again(page):
     """F5; where the browser asks first, the test fails by what is then seen."""
     page.driver.refresh()
     page.leave()
-    page.wait(lambda: page.script("return !!document.querySelector('main')"), 5)
+    page.wait(lambda: page.script("return !!document.querySelector('main')"))
     page.idle()
 
 
@@ -66,7 +66,7 @@ def reload(page, native, count):
     count.same("reload: each address is a link", (page.value("text"), page.chosen()), (FIRST.split("%SCRIPT")[0], EXAMPLES[0].stem))
     page.put("text", "".join(f"* {number * 7919 % 99991} {number ** 3 % 99989} {number ** 5 % 99971}\n" for number in range(12_000)) + OWN)
     page.idle()
-    page.wait(lambda: len(page.script("return location.hash")) < 100, 20)
+    page.wait(lambda: len(page.script("return location.hash")) < 100)
     count.row("reload: what is too long is not held", len(page.script("return location.hash")) < 100, page.script("return location.hash.length"))
 
 
