@@ -167,7 +167,7 @@ ADDRESS.
   $ mixrev run f
   stderr: f:1:7: error: A7 undefined symbol: a symbol that no line before defines can only be the whole A-part of an instruction
   stderr:  ENTA 2F+1
-  stderr:       ^^^^
+  stderr:       ^^
   [1]
   $ printf ' CON 5/0\n END\n' >f
   $ mixrev run f
@@ -187,9 +187,9 @@ ADDRESS of the name that is waited for.
 ADDRESS.
   $ printf ' NOP 0,7\n END\n' >f
   $ mixrev run f
-  stderr: f:1:6: error: A10 index, field or F out of range: an index is 0 to 6, an F 0 to 63, and a field L:R has L at most R, and R at most 5
+  stderr: f:1:8: error: A10 index, field or F out of range: an index is 0 to 6, an F 0 to 63, and a field L:R has L at most R, and R at most 5
   stderr:  NOP 0,7
-  stderr:      ^^^
+  stderr:        ^
   [1]
   $ printf ' ORIG 4001\n END\n' >f
   $ mixrev run f

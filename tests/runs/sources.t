@@ -90,7 +90,7 @@ What other assemblers take: operations of a binary MIX, floating point, and numb
   $ said ' CON 1073741823+1\n END 0\n'
   1:6: error: A8 overflow in expression: a value is at most 1073741823, and no divisor is 0
   $ said ' CON 1000(0:2)+5\n END 0\n'
-  1:6: error: A5 bad expression: 1000(0:2)+5
+  1:15: error: A5 bad expression: +5
   $ said ' ORIG -1\n END 0\n'
   1:7: error: A11 location outside 0 to 3999
   $ said ' ORIG 4001\n END 0\n'
@@ -98,11 +98,11 @@ What other assemblers take: operations of a binary MIX, floating point, and numb
   $ said ' ORIG 4000\n HLT\n END 0\n'
   2:2: error: A11 location outside 0 to 3999
   $ said ' LDA 5,7\n END 0\n'
-  1:6: error: A10 index, field or F out of range: an index is 0 to 6, an F 0 to 63, and a field L:R has L at most R, and R at most 5
+  1:8: error: A10 index, field or F out of range: an index is 0 to 6, an F 0 to 63, and a field L:R has L at most R, and R at most 5
   $ said ' LDA 5(64)\n END 0\n'
-  1:6: error: A10 index, field or F out of range: an index is 0 to 6, an F 0 to 63, and a field L:R has L at most R, and R at most 5
+  1:8: error: A10 index, field or F out of range: an index is 0 to 6, an F 0 to 63, and a field L:R has L at most R, and R at most 5
   $ said ' CON 1(6:6)\n END 0\n'
-  1:6: error: A10 index, field or F out of range: an index is 0 to 6, an F 0 to 63, and a field L:R has L at most R, and R at most 5
+  1:8: error: A10 index, field or F out of range: an index is 0 to 6, an F 0 to 63, and a field L:R has L at most R, and R at most 5
   $ said ' END 4000\n'
   1:6: error: A15 start outside 0 to 3999
   $ said "$(yes '*' | head -n 20002)"
@@ -187,9 +187,9 @@ a literal that is inserted before END.
   $ said ' ENTA X+1\nX HLT\n END 0\n'
   1:7: error: A7 undefined symbol: X is defined later, at line 2; before that it can only be the whole A-part of an instruction
   $ said ' LDA 5(X)\nX EQU 3\n END 0\n'
-  1:6: error: A7 undefined symbol: X is defined later, at line 2; before that it can only be the whole A-part of an instruction
+  1:8: error: A7 undefined symbol: X is defined later, at line 2; before that it can only be the whole A-part of an instruction
   $ said ' LDA 5,X\nX EQU 3\n END 0\n'
-  1:6: error: A7 undefined symbol: X is defined later, at line 2; before that it can only be the whole A-part of an instruction
+  1:8: error: A7 undefined symbol: X is defined later, at line 2; before that it can only be the whole A-part of an instruction
   $ said ' CON TAB\nTAB HLT\n END 0\n'
   1:6: error: A7 undefined symbol: TAB is defined later, at line 2; before that it can only be the whole A-part of an instruction
   $ said ' ORIG TAB\nTAB HLT\n END 0\n'
@@ -197,7 +197,7 @@ a literal that is inserted before END.
   $ said 'X EQU Y\nY EQU 1\n END 0\n'
   1:7: error: A7 undefined symbol: Y is defined later, at line 2; before that it can only be the whole A-part of an instruction
   $ said ' HLT\n END START\n'
-  2:2: error: A7 undefined symbol: START is defined nowhere
+  2:6: error: A7 undefined symbol: START is defined nowhere
   $ said ' LDA =TAB=\n END 0\n'
   2:2: error: A7 undefined symbol: a symbol that no line before defines can only be the whole A-part of an instruction
   $ said ' JMP 2B\n END 0\n'
@@ -215,17 +215,17 @@ a literal that is inserted before END.
   $ said ' NOP do nothing\n END 0\n'
   1:6: warning: DO is defined nowhere: END makes a cell of 0 for it [undefined-symbol]
   $ said ' CHAR (convert to decimal)\n END 0\n'
-  1:7: error: A7 undefined symbol: CONVERT is defined nowhere
+  1:8: error: A7 undefined symbol: CONVERT is defined nowhere
   $ said ' HLT (halt)\n END 0\n'
-  1:6: error: A7 undefined symbol: HALT is defined nowhere
+  1:7: error: A7 undefined symbol: HALT is defined nowhere
   $ said ' HLT -- halt\n END 0\n'
-  1:6: error: A5 bad expression: --
+  1:7: error: A5 bad expression: nothing is written here
   $ said ' ENTA\n CON\n END 0\n'
   2:5: error: A5 bad expression: nothing is written here
   $ said ' LDA =3\n END 0\n'
   1:6: error: A5 bad expression: =3
   $ said ' LDA 5(1:3\n END 0\n'
-  1:6: error: A5 bad expression: 5(1:3
+  1:11: error: A5 bad expression: nothing is written here
   $ said ' HLT\n'
   2: error: A13 no END: the last line of a program is END
   $ said ''
