@@ -329,6 +329,14 @@ Wrong words are answered with the right ones.
   stderr: 
   $ talk 'watch cell 0\nwatch cell 1\nwatch cell 2\nwatch cell 3\nwatch cell 4\nwatch cell 5\nwatch cell 6\nwatch cell 7\nwatch cell 8\n'
   stderr: Type a command, such as step, back 1 or show regs; help lists them all, quit ends.
+  stderr: watching cell 0
+  stderr: watching cell 0 or cell 1
+  stderr: watching cell 0 or cell 1 or cell 2
+  stderr: watching cell 0 or cell 1 or cell 2 or cell 3
+  stderr: watching cell 0 or cell 1 or cell 2 or cell 3 or cell 4
+  stderr: watching cell 0 or cell 1 or cell 2 or cell 3 or cell 4 or cell 5
+  stderr: watching cell 0 or cell 1 or cell 2 or cell 3 or cell 4 or cell 5 or cell 6
+  stderr: watching cell 0 or cell 1 or cell 2 or cell 3 or cell 4 or cell 5 or cell 6 or cell 7
   stderr: watch takes no more than eight conditions; delete forgets them
   stderr: 
 

@@ -179,7 +179,7 @@ Columns and labels: an operation in the first column, signs after a label, and n
   $ said ' PRNT 5\n END 0\n'
   1:2: error: A2 no such operation: PRNT
   $ said '\tPRNT 5\n END 0\n'
-  1:9: error: A2 no such operation: PRNT
+  1:2: error: A2 no such operation: PRNT
 
 Symbols that are not defined yet, or nowhere; and remarks that are taken for an ADDRESS. At END a fault is marked from OP on, since it may be one of
 a literal that is inserted before END.
