@@ -1,7 +1,8 @@
 """The exercises of chapter 2: what their programs must leave, by Python's lists, dictionaries and recursion."""
 from exercise import Case, Exercise
-from linked_lists import list_lines, moved_to_the_left
+from linked_lists import list_lines, moved_to_the_left, served
 from stacks import coded, taken
+from trees import reached
 
 
 def full_queue(draw, n):
@@ -53,12 +54,7 @@ def given_back(draw, n):
 
 def two_clerks(draw, n):
     comes, needs = sorted(draw.distinct(n, 0, 6 * n)), draw.numbers(n, 1, 20)
-    free, begins = [0, 0], []
-    for come, need in zip(comes, needs):
-        free.sort()
-        begins.append(max(come, free[0]))
-        free[0] = begins[-1] + need
-    return Case({"N": n, "comes": comes, "needs": needs}, begins, ("BEGINS+1 BEGINS+N",))
+    return Case({"N": n, "comes": comes, "needs": needs}, served(comes, needs, 2), ("BEGINS+1 BEGINS+N",))
 
 
 def grown(draw, names, tree):
@@ -101,14 +97,8 @@ def threads(draw, n):
 def free_nodes(draw, n):
     """The nodes in the cells after NODE, each with two links, 0 for none; what the root reaches, and the list of the others."""
     nodes = {k: tuple(draw.number(1, n) if draw.number(0, 1) else 0 for _ in "ab") for k in range(1, n + 1)}
-    root, found, waiting = draw.number(1, n), set(), []
-    waiting.append(root)
-    while waiting:
-        node = waiting.pop()
-        if node and node not in found:
-            found.add(node)
-            waiting += nodes[node]
-    free = [*sorted(set(nodes) - found), 0]
+    root = draw.number(1, n)
+    free = [*sorted(set(nodes) - reached(nodes, root)), 0]
     links = dict(zip(free, free[1:]))
     words = [links[k] * 64**3 if k in links else nodes[k][0] * 64**3 + nodes[k][1] * 64 for k in sorted(nodes)]
     lines = [f"        CON  {left}(1:2),{right}(3:4)" for left, right in nodes.values()]

@@ -137,28 +137,30 @@ def polynomials(run):
             yield f"{name}: the cells of link 0 stay", ran.numbers("show values 0 1"), [0, 0]
 
 
+def served(comes, needs, clerks):
+    """When each is served by so many clerks."""
+    free, begins = [0] * clerks, []
+    for come, need in zip(comes, needs):
+        free.sort()
+        begins.append(max(come, free[0]))
+        free[0] = begins[-1] + need
+    return begins
+
+
 def counter(run):
     draw = random.Random(225)
     cases = [([3, 5, 6, 20, 21], [4, 6, 1, 3, 5]), ([1], [9]), ([1, 2, 3], [5, 5, 5]), ([0, 4, 8, 12], [4, 4, 4, 1])]
     cases += [(sorted(draw.sample(range(200), 25)), [draw.randrange(1, 15) for _ in range(25)]) for _ in range(3)]
     for comes, needs in cases:
-        begins, free = [], 0
-        for come, need in zip(comes, needs):
-            begins.append(max(come, free))
-            free = begins[-1] + need
+        begins = served(comes, needs, 1)
         ends, n, show = [begin + need for begin, need in zip(begins, needs)], len(comes), "show values BEGINS+1 BEGINS+N"
         ran = run(N=n, data={"comes": comes, "needs": needs}, script=[*RUN, show])
         yield "when each is served", ran.numbers(show), begins
         passed = sum(begin < come <= end for begin, end in zip(begins, ends) for come in comes)
         last = 1 + sum(all(come <= end for come in comes) for end in ends)
         yield from times(ran, N=n, S=passed, V=last, W=sum(come <= end for come, end in zip(comes[1:], ends)))
-        clerks, begins = [0, 0], []
-        for come, need in zip(comes, needs):
-            clerks.sort()
-            begins.append(max(come, clerks[0]))
-            clerks[0] = begins[-1] + need
         ran = run("answer.mixal", N=n, data={"comes": comes, "needs": needs}, script=[*RUN, show])
-        yield "when each is served by two clerks", ran.numbers(show), begins
+        yield "when each is served by two clerks", ran.numbers(show), served(comes, needs, 2)
 
 
 def removed(orders):

@@ -67,8 +67,7 @@ TWICE = " NOP\n NOP\n ORIG 0\n NOP\n END 0\n"
 STAYS = '"body":{"breakpoints":[{"line":2},{"line":4}]}'
 MOVED = '"body":{"breakpoints":[{"instructionReference":"0x0000","line":4,"verified":true},{"instructionReference":"0x0006","line":2,"verified":true}]}'
 
-# A line that is altered while it is printed, until 0 + 1 + 10: by changes 2 and 3; change 11 is after
-# that.
+# A line that is altered while it is printed, until 0 + 1 + 10: by changes 2 and 3, not by change 11.
 LINE = ' OUT 9(18)\n STZ 9\n STZ 10\n JBUS *(18)\n STZ 9\n HLT\n ORIG 9\n ALF "HULLO"\n END 0\n'
 DELAY = "%UNIT 18 delay 10\n"
 FILTER = '"exceptionBreakpointFilters":[{"default":false,"description":"A run stops at a step that uses a cell which a transfer under way forbids.",' \

@@ -6,7 +6,6 @@ is right by the schema, each request that the rules read has its one response, i
 nothing of the adapter, gives for the requests that were accepted. The last line counts."""
 import argparse
 import concurrent.futures
-import json
 import os
 import random
 import re

@@ -4,7 +4,6 @@ import concurrent.futures
 import multiprocessing
 import os
 import re
-import sys
 import tempfile
 from collections import Counter
 

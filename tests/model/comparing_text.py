@@ -2,7 +2,6 @@
 
 The program reads requests and writes answers, one a line, in the form that README.md tells."""
 
-import os
 import subprocess
 import sys
 from collections import Counter

@@ -2,7 +2,7 @@
 
 from machine import instruction
 from operations import operation
-from units import DISK, KINDS, TAPE, kind_of
+from units import DISK, TAPE, kind_of
 from words import number
 
 # Beside the location and the clock, which each step keeps.

@@ -8,7 +8,7 @@ import re
 from assembler import assemble
 from bundle import run
 from history import text_of
-from testing import bundle, is_so, replies, word
+from testing import bundle, is_so, word
 from words import joined
 
 ROWS = pathlib.Path(__file__).with_name("history.txt").read_text()

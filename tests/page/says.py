@@ -8,27 +8,6 @@ from selenium.webdriver.common.by import By
 from selenium.webdriver.common.keys import Keys
 from uses import FIRST
 
-# Steps of which the outcome depends on what the machine holds, and on what it does with it.
-VALUES = """BIG     CON  1073741823
-FIVE    CON  5
-LINE    EQU  100
-START   LDA  FIVE
-        CMPA BIG
-        MUL  FIVE
-        LDA  BIG
-        ADD  FIVE
-        JNOV START
-        CMPA FIVE(1:4)
-        ENT1 4
-        J1P  *+1
-        STX  200(5:5)
-        MOVE 0(2)
-        OUT  LINE(18)
-        JBUS *+2(18)
-        NOP
-        LD1  BIG
-        END  START
-"""
 # The key of each row that will be altered, and what it will be.
 WILL = """return [...document.querySelectorAll('#register-rows tr, #flags > div, #cell-rows tr')].map((row) => [row.dataset.key, row.querySelector('.will').textContent]).filter(([, text]) => text)"""
 
@@ -39,10 +18,10 @@ def status(page):
 
 def stepped(page, count, part):
     """The sentences of a part of sentences.txt, each found after its step; those of what comes next."""
+    parts = dict(re.findall(r"\[(\w+)\]\n(.*?\n)(?:\n|$)", pathlib.Path(__file__).with_name("sentences.txt").read_text(), re.S))
+    rows = re.findall(r"^(.*)\n(Next: .*)(?:\nwill: (.*))?$", parts[part], re.M)
     page.lesson(0)
-    page.put("text", SORT if part == "sort" else VALUES)
-    text = pathlib.Path(__file__).with_name("sentences.txt").read_text().partition(f"[{part}]\n")[2].partition("\n\n")[0]
-    rows = re.findall(r"^(.*)\n(Next: .*)(?:\nwill: (.*))?$", text, re.M)
+    page.put("text", SORT if part == "sort" else parts["program"])
     for number, (done, after, will) in enumerate(rows):
         if number > 0:
             page.click("step")

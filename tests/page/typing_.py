@@ -4,7 +4,6 @@ import statistics
 
 from browser import EDITOR
 from selenium.webdriver.common.keys import Keys
-from uses import EXAMPLES, FIRST
 
 MOST = {2_000: 16, 20_000: 30}  # milliseconds from a key to the frame that shows it, of a text of so many lines
 KEYS = 20

@@ -1,6 +1,6 @@
 """A person sees the greeting, a prompt, types a command, sees its reply and the next prompt, in turn."""
 import pexpect
-from conftest import GREETING, PROMPT, SOURCE, Terminal
+from conftest import GREETING, SOURCE, Terminal
 
 FIRST = "0000  + 00 05 00 02 48  ENTA 5                 1   ENTA 5\n"
 THIRD = "0002  + 01 36 00 05 24  STA 100                3   STA 100\n"
