@@ -31,7 +31,7 @@ def test_saved(aside, ran, folder):
            ("sa .", "T4 not opened: .: Is a directory\n"), ("save /dev/full", "T3 write failed: /dev/full: No space left on device\n"),
            ("show all", ""), ("show changes", ""))
     bundle, replies = (folder / "s.mixal").read_text(), output()
-    assert bundle == f"{SOURCE}%DEVICES\n{DECK}%SCRIPT\nstep 2\nback until A\nrun 1000000 until A\nset X 5\nback until A\nbreak 3\n"
+    assert bundle == f"{SOURCE}%DEVICES\n{DECK}%SCRIPT\nstep 2\nback until A\nrun 1000000 until A\nset X 5\nset X 5\nbreak 3\n"
     assert replies.endswith(of_bundle(ran, bundle))
     terminal.said("forth 1")
     terminal.said("save s.mixal")
