@@ -7,7 +7,7 @@ from selenium.webdriver.common.keys import Keys
 
 MOST = {2_000: 16, 20_000: 30}  # milliseconds from a key to the frame that shows it, of a text of so many lines
 KEYS = 20
-LINE = "        LDA  1000,2       a remark of some words, which may be long enough for a second row of it in a window of this width"
+LINE = "        LDA  1000,2       a remark of some words"  # 20,000 of them are less than a source may have
 TIMED = """window.timed = []; document.addEventListener('keydown', ({ timeStamp }) => requestAnimationFrame(() => {
     const { port1, port2 } = new MessageChannel(); port1.onmessage = () => window.timed.push(performance.now() - timeStamp); port2.postMessage(0); }), true);"""
 
@@ -15,6 +15,11 @@ TIMED = """window.timed = []; document.addEventListener('keydown', ({ timeStamp 
 def work(page):
     """Milliseconds that the page has worked."""
     return sum(1000 * each["value"] for each in page.command("Performance.getMetrics")["metrics"] if each["name"] in ("ScriptDuration", "LayoutDuration", "RecalcStyleDuration"))
+
+
+def slowed():
+    """How many times as much the page may work: where other work keeps all processors busy, the caches are shared."""
+    return 3 if os.getloadavg()[0] >= os.cpu_count() else 1
 
 
 def key_times(page, native, count):
@@ -27,22 +32,24 @@ def key_times(page, native, count):
     page.script(TIMED)
     for lines, most in MOST.items():
         page.put("text", f"{LINE}\n" * (lines - 1) + " END 0\n")
+        count.same(f"typing: a text of {lines} lines", page.value("text").count("\n"), lines)
         found, worked = [], []
         for _ in range(3):
             page.idle()
             page.caret(lines // 2, 30)
             page.script("window.timed = []")
-            before = work(page)
+            spent = []
             for number in range(KEYS):
+                before = work(page)
                 page.command("Input.dispatchKeyEvent", type="keyDown", text="x", key="x", code="KeyX", windowsVirtualKeyCode=88)
                 page.command("Input.dispatchKeyEvent", type="keyUp", key="x", code="KeyX", windowsVirtualKeyCode=88)
                 page.wait(lambda: page.script("return window.timed.length") > number)
-            worked.append(round((work(page) - before) / KEYS, 1))
+                spent.append(work(page) - before)
+            worked.append(round(statistics.median(spent), 1))
             found.append(round(statistics.median(page.script("return window.timed")), 1))
         print(f"a key at {lines} lines takes {found} ms to the frame that shows it, of which the page works {worked} ms")
-        count.row(f"typing: the work of a key at {lines} lines is within {most} ms", min(worked) <= most, worked)
-        if os.getloadavg()[0] < os.cpu_count():
-            count.row(f"typing: a key at {lines} lines is seen within {most} ms", min(found) <= most, found)
+        times = slowed()
+        count.row(f"typing: a key at {lines} lines is within {most} ms", min(found if times == 1 else worked) <= times * most, (found, worked))
 
 
 def columns(page, native, count):
