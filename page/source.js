@@ -141,7 +141,9 @@ export class Source {
 
   tooMuch({ from, to, text }) {
     const { cm } = this;
-    const lines = cm.lineCount() + text.length - 1 - (to.line - from.line);
+    const last = cm.lastLine(); // it is no line if it is empty
+    const isEmpty = to.line < last && cm.getLine(last) === "";
+    const lines = last + text.length - (to.line - from.line) - (isEmpty ? 1 : 0);
     const isTyped = text.length < PASTED && text.every(({ length }) => length < PASTED);
     if (isTyped && lines <= LIMITS.lines) return "";
     const end = { line: cm.lineCount(), ch: 0 };
