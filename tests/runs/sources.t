@@ -181,8 +181,8 @@ Columns and labels: an operation in the first column, signs after a label, and n
   $ said '\tPRNT 5\n END 0\n'
   1:2: error: A2 no such operation: PRNT
 
-Symbols that are not defined yet, or nowhere; and remarks that are taken for an ADDRESS. At END a fault is marked from OP on, since it may be one of
-a literal that is inserted before END.
+Symbols that are not defined yet, or nowhere; and remarks that are taken for an ADDRESS. A fault of a line that is inserted
+before END is marked from the OP of END on.
 
   $ said ' ENTA X+1\nX HLT\n END 0\n'
   1:7: error: A7 undefined symbol: X is defined later, at line 2; before that it can only be the whole A-part of an instruction
