@@ -33,8 +33,7 @@ COMPLETED = [
     ("break ", 7, ["line", *NAMES], 7, 0), ("clear li", 9, ["line", "LIST"], 7, 2), ("break line ", 12, [], 12, 0),
     ("show c", 7, ["cells", "clock", "changes", "code", "counts", "conflicts"], 6, 1), ("show cells ", 12, NAMES, 12, 0), ("show code LIST ", 16, NAMES, 16, 0),
     ("show values LIST LAST ", 23, [], 23, 0), ("show value L", 13, NAMES, 12, 1), ("show value 1+L", 15, [], 12, 3), ("show unit ", 11, [], 11, 0),
-    # a cursor within the text, before it and past its end; a tab; letters of two bytes after the
-    # cursor and before it
+    # a cursor within the text, before it, past its end; a tab; letters of two bytes on both sides
     ("show values", 3, ["show"], 1, 2), ("st", 0, COMMANDS, 1, 0), ("st", 99, ["step"], 1, 2), ("\tst", 4, ["step"], 2, 2), ("st\u00e9", 3, ["step"], 1, 2),
     ("\u00e9 st", 5, [], None, None)]
 

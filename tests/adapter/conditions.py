@@ -93,8 +93,7 @@ BAD_TEXTS = [({"condition": "NOWHERE"}, "no such condition"), ({"condition": "un
              ({"hitCondition": "000"}, "no such hit count"), ({"hitCondition": "-1"}, "no such hit count"), ({"hitCondition": ">=3"}, "no such hit count"),
              ({"hitCondition": "3 "}, "no such hit count"), ({"hitCondition": "1000000000000000000"}, "no such hit count"), ({"condition": "1", "hitCondition": "x"}, "no such hit count")]
 
-# A jump to itself, which comes to its cell with each step: a run pauses after a million of them,
-# and goes on past as many breakpoints before that.
+# A jump to itself: a run pauses after a million steps, and passes as many breakpoints before that.
 LONG = [(lines((1, "0")), "pause", 1000000), (lines((1, None, "250000")), "breakpoint", 250000), (lines((1, "0"), (1, None, "1000001")), "pause", 1000000),
         (lines((1, None, "100000")), "breakpoint", 100000), (lines((1, None, "1000000")), "breakpoint", 1000000)]
 

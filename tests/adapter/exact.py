@@ -28,8 +28,7 @@ DONE = ("configurationDone", {})
 ENDS = [(b"", b"", 0), (DISCONNECT, b"", 0), (b"hello\r\n\r\nContent-Length: 2\r\n\r\n{}", b"", 0), (b"Content-Length: 3\r\n\r\n{}", CUT, 2),
         (b"Content-Length: 999999999\r\n\r\n", LONG, 2), (b"Content-Length: 134217729\n\n", LONG, 2), (b"Content-Length: 2\r\n", CUT, 2)]
 
-# A frame, and what follows it: a request that follows the frame is heard, so the body ends where it
-# is to.
+# A frame, and what follows it; a request after it is heard, so the body ends where it has to.
 WHOLE = [(b"Content-Length: 2\r\n\r\n{}", b""), (b"Content-Length: 2\r\n\r\n{}", b"Content"), (b"content-length:3\n\nabc", b"d"),
          (b"Content-Type: x\r\nContent-Length: 0\r\n\r\n", b"rest"), (b"CONTENT-LENGTH: 1\r\nother\r\n\r\na", b"b"),
          (b"Content-Length: 9\r\nContent-Length: 1\r\n\r\na", b"b"), (b"hello\r\n\r\n", b"rest")]
@@ -37,19 +36,16 @@ WHOLE = [(b"Content-Length: 2\r\n\r\n{}", b""), (b"Content-Length: 2\r\n\r\n{}",
 # Beginnings of a frame: nothing is heard yet, and the input is cut; none at all is its end.
 PARTIAL = [b"", b"Content-Length: 2", b"Content-Length: 2\r\n", b"Content-Length: 2\r\n\r", b"Content-Length: 2\r\n\r\n", b"Content-Length: 2\r\n\r\n{"]
 
-# What is no request, and what is told of it: JSON that is broken off, bytes that are no text, an event, a request without a number, and a header without a
-# length.
+# What is no request, and what is told of it.
 UNHEARD = [(frame(b"{"), "a message that is not JSON\\n"), (frame(b'"\xff"'), "a message that is not JSON\\n"),
            (frame(b'{"seq":1,"type":"event","event":"x"}'), "a message that is not a request\\n"),
            (frame(b'{"type":"request","command":"threads"}'), "a message that is not a request\\n"), (b"hello\r\n\r\n", "a header without Content-Length\\n")]
 UNCLEAR = '{"body":{"category":"important","output":"%s"},"event":"output","seq":%d,"type":"event"}'
 
-# What is told of the last four steps: a refusal by the machine, a reply, and the name of a part that
-# can be watched.
+# What is told of the last four steps: a refusal, a reply, and the name of a part to be watched.
 TOLD = ['"message":"C5 refused by the machine: M7 index overflow"', '"result":"changes 2\\n"', '"dataId":"A"']
 
-# How many changes stand ahead after each command of the longest bundle of
-# tests/runs/back_and_forth.t.
+# How many changes are ahead after each command of the longest bundle of back_and_forth.t.
 AHEAD = [0, 3, 1, 1, 1, 1, 0, 1, 0, 0, 4, 0, 0, 299999, 0, 300001, 0, 0, 0, 0, 1]
 FORTH = next(text for _, text, _ in bundles() if "forth 299999" in text)
 
@@ -61,8 +57,7 @@ WHOLE_NUMBERS = [b"6", b"6.0", b"6e0", b"0.6e1", b"60E-1", b"600.00e-2"]
 ABSENT = [b"0", b"0.0", b"-0", b"-0.0", b"null"]
 FIRST_CELL, SECOND_CELL = '"address":"0x0000"', '"address":"0x0006"'
 
-# Of two lines that give a word for the same cell a breakpoint stays on the second alone, since its
-# word is there.
+# Of two lines that give a word for the same cell, a breakpoint stays on the second alone.
 TWICE = " NOP\n NOP\n ORIG 0\n NOP\n END 0\n"
 STAYS = '"body":{"breakpoints":[{"line":2},{"line":4}]}'
 MOVED = '"body":{"breakpoints":[{"instructionReference":"0x0000","line":4,"verified":true},{"instructionReference":"0x0006","line":2,"verified":true}]}'

@@ -340,65 +340,65 @@ Wrong words are answered with the right ones.
   stderr: watch takes no more than eight conditions; delete forgets them
   stderr: 
 
-Commands of gdb and of mixvm: each is refused, and what to type here is written. Capitals count the same.
+Commands of gdb and of mixvm: each is refused, whatever follows it, and what to type here is written. Capitals count the same.
   $ hints() { talk "$(printf '%s\\n' "$@")" | grep -v -e '^stderr: $' -e 'Type a command' | uniq -c; }
-  $ hints load file
+  $ hints 'load a.mixal' 'file a.mixal'
         2 ? C1 no such command
         2 stderr: mixrev debug SOURCE opens a source; quit ends this session
   $ hints start
         1 ? C1 no such command
         1 stderr: run takes a number, 1 to 1000000, until COND, both or nothing
-  $ hints info
+  $ hints 'info registers'
         1 ? C1 no such command
         1 stderr: show takes regs, all, cells E E, unit N, code, value W, values, last N, writes COND, diff N,
         1 stderr: counts, conflicts, clock, breaks, changes or symbols
-  $ hints i
+  $ hints 'i b'
         1 ? C1 no such command
         1 stderr: show takes regs, all, cells E E, unit N, code, value W, values, last N, writes COND, diff N,
         1 stderr: counts, conflicts, clock, breaks, changes or symbols
-  $ hints preg pflags pc pstat
+  $ hints 'preg A' pflags pc pstat
         4 ? C1 no such command
         4 stderr: print shows the registers, print A rA alone; show regs has the toggle and the indicator
   $ hints pall
         1 ? C1 no such command
         1 stderr: show all shows everything in use
-  $ hints pmem
+  $ hints 'pmem 100'
         1 ? C1 no such command
         1 stderr: print cell E shows a cell, x E E cells
   $ hints psym
         1 ? C1 no such command
         1 stderr: show symbols shows them all, print SYMBOL one
-  $ hints weval
+  $ hints 'weval 5+3'
         1 ? C1 no such command
         1 stderr: print takes W, a word
   $ hints w2d
         1 ? C1 no such command
         1 stderr: print takes W, a word: 5 or LOOP+1
-  $ hints sreg smem scmp sover
+  $ hints 'sreg A 5' 'smem 100 5' scmp sover
         4 ? C1 no such command
         4 stderr: set REG W sets a register, set cell E W a cell, set over on the toggle, set cmp L
   $ hints ssym
         1 ? C1 no such command
         1 stderr: a symbol keeps its value; set cell E W sets the cell
-  $ hints jump
+  $ hints 'jump 3'
         1 ? C1 no such command
         1 stderr: set loc E sets the location; goto takes a number of changes
-  $ hints sbp sbpa sbpr sbpm sbpc sbpo rwatch enable
+  $ hints 'sbp 3' 'sbpa 2' 'sbpr A' sbpm sbpc sbpo rwatch enable
         8 ? C1 no such command
         8 stderr: break takes E, a cell, or line N; watch takes COND
-  $ hints tbreak
+  $ hints 'tbreak 2'
         1 ? C1 no such command
         1 stderr: run until loc E stops at E once; break E each time
-  $ hints condition ignore commands
+  $ hints 'condition 1 A' 'ignore 1 2' commands
         3 ? C1 no such command
         3 stderr: a breakpoint has no condition: run until COND stops once, watch COND each time
-  $ hints cbp cbpa cabp disable
+  $ hints 'cbp 3' cbpa cabp disable
         4 ? C1 no such command
         4 stderr: clear takes E, a cell, or line N: one at a time; show breaks lists them
-  $ hints cbpr cbpm cbpc cbpo
+  $ hints 'cbpr A' cbpm cbpc cbpo
         4 ? C1 no such command
         4 stderr: delete forgets what is watched
-  $ hints strace pbt sbt bt backtrace history when
+  $ hints 'strace on' pbt sbt bt backtrace history when
         7 ? C1 no such command
         7 stderr: show last N shows what the last N changes altered; trace N shows each step
   $ hints stime ptime
@@ -425,13 +425,13 @@ Commands of gdb and of mixvm: each is refused, and what to type here is written.
   $ hints edit compile sedit pedit sasm pasm
         6 ? C1 no such command
         6 stderr: edit the source elsewhere: reload reads it again
-  $ hints shell '!' '!ls' sddir pddir scm scmf slog prompt
+  $ hints 'shell ls' '!' '!ls' sddir pddir scm scmf slog prompt
         9 ? C1 no such command
         9 stderr: a shell has that: quit ends this session
-  $ hints x/ x/4x
-        2 ? C1 no such command
-        2 stderr: x E shows a cell, x E E those from the first to the second
-  $ hints p/ p/x print/ print/x
+  $ hints x/ 'x/4x 100' 'x/4 100'
+        3 ? C1 no such command
+        3 stderr: x E shows a cell, x E E those from the first to the second
+  $ hints p/ 'p/x A' print/ print/x
         4 ? C1 no such command
         4 stderr: print shows bytes, number and characters at once
   $ hints '&'

@@ -1,34 +1,26 @@
-"""What a person of another debugger types first does what is meant, or the answer names what to type here."""
+"""What a person of another debugger types first does what is meant, or the answer says what a command takes. Words that are none here are in tests/runs/help.t."""
 import pytest
 from test_talk import FOURTH, STORED
 
 TWELVE = f"+ 00 00 00 00 12 {12:11}"
 A = f'A  {TWELVE}  "    K"\n'
 HALT = "ran 1 to 0004 clock 14: halt\n"
-GOES_ON, GOES_BACK, SHOWS, SETS = "run takes a number", "back takes a number", "show takes regs", "set REG W sets a register"
-BREAKS, CLEARS, HELP, SHOWS_PAST = "break takes E, a cell, or line N", "clear takes E, a cell, or line N", "step, run, trace", "show last N shows"
-WAITS, BACK = "a breakpoint has no condition", "back 1 to 0002 clock 2\n"
+GOES_ON, SHOWS, BREAKS, CLEARS = "run takes a number", "show takes regs", "break takes E, a cell, or line N", "clear takes E, a cell, or line N"
+HELP, BACK = "step, run, trace", "back 1 to 0002 clock 2\n"
 # What is typed after three steps: a part of what is answered, or none where the talk ends.
 FIRST_LINES = [
     ("s", HALT), ("n", HALT), ("step", HALT), ("next", HALT), ("run", HALT), ("r", HALT), ("c", HALT), ("cont", HALT), ("continue", HALT), ("until A", HALT),
-    ("p A", A), ("print A", A), ("p rA", A), ("print", A), ("show A", A), ("p over", "over off\n"), ("p CMP", "cmp E\n"), ("p loc", "loc 0003\n"), ("p clock", "clock 4\n"), ("print cell 100", TWELVE), ("x 100", TWELVE),
-    ("show cell 100", TWELVE), ("p 5+3", f"+ 00 00 00 00 08 {8:11}"), ("p $A", SHOWS), ("list", "    4>  HLT\n"), ("l 1", "    1   ENTA 5\n"), ("where", FOURTH),
-    ("show", SHOWS), ("back", "back 1 to 0002 clock 2\n"), ("q", None), ("exit", None), ("quit", None), ("?", HELP), ("h", HELP), ("help", HELP),
-    ("set rA 5", "ok\n"), ("set cell 100 5", "ok\n"), ("b 2", "ok\n"), ("break line 3", "ok\n"), ("break FOO", BREAKS), ("goto START", "goto takes a number"),
-    ("clear all", CLEARS), ("show last", STORED), ("watch A", "watching A\n"), ("watch", "watch takes COND"), ("watch A = 5", "watch takes COND"), ("delete", ""),
-    ("delete 1", "delete takes nothing"), ("tbreak 2", "run until loc E stops at E once"), ("condition 1 A", WAITS), ("ignore 1 2", WAITS), ("commands", WAITS), ("advance 4", HALT),
-    ("si", HALT), ("stepi", HALT), ("NI", HALT), ("nexti 1", HALT), ("rn", BACK), ("rs", BACK), ("reverse-step", BACK), ("reverse-next", BACK), ("reverse-finish", "back until loc E"),
-    ("x/4x 100", "x E E those from the first"), ("p/x A", "print shows bytes"), ("disable", CLEARS), ("cbpr A", "delete forgets"), ("shell ls", "a shell has that"), ("info registers", SHOWS), ("i b", SHOWS), ("bt", SHOWS_PAST), ("finish", "print J shows where a subroutine returns to"),
-    ("start", GOES_ON), ("rc", GOES_BACK), ("undo", GOES_BACK), ("jump 3", "set loc E sets the location"),
-    ("file a.mixal", "mixrev debug SOURCE opens a source"), ("load a.mixal", "mixrev debug SOURCE opens a source"), ("run a.mixal", GOES_ON),
-    ("pc", "print shows the registers"), ("preg A", "print shows the registers"), ("pflags", "show regs has the toggle"), ("pall", "show all shows"),
-    ("pmem 100", "print cell E shows a cell"), ("psym", "show symbols shows them all"), ("pline", "list takes"), ("weval 5+3", "print takes W"), ("sreg A 5", SETS),
-    ("smem 100 5", SETS), ("sbp 3", BREAKS), ("sbpa 2", BREAKS), ("sbpr A", "watch takes COND"), ("cbp 3", CLEARS), ("cabp", CLEARS), ("strace on", "trace N"),
-    ("pbt", SHOWS_PAST), ("stime", "show clock"), ("x/4 100", "x E shows a cell"), ("display A", A), ("display $A", "display takes a register"), ("undisplay", ""),
+    ("p A", A), ("print A", A), ("p rA", A), ("print", A), ("show A", A), ("p over", "over off\n"), ("p CMP", "cmp E\n"), ("p loc", "loc 0003\n"),
+    ("p clock", "clock 4\n"), ("print cell 100", TWELVE), ("x 100", TWELVE), ("show cell 100", TWELVE), ("p 5+3", f"+ 00 00 00 00 08 {8:11}"), ("p $A", SHOWS),
+    ("list", "    4>  HLT\n"), ("l 1", "    1   ENTA 5\n"), ("where", FOURTH), ("show", SHOWS), ("back", "back 1 to 0002 clock 2\n"), ("q", None),
+    ("exit", None), ("quit", None), ("?", HELP), ("h", HELP), ("help", HELP), ("set rA 5", "ok\n"), ("set cell 100 5", "ok\n"), ("b 2", "ok\n"),
+    ("break line 3", "ok\n"), ("break FOO", BREAKS), ("goto START", "goto takes a number"), ("clear all", CLEARS), ("show last", STORED),
+    ("watch A", "watching A\n"), ("watch", "watch takes COND"), ("watch A = 5", "watch takes COND"), ("delete", ""), ("delete 1", "delete takes nothing"),
+    ("advance 4", HALT), ("si", HALT), ("stepi", HALT), ("NI", HALT), ("nexti 1", HALT), ("rn", BACK), ("rs", BACK), ("reverse-step", BACK),
+    ("reverse-next", BACK), ("run a.mixal", GOES_ON), ("display A", A), ("display $A", "display takes a register"), ("undisplay", ""),
     ("undisplay 1", "undisplay takes nothing"), ("save", "save takes the name of a file"), ("help save", "mixrev < FILE"),
-    ("source", "source takes the name of a file"), ("help source", "source FILE      does the lines"),
-    ("reload", f"reloaded: a.mixal\n{FOURTH}"), ("re", f"reloaded: a.mixal\n{FOURTH}"), ("reload now", "reload takes nothing"),
-    ("help reload", "reload           assembles"),
+    ("source", "source takes the name of a file"), ("help source", "source FILE      does the lines"), ("reload", f"reloaded: a.mixal\n{FOURTH}"),
+    ("re", f"reloaded: a.mixal\n{FOURTH}"), ("reload now", "reload takes nothing"), ("help reload", "reload           assembles"),
 ]
 
 
