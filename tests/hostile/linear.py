@@ -63,17 +63,17 @@ def rows(program, workers, quick=False):
         for name, text, length in TEXTS:
             one, two, four = (instructions(program, place, text(length * times)) for times in (1, 2, 4))
             count.row(name, four - two <= MOST * (two - one), "%d, %d and %d instructions at %d, %d and %d" % (one, two, four, length, 2 * length, 4 * length))
-        table(program, place, count)
+        table(program, place, count, SIZES[:2] if quick else SIZES)
     return count
 
 
-def table(program, place, count):
+def table(program, place, count, sizes):
     """What each command takes, by callgrind and by a library that notes what is asked for, each up to the write of its reply."""
     with open(os.path.join(place, "source"), "wb") as file:
         file.write(SOURCE)
     with open(os.path.join(HERE, "costs.txt")) as file:
         rows = [line for line in file.read().splitlines() if line[0] != "#"]
-    for size in SIZES:
+    for size in sizes:
         costs = [line[2:] for line in rows if line[0] == " " or size < SIZES[-1]]
         names = [re.match(r"(.*?)  ", line)[1] for line in costs]
         script = "".join(name.replace("N", str(size)).replace("M", str(size - 1)) + "\n" for name in names).encode()
