@@ -198,6 +198,11 @@ before END is marked from the OP of END on.
   1:7: error: A7 undefined symbol: Y is defined later, at line 2; before that it can only be the whole A-part of an instruction
   $ said ' HLT\n END START\n'
   2:6: error: A7 undefined symbol: START is defined nowhere
+  $ said 'X EQU 1\n ENTA X+Z\n END 0\n'
+  2:9: error: A7 undefined symbol: Z is defined nowhere
+  $ said ' LDA =1+=\n END ?\n'
+  2:6: error: A1 bad byte: ?
+  2:2: error: A5 bad expression: END ?
   $ said ' LDA =TAB=\n END 0\n'
   2:2: error: A7 undefined symbol: a symbol that no line before defines can only be the whole A-part of an instruction
   $ said ' JMP 2B\n END 0\n'
