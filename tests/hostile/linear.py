@@ -46,7 +46,7 @@ TEXTS = [
     ("steps looked through in vain", lambda n: bundle(b" JMP *\n END 0\n", b"run %d\nback until cell 3999\n" % n), 20000),
     ("steps looked through up to the first", lambda n: bundle(b" JMP *\n END 0\n", b"run %d\nback until J\nforth until A\n" % n), 20000),
     ("steps counted", lambda n: bundle(b" JMP *\n END 0\n", b"run %d\nshow counts\n" % n), 20000),
-    ("steps told", lambda n: bundle(b" JMP *\n END 0\n", b"trace %d\nshow last %d\n" % (n, n)), 5000),
+    ("steps told", lambda n: bundle(b" JMP *\n END 0\n", b"trace %d\nshow last %d\n" % (n, n)), 200),
     ("steps between two states", lambda n: bundle(b" JMP *\n END 0\n", b"run %d\nshow diff 0\n" % n), 20000),
     ("a long line", lambda n: b"*" * n + b"\n END 0\n", 50000),
 ]
