@@ -72,12 +72,13 @@ def conflict(worlds, changes, at):
         last = earlier[-1]
         name, _ = unit_of(worlds[last], changes[last])
         until = worlds[last + 1].units[unit].until
-        if name == "IOC" or begins >= until:
+        if name == "IOC":
             continue
         _, sent, filled = used(worlds[last], changes[last])
         cells = filled if name == "IN" else block_of(worlds[last], kind, sent)
-        for uses in [fetched, read, wrote] if name == "IN" else [wrote]:
-            if uses & cells:
+        # (what waits for its unit was fetched before it waits)
+        for uses, clock in [(fetched, world.clock), (read, begins), (wrote, begins)] if name == "IN" else [(wrote, begins)]:
+            if uses & cells and clock < until:
                 return min(uses & cells), unit, until
     return None
 

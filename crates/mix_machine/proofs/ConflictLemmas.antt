@@ -59,6 +59,17 @@ start-later (Some Controls) w n = omega arith
 start-later (Some Reads) w n = omega arith
 start-later (Some Writes) w n = omega arith
 
+access-clock : (w : WorldState) (c : Change) → (access_of w c).clock ≡ w.clock
+unfolding access_of
+access-clock w Step = refl
+access-clock w (SetReg r v) = refl
+access-clock w (SetCell p v) = refl
+access-clock w (SetLoc p) = refl
+access-clock w (SetOver b) = refl
+access-clock w (SetCmp c) = refl
+access-clock w (Break p) = refl
+access-clock w (Clear p) = refl
+
 access-later : (w : WorldState) (c : Change) → w.clock ≤ (access_of w c).start
 unfolding access_of
 access-later w Step = start-later (use_of (operation_at w)) w (arguments_at w).f
@@ -79,14 +90,16 @@ max-left m n k l = omega (arith, l)
 max-right : (m n k : ℕ) → max m n ≤ k → n ≤ k
 max-right m n k l = omega (arith, l)
 
-over-none : (ts : TransfersState) (m time : ℕ) (a : Access) → last_end ts ≤ time → time ≤ a.start → conflict_from m ts a ≡ None
-over-none [] m time a h l = refl
-over-none (None ∷ ts) m time a h l = over-none ts (m + 1) time a (max-right 0 (last_end ts) time h) l
-over-none (Some p ∷ ts) m time a h l =
-    rw (not-below a.start p.until (omega (arith, max-left p.until (last_end ts) time h, l))) (over-none ts (m + 1) time a (max-right p.until (last_end ts) time h) l)
+over-none : (ts : TransfersState) (m time : ℕ) (a : Access) → last_end ts ≤ time → time ≤ a.clock → a.clock ≤ a.start → conflict_from m ts a ≡ None
+over-none [] m time a h l k = refl
+over-none (None ∷ ts) m time a h l k = over-none ts (m + 1) time a (max-right 0 (last_end ts) time h) l k
+over-none (Some p ∷ ts) m time a h l k =
+    rw (not-below a.clock p.until (omega (arith, max-left p.until (last_end ts) time h, l)))
+    (rw (not-below a.start p.until (omega (arith, max-left p.until (last_end ts) time h, l, k))) (over-none ts (m + 1) time a (max-right p.until (last_end ts) time h) l k))
 
 pub all-over : (ts : TransfersState) (w : WorldState) (c : Change) (time : ℕ) → last_end ts ≤ time → time ≤ w.clock → conflict_of ts w c ≡ None
-all-over ts w c time h l = over-none ts 0 time (access_of w c) h (omega (arith, access-later w c, l))
+all-over ts w c time h l =
+    over-none ts 0 time (access_of w c) h (omega (arith, access-clock w c, l)) (omega (arith, access-clock w c, access-later w c))
 
 pub ruleset conflict_steps = (conflict-step, conflict-none, all-over)
 

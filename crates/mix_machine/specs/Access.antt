@@ -67,9 +67,11 @@ cells_written w (Control n k) = no_cells
 abbrev pub operation_at : WorldState → Operation
 operation_at w = operation_or_nop (decode_at w)
 
--- of a step: IN, OUT and IOC begin when their unit is free, and every other operation at once
+-- of a step: its instruction is fetched at once; IN, OUT and IOC begin when their unit is free, and every other operation at
+-- once too
 abbrev pub access_of_step : Operation → WorldState → Arguments → Access
 access_of_step op w a = record {
+  clock = w.clock;
   start = start_of (use_of op) w a.f;
   fetched = cells_from w.loc 1;
   read = cells_read (uses_of op) w a;
@@ -78,7 +80,7 @@ access_of_step op w a = record {
 
 -- of a value that is set, at once: a cell, or none
 abbrev pub access_of_value : WorldState → Span → Access
-access_of_value w written = record { start = w.clock; fetched = no_cells; read = no_cells; written = written }
+access_of_value w written = record { clock = w.clock; start = w.clock; fetched = no_cells; read = no_cells; written = written }
 
 -- of a change that is accepted, from the state before it
 unfoldable pub access_of : WorldState → Change → Access

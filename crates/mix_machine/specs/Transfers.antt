@@ -90,21 +90,35 @@ common s t =
     let cell = max s.first t.first in
     if nat_lt cell (s.first + s.count) && nat_lt cell (t.first + t.count) && nat_lt cell 4000 then Some cell else None
 
--- The first cell, in the order of a step, that is used in a way that a transfer forbids: of an IN every use of its cells,
--- of an OUT that they are written.
-abbrev pub forbidden : Direction → Access → Span → Option ℕ
-forbidden way.Input a cells =
-    option_or (common a.fetched cells) (option_or (common a.read cells) (common a.written cells))
-forbidden way.Output a cells = common a.written cells
+-- The cell of the instruction, where a transfer forbids that it is read: an IN does.
+abbrev pub fetch_forbidden : Direction → Access → Span → Option ℕ
+fetch_forbidden way.Input a cells = common a.fetched cells
+fetch_forbidden way.Output a cells = None
+
+-- The first other cell that is used in a way that a transfer forbids: of an IN every use of its cells, of an OUT that they
+-- are written.
+abbrev pub use_forbidden : Direction → Access → Span → Option ℕ
+use_forbidden way.Input a cells = option_or (common a.read cells) (common a.written cells)
+use_forbidden way.Output a cells = common a.written cells
+
+-- what is found at a clock, where the transfer is under way then
+abbrev pub while_under_way : Pending → ℕ → Option ℕ → Option ℕ
+while_under_way p clock found = if nat_lt clock p.until then found else None
+
+-- The first cell, in the order of a step, that is used as a transfer forbids while it is under way: an IN or OUT that has to
+-- wait for its unit is fetched before it waits, and uses the others after that.
+abbrev pub forbidden : Pending → Access → Option ℕ
+forbidden p a =
+    option_or (while_under_way p a.clock (fetch_forbidden p.way a p.cells)) (while_under_way p a.start (use_forbidden p.way a p.cells))
 
 abbrev pub conflict_in : ℕ → Pending → Option ℕ → Option Conflict
 conflict_in n p None = None
 conflict_in n p (Some cell) = Some (record { cell = cell; unit = n; transfer = p })
 
--- with the transfer of a unit, if it is under way: what is used begins before the transfer ends
+-- with the transfer of a unit
 abbrev pub conflict_with : ℕ → Option Pending → Access → Option Conflict
 conflict_with n None a = None
-conflict_with n (Some p) a = if nat_lt a.start p.until then conflict_in n p (forbidden p.way a p.cells) else None
+conflict_with n (Some p) a = conflict_in n p (forbidden p a)
 
 -- the first of the units that has one, from a unit on
 abbrev pub conflict_from : ℕ → TransfersState → Access → Option Conflict

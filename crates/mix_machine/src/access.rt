@@ -19,9 +19,11 @@ pub struct Span {
     pub count: u16,
 }
 
-/// What a change uses: the clock at which it begins, the cell of its instruction, the cells that it reads and those that it writes.
+/// What a change uses: the clock at which its instruction is fetched and that at which it begins, the cell of its instruction, the
+/// cells that it reads and those that it writes.
 #[derive(Clone, Copy)]
 pub(crate) struct Access {
+    pub(crate) clock: u64,
     pub(crate) start: u64,
     pub(crate) fetched: Span,
     pub(crate) read: Span,
@@ -67,6 +69,7 @@ impl World {
         ensures { result ≡ access_of_value self.now written }
     {
         Access {
+            clock: self.clock,
             start: self.clock,
             fetched: no_cells(),
             read: no_cells(),
@@ -81,6 +84,7 @@ impl World {
         // (copies, since the checker covers no struct that is passed by value twice)
         let (given, again) = (a, a);
         Access {
+            clock: self.clock,
             start: self.start_of(operation, given.f),
             fetched: cells_from(self.loc, 1),
             read: self.cells_read(operation.uses(), again),

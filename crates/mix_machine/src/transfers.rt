@@ -6,7 +6,7 @@ ghost use Rattle.mix_machine.specs.Access.{has_cell, access_of};
 ghost use Rattle.mix_machine.specs.Do.{does};
 ghost use Rattle.mix_machine.specs.declared.old.Change.{Change};
 ghost use Rattle.mix_machine.specs.declared.transfers.Pending.{Pending};
-ghost use Rattle.mix_machine.specs.Transfers.{TransfersState, last_end, no_transfers, transfer_by, with_transfer, transfers_after, common, forbidden, conflict_in, conflict_with, conflict_from, conflict_of};
+ghost use Rattle.mix_machine.specs.Transfers.{TransfersState, last_end, no_transfers, transfer_by, with_transfer, transfers_after, common, fetch_forbidden, use_forbidden, forbidden, conflict_with, conflict_from, conflict_of};
 
 mod made;
 mod quiet;
@@ -140,45 +140,52 @@ impl Transfers {
     }
 }
 
-// Whether a unit's transfer is under way when something begins that uses a cell of it as it forbids.
+// Whether a unit's transfer is under way when a cell of it is used as it forbids.
 fn conflict_with(unit: UnitNo, transfer: Option<Pending>, access: &Access) -> Option<Conflict>
     ensures { result ≡ conflict_with unit transfer access.now }
 {
-    match transfer {
-        None => None,
-        Some(pending) => {
-            if access.start < pending.until {
-                conflict_in(unit, pending, access)
-            } else {
-                None
-            }
-        }
+    let transfer = transfer?;
+    let cell = forbidden(transfer, access)?;
+    Some(Conflict {
+        cell,
+        unit,
+        transfer,
+    })
+}
+
+// The first cell that is used as a transfer forbids while it is under way.
+fn forbidden(transfer: Pending, access: &Access) -> Option<Place>
+    ensures { result ≡ forbidden transfer access.now }
+{
+    let fetched = if access.clock < transfer.until {
+        fetch_forbidden(transfer, access)
+    } else {
+        None
+    };
+    let used = if access.start < transfer.until {
+        use_forbidden(transfer, access)
+    } else {
+        None
+    };
+    fetched.or(used)
+}
+
+fn fetch_forbidden(transfer: Pending, access: &Access) -> Option<Place>
+    ensures { result ≡ fetch_forbidden transfer.way access.now transfer.cells }
+{
+    match transfer.way {
+        Direction::Input => common(access.fetched, transfer.cells),
+        Direction::Output => None,
     }
 }
 
-fn conflict_in(unit: UnitNo, transfer: Pending, access: &Access) -> Option<Conflict>
-    ensures { result ≡ conflict_in unit transfer (forbidden transfer.way access.now transfer.cells) }
+fn use_forbidden(transfer: Pending, access: &Access) -> Option<Place>
+    ensures { result ≡ use_forbidden transfer.way access.now transfer.cells }
 {
-    match forbidden(transfer.way, access, transfer.cells) {
-        None => None,
-        Some(cell) => Some(Conflict {
-            cell,
-            unit,
-            transfer,
-        }),
-    }
-}
-
-// The first cell that is used as a transfer of these cells forbids.
-fn forbidden(way: Direction, access: &Access, cells: Span) -> Option<Place>
-    ensures { result ≡ forbidden way access.now cells }
-{
-    match way {
-        Direction::Input => common(access.fetched, cells).or(common(access.read, cells).or(common(
-            access.written,
-            cells,
-        ))),
-        Direction::Output => common(access.written, cells),
+    let written = common(access.written, transfer.cells);
+    match transfer.way {
+        Direction::Input => common(access.read, transfer.cells).or(written),
+        Direction::Output => written,
     }
 }
 
