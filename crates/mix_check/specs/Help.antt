@@ -9,7 +9,7 @@ use Rattle.mixal_asm.specs.declared.diagnostic.Finding.{Finding}
 use Rattle.mixal_asm.specs.declared.diagnostic.Finding.TheVariants.{Fault, Warning as AWarning}
 use Rattle.mix_check.specs.Foreign.{foreign_text}
 use Rattle.mix_check.specs.Later.{late_help, late_rule, twice_help}
-use Rattle.mix_check.specs.Mark.{shown}
+use Rattle.mix_shown.specs.Wanted.{shown}
 use Rattle.mix_check.specs.Place.{piece_of, shown_of}
 
 -- ---- what a fault is about

@@ -7,7 +7,7 @@ ghost use Rattle.mix_check.specs.Place.{piece_of, shown_of};
 use crate::checked::{Checked, piece_of};
 use crate::foreign::foreign_text;
 use crate::later::{late_help, late_rule, twice_help};
-use crate::mark::add_shown;
+use mix_shown::add_shown;
 use mixal_asm::{AsmKind, Diagnostic, Finding};
 use mixal_text::{Span, TextFault};
 use std::alloc::{AllocError, Global};

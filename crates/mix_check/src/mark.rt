@@ -2,9 +2,10 @@
 
 ghost use Rattle.std.specs.Prelude.{◌≡◌, ◌<◌, ◌^◌, ◌++◌, OnOk, drop, length};
 ghost use Rattle.mixal_text.specs.Parts.{is_new};
-ghost use Rattle.mix_check.specs.Mark.{column_after, is_control, mark_below, marked, shown, shown_byte, sign_below, signs_below};
+ghost use Rattle.mix_check.specs.Mark.{column_after, mark_below, marked, sign_below, signs_below};
 
 use crate::checked::{before, bytes_at};
+use mix_shown::add_shown;
 use mixal_text::Span;
 use std::alloc::AllocError;
 
@@ -31,34 +32,6 @@ pub(crate) fn add_marked(text: &mut Vec<u8>, line: &[u8], span: Span) -> Result<
     add_shown(text, line)?;
     text.push(b'\n')?;
     add_mark(text, line, span)
-}
-
-/// Appends a line, or a part of one. Control characters are shown as question marks.
-pub(crate) fn add_shown(text: &mut Vec<u8>, line: &[u8]) -> Result<(), AllocError>
-    ensures { OnOk result (text.new.items ≡ text.old.items ++ shown line.now) }
-{
-    let mut before = 0;
-    let mut rest = line;
-    while let [byte, after @ ..] = rest {
-        text.push(shown_byte(before, *byte))?;
-        before = *byte;
-        rest = after;
-    }
-    Ok(())
-}
-
-// A byte as it is shown after another one.
-fn shown_byte(before: u8, byte: u8) -> u8
-    ensures { result ≡ shown_byte before byte }
-{
-    if is_control(before, byte) { b'?' } else { byte }
-}
-
-fn is_control(before: u8, byte: u8) -> bool
-    ensures { result ≡ is_control before byte }
-{
-    (byte < 32 && (byte < 9 || 9 < byte))
-        || (byte == 127 || (before == 194 && (byte >= 128 && byte < 160)))
 }
 
 fn add_mark(text: &mut Vec<u8>, line: &[u8], span: Span) -> Result<(), AllocError>

@@ -1,6 +1,7 @@
 //! The program: what its words ask for, from files or standard input to standard output.
 #![tactic(auto)]
 
+use mix_shown::Shown;
 use mix_tool::{
     Counted, FAILED, LineFault, Streams, SystemFiles, Talker, ToolFault, line_status, read_words,
     run_plan,
@@ -45,8 +46,8 @@ fn run(rt: &HostRuntime, words: &[String]) -> ExitCode {
             let mut streams = Streams {
                 talker: talker(rt),
                 input: Counted::of(rt.reader()),
-                out: Counted::of(io::writer(rt)),
-                errors: Counted::of(rt.stderr()),
+                out: Counted::of(Shown::of(io::writer(rt), rt.stdout().is_terminal())),
+                errors: Counted::of(Shown::of(rt.stderr(), true)),
             };
             let status = run_plan(&mut files, rt.alloc(), &plan, &mut client, &mut streams);
             ExitCode::from(status)
