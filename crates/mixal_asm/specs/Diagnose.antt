@@ -35,13 +35,17 @@ up_to_end (text ∷ more) = text ∷ (if is_end text then [] else up_to_end more
 
 -- ---- the symbols that lines mention, each with the number of its line
 
-abbrev pub symbol_of_read_loc : Result (Option Label) TextFault → Option (List ℕ)
-symbol_of_read_loc (Ok loc) = symbol_of_loc loc
-symbol_of_read_loc (Err fault) = None
+-- the LOC of a line, whatever the rest of it is
+abbrev pub label_read : Result (Option Label) TextFault → Option Label
+label_read (Ok loc) = loc
+label_read (Err fault) = None
 
--- the LOC of a line, whatever the rest of it is, or the A-part of its instruction
+abbrev pub label_of : List ℕ → Option Label
+label_of text = label_read (loc_of_line text)
+
+-- LOC, or the A-part of the line's instruction
 abbrev pub symbol_in : Role → List ℕ → Option (List ℕ)
-symbol_in role.Definition text = symbol_of_read_loc (loc_of_line text)
+symbol_in role.Definition text = symbol_of_loc (label_of text)
 symbol_in role.Use text = symbol_used text
 
 abbrev pub with_number : ℕ → Option (List ℕ) → List (List ℕ × ℕ)

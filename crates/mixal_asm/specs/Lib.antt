@@ -14,3 +14,4 @@ pub mod Listing
 pub mod Source
 pub mod Index
 pub mod Diagnose
+pub mod Mentions

@@ -3,18 +3,18 @@ ghost use Rattle.std.specs.Prelude.{◌≡◌, ◌<◌, ◌≤◌, ◌+◌, ◌+
 ghost use Rattle.std.specs.Map.{lookup};
 ghost use Rattle.std.specs.Str.{bytes_eq};
 ghost use Rattle.mix_lines.specs.Lines.{lines};
-ghost use Rattle.mixal_asm.specs.Diagnose.{first_mention, is_end, mentions_from, symbol_in, symbol_of_read_loc, up_to_end, with_number};
-ghost use Rattle.mixal_text.specs.Line.{loc_of_line};
+ghost use Rattle.mixal_asm.specs.Diagnose.{first_mention, is_end, label_of, mentions_from, symbol_in, up_to_end, with_number};
+ghost use Rattle.mixal_asm.specs.Source.{symbol_of_loc};
 
 use crate::index::{note_line, symbol_of_loc};
 use crate::source::MAX_SOURCE_BYTES;
 use indexmap::IndexMap;
 use mix_lines::{is_comment, split_line};
 use mix_refused::Memory;
-use mixal_text::{Symbol, line_is_end, line_loc, symbol_used};
+use mixal_text::{Label, Symbol, line_is_end, line_loc, symbol_used};
 use std::alloc::Global;
 
-/// What a line does with a symbol: it is its LOC, or the A-part of its instruction.
+/// What a line does with a name (1.3.2): its LOC defines it, or its ADDRESS uses it.
 #[derive(Clone, Copy)]
 pub enum Role {
     Definition,
@@ -45,8 +45,8 @@ fn is_end(line: &[u8]) -> bool
     !is_comment(line) && line_is_end(line)
 }
 
-/// The symbols that the lines of a source up to END mention in this role (1.3.2), each with the number of the first line that does,
-/// whatever else that line is. A source of over 1,048,576 bytes is not looked at.
+/// The symbols that the lines of a source up to END have as their LOC, or use as the whole A-part of an instruction (1.3.2), each with
+/// the number of the first line that does, whatever else that line is. A source of over 1,048,576 bytes is not looked at.
 #[tactic(auto, unfolding(crate::specs::Diagnose::first_mention))]
 pub fn first_mentions(
     alloc: Global,
@@ -106,10 +106,17 @@ fn symbol_in(role: Role, line: &[u8]) -> Option<Symbol>
 }
 
 fn symbol_defined(line: &[u8]) -> Option<Symbol>
-    ensures { result ≡ symbol_of_read_loc (loc_of_line line.now) }
+    ensures { result ≡ symbol_of_loc (label_of line.now) }
+{
+    symbol_of_loc(label_of(line))
+}
+
+/// The LOC of a line, whatever the rest of it is.
+pub(crate) fn label_of(line: &[u8]) -> Option<Label>
+    ensures { result ≡ label_of line.now }
 {
     match line_loc(line) {
-        Ok(loc) => symbol_of_loc(loc),
+        Ok(loc) => loc,
         Err(_) => None,
     }
 }
