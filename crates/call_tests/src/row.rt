@@ -1,5 +1,5 @@
 //! A row: its kind, and whether it is answered as it wants.
-use crate::{counter, packed, words};
+use crate::{counter, mentioned, packed, words};
 use std::alloc::Global;
 
 /// How a row is answered.
@@ -44,6 +44,7 @@ fn wanted_and_answer(alloc: Global, row: &str) -> Option<(&str, String)> {
 
 fn answer(alloc: Global, kind: &str, fields: &[&str]) -> Option<String> {
     match kind {
+        "assembler mentions" => mentioned::answer(alloc, fields),
         "journal acts" => counter::acts(alloc, fields),
         "journal many" => counter::many(alloc, fields),
         "journal next" => counter::next(alloc, fields),

@@ -16,15 +16,17 @@ use mixal_text::{
 };
 use std::alloc::Global;
 
-/// What a line names (1.3.2): an ordinary symbol, or one of the local symbols dH, by its digit d, 0 to 9, and its number
-/// among the dH, from 1. A dB with no dH before it has the number 0, and a dF with none after it a number that no dH has.
+/// What a line names (1.3.2): an ordinary symbol, or a dH, by its digit d, 0 to 9, and its number
+/// among the dH of that digit, from 1. A dB with no dH before it has the number 0, and a dF with
+/// none after it has one that no dH has.
 #[derive(Drop)]
 pub enum Name {
     Symbol(Symbol),
     Local(u8, u32),
 }
 
-/// Where a source mentions a name: what its line does with it, the number of the line, from 1, and the bytes of the line.
+/// Where a source mentions a name (1.3.2): what its line does with it, the number of the line, from
+/// 1, and its bytes in the line.
 #[derive(Drop)]
 pub struct Mention {
     pub name: Name,
@@ -33,9 +35,10 @@ pub struct Mention {
     pub at: Span,
 }
 
-/// All mentions of names in the lines of a source up to END (1.3.2), in the order of the text: the LOC of a line, and then what its
-/// ADDRESS uses. dB means the last dH before its line, and dF the next one after it. What no line could mean is found as well, so
-/// long as it has the form of a LOC or of a symbol in ADDRESS. A source of over 1,048,576 bytes is not looked at.
+/// All mentions of names in the lines of a source up to END (1.3.2), in the order of the text: the
+/// LOC of a line, and what its ADDRESS uses. A dB means the last dH before its line, and a dF the
+/// next one after it. The names in LOC and ADDRESS of a line that is refused are mentions as well.
+/// A source of over 1,048,576 bytes is not looked at, and has none.
 #[tactic(auto, unfolding(crate::specs::Mentions::mentions_of))]
 pub fn mentions_of(alloc: Global, text: &[u8]) -> Result<Vec<Mention>, Memory>
     ensures mentions { IfOk result (λ list. list.items ≡ mentions_of text.now) }

@@ -45,8 +45,9 @@ fn is_end(line: &[u8]) -> bool
     !is_comment(line) && line_is_end(line)
 }
 
-/// The symbols that the lines of a source up to END have as their LOC, or use as the whole A-part of an instruction (1.3.2), each with
-/// the number of the first line that does, whatever else that line is. A source of over 1,048,576 bytes is not looked at.
+/// The symbols that the lines of a source up to END have as their LOC, or as the whole A-part of an
+/// instruction (1.3.2), each with the number of the first line that does, whatever else that line
+/// is. A source of over 1,048,576 bytes is not looked at.
 #[tactic(auto, unfolding(crate::specs::Diagnose::first_mention))]
 pub fn first_mentions(
     alloc: Global,
