@@ -1,13 +1,20 @@
 -- What is true of the state that a journal stands in is true of the state that its changes give.
-use Rattle.std.proofs.Common.{◌≡◌, ◌⊎◌, ◌<◌, ℕ, Bool, true, false, List, Some, Result, Ok, Err, IsOk, OnOk, OnErr, subst, inl, inr}
+use Rattle.std.proofs.Common.{◌≡◌, ◌⊎◌, ◌<◌, ℕ, Bool, true, false, List, Some, Result, Ok, Err, IsOk, OnOk, OnErr, refl, subst, inl, inr}
 use Rattle.mix_refused.specs.declared.refused.Refused.{Refused}
 use Rattle.mix_refused.specs.declared.refused.Refused.TheVariants.{Fault, Memory}
 use Rattle.mix_refused.specs.Refused.{IfFault, IfMemory}
 use Rattle.undo_core.specs.Replay.{replay}
 
+pub on_err : {A B P : Type 0} (r : Result A B) → P → OnErr r P
+on_err (Ok _) p = tt
+on_err (Err _) p = p
+
 module _ {S C F : Type 0} (gives : S → C → Result S F) (first t : S) (cs : List C) (came : replay gives first cs ≡ Some t) where
   pub same-state : (s : S) → replay gives first cs ≡ Some s → t ≡ s
   same-state s is = cc
+
+  pub hold_given : (c : C) (u : S) → gives t c ≡ Ok u → (s : S) → replay gives first cs ≡ Some s → IsOk (gives s c)
+  hold_given c u given s is = rw (← same-state s is, given) refl
 
   pub hold_fault : {T : Type 0} (c : C) (r : Result T (Refused F)) → IfFault r (λ f. gives t c ≡ Err f) →
       IfFault r (λ f. (s : S) → replay gives first cs ≡ Some s → gives s c ≡ Err f)

@@ -1,13 +1,13 @@
 -- A journal stays sound as a change is done, taken back and done again, and its first state stays.
 use Rattle.std.proofs.Common.{◌≡◌, ℕ, ◌+◌, ◌-◌, ◌<◌, ◌≤◌, List, [], ◌∷◌, ◌++◌, length, take, drop, reverse, get_or}
-use Rattle.std.proofs.Common.{Option, Some, Result, Ok, Err, refl, sym, ◌∙◌, ap, add-one, arith, unwrap_or, length-append}
+use Rattle.std.proofs.Common.{Option, Some, Result, Ok, Err, IsOk, refl, sym, ◌∙◌, ap, add-one, arith, unwrap_or, length-append}
 use Rattle.std.proofs.Math.Seq.{drop-cons, drop-append_seam, take-append_seam}
 use Rattle.std.proofs.lemmas.List.{reverse-append, reverse-reverse, length-take-le, take_all, drop_all, take_more}
 use Rattle.std.proofs.lemmas.List.{take-append-drop, drop-append-le, take-take}
 use Rattle.std.specs.Result.{IsErrAnd}
 use Rattle.mix_refused.specs.declared.refused.Refused.{Refused}
 use Rattle.mix_refused.specs.declared.refused.Refused.TheVariants.{Fault, Memory}
-use Rattle.mix_refused.specs.Refused.{IfFault}
+use Rattle.mix_refused.specs.Refused.{IfFault, IfMemory}
 use Rattle.undo_core.specs.Counts.{total}
 use Rattle.undo_core.specs.Replay.{replay, count_kept, put_back, unwound}
 use Rattle.undo_core.specs.Leads.{Leads, IsNewest, IsSound}
@@ -53,6 +53,16 @@ fault_of gives state c first cs e (Ok _) passed fault before = absurd passed
 fault_of gives state c first cs e (Err Memory) passed fault before = tt
 fault_of gives state c first cs (Fault f) (Err (Fault g)) passed fault before = λ s now. cc
 fault_of gives state c first cs Memory (Err (Fault g)) passed fault before = absurd (cc)
+
+-- the same of want of memory
+pub memory_of : {S C F : Type 0} (gives : S → C → Result S F) (state : S) (c : C) (first : S) (cs : List C)
+    (e : Refused F) (r : Result (Unit {0}) (Refused F)) →
+    IsErrAnd r (λ x. x ≡ e) → IfMemory {T = Unit {0}} (Err e) (IsOk (gives state c)) → replay gives first cs ≡ Some state →
+    IfMemory r ((s : S) → replay gives first cs ≡ Some s → IsOk (gives s c))
+memory_of gives state c first cs e (Ok _) passed given before = absurd passed
+memory_of gives state c first cs e (Err (Fault g)) passed given before = tt
+memory_of gives state c first cs Memory (Err Memory) passed given before = λ s now. let same : state ≡ s = cc in rw (← same) given
+memory_of gives state c first cs (Fault f) (Err Memory) passed given before = absurd (cc)
 
 -- a change that was done: the state after it, and its values after the others, so many of them
 pub record IsDone {S C O F : Type 0} (gives : S → C → Result S F) (keeps : S → C → List O) (put : S → O → Option S)

@@ -1,7 +1,7 @@
 -- What a journal stores is sound as a change is done, taken back and done again.
-use Rattle.std.proofs.Common.{◌≡◌, ℕ, ◌+◌, ◌-◌, ◌<◌, ◌≤◌, Bool, true, false, nat_eq, if◌then◌else◌, List, [], ◌∷◌, ◌++◌, length, reverse, take, drop, get_or, Option, Some, Result, Ok, IsSome, refl, sym, ◌∙◌, ap, subst, is_some, arith, length-append}
+use Rattle.std.proofs.Common.{◌≡◌, ℕ, ◌+◌, ◌-◌, ◌<◌, ◌≤◌, Bool, true, false, nat_eq, if◌then◌else◌, List, [], ◌∷◌, ◌++◌, length, reverse, take, drop, get_or, Option, Some, Result, Ok, IsOk, IsSome, refl, sym, ◌∙◌, ap, subst, is_some, arith, length-append}
 use Rattle.std.proofs.lemmas.Bool.Decides.{nat_tests}
-use Rattle.std.proofs.lemmas.List.{length-reverse, length-drop, length-take-le, drop_more}
+use Rattle.std.proofs.lemmas.List.{length-reverse, length-drop, length-take-le, drop_more, get_or-drop}
 use Rattle.undo_core.specs.Counts.{total, counts_in, open_in, newest_part, newest_place, places_below, ArePlaces, IsPart, places_after}
 use Rattle.undo_core.specs.Runs.{items_of, IsRising}
 use Rattle.undo_core.specs.declared.runs.Run.{Run}
@@ -11,6 +11,7 @@ use Rattle.undo_core.proofs.Ending.{fewer, part-open, place-below}
 use Rattle.undo_core.proofs.Parting.{parted_go, parted_some, parted_places, parted_back}
 use Rattle.undo_core.proofs.Reverting.{later-fits}
 use Rattle.undo_core.proofs.Sound.{IsDone, sound_replay, sound_put_back, sound_count, sound_total, done_first, go_sound, go_given, forth_sound, back_sound}
+use Rattle.undo_core.proofs.Holding.{hold_given}
 use Rattle.undo_core.proofs.Redoing.{given_of, first_given}
 use Rattle.undo_core.proofs.Unwinding.{take_back}
 
@@ -154,7 +155,7 @@ module _ {S C O F : Type 0} {gives : S → C → Result S F} {keeps : S → C �
       (led.0, led.1, done_some, rest, (λ more. above-all (length kept_now) (reverse places_now) (omega (arith, more, rest))))
 
   pub stored_read : (count : ℕ) → count ≡ length kept →
-      IsRead gives put last (unwound put kept state) (take done (items_of 0 runs)) kept count places done
+      IsRead gives keeps put last (unwound put kept state) (take done (items_of 0 runs)) kept count places done
   stored_read count all = record { all = all; parted = stored.parted; back = take_back state kept counts done counted stored.sound }
 
   -- a change of those done or ahead can be done once more on the state before it
@@ -174,3 +175,10 @@ module _ {S C O F : Type 0} {gives : S → C → Result S F} {keeps : S → C �
       let rest : drop done (items_of 0 runs) ≡ c ∷ drop (done + 1) (items_of 0 runs) =
       drop_more (items_of 0 runs) done c below ∙ ap (λ (d : C). d ∷ drop (done + 1) (items_of 0 runs)) (sym next) in
       first_given gives state c (drop (done + 1) (items_of 0 runs)) (rw rest at (rw (← counted) at stored.sound.ahead))
+
+  pub stored_next : (c : C) (s : S) → done < length (items_of 0 runs) → c ≡ get_or (drop done (items_of 0 runs)) 0 c →
+      replay gives (unwound put kept state) (take done (items_of 0 runs)) ≡ Some s → IsOk (gives s c)
+  stored_next c s below next came =
+      let place : done + 0 ≡ done = omega arith in
+      let given = stored_gives c below (next ∙ get_or-drop done (items_of 0 runs) 0 c ∙ ap (λ n. get_or (items_of 0 runs) n c) place) in
+      hold_given gives (unwound put kept state) state (take done (items_of 0 runs)) stored_replay c given.0 given.1 s came

@@ -1,10 +1,10 @@
 -- The values that are kept lead back from the state after any of the changes done to the one before it.
-use Rattle.std.proofs.Common.{◌≡◌, ℕ, zero, suc, nat_lt, true, false, ◌+◌, ◌-◌, ◌<◌, ◌≤◌, List, [], ◌∷◌, ◌++◌, length, take, drop, get_or, Option, Result, refl, sym, ◌∙◌, ap, subst, arith, length-append}
+use Rattle.std.proofs.Common.{◌≡◌, ℕ, zero, suc, nat_lt, true, false, ◌+◌, ◌-◌, ◌<◌, ◌≤◌, List, [], ◌∷◌, ◌++◌, length, take, drop, get_or, Option, Some, Result, refl, sym, ◌∙◌, ap, subst, arith, length-append}
 use Rattle.std.proofs.lemmas.Bool.Decides.{nat_tests}
-use Rattle.std.proofs.lemmas.List.{length-take-le, length-drop, take_all, take_more, take-take, drop-take, drop-drop, get_or_append_left, get_or_at}
+use Rattle.std.proofs.lemmas.List.{length-take-le, length-drop, take_all, take_more, take-take, drop-take, drop-drop, get_or-take, get_or-drop, get_or_append_left, get_or_at}
 use Rattle.undo_core.specs.Counts.{parts_of, total}
-use Rattle.undo_core.specs.Replay.{replay, unwound, TakesBack}
-use Rattle.undo_core.specs.Leads.{IsSound, TakeBack}
+use Rattle.undo_core.specs.Replay.{replay, unwound}
+use Rattle.undo_core.specs.Leads.{IsSound, TakeBack, AreOf}
 use Rattle.undo_core.proofs.CountLemmas.{total-last}
 use Rattle.undo_core.proofs.Sound.{sound_replay, sound_total, last_of, back_sound}
 
@@ -51,32 +51,49 @@ part-last {O} ns n kept whole =
     ∙ get_or_at (parts_of ns (take (length kept - n) kept)) (drop (length kept - n) kept) [] [] (length ns) (length-parts ns (take (length kept - n) kept))
 
 -- the change of a number, among more changes or fewer
-takes_back-among : {S C O F : Type 0} (gives : S → C → Result S F) (put : S → O → Option S) (first : S) (changes : List C) (m n k : ℕ) (values : List O) →
-    k < m → m ≤ n → TakesBack gives put first (take m changes) k values → TakesBack gives put first (take n changes) k values
-takes_back-among gives put first changes m n k values below within back after came =
+are_of-among : {S C O F : Type 0} (gives : S → C → Result S F) (keeps : S → C → List O) (put : S → O → Option S) (first : S) (changes : List C) (m n k : ℕ)
+    (values : List O) → k < m → m ≤ n → AreOf gives keeps put first (take m changes) k values → AreOf gives keeps put first (take n changes) k values
+are_of-among {S} {C} gives keeps put first changes m n k values below within (back, were) =
     let up : take (k + 1) (take m changes) ≡ take (k + 1) (take n changes) =
     take-take (k + 1) m changes (omega (arith, below)) ∙ sym (take-take (k + 1) n changes (omega (arith, below, within))) in
     let to : take k (take m changes) ≡ take k (take n changes) = take-take k m changes (omega (arith, below)) ∙ sym (take-take k n changes (omega (arith, below, within))) in
-    let led = back after (ap (replay gives first) up ∙ came) in
-    (led.0, led.1, ap (replay gives first) (sym to) ∙ led.2)
+    let item : (c : C) → get_or (take n changes) k c ≡ get_or (take m changes) k c =
+    λ c. get_or-take n changes k c (omega (arith, below, within)) ∙ sym (get_or-take m changes k c below) in (
+      λ after came.
+          let led = back after (ap (replay gives first) up ∙ came) in
+          (led.0, led.1, ap (replay gives first) (sym to) ∙ led.2),
+      λ s c came is. were s c (ap (replay gives first) to ∙ came) (is ∙ item c),
+    )
 
 module _ {S C O F : Type 0} {gives : S → C → Result S F} {keeps : S → C → List O} {put : S → O → Option S} {changes : List C} where
-  -- the values of the last change take it back
+  -- the values of the last change
   last_part : (state : S) (kept : List O) (rest : List ℕ) (count : ℕ) → IsSound gives keeps put state kept changes (rest ++ count ∷ []) →
-      TakesBack gives put (unwound put kept state) (take (length (rest ++ count ∷ [])) changes) (length rest) (drop (length kept - count) kept)
-  last_part state kept rest count sound after came =
+      AreOf gives keeps put (unwound put kept state) (take (length (rest ++ count ∷ [])) changes) (length rest) (drop (length kept - count) kept)
+  last_part state kept rest count sound =
       let many : length (rest ++ count ∷ []) ≡ length rest + 1 = length-append rest (count ∷ []) in
       let l = last_of sound rest count refl in
       let b = back_sound sound rest count refl l.0 (take (length kept - count) kept) l.2.fits refl in
       let all : take (length rest + 1) (take (length (rest ++ count ∷ [])) changes) ≡ take (length (rest ++ count ∷ [])) changes =
       take-take (length rest + 1) (length (rest ++ count ∷ [])) changes (omega (arith, many)) ∙ ap (λ n. take n changes) (sym many) in
-      let same : state ≡ after = cc (sound_replay sound, rw all at came) in
       let front : take (length rest) (take (length (rest ++ count ∷ [])) changes) ≡ take (length rest) changes =
       take-take (length rest) (length (rest ++ count ∷ [])) changes (omega (arith, many)) in
-      (l.0, rw (← same) l.2.fits, rw front (rw b.1 at (sound_replay b.0)))
+      let before : replay gives (unwound put kept state) (take (length rest) (take (length (rest ++ count ∷ [])) changes)) ≡ Some l.0 =
+      rw front (rw b.1 at (sound_replay b.0)) in
+      let place : length rest ≡ length rest + 0 = omega arith in
+      let item : (c : C) → get_or (take (length (rest ++ count ∷ [])) changes) (length rest) c ≡ l.1 =
+      λ c. get_or-take (length (rest ++ count ∷ [])) changes (length rest) c (omega (arith, many))
+      ∙ ap (λ n. get_or changes n c) place ∙ sym (get_or-drop (length rest) changes 0 c) ∙ ap (λ (cs : List C). get_or cs 0 c) l.2.next in (
+        λ after came.
+            let same : state ≡ after = cc (sound_replay sound, rw all at came) in
+            (l.0, rw (← same) l.2.fits, before),
+        λ s c came is.
+            let same : l.0 ≡ s = cc (before, came) in
+            let done : l.1 ≡ c = sym (is ∙ item c) in
+            l.2.newest.values ∙ ap (λ t. keeps t l.1) same ∙ ap (keeps s) done,
+      )
 
   each_part : (m : ℕ) (state : S) (kept : List O) (counts : List ℕ) → m ≡ length counts → IsSound gives keeps put state kept changes counts →
-      (k : ℕ) → k < length counts → TakesBack gives put (unwound put kept state) (take (length counts) changes) k (get_or (parts_of counts kept) k [])
+      (k : ℕ) → k < length counts → AreOf gives keeps put (unwound put kept state) (take (length counts) changes) k (get_or (parts_of counts kept) k [])
   each_part zero state kept counts len sound k below = absurd (omega (arith, len, below))
   each_part (suc m) state kept counts len sound k below =
       let rest = take m counts in
@@ -88,14 +105,14 @@ module _ {S C O F : Type 0} {gives : S → C → Result S F} {keeps : S → C �
       let more : length (rest ++ count ∷ []) ≡ length rest + 1 = length-append rest (count ∷ []) in
       let l = last_of s rest count refl in
       let b = back_sound s rest count refl l.0 (take (length kept - count) kept) l.2.fits refl in
-      subst (λ (ns : List ℕ). TakesBack gives put (unwound put kept state) (take (length ns) changes) k (get_or (parts_of ns kept) k [])) (sym ends)
+      subst (λ (ns : List ℕ). AreOf gives keeps put (unwound put kept state) (take (length ns) changes) k (get_or (parts_of ns kept) k [])) (sym ends)
       (elim (nat_lt k (length rest)) as (λ t. nat_lt k (length rest) ≡ t →
-      TakesBack gives put (unwound put kept state) (take (length (rest ++ count ∷ [])) changes) k (get_or (parts_of (rest ++ count ∷ []) kept) k [])) [
+      AreOf gives keeps put (unwound put kept state) (take (length (rest ++ count ∷ [])) changes) k (get_or (parts_of (rest ++ count ∷ []) kept) k [])) [
         | true ↦ λ e.
             let before : k < length rest = grind (arith, nat_tests) in
             let older = each_part m l.0 (take (length kept - count) kept) rest (sym many) b.0 k before in
             rw (part-before rest count k kept whole before)
-            (takes_back-among gives put (unwound put kept state) changes (length rest) (length (rest ++ count ∷ [])) k
+            (are_of-among gives keeps put (unwound put kept state) changes (length rest) (length (rest ++ count ∷ [])) k
             (get_or (parts_of rest (take (length kept - count) kept)) k []) before (omega (arith, more)) (rw b.1 at older))
         | false ↦ λ e.
             let last : k ≡ length rest = grind (arith, nat_tests) in
@@ -104,17 +121,17 @@ module _ {S C O F : Type 0} {gives : S → C → Result S F} {keeps : S → C �
 
   -- what a journal keeps takes its changes back
   pub take_back : (state : S) (kept : List O) (counts : List ℕ) (done : ℕ) → done ≡ length counts → IsSound gives keeps put state kept changes counts →
-      TakeBack gives put (unwound put kept state) (take done changes) kept counts done
+      TakeBack gives keeps put (unwound put kept state) (take done changes) kept counts done
   take_back state kept counts done counted sound = record {
     counted = counted;
     whole = sound_total sound;
     parts = rw counted (each_part (length counts) state kept counts refl sound);
   }
 
-module _ {S C O F : Type 0} {gives : S → C → Result S F} {put : S → O → Option S} {changes : List C} {first : S} {kept : List O} {counts : List ℕ} {left : ℕ} where
+module _ {S C O F : Type 0} {gives : S → C → Result S F} {keeps : S → C → List O} {put : S → O → Option S} {changes : List C} {first : S} {kept : List O} {counts : List ℕ} {left : ℕ} where
   -- the last part is read, and the others are left
-  pub take_back-rest : (before : List O) (rest : List ℕ) (less count : ℕ) → TakeBack gives put first changes kept counts left →
-      counts ≡ rest ++ count ∷ [] → less + 1 ≡ left → before ≡ take (length kept - count) kept → TakeBack gives put first changes before rest less
+  pub take_back-rest : (before : List O) (rest : List ℕ) (less count : ℕ) → TakeBack gives keeps put first changes kept counts left →
+      counts ≡ rest ++ count ∷ [] → less + 1 ≡ left → before ≡ take (length kept - count) kept → TakeBack gives keeps put first changes before rest less
   take_back-rest before rest less count back ends one is =
       let whole = rw ends at back.whole in
       let more = ap length ends ∙ length-append rest (count ∷ []) in
@@ -127,11 +144,11 @@ module _ {S C O F : Type 0} {gives : S → C → Result S F} {put : S → O → 
             let there = back.parts k (omega (arith, below, more)) in
             let value : get_or (parts_of counts kept) k [] ≡ get_or (parts_of rest (take (length kept - count) kept)) k [] =
             ap (λ (l : List ℕ). get_or (parts_of l kept) k []) ends ∙ part-before rest count k kept whole below in
-            subst (TakesBack gives put first changes k) value there;
+            subst (AreOf gives keeps put first changes k) value there;
       }
 
-  pub take_back-last : (values : List O) (rest : List ℕ) (less count : ℕ) → TakeBack gives put first changes kept counts left →
-      counts ≡ rest ++ count ∷ [] → less + 1 ≡ left → values ≡ drop (length kept - count) kept → TakesBack gives put first changes less values
+  pub take_back-last : (values : List O) (rest : List ℕ) (less count : ℕ) → TakeBack gives keeps put first changes kept counts left →
+      counts ≡ rest ++ count ∷ [] → less + 1 ≡ left → values ≡ drop (length kept - count) kept → AreOf gives keeps put first changes less values
   take_back-last values rest less count back ends one is =
       let whole = rw ends at back.whole in
       let more = ap length ends ∙ length-append rest (count ∷ []) in
@@ -140,7 +157,7 @@ module _ {S C O F : Type 0} {gives : S → C → Result S F} {put : S → O → 
       let value : get_or (parts_of counts kept) less [] ≡ drop (length kept - count) kept =
       ap (λ (l : List ℕ). get_or (parts_of l kept) less []) ends ∙ ap (λ k. get_or (parts_of (rest ++ count ∷ []) kept) k []) place
       ∙ part-last rest count kept whole in
-      subst (TakesBack gives put first changes less) (value ∙ sym is) there
+      subst (AreOf gives keeps put first changes less) (value ∙ sym is) there
 
 -- all of a list, by the number of its last item
 pub whole : {A : Type 0} (xs : List A) (n : ℕ) → n + 1 ≡ length xs → take (n + 1) xs ≡ xs

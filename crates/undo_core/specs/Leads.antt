@@ -1,6 +1,6 @@
 -- How the values that a journal keeps lead back from its state to the first one.
 use Rattle.std.specs.Prelude.{◌≡◌, ℕ, ◌-◌, ◌<◌, ◌≤◌, Bool, List, [], ◌∷◌, length, take, drop, get_or, reverse, Option, Some, Result, Ok, IsSome}
-use Rattle.undo_core.specs.Replay.{replay, put_back, unwound, TakesBack}
+use Rattle.undo_core.specs.Replay.{replay, put_back, unwound, TakesBack, Overwrote}
 use Rattle.undo_core.specs.Counts.{parts_of, total, counts_in, open_in, ArePlaces}
 use Rattle.undo_core.specs.Runs.{items_of, IsRising}
 use Rattle.undo_core.specs.declared.runs.Run.{Run}
@@ -43,16 +43,20 @@ pub record IsStored {S C O F : Type 0} (gives : S → C → Result S F) (keeps :
   pub parted : IsParted last kept places done
   pub sound : IsSound gives keeps put state kept (items_of 0 runs) (counts_in last (reverse places) (reverse kept))
 
--- each part of the values takes back the change of its number
-pub record TakeBack {S C O F : Type 0} (gives : S → C → Result S F) (put : S → O → Option S) (first : S) (changes : List C)
+-- the values are those of the change after the first n, and take it back
+abbrev pub AreOf : {S C O F : Type 0} → (S → C → Result S F) → (S → C → List O) → (S → O → Option S) → S → List C → ℕ → List O → Type 0
+AreOf gives keeps put first changes n values = TakesBack gives put first changes n values × Overwrote gives keeps first changes n values
+
+-- each part of the values is that of the change of its number
+pub record TakeBack {S C O F : Type 0} (gives : S → C → Result S F) (keeps : S → C → List O) (put : S → O → Option S) (first : S) (changes : List C)
     (kept : List O) (counts : List ℕ) (left : ℕ) : Type 0 where
   pub counted : left ≡ length counts
   pub whole : total counts ≡ length kept
-  pub parts : (k : ℕ) → k < length counts → TakesBack gives put first changes k (get_or (parts_of counts kept) k [])
+  pub parts : (k : ℕ) → k < length counts → AreOf gives keeps put first changes k (get_or (parts_of counts kept) k [])
 
 -- the same, where the values, so many of them, are parted by what they say and at places
-pub record IsRead {S C O F : Type 0} (gives : S → C → Result S F) (put : S → O → Option S) (last : O → Bool) (first : S) (changes : List C)
-    (kept : List O) (count : ℕ) (places : List ℕ) (left : ℕ) : Type 0 where
+pub record IsRead {S C O F : Type 0} (gives : S → C → Result S F) (keeps : S → C → List O) (put : S → O → Option S) (last : O → Bool) (first : S)
+    (changes : List C) (kept : List O) (count : ℕ) (places : List ℕ) (left : ℕ) : Type 0 where
   pub all : count ≡ length kept
   pub parted : IsParted last kept places left
-  pub back : TakeBack gives put first changes kept (counts_in last (reverse places) (reverse kept)) left
+  pub back : TakeBack gives keeps put first changes kept (counts_in last (reverse places) (reverse kept)) left

@@ -1,5 +1,5 @@
 -- A list of changes done again from a first state, and a list of old values put back.
-use Rattle.std.specs.Prelude.{◌≡◌, ℕ, ◌+◌, List, [], ◌∷◌, length, take, Option, Some, Result, unwrap_or}
+use Rattle.std.specs.Prelude.{◌≡◌, ℕ, ◌+◌, List, [], ◌∷◌, length, take, get_or, Option, Some, Result, unwrap_or}
 use Rattle.std.specs.Option.{option_and_then, option_map_or}
 use Rattle.std.specs.Result.{result_ok}
 
@@ -28,3 +28,8 @@ abbrev pub TakesBack : {S C O F : Type 0} → (S → C → Result S F) → (S �
 TakesBack {S} gives put first changes n values =
     (after : S) → replay gives first (take (n + 1) changes) ≡ Some after →
     (before : S) × (put_back put values after ≡ Some before) × (replay gives first (take n changes) ≡ Some before)
+
+-- The values are those that a change overwrote, the one after the first n, in the state in which it was done.
+abbrev pub Overwrote : {S C O F : Type 0} → (S → C → Result S F) → (S → C → List O) → S → List C → ℕ → List O → Type 0
+Overwrote {S} {C} gives keeps first changes n values =
+    (s : S) (c : C) → replay gives first (take n changes) ≡ Some s → c ≡ get_or changes n c → values ≡ keeps s c

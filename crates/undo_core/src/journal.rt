@@ -3,7 +3,7 @@ ghost use Rattle.std.specs.Prelude.{◌≡◌, ◌+◌, ◌-◌, ◌<◌, ◌≤
 ghost use Rattle.std.specs.Bool.{OnFalse};
 ghost use Rattle.mix_refused.specs.Refused.{IfFault, IfMemory};
 ghost use Rattle.undo_core.specs.Repeat.{Repeats};
-ghost use Rattle.undo_core.specs.Replay.{replay, count_kept};
+ghost use Rattle.undo_core.specs.Replay.{replay, count_kept, put_back};
 
 use crate::adding::{add, add_many};
 use crate::changes::Changes;
@@ -60,7 +60,8 @@ impl<S: Undo> Journal<S> {
         }
     }
 
-    /// Does one change more and forgets those ahead. A fault of the state, or out of memory, alters nothing.
+    /// Does one change more and forgets those ahead. A fault of the state, or out of memory, alters nothing;
+    /// out of memory is the answer to no change that has a fault.
     // (inlined, so that a change that the caller knows, as a step, is not passed through memory)
     #[inline(always)]
     pub fn go(&mut self, change: S::Change) -> Result<(), Refused<S::Fault>>
@@ -73,6 +74,7 @@ impl<S: Undo> Journal<S> {
         ensures given { OnOk result (HoldsOfState S.gives self.old (λ s.
             (t : S) × (S.gives s change ≡ Ok t) × (replay S.gives self.new.first self.new.changes ≡ Some t))) }
         ensures fault { IfFault result (λ f. HoldsOfState S.gives self.old (λ s. S.gives s change ≡ Err f)) }
+        ensures last { IfMemory result (HoldsOfState S.gives self.old (λ s. IsOk (S.gives s change))) }
         ensures err { OnErr result (self.new ≡ self.old) }
     {
         let from = self.kept.len();
@@ -193,6 +195,7 @@ impl<S: Undo> Journal<S> {
         ensures none { IfOk result (λ b. OnFalse b (self.new ≡ self.old)) }
         ensures err { OnErr result (self.new ≡ self.old) }
         ensures some { OnErr result (0 < length self.old.ahead) }
+        ensures given { OnErr result ((c : S.Change) → c ≡ get_or self.old.ahead 0 c → HoldsOfState S.gives self.old (λ s. IsOk (S.gives s c))) }
     {
         if self.ahead() == 0 {
             return Ok(false);
@@ -241,11 +244,16 @@ impl<S: Undo> Journal<S> {
     }
 
     /// Repeats the change with this number, counted from 0 over those done and those taken back, on
-    /// a copy of the state before it. What it overwrites is appended to `kept`.
+    /// a copy of the state before it. What it overwrites is appended to `kept`. Out of memory changes nothing.
     pub fn redo(&self, number: usize, state: &mut S, kept: &mut Kept<S::Old>) -> Result<(), Memory>
         requires within { number < length (self.now.changes ++ self.now.ahead) }
         requires before { replay S.gives self.now.first (take number (self.now.changes ++ self.now.ahead)) ≡ Some state.old }
-        ensures { OnOk result (replay S.gives self.now.first (take (number + 1) (self.now.changes ++ self.now.ahead)) ≡ Some state.new) }
+        ensures after { OnOk result (replay S.gives self.now.first (take (number + 1) (self.now.changes ++ self.now.ahead)) ≡ Some state.new) }
+        ensures kept { OnOk result ((c : S.Change) → c ≡ get_or (self.now.changes ++ self.now.ahead) number c →
+            kept.new.items ≡ kept.old.items ++ S.keeps state.old c) }
+        ensures back { OnOk result (put_back S.put (drop (length kept.old.items) kept.new.items) state.new ≡ Some state.old) }
+        ensures same { OnErr result (state.new ≡ state.old) }
+        ensures same_kept { OnErr result (kept.new.items ≡ kept.old.items) }
     {
         let change = item_at(&self.changes, number);
         match state.apply(&change, kept) {

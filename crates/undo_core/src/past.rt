@@ -1,6 +1,6 @@
 //! A journal read from its last change backwards.
-ghost use Rattle.std.specs.Prelude.{◌≡◌, ◌+◌, MatchOption};
-ghost use Rattle.undo_core.specs.Replay.{TakesBack};
+ghost use Rattle.std.specs.Prelude.{◌≡◌, ◌+◌, IfSome, MatchOption};
+ghost use Rattle.undo_core.specs.Replay.{TakesBack, Overwrote};
 
 use crate::journal::Journal;
 use crate::places::{before_place, last_part};
@@ -27,7 +27,7 @@ impl<'a, S: Undo> Model for Past<'a, S> {
 
     ghost view = { λ p. record { of = p.journal.now; left = p.left } };
 
-    ghost invariant = { λ p. IsRead S.gives S.put S.Old.is_last p.journal.now.first p.journal.now.changes p.kept p.count p.places.now p.left };
+    ghost invariant = { λ p. IsRead S.gives S.keeps S.put S.Old.is_last p.journal.now.first p.journal.now.changes p.kept p.count p.places.now p.left };
 }
 
 impl<'a, S: Undo> Past<'a, S> {
@@ -41,7 +41,7 @@ impl<'a, S: Undo> Past<'a, S> {
         places: &'a [usize],
         left: usize,
     ) -> Past<'a, S>
-        requires { IsRead S.gives S.put S.Old.is_last journal.now.first journal.now.changes kept count places.now left }
+        requires { IsRead S.gives S.keeps S.put S.Old.is_last journal.now.first journal.now.changes kept count places.now left }
         ensures of { result.of ≡ journal.now }
         ensures left { result.left ≡ left }
     {
@@ -59,6 +59,7 @@ impl<'a, S: Undo> Past<'a, S> {
         ensures of { self.new.of ≡ self.old.of }
         ensures left { MatchOption result (self.old.left ≡ 0) (λ _. self.old.left ≡ self.new.left + 1) }
         ensures back { MatchOption result (self.new.left ≡ 0) (λ values. TakesBack S.gives S.put self.old.of.first self.old.of.changes self.new.left values) }
+        ensures kept { IfSome result (λ values. Overwrote S.gives S.keeps self.old.of.first self.old.of.changes self.new.left values) }
     {
         if self.left == 0 {
             return None;

@@ -40,12 +40,11 @@ pub trait Undo: Drop {
     fn ends(change: &Self::Change) -> bool
         ensures { result ≡ ends change.now };
 
-    /// Whether two changes are the same. A journal keeps equal ones that follow each other once; where this is false for them, each for itself.
+    /// Whether two changes are the same; of one whose values say its end it is always known. A journal keeps equal ones that follow each other once;
+    /// where this is false for them, each for itself.
     fn is_same(one: &Self::Change, other: &Self::Change) -> bool
-        ensures { IsTrue result → one.now ≡ other.now }
-    {
-        false
-    }
+        ensures same { IsTrue result → one.now ≡ other.now }
+        ensures known { ends one.now ≡ true → one.now ≡ other.now → IsTrue result };
 
     /// Does the change and appends the values that it overwrites to `kept`. A fault, or out of memory, alters nothing;
     /// out of memory is the answer to no change that has a fault.

@@ -15,7 +15,7 @@ loop-number-init c = record {
 
 pub loop-number-preserved : goal.loop-number-preserved
 loop-number-preserved c = record {
-  before = c.in_ok-redo.ensures;
+  before = c.in_ok-redo.ensures.after;
   after = c.in_ok-conflict.ensures.after;
   transfers = c.in_ok-conflict.ensures.transfers;
   text = texts-more (conflict_line_at c.args.journal.now) c.loop-number.number _ _ c.loop-number.invariant.text c.in_ok-add_line.ensures;

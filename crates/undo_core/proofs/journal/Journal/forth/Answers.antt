@@ -1,8 +1,9 @@
 -- The change ahead is done again as it was, so the journal stays sound and its first state stays.
 use Rattle.std.proofs.Common.{◌+◌, ◌∙◌, refl, ap, arith, length, length-append, List, ℕ}
 use Rattle.undo_core.specs.Counts.{places_after}
+use Rattle.undo_core.proofs.Holding.{on_err}
 use Rattle.undo_core.proofs.Sound.{done_by}
-use Rattle.undo_core.proofs.Stored.{stored_few, stored_forth, stored_first, stored_more, stored_gives}
+use Rattle.undo_core.proofs.Stored.{stored_few, stored_forth, stored_first, stored_more, stored_gives, stored_next}
 use Rattle.undo_core.proofs.journal.Journal.forth.Goals as goal
 
 pub item_at-change-requires-clause-within : goal.item_at-change-requires-clause-within
@@ -37,3 +38,13 @@ pub returns-clause-first : goal.returns-clause-first
 returns-clause-first g c =
     rw (← c.self.view_is) (stored_first c.self.invariant
     (done_by c.in-Ok.ensures.given (g.met.S.Undo.undoes _ _ _ c.in-Ok.ensures.real c.in-Ok.ensures.given) c.in-Ok.ensures.kept refl))
+
+pub returns-in_err-reserve-clause-given : goal.returns-in_err-reserve-clause-given
+returns-in_err-reserve-clause-given g c =
+    let more = stored_more c.self.invariant c.ahead.result (ap (λ j. j.ahead) c.self.view_is) c.ahead.ensures c.if-ahead-eq0.false in
+    on_err c.from_residual.result (rw (← c.self.view_is) (λ d is s came. stored_next c.self.invariant d s more is came))
+
+pub returns-in-Err-Memory-clause-given : goal.returns-in-Err-Memory-clause-given
+returns-in-Err-Memory-clause-given g c =
+    let more = stored_more c.self.invariant c.ahead.result (ap (λ j. j.ahead) c.self.view_is) c.ahead.ensures c.if-ahead-eq0.false in
+    rw (← c.self.view_is) (λ d is s came. stored_next c.self.invariant d s more is came)

@@ -1,7 +1,8 @@
 -- A new change leaves a sound journal with the same first state, and the state before it gives what `apply` gave.
 use Rattle.std.proofs.Common.{◌+◌, ◌∙◌, refl, ap, arith}
 use Rattle.undo_core.specs.Counts.{places_after}
-use Rattle.undo_core.proofs.Sound.{done_by, fault_of}
+use Rattle.undo_core.proofs.Holding.{hold_given}
+use Rattle.undo_core.proofs.Sound.{done_by, fault_of, memory_of}
 use Rattle.undo_core.proofs.Stored.{stored_go, stored_given, stored_first, stored_replay, stored_stands, stored_within, stored_few}
 use Rattle.undo_core.proofs.journal.Journal.go.Goals as goal
 
@@ -9,6 +10,15 @@ pub returns-in_err-apply-clause-fault : goal.returns-in_err-apply-clause-fault
 returns-in_err-apply-clause-fault g c =
     rw (← c.self.view_is) (fault_of g.S.Undo.gives c.self.inside.state c.args.change _ _ c.in_err-apply.field-0.0
     c.from_residual.result c.from_residual.ensures.1 c.in_err-apply.ensures.fault (stored_replay c.self.invariant))
+
+pub returns-in_err-apply-clause-last : goal.returns-in_err-apply-clause-last
+returns-in_err-apply-clause-last g c =
+    rw (← c.self.view_is) (memory_of g.S.Undo.gives c.self.inside.state c.args.change _ _ c.in_err-apply.field-0.0
+    c.from_residual.result c.from_residual.ensures.1 c.in_err-apply.ensures.last (stored_replay c.self.invariant))
+
+pub returns-in-Err-clause-last : goal.returns-in-Err-clause-last
+returns-in-Err-clause-last g c =
+    rw (← c.self.view_is) (hold_given g.S.Undo.gives _ c.self.inside.state _ (stored_replay c.self.invariant) c.args.change _ c.in_ok-apply.ensures.given)
 
 pub add-requires-clause-within : goal.add-requires-clause-within
 add-requires-clause-within g c = stored_within c.self.invariant

@@ -48,4 +48,13 @@ returns-clause-back g c =
     let p = parted_back c.self.invariant.parted c.before-self-inside.result c.before_place-places.result.now (c.self.inside.left - 1) c.last_part-many.result some is
     c.last_part-many.ensures c.before-self-inside.ensures (omega (arith, some)) in
     rw (← c.self.view_is)
-    (take_back-last _ _ (c.self.inside.left - 1) c.last_part-many.result c.self.invariant.back p.1 (omega (arith, some)) (rw c.copied.ensures at c.of-values.ensures))
+    (take_back-last _ _ (c.self.inside.left - 1) c.last_part-many.result c.self.invariant.back p.1 (omega (arith, some)) (rw c.copied.ensures at c.of-values.ensures)).0
+
+pub returns-clause-kept : goal.returns-clause-kept
+returns-clause-kept g c =
+    let some : 0 < c.self.inside.left = omega (arith, c.if-self-eq0.false) in
+    let is = c.before_place-places.ensures ∙ ap (λ n. places_below n (reverse c.self.inside.places.now)) c.self.invariant.all in
+    let p = parted_back c.self.invariant.parted c.before-self-inside.result c.before_place-places.result.now (c.self.inside.left - 1) c.last_part-many.result some is
+    c.last_part-many.ensures c.before-self-inside.ensures (omega (arith, some)) in
+    rw (← c.self.view_is)
+    (take_back-last _ _ (c.self.inside.left - 1) c.last_part-many.result c.self.invariant.back p.1 (omega (arith, some)) (rw c.copied.ensures at c.of-values.ensures)).1
