@@ -66,6 +66,10 @@ A binary of mixasm is named as one, and its status is that of a refused source.
   stderr: hello.mix: error: this is a binary of mixasm, not a source
   [1]
 
+  $ mixrev check hello.mix </dev/null
+  hello.mix: error: this is a binary of mixasm, not a source
+  [1]
+
   $ printf '' | mixrev debug hello.mix
   line 1: A1 bad byte
   stderr: hello.mix: error: this is a binary of mixasm, not a source

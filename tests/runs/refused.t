@@ -217,17 +217,17 @@ The characters of ALF.
 What is found at END alone.
   $ printf ' JMP 2F\n END 0\n' >f
   $ mixrev run f
-  stderr: f:2:2: error: A14 no such local symbol: for a dB the LOC of a line before is dH, and for a dF that of a line after it
-  stderr:  END 0
-  stderr:  ^^^
+  stderr: f:1:6: error: A14 no such local symbol: 2F: for a dB the LOC of a line before is dH, and for a dF that of a line after it
+  stderr:  JMP 2F
+  stderr:      ^^
   [1]
 
 END, before which the literal stands.
   $ printf ' LDA =Y=\n END 0\n' >f
   $ mixrev run f
-  stderr: f:2:2: error: A7 undefined symbol: a symbol that no line before defines can only be the whole A-part of an instruction
-  stderr:  END 0
-  stderr:  ^^^^^
+  stderr: f:1:7: error: A7 undefined symbol: Y is defined nowhere
+  stderr:  LDA =Y=
+  stderr:       ^
   [1]
 
 ADDRESS.

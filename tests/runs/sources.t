@@ -137,6 +137,16 @@ Signs of word processors, and bytes that MIX does not have.
   1:8: error: A1 bad byte: !
   $ said ' ENTA \0335\n END 0\n'
   1:7: error: A1 bad byte: ?
+  $ said '\377\376 \000H\000L\000T\000\n\000 \000E\000N\000D\000' | head -n 1
+  1:1: error: A1 bad byte: a byte of UTF-16: save the source as UTF-8
+  $ said '\376\377\000 \000E\000N\000D' | head -n 1
+  1:1: error: A1 bad byte: a byte of UTF-16: save the source as UTF-8
+  $ said '\000 \000E\000N\000D' | head -n 1
+  1:1: error: A1 bad byte: a byte of UTF-16: save the source as UTF-8
+  $ said ' HLT\r END 0\r' | head -n 1
+  1:5: error: A1 bad byte: a carriage return alone: end each line with a line feed
+  $ said ' HLT\n\f\n END 0\n'
+  2:1: error: A1 bad byte: a form feed: leave it out
 
 Columns and labels: an operation in the first column, signs after a label, and names that are no symbols.
 
@@ -157,7 +167,7 @@ Columns and labels: an operation in the first column, signs after a label, and n
   $ said 'LOOP\n END 0\n'
   1:5: error: A2 no such operation: nothing is written here
   $ said 'LOOP: HLT\n END 0\n'
-  1:1: error: A3 bad symbol: LOOP:: a symbol has at most 10 letters and digits, one of them a letter
+  1:1: error: A3 bad symbol: LOOP:: a label has no colon
   $ said 'PRINTNUMBER HLT\n END 0\n'
   1:1: error: A3 bad symbol: PRINTNUMBER: a symbol has at most 10 letters and digits, one of them a letter
   $ said ' JMP PRINTNUMBER\n END 0\n'
@@ -169,20 +179,39 @@ Columns and labels: an operation in the first column, signs after a label, and n
   $ said ' JMP 2H\n END 0\n'
   1:6: error: A3 bad symbol: 2H: a symbol has at most 10 letters and digits, one of them a letter
   $ said '; comment\n END 0\n'
-  1:1: error: A3 bad symbol: ;: a symbol has at most 10 letters and digits, one of them a letter
+  1:1: error: A3 bad symbol: ;: a comment begins with * in column 1
   $ said '# comment\n END 0\n'
-  1:1: error: A3 bad symbol: #: a symbol has at most 10 letters and digits, one of them a letter
+  1:1: error: A3 bad symbol: #: a comment begins with * in column 1
   $ said '   * comment\n END 0\n'
-  1:4: error: A2 no such operation: *
+  1:4: error: A2 no such operation: *: a comment begins with * in column 1
+  $ said '  ;comment\n END 0\n'
+  1:3: error: A2 no such operation: ;comment: a comment begins with * in column 1
   $ said '// comment\n END 0\n'
-  1:1: error: A3 bad symbol: //: a symbol has at most 10 letters and digits, one of them a letter
+  1:1: error: A3 bad symbol: //: a comment begins with * in column 1
+  $ said '/ comment\n END 0\n'
+  1:1: error: A3 bad symbol: /: a symbol has at most 10 letters and digits, one of them a letter
   $ said ' PRNT 5\n END 0\n'
   1:2: error: A2 no such operation: PRNT
   $ said '\tPRNT 5\n END 0\n'
   1:2: error: A2 no such operation: PRNT
+  $ said ' FADD 5\n FSUB 5\n FMUL 5\n FDIV 5\n FCMP 5\n FLOT\n FIX\n END 0\n'
+  1:2: error: A2 no such operation: FADD: floating-point arithmetic is left out of this machine
+  2:2: error: A2 no such operation: FSUB: floating-point arithmetic is left out of this machine
+  3:2: error: A2 no such operation: FMUL: floating-point arithmetic is left out of this machine
+  4:2: error: A2 no such operation: FDIV: floating-point arithmetic is left out of this machine
+  5:2: error: A2 no such operation: FCMP: floating-point arithmetic is left out of this machine
+  6:2: error: A2 no such operation: FLOT: floating-point arithmetic is left out of this machine
+  7:2: error: A2 no such operation: FIX: floating-point arithmetic is left out of this machine
+  $ said ' SLB 5\n SRB 5\n JAE 5\n JAO 5\n JXE 5\n JXO 5\n END 0\n'
+  1:2: error: A2 no such operation: SLB: the operations of binary computers are left out of this machine
+  2:2: error: A2 no such operation: SRB: the operations of binary computers are left out of this machine
+  3:2: error: A2 no such operation: JAE: the operations of binary computers are left out of this machine
+  4:2: error: A2 no such operation: JAO: the operations of binary computers are left out of this machine
+  5:2: error: A2 no such operation: JXE: the operations of binary computers are left out of this machine
+  6:2: error: A2 no such operation: JXO: the operations of binary computers are left out of this machine
 
-Symbols that are not defined yet, or nowhere; and remarks that are taken for an ADDRESS. A fault of a line that is inserted
-before END is marked from the OP of END on.
+Symbols that are not defined yet, or nowhere; and remarks that are taken for an ADDRESS. What END meets is marked where it is
+used first.
 
   $ said ' ENTA X+1\nX HLT\n END 0\n'
   1:7: error: A7 undefined symbol: X is defined later, at line 2; before that it can only be the whole A-part of an instruction
@@ -201,14 +230,22 @@ before END is marked from the OP of END on.
   $ said 'X EQU 1\n ENTA X+Z\n END 0\n'
   2:9: error: A7 undefined symbol: Z is defined nowhere
   $ said ' LDA =1+=\n END ?\n'
+  1:9: error: A5 bad expression: nothing is written here
   2:6: error: A1 bad byte: ?
-  2:2: error: A5 bad expression: END ?
   $ said ' LDA =TAB=\n END 0\n'
-  2:2: error: A7 undefined symbol: a symbol that no line before defines can only be the whole A-part of an instruction
+  1:7: error: A7 undefined symbol: TAB is defined nowhere
+  $ said ' HLT\n LDA 5\n LDA =TAB+1=\nTAB END 0\n'
+  3:7: error: A7 undefined symbol: TAB is defined later, at line 4; before that it can only be the whole A-part of an instruction
+  $ said ' LDA =3=\n LDA =4=\n\tLDA =5,6/0=\n END 0\n'
+  3:9: error: A8 overflow in expression: a value is at most 1073741823, and no divisor is 0
+  $ said ' LDA =2B=\n END 0\n'
+  1:7: error: A14 no such local symbol: 2B: for a dB the LOC of a line before is dH, and for a dF that of a line after it
   $ said ' JMP 2B\n END 0\n'
-  1:6: error: A14 no such local symbol: for a dB the LOC of a line before is dH, and for a dF that of a line after it
+  1:6: error: A14 no such local symbol: 2B: for a dB the LOC of a line before is dH, and for a dF that of a line after it
   $ said ' JMP 2F\n END 0\n'
-  2:2: error: A14 no such local symbol: for a dB the LOC of a line before is dH, and for a dF that of a line after it
+  1:6: error: A14 no such local symbol: 2F: for a dB the LOC of a line before is dH, and for a dF that of a line after it
+  $ said ' JMP 3F\n2H JMP 2F\n JMP 2F\n3H HLT\nX STA 2F,1(0:2)\n JMP 3F\n END 0\n'
+  2:8: error: A14 no such local symbol: 2F: for a dB the LOC of a line before is dH, and for a dF that of a line after it
   $ said ' JMP 2F+1\n2H HLT\n END 0\n'
   1:6: error: A7 undefined symbol: a symbol that no line before defines can only be the whole A-part of an instruction
   $ said ' ENTA 5\n JMP LOPP\nLOOP HLT\n END 0\n'
@@ -220,11 +257,12 @@ before END is marked from the OP of END on.
   $ said ' NOP do nothing\n END 0\n'
   1:6: warning: DO is defined nowhere: END makes a cell of 0 for it [undefined-symbol]
   $ said ' CHAR (convert to decimal)\n END 0\n'
-  1:8: error: A7 undefined symbol: CONVERT is defined nowhere
+  1:8: error: A7 undefined symbol: CONVERT is defined nowhere: a remark after HLT, NUM or CHAR begins with a letter
   $ said ' HLT (halt)\n END 0\n'
-  1:7: error: A7 undefined symbol: HALT is defined nowhere
-  $ said ' HLT -- halt\n END 0\n'
-  1:7: error: A5 bad expression: nothing is written here
+  1:7: error: A7 undefined symbol: HALT is defined nowhere: a remark after HLT, NUM or CHAR begins with a letter
+  $ said ' HLT -- halt\n NUM ...\n END 0\n'
+  1:7: error: A5 bad expression: a remark after HLT, NUM or CHAR begins with a letter
+  2:6: error: A5 bad expression: a remark after HLT, NUM or CHAR begins with a letter
   $ said ' ENTA\n CON\n END 0\n'
   2:5: error: A5 bad expression: nothing is written here
   $ said ' LDA =3\n END 0\n'

@@ -1,4 +1,4 @@
--- What a word processor writes, and the Greek letters of MIX, by their bytes in UTF-8: what each is, and what to write in its place.
+-- What a word processor writes, the Greek letters of MIX, by their bytes in UTF-8, and bytes that other systems write: what each is, and what to write in its place.
 use Rattle.std.specs.Prelude.{ℕ, ◌==◌, ◌&&◌, ◌||◌, List, [], ◌∷◌, codes, if◌then◌else◌}
 
 abbrev pub of_two : ℕ → ℕ → List ℕ
@@ -24,8 +24,17 @@ of_three first second third =
     else if first == 226 && second == 128 then of_general third
     else []
 
+-- a byte that is no character of a line
+abbrev pub of_one : ℕ → List ℕ
+of_one byte =
+    if byte == 0 || byte == 254 || byte == 255 then codes ": a byte of UTF-16: save the source as UTF-8"
+    else if byte == 12 then codes ": a form feed: leave it out"
+    else if byte == 13 then codes ": a carriage return alone: end each line with a line feed"
+    else []
+
 -- nothing, where the bytes are none of these characters
 abbrev pub foreign_text : List ℕ → List ℕ
+foreign_text (byte ∷ []) = of_one byte
 foreign_text (first ∷ second ∷ []) = of_two first second
 foreign_text (first ∷ second ∷ third ∷ []) = of_three first second third
 foreign_text bytes = []

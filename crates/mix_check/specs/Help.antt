@@ -7,10 +7,11 @@ use Rattle.mixal_asm.specs.declared.fault.AsmKind.TheVariants.{Text, Inserted, D
 use Rattle.mixal_asm.specs.declared.diagnostic.Diagnostic.{Diagnostic}
 use Rattle.mixal_asm.specs.declared.diagnostic.Finding.{Finding}
 use Rattle.mixal_asm.specs.declared.diagnostic.Finding.TheVariants.{Fault, Warning as AWarning}
+use Rattle.mix_check.specs.Dialect.{operation_note, remark_note, symbol_note}
 use Rattle.mix_check.specs.Foreign.{foreign_text}
 use Rattle.mix_check.specs.Later.{late_help, late_rule, twice_help}
 use Rattle.mix_shown.specs.Wanted.{shown}
-use Rattle.mix_check.specs.Place.{piece_of, shown_of}
+use Rattle.mix_check.specs.Place.{line_of, piece_of, shown_of}
 
 -- ---- what a fault is about
 
@@ -34,7 +35,7 @@ subject UndefinedSymbol piece = []
 subject ExpressionOverflow piece = []
 subject PartOutOfRange piece = []
 subject BadAlf piece = []
-subject NoSuchLocalSymbol piece = []
+subject NoSuchLocalSymbol piece = piece_text piece
 
 -- ---- what is allowed where a fault is, if its text does not say so
 
@@ -52,30 +53,49 @@ text_rule NoSuchLocalSymbol = codes ": for a dB the LOC of a line before is dH, 
 
 -- ---- what is said
 
+-- what is written elsewhere, and what to write here
+abbrev pub note : TextFault → List ℕ → List ℕ
+note BadByte piece = []
+note NoSuchOperation piece = operation_note piece
+note BadSymbol piece = symbol_note piece
+note BadExpression piece = []
+note NumberTooLarge piece = []
+note UndefinedSymbol piece = []
+note ExpressionOverflow piece = []
+note PartOutOfRange piece = []
+note BadAlf piece = []
+note NoSuchLocalSymbol piece = []
+
+-- the first of two texts that is not empty
+abbrev pub first_text : List ℕ → List ℕ → List ℕ
+first_text [] other = other
+first_text (byte ∷ text) other = byte ∷ text
+
 abbrev pub text_help : TextFault → List ℕ → List ℕ
-text_help fault piece = subject fault piece ++ text_rule fault
+text_help fault piece = subject fault piece ++ first_text (note fault piece) (text_rule fault)
 
--- of a symbol that is not defined yet, where it is defined
-abbrev pub misread_help : List ℕ → ℕ → TextFault → List ℕ → List ℕ
-misread_help source n UndefinedSymbol piece = late_help source n piece
-misread_help source n fault piece = text_help fault piece
+-- of a symbol that is not defined yet, where it is defined; and of what may be a remark, how one begins
+abbrev pub misread_help : List ℕ → ℕ → TextFault → List ℕ → List ℕ → List ℕ
+misread_help source n UndefinedSymbol line piece = late_help source n piece ++ remark_note line
+misread_help source n BadExpression line piece = first_text (remark_note line) (text_help BadExpression piece)
+misread_help source n fault line piece = text_help fault piece
 
--- at a line of a source, by the bytes that are marked
-abbrev pub kind_help : List ℕ → ℕ → AsmKind → List ℕ → List ℕ
-kind_help source n (Text misread) piece = misread_help source n misread.fault piece
-kind_help source n (Inserted fault) piece = text_help fault piece
-kind_help source n DefinedTwice piece = twice_help source piece
-kind_help source n AddressTooLarge piece = codes ": it is -4095 to 4095"
-kind_help source n LocationOutOfRange piece = []
-kind_help source n NoEnd piece = codes ": the last line of a program is END"
-kind_help source n StartOutOfRange piece = []
-kind_help source n SourceTooLong piece = codes ": at most 20000 lines and 1048576 bytes"
+-- at a line of a source, by the line and the bytes of it that are marked
+abbrev pub kind_help : List ℕ → ℕ → AsmKind → List ℕ → List ℕ → List ℕ
+kind_help source n (Text misread) line piece = misread_help source n misread.fault line piece
+kind_help source n (Inserted m misread) line piece = misread_help source n misread.fault line piece
+kind_help source n DefinedTwice line piece = twice_help source piece
+kind_help source n AddressTooLarge line piece = codes ": it is -4095 to 4095"
+kind_help source n LocationOutOfRange line piece = []
+kind_help source n NoEnd line piece = codes ": the last line of a program is END"
+kind_help source n StartOutOfRange line piece = []
+kind_help source n SourceTooLong line piece = codes ": at most 20000 lines and 1048576 bytes"
 
 -- a warning says all by itself
-abbrev pub finding_help : List ℕ → ℕ → Finding → List ℕ → List ℕ
-finding_help source n (Fault kind) piece = kind_help source n kind piece
-finding_help source n (AWarning warning) piece = []
+abbrev pub finding_help : List ℕ → ℕ → Finding → List ℕ → List ℕ → List ℕ
+finding_help source n (Fault kind) line piece = kind_help source n kind line piece
+finding_help source n (AWarning warning) line piece = []
 
 -- what helps to mend what a diagnostic of a source is about
 unfoldable pub help_of : List ℕ → Diagnostic → List ℕ
-help_of source d = finding_help source d.line d.finding (piece_of (shown_of source d))
+help_of source d = finding_help source d.line d.finding (line_of (shown_of source d)) (piece_of (shown_of source d))

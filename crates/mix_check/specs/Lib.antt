@@ -1,4 +1,6 @@
+pub mod Binary
 pub mod Checked
+pub mod Dialect
 pub mod Foreign
 pub mod Help
 pub mod Json

@@ -1,5 +1,5 @@
 -- What there is to say of a source, as a compiler reports it: `FILE:LINE:COLUMN: error: A2 no such operation: PRNT`, the line, and a mark.
-use Rattle.std.specs.Prelude.{ℕ, Bool, not, List, [], ◌∷◌, ◌++◌, take, flat_map, Option, None, Some, codes, decimal}
+use Rattle.std.specs.Prelude.{ℕ, Bool, not, List, [], ◌∷◌, ◌++◌, take, flat_map, Option, None, Some, codes, decimal, if◌then◌else◌}
 use Rattle.std.specs.List.{list_any}
 use Rattle.mixal_asm.specs.declared.fault.AsmKind.{AsmKind}
 use Rattle.mixal_asm.specs.declared.diagnostic.Diagnostic.{Diagnostic}
@@ -7,6 +7,7 @@ use Rattle.mixal_asm.specs.declared.diagnostic.Finding.{Finding}
 use Rattle.mixal_asm.specs.declared.diagnostic.Finding.TheVariants.{Fault, Warning as AWarning}
 use Rattle.mixal_asm.specs.Fault.{kind_line}
 use Rattle.mixal_asm.specs.Diagnose.{diagnostics_of, is_warning, warning_name, warning_subject, warning_text}
+use Rattle.mix_check.specs.Binary.{binary_line, is_binary}
 use Rattle.mix_check.specs.Mark.{column_after, marked}
 use Rattle.mix_check.specs.Place.{Shown, shown_of}
 use Rattle.mix_check.specs.Help.{help_of}
@@ -44,8 +45,12 @@ diagnostic_text name source d = with_shown name d (help_of source d) (shown_of s
 -- ---- a source
 
 -- all diagnostics, one after the other
+abbrev pub diagnostics_text : List ℕ → List ℕ → List Diagnostic → List ℕ
+diagnostics_text name source ds = flat_map (diagnostic_text name source) ds
+
+-- of a binary, that it is one
 unfoldable pub report : List ℕ → List ℕ → List ℕ
-report name source = flat_map (diagnostic_text name source) (diagnostics_of source)
+report name source = if is_binary source then binary_line name else diagnostics_text name source (diagnostics_of source)
 
 -- whether one of them is a fault
 abbrev pub has_faults : List ℕ → Bool

@@ -1,16 +1,31 @@
-//! What a word processor writes, and the Greek letters of MIX: what each is, and what to write in its place.
+//! What a word processor or another system writes, and the Greek letters of MIX: what each is, and what to write in its place.
 
 ghost use Rattle.std.specs.Prelude.{◌≡◌};
-ghost use Rattle.mix_check.specs.Foreign.{foreign_text, of_general, of_three, of_two};
+ghost use Rattle.mix_check.specs.Foreign.{foreign_text, of_general, of_one, of_three, of_two};
 
-/// What a character of UTF-8 is that a word processor writes, and what to write in its place; nothing for any other one.
+/// What a character of UTF-8 or a byte is that is known from elsewhere, and what to write in its place; nothing for any other one.
 pub(crate) fn foreign_text(bytes: &[u8]) -> &'static str
     ensures { result.now ≡ foreign_text bytes.now }
 {
     match bytes {
+        [byte] => of_one(*byte),
         [first, second] => of_two(*first, *second),
         [first, second, third] => of_three(*first, *second, *third),
         _ => "",
+    }
+}
+
+fn of_one(byte: u8) -> &'static str
+    ensures { result.now ≡ of_one byte }
+{
+    if byte == 0 || byte == 254 || byte == 255 {
+        ": a byte of UTF-16: save the source as UTF-8"
+    } else if byte == 12 {
+        ": a form feed: leave it out"
+    } else if byte == 13 {
+        ": a carriage return alone: end each line with a line feed"
+    } else {
+        ""
     }
 }
 

@@ -1,10 +1,13 @@
 //! What is said after the text of a fault: what it is about, and what is allowed.
 
 ghost use Rattle.std.specs.Prelude.{◌≡◌, ◌++◌, IfOk, OnOk, option_map};
-ghost use Rattle.mix_check.specs.Help.{finding_help, help_of, kind_help, misread_help, or_piece, piece_text, subject, text_help, text_rule};
+ghost use Rattle.mix_check.specs.Help.{finding_help, first_text, help_of, kind_help, misread_help, note, or_piece, piece_text, subject, text_help, text_rule};
+ghost use Rattle.mix_check.specs.Dialect.{remark_note};
+ghost use Rattle.mixal_text.specs.declared.fault.TextFault.TheVariants.{BadExpression, UndefinedSymbol};
 ghost use Rattle.mix_check.specs.Place.{piece_of, shown_of};
 
-use crate::checked::{Checked, piece_of};
+use crate::checked::{Checked, line_of, piece_of};
+use crate::dialect::{operation_note, remark_note, symbol_note};
 use crate::foreign::foreign_text;
 use crate::later::{late_help, late_rule, twice_help};
 use mix_shown::add_shown;
@@ -23,26 +26,29 @@ pub(crate) fn help_of(
     requires { option_map (λ p. (p.0.now, p.1)) place ≡ shown_of source.now diagnostic.now }
     ensures { IfOk result (λ help. help.items ≡ help_of source.now diagnostic.now) }
 {
+    let line = line_of(place);
     let piece = piece_of(place);
     match &diagnostic.finding {
-        Finding::Fault(kind) => kind_help(alloc, source, diagnostic.line, *kind, piece),
+        Finding::Fault(kind) => kind_help(alloc, source, diagnostic.line, *kind, line, piece),
         Finding::Warning(_) => Ok(Vec::new(alloc)),
     }
 }
 
-// What is said at a line, by the bytes that are marked.
+// What is said at a line of this number, by its text and the bytes of it that are marked.
 fn kind_help(
     alloc: Global,
     source: &Checked<'_>,
-    line: u32,
+    number: u32,
     kind: AsmKind,
+    line: &[u8],
     piece: &[u8],
 ) -> Result<Vec<u8>, AllocError>
-    ensures { IfOk result (λ help. help.items ≡ kind_help source.now line kind piece.now) }
+    ensures { IfOk result (λ help. help.items ≡ kind_help source.now number kind line.now piece.now) }
 {
     match kind {
-        AsmKind::Text(misread) => misread_help(alloc, source, line, misread.fault, piece),
-        AsmKind::Inserted(fault) => text_help(alloc, fault, piece),
+        AsmKind::Text(misread) | AsmKind::Inserted { misread, .. } => {
+            misread_help(alloc, source, number, misread.fault, line, piece)
+        }
         AsmKind::DefinedTwice => twice_help(alloc, source, piece),
         AsmKind::AddressTooLarge => copied(alloc, ": it is -4095 to 4095"),
         AsmKind::NoEnd => copied(alloc, ": the last line of a program is END"),
@@ -54,15 +60,43 @@ fn kind_help(
 fn misread_help(
     alloc: Global,
     source: &Checked<'_>,
-    line: u32,
+    number: u32,
     fault: TextFault,
+    line: &[u8],
     piece: &[u8],
 ) -> Result<Vec<u8>, AllocError>
-    ensures { IfOk result (λ help. help.items ≡ misread_help source.now line fault piece.now) }
+    ensures { IfOk result (λ help. help.items ≡ misread_help source.now number fault line.now piece.now) }
 {
     match fault {
-        TextFault::UndefinedSymbol => late_help(alloc, source, line, piece),
+        TextFault::UndefinedSymbol => undefined_help(alloc, source, number, line, piece),
+        TextFault::BadExpression => expression_help(alloc, line, piece),
         _ => text_help(alloc, fault, piece),
+    }
+}
+
+// Of a symbol that is not defined yet, where it is defined; and how a remark begins, if it may be one.
+fn undefined_help(
+    alloc: Global,
+    source: &Checked<'_>,
+    number: u32,
+    line: &[u8],
+    piece: &[u8],
+) -> Result<Vec<u8>, AllocError>
+    ensures { IfOk result (λ help. help.items ≡ misread_help source.now number UndefinedSymbol line.now piece.now) }
+{
+    let mut help = late_help(alloc, source, number, piece)?;
+    help.extend_from_slice(remark_note(line).as_bytes())?;
+    Ok(help)
+}
+
+// Of no expression how a remark begins, if it may be one.
+fn expression_help(alloc: Global, line: &[u8], piece: &[u8]) -> Result<Vec<u8>, AllocError>
+    ensures { IfOk result (λ help. help.items ≡ first_text (remark_note line.now) (text_help BadExpression piece.now)) }
+{
+    let note = remark_note(line);
+    match note.as_bytes() {
+        [] => text_help(alloc, TextFault::BadExpression, piece),
+        _ => copied(alloc, note),
     }
 }
 
@@ -71,8 +105,29 @@ fn text_help(alloc: Global, fault: TextFault, piece: &[u8]) -> Result<Vec<u8>, A
 {
     let mut help = Vec::new(alloc);
     add_subject(&mut help, fault, piece)?;
-    help.extend_from_slice(text_rule(fault).as_bytes())?;
+    help.extend_from_slice(first_text(note(fault, piece), text_rule(fault)).as_bytes())?;
     Ok(help)
+}
+
+// What is said of what is written elsewhere.
+fn note(fault: TextFault, piece: &[u8]) -> &'static str
+    ensures { result.now ≡ note fault piece.now }
+{
+    match fault {
+        TextFault::NoSuchOperation => operation_note(piece),
+        TextFault::BadSymbol => symbol_note(piece),
+        _ => "",
+    }
+}
+
+// The first of two texts that is not empty.
+fn first_text(text: &'static str, other: &'static str) -> &'static str
+    ensures { result.now ≡ first_text text.now other.now }
+{
+    match text.as_bytes() {
+        [] => other,
+        _ => text,
+    }
 }
 
 fn copied(alloc: Global, text: &str) -> Result<Vec<u8>, AllocError>
@@ -115,7 +170,8 @@ fn add_subject(help: &mut Vec<u8>, fault: TextFault, piece: &[u8]) -> Result<(),
         TextFault::NoSuchOperation
         | TextFault::BadSymbol
         | TextFault::BadExpression
-        | TextFault::NumberTooLarge => add_piece(help, piece),
+        | TextFault::NumberTooLarge
+        | TextFault::NoSuchLocalSymbol => add_piece(help, piece),
         _ => Ok(()),
     }
 }

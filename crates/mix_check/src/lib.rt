@@ -2,7 +2,9 @@
 //! and a mark; or as one JSON object a line.
 #![tactic(auto)]
 
+mod binary;
 mod checked;
+mod dialect;
 mod foreign;
 mod help;
 mod later;

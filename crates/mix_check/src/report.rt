@@ -4,8 +4,9 @@ ghost use Rattle.std.specs.Prelude.{◌≡◌, ◌≤◌, [], ◌++◌, IfOk, If
 ghost use Rattle.std.specs.List.{list_any};
 ghost use Rattle.mixal_asm.specs.Diagnose.{is_warning};
 ghost use Rattle.mixal_asm.specs.declared.diagnostic.Finding.TheVariants.{Warning as AWarning};
-ghost use Rattle.mix_check.specs.Report.{column_text, diagnostic_text, error_text, finding_text, has_faults, headline, place_text, report, with_shown};
+ghost use Rattle.mix_check.specs.Report.{column_text, diagnostic_text, diagnostics_text, error_text, finding_text, has_faults, headline, place_text, report, with_shown};
 
+use crate::binary::{add_binary_line, is_binary};
 use crate::checked::{Checked, before};
 use crate::help::help_of;
 use crate::mark::{add_marked, column_after};
@@ -17,7 +18,8 @@ use std::alloc::Global;
 /// Appends what there is to say of a source to a text, and says whether it has a fault: of each fault `FILE:LINE:COLUMN: error: A7
 /// undefined symbol`, of each warning `FILE:LINE:COLUMN: warning: X is defined nowhere: .. [undefined-symbol]`, the line, and a mark
 /// under what that is about (1.3.2). Columns count characters, from 1. A fault that is about no part of a line, as A13, has
-/// neither a column nor the line. Control characters of the source are shown as question marks.
+/// neither a column nor the line. Control characters of the source are shown as question marks. Of a binary of mixasm it is said that
+/// it is one.
 #[tactic(auto, unfolding(crate::specs::Report::report))]
 pub fn add_report(
     alloc: Global,
@@ -29,13 +31,31 @@ pub fn add_report(
     ensures faulty { IfOk result (λ faulty. faulty ≡ has_faults source.now) }
 {
     let diagnostics = diagnose(alloc, source)?;
+    if is_binary(source) {
+        add_binary_line(name, text)?;
+    } else {
+        add_diagnostics(alloc, name, source, &diagnostics, text)?;
+    }
+    Ok(has_fault(&diagnostics))
+}
+
+// Appends the diagnostics of a source, one after the other.
+fn add_diagnostics(
+    alloc: Global,
+    name: &str,
+    source: &[u8],
+    diagnostics: &[Diagnostic],
+    text: &mut Vec<u8>,
+) -> Result<(), Memory>
+    ensures { OnOk result (text.new.items ≡ text.old.items ++ diagnostics_text name.now source.now diagnostics.now) }
+{
     let mut checked = Checked::of(alloc, source)?;
-    let mut rest = &diagnostics[..];
+    let mut rest = diagnostics;
     while let [diagnostic, more @ ..] = rest {
         add_diagnostic(alloc, name, &mut checked, diagnostic, text)?;
         rest = more;
     }
-    Ok(has_fault(&diagnostics))
+    Ok(())
 }
 
 // Appends a diagnostic of a source.

@@ -1,6 +1,7 @@
 -- What is said of a source shows in its first bytes, one more than it may have.
-use Rattle.std.proofs.Common.{◌≡◌, ℕ, Bool, true, false, not, ◌≤◌, cond, ltb, List, [], ◌++◌, length, take, flat_map, None, refl, ap, ◌∙◌, arith}
+use Rattle.std.proofs.Common.{◌≡◌, ℕ, Bool, true, false, not, ◌≤◌, cond, ltb, List, [], ◌∷◌, ◌++◌, length, take, flat_map, None, refl, ap, ◌∙◌, arith}
 use Rattle.std.specs.List.{list_any}
+use Rattle.std.specs.Prelude.{if◌then◌else◌}
 use Rattle.std.proofs.lemmas.Bool.{ltb-false}
 use Rattle.std.proofs.lemmas.List.{take_all}
 use Rattle.mix_lines.specs.Lines.{lines}
@@ -9,9 +10,10 @@ use Rattle.mixal_asm.specs.Faults.{faults_of, faults_from, max_faults}
 use Rattle.mixal_asm.specs.declared.diagnostic.Diagnostic.{Diagnostic}
 use Rattle.mixal_asm.specs.declared.fault.AsmFault.{AsmFault}
 use Rattle.mixal_asm.specs.declared.fault.AsmKind.TheVariants.{SourceTooLong}
+use Rattle.mix_check.specs.Binary.{binary_line, is_binary}
 use Rattle.mix_check.specs.Help.{help_of}
 use Rattle.mix_check.specs.Json.{json_diagnostic, json_report}
-use Rattle.mix_check.specs.Report.{diagnostic_text, has_faults, report}
+use Rattle.mix_check.specs.Report.{diagnostic_text, diagnostics_text, has_faults, report}
 use Rattle.mix_run.specs.Check.{report_of}
 use Rattle.mix_run.proofs.Truncation.{limited-take}
 
@@ -47,9 +49,19 @@ said-take say same source = ap (flat_map (say (take 1048577 source))) (diagnosti
         let few : length source ≤ 1048576 = ltb-false 1048576 (length source) e in
         rw (take_all 1048577 source (omega arith)) refl
 
+-- a binary shows in its first four bytes
+binary-take : (source : List ℕ) → is_binary (take 1048577 source) ≡ is_binary source
+binary-take [] = refl
+binary-take (a ∷ []) = refl
+binary-take (a ∷ b ∷ []) = refl
+binary-take (a ∷ b ∷ c ∷ []) = refl
+binary-take (a ∷ b ∷ c ∷ d ∷ rest) = refl
+
 report-take : (name source : List ℕ) → report name (take 1048577 source) ≡ report name source
 unfolding report diagnostic_text help_of
-report-take name source = said-take (diagnostic_text name) (λ s t. refl) source
+report-take name source =
+    ap (λ (b : Bool). if b then binary_line name else diagnostics_text name (take 1048577 source) (diagnostics_of (take 1048577 source))) (binary-take source)
+    ∙ ap (λ (text : List ℕ). if is_binary source then binary_line name else text) (said-take (diagnostic_text name) (λ s t. refl) source)
 
 json_report-take : (name source : List ℕ) → json_report name (take 1048577 source) ≡ json_report name source
 unfolding json_report json_diagnostic help_of

@@ -1,6 +1,7 @@
 -- The walk along a chain reaches every word that waits for the name, and no other.
 use Rattle.std.proofs.Common.{◌≡◌, ℕ, zero, suc, ◌<◌, ◌≤◌, Bool, true, false, if◌then◌else◌, List, [], ◌∷◌, ◌++◌, length, map, Option, Some, None, refl, sym, ap, ◌∙◌, arith, set, get_or, true≢false, ◌||◌, ◌⊎◌, inl, inr, length-append, add-one, fold}
-use Rattle.std.specs.Prelude.{slice_get, is_some}
+use Rattle.std.specs.Prelude.{slice_get, is_some, position, nat_lt, not, ◌+◌}
+use Rattle.std.specs.List.{position_or_len}
 use Rattle.std.specs.Option.{IfSome, option_map}
 use Rattle.std.specs.Bool.{IsTrue}
 use Rattle.std.proofs.lemmas.Option.{slice_get-map}
@@ -11,6 +12,7 @@ use Rattle.mixal_asm.specs.declared.words.Entry.{Entry}
 use Rattle.mixal_asm.specs.Key.{same_key, same_key_decides, same_key_equivalence}
 use Rattle.mixal_asm.specs.PassOne.{waits_for, is_awaited, with_address}
 use Rattle.mixal_asm.specs.Assembly.{with_use, first_uses}
+use Rattle.mixal_asm.specs.User.{first_wait}
 use Rattle.std.specs.Map.{lookup, keys_of}
 use Rattle.mixal_asm.specs.Chain.{Link, link_of, links_of, waits_at, last_below, before_of, IsLinked, closed, map_from, after_link, uses_from, IsChained, last_use, held_of, emitted_of, closed_held, IsUsed, Held}
 
@@ -178,6 +180,20 @@ awaited name [] = refl
 awaited name (entry ∷ entries) =
     awaited_shift name (link_of entry) (links_of entries) (length (links_of entries))
     ∙ ap (λ (b : Bool). waits_for name entry.emitted.awaits || b) (awaited name entries)
+
+waiting_prefix : (name : Key) (entries : List Entry)
+    → position_or_len (λ entry. waits_for name entry.emitted.awaits) entries ≡ position_or_len (λ word. waits_for name word.awaits) (emitted_of (map held_of entries))
+waiting_prefix name [] = refl
+waiting_prefix name (entry ∷ entries) =
+    ap (λ (n : ℕ). if not (waits_for name entry.emitted.awaits) then 1 + n else 0) (waiting_prefix name entries)
+
+pub first_waiting : (name : Key) (entries : List Entry)
+    → position (λ entry. waits_for name entry.emitted.awaits) entries ≡ first_wait name (emitted_of (map held_of entries))
+first_waiting name entries =
+    ap (λ (n : ℕ). if nat_lt n (length entries) then Some n else None) (waiting_prefix name entries)
+    ∙ ap (λ (size : ℕ). if nat_lt (position_or_len (λ word. waits_for name word.awaits) (emitted_of (map held_of entries))) size
+    then Some (position_or_len (λ word. waits_for name word.awaits) (emitted_of (map held_of entries))) else None)
+    (sym (length-map (map held_of entries) (λ h. h.emitted) ∙ length-map entries held_of))
 
 -- ---- the names in the order of first use
 

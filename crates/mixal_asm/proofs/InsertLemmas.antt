@@ -2,7 +2,7 @@
 use Rattle.std.proofs.Common.{◌≡◌, ℕ, zero, suc, ◌+◌, ◌<◌, ◌||◌, Bool, true, false, List, [], ◌∷◌, ◌++◌, drop, Option, Some, None, refl, sym, ap, ◌∙◌, arith, add-one}
 use Rattle.std.specs.Prelude.{slice_get, is_some, Result, Ok, Err, OnOk}
 use Rattle.std.specs.Option.{option_or}
-use Rattle.std.specs.List.{list_any}
+use Rattle.std.specs.List.{find}
 use Rattle.mixal_asm.specs.Draft.{passes}
 use Rattle.mix_refused.specs.declared.refused.Refused.{Refused}
 use Rattle.mix_refused.specs.declared.refused.Refused.TheVariants.{Fault, Memory}
@@ -139,12 +139,12 @@ taken_as_before names now (Some (label.Name symbol)) same untaken = rw (same sym
 
 -- ---- a search from place to place
 
-pub any_further : {A : Type 0} (test : A → Bool) (xs : List A) (i : ℕ) (o : Option A) → slice_get xs i ≡ o → passes test o ≡ false
-    → list_any test (drop i xs) ≡ list_any test (drop (i + 1) xs)
-any_further test xs i None is misses = rw (drop_past xs i is, drop_past_more xs i is) refl
-any_further test xs i (Some x) is misses = rw (drop_at xs i x is, misses) refl
+pub find_further : {A : Type 0} (test : A → Bool) (xs : List A) (i : ℕ) (o : Option A) → slice_get xs i ≡ o → passes test o ≡ false
+    → find test (drop i xs) ≡ find test (drop (i + 1) xs)
+find_further test xs i None is misses = rw (drop_past xs i is, drop_past_more xs i is) refl
+find_further test xs i (Some x) is misses = rw (drop_at xs i x is, misses) refl
 
-pub any_here : {A : Type 0} (test : A → Bool) (xs : List A) (i : ℕ) (o : Option A) → slice_get xs i ≡ o → passes test o ≡ true
-    → list_any test (drop i xs) ≡ true
-any_here test xs i None is hits = cc
-any_here test xs i (Some x) is hits = rw (drop_at xs i x is, hits) refl
+pub find_here : {A : Type 0} (test : A → Bool) (xs : List A) (i : ℕ) (o : Option A) → slice_get xs i ≡ o → passes test o ≡ true
+    → find test (drop i xs) ≡ o
+find_here test xs i None is hits = cc
+find_here test xs i (Some x) is hits = rw (drop_at xs i x is, hits) refl

@@ -19,13 +19,11 @@ use Rattle.mixal_asm.specs.declared.fault.AsmKind.{AsmKind}
 use Rattle.mixal_asm.specs.declared.row.Shows.TheVariants as shows
 use Rattle.mixal_asm.specs.declared.scope.OwnLocal.{OwnLocal}
 use Rattle.mixal_asm.specs.PassOne.{Before, Line, with_name, name_of, is_awaited, with_loc, names_at, of_address, with_word, with_line, number_after, con_line, orig_line, location_of, machine_line, with_instruction, instruction}
-use Rattle.std.specs.List.{list_any}
 use Rattle.std.proofs.Common.{map}
-use Rattle.mixal_text.specs.declared.fault.TextFault.TheVariants.{NoSuchLocalSymbol}
-use Rattle.mixal_asm.specs.declared.fault.AsmKind.TheVariants.{Text, Inserted}
+use Rattle.mixal_asm.specs.declared.fault.AsmKind.TheVariants.{Text}
 use Rattle.mixal_asm.specs.declared.words.Emitted.{Emitted}
 use Rattle.mixal_asm.specs.PassOne.{NamesSoFar}
-use Rattle.mixal_asm.specs.Assembly.{is_unmet, first_uses, end_value, start_of, program_at, ended, words_of, finished_word, answer_of, answer_of_line}
+use Rattle.mixal_asm.specs.Assembly.{first_unmet, met, end_value, start_of, program_at, ended, words_of, finished_word, answer_of, answer_of_line}
 use Rattle.mixal_text.specs.declared.misread.Misread.{Misread}
 use Rattle.mixal_text.specs.Line.{LineValue, line_of}
 use Rattle.mixal_asm.specs.Chain.{Held, emitted_of}
@@ -101,18 +99,18 @@ no_literal_loc b named (Some loc) value ok none =
 -- ---- END
 
 pub ended_is : (b named : Before) (number : ℕ) (text : List ℕ) (loc : Option Label) (address : List ℕ) (here : WordValue) (own : Option OwnLocal) (read : Result WordValue AsmKind)
-    → list_any (is_unmet b.names loc) (first_uses b.emitted) ≡ false → here ≡ plus b.here → with_loc b loc here ≡ Ok named
+    → met b (first_unmet b loc) ≡ Ok b → here ≡ plus b.here → with_loc b loc here ≡ Ok named
     → scope_value named.names own ≡ names_at b.names named.names
     → read ≡ end_value (scope_value named.names own) (plus named.here) text address
     → ended b number text loc address
     ≡ (read >>= λ value. start_of value >>= λ start. Ok (program_at (with_line named number text shows.Start) start))
 unfolding ended
-ended_is b named number text loc address here own read met is_here ok scope is = rw (met, is, scope, ← is_here, ok) refl
+ended_is b named number text loc address here own read all_met is_here ok scope is = rw (all_met, is, scope, ← is_here, ok) refl
 
-pub ended_fault : (b : Before) (number : ℕ) (text : List ℕ) (loc : Option Label) (address : List ℕ)
-    → list_any (is_unmet b.names loc) (first_uses b.emitted) ≡ true → ended b number text loc address ≡ Err (Inserted NoSuchLocalSymbol)
+pub ended_fault : (b : Before) (number : ℕ) (text : List ℕ) (loc : Option Label) (address : List ℕ) (kind : AsmKind)
+    → met b (first_unmet b loc) ≡ Err kind → ended b number text loc address ≡ Err kind
 unfolding ended
-ended_fault b number text loc address unmet = rw unmet refl
+ended_fault b number text loc address kind unmet = rw unmet refl
 
 placed_words : (names : NamesSoFar) (emitted : List Emitted)
     → map (λ (held : Held). (held.emitted.place, held.word)) (held_by names emitted) ≡ words_of names emitted

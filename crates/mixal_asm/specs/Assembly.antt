@@ -1,11 +1,12 @@
 -- The second pass (1.3.2): what END does, the finished words, and a source as a program or its first fault.
 use Rattle.std.specs.Prelude.{ℕ, ◌+◌, ◌%◌, ◌^◌, ◌&&◌, ◌||◌, nat_lt, nat_le, Bool, true, false, not, List, [], ◌∷◌, ◌++◌, length, map, fold, count_by, Option, Some, None, Result, Ok, Err, if◌then◌else◌}
-use Rattle.std.specs.List.{list_any}
+use Rattle.std.specs.List.{find, list_any}
 use Rattle.std.specs.Str.{bytes_eq}
 use Rattle.mix_word.specs.Word.{WordValue, plus, zero_word}
 use Rattle.mix_lines.specs.Lines.{lines}
 use Rattle.mixal_text.specs.declared.fault.TextFault.TheVariants.{NoSuchLocalSymbol}
 use Rattle.mixal_text.specs.declared.misread.Misread.{Misread}
+use Rattle.mixal_text.specs.Misread.{misread}
 use Rattle.mixal_text.specs.declared.label.Label.{Label}
 use Rattle.mixal_text.specs.declared.label.Label.TheVariants as label
 use Rattle.mixal_text.specs.declared.op.Op.{Op}
@@ -15,7 +16,7 @@ use Rattle.mixal_text.specs.Names.{NamesValue}
 use Rattle.mixal_text.specs.Line.{LineValue, Remark, Code, line_of}
 use Rattle.mixal_text.specs.WValue.{w_value_of}
 use Rattle.mixal_asm.specs.declared.fault.AsmKind.{AsmKind}
-use Rattle.mixal_asm.specs.declared.fault.AsmKind.TheVariants.{Inserted, DefinedTwice, NoEnd, StartOutOfRange, SourceTooLong}
+use Rattle.mixal_asm.specs.declared.fault.AsmKind.TheVariants.{DefinedTwice, NoEnd, StartOutOfRange, SourceTooLong}
 use Rattle.mixal_asm.specs.declared.fault.AsmFault.{AsmFault}
 use Rattle.mixal_asm.specs.declared.key.Key.{Key}
 use Rattle.mixal_asm.specs.declared.key.Key.TheVariants.{Name, Local, Literal}
@@ -24,19 +25,20 @@ use Rattle.mixal_asm.specs.declared.row.Shows.TheVariants as shows
 use Rattle.mixal_asm.specs.Key.{same_key}
 use Rattle.mixal_asm.specs.Place.{kind_span}
 use Rattle.mixal_asm.specs.Program.{ProgramValue}
+use Rattle.mixal_asm.specs.User.{after_equals, at_use}
 use Rattle.mixal_asm.specs.PassOne.{Before, NamesSoFar, OfLiteral, OfName, at_first, value_of, is_defined, name_of, is_taken, names_at, with_name, with_loc, with_word, with_row, with_line, number_after, of_text, of_address, with_address, machine_line, equ_line, orig_line, con_line, alf_line}
 
 -- ---- the lines that are inserted before END
 
--- a fault of a literal, at END
-abbrev pub of_literal : {A : Type 0} → Result A Misread → Result A AsmKind
-of_literal (Ok x) = Ok x
-of_literal (Err misread) = Err (Inserted misread.fault)
+-- a fault of the literal of this number, at the line that uses it
+abbrev pub of_literal : {A : Type 0} → Before → ℕ → Result A Misread → Result A AsmKind
+of_literal b j (Ok x) = Ok x
+of_literal b j (Err m) = Err (at_use b (Literal j) (after_equals m))
 
 -- a literal, as a CON line at the location
 abbrev pub literal_line : Before → ℕ → List ℕ → Result Before AsmKind
 literal_line b j text = do
-  value ← of_literal (w_value_of (names_at b.names b.names) (plus b.here) text)
+  value ← of_literal b j (w_value_of (names_at b.names b.names) (plus b.here) text)
   placed ← with_name b (Literal j) (plus b.here)
   next ← with_word placed value None
   Ok (with_row next (OfLiteral text) (shows.Word (length b.emitted)))
@@ -93,6 +95,15 @@ abbrev pub is_unmet : NamesSoFar → Option Label → Key → Bool
 is_unmet names loc (Name symbol) = false
 is_unmet names loc (Local d n) = not (is_defined names (Local d n)) && not (is_label names loc (Local d n))
 is_unmet names loc (Literal j) = false
+
+-- the first one, in the order of first use
+abbrev pub first_unmet : Before → Option Label → Option Key
+first_unmet b loc = find (is_unmet b.names loc) (first_uses b.emitted)
+
+-- it is at fault, where it is used first
+abbrev pub met : Before → Option Key → Result Before AsmKind
+met b None = Ok b
+met b (Some name) = Err (at_use b name (misread NoSuchLocalSymbol 0 2))
 
 -- the value of the ADDRESS of END, which is 0 where it is left out
 abbrev pub end_value : NamesValue → WordValue → List ℕ → List ℕ → Result WordValue AsmKind
@@ -154,13 +165,12 @@ inserted loc b = do
 
 -- what END does with its LOC and its ADDRESS, where those lines stand before it
 unfoldable pub ended : Before → ℕ → List ℕ → Option Label → List ℕ → Result ProgramValue AsmKind
-ended b number text loc address =
-    if list_any (is_unmet b.names loc) (first_uses b.emitted) then Err (Inserted NoSuchLocalSymbol)
-    else (do
-      named ← with_loc b loc (plus b.here)
-      value ← end_value (names_at b.names named.names) (plus named.here) text address
-      start ← start_of value
-      Ok (program_at (with_line named number text shows.Start) start))
+ended b number text loc address = do
+  all ← met b (first_unmet b loc)
+  named ← with_loc all loc (plus all.here)
+  value ← end_value (names_at all.names named.names) (plus named.here) text address
+  start ← start_of value
+  Ok (program_at (with_line named number text shows.Start) start)
 
 unfoldable pub end_line : Before → List ℕ → Option Label → List ℕ → Result ProgramValue AsmKind
 end_line b text loc address = do

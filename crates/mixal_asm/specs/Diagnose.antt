@@ -19,7 +19,7 @@ use Rattle.mixal_asm.specs.declared.diagnostic.Warning.{Warning}
 use Rattle.mixal_asm.specs.declared.diagnostic.Warning.TheVariants as warning
 use Rattle.mixal_asm.specs.declared.mentions.Role.{Role}
 use Rattle.mixal_asm.specs.declared.mentions.Role.TheVariants as role
-use Rattle.mixal_asm.specs.Place.{warning_part}
+use Rattle.mixal_asm.specs.Place.{kind_line_number, warning_part}
 use Rattle.mixal_asm.specs.Source.{is_that, symbol_of_loc}
 use Rattle.mixal_asm.specs.Assembly.{max_source_bytes}
 use Rattle.mixal_asm.specs.Faults.{faults_of}
@@ -112,12 +112,15 @@ abbrev pub is_warning : Finding → Bool
 is_warning (finding.Fault kind) = false
 is_warning (finding.Warning w) = true
 
+abbrev pub line_about : AsmFault → ℕ
+line_about fault = kind_line_number fault.line fault.kind
+
 -- whether a diagnostic goes after a fault that is put among those before: it is of a later line, or a warning of the same
 abbrev pub goes_after : AsmFault → Diagnostic → Bool
-goes_after fault d = nat_lt fault.line d.line || (fault.line == d.line && is_warning d.finding)
+goes_after fault d = nat_lt (line_about fault) d.line || (line_about fault == d.line && is_warning d.finding)
 
 abbrev pub of_fault : AsmFault → Diagnostic
-of_fault fault = record { line = fault.line; at = fault.at; finding = finding.Fault fault.kind }
+of_fault fault = record { line = line_about fault; at = fault.at; finding = finding.Fault fault.kind }
 
 abbrev pub with_fault : List Diagnostic → AsmFault → List Diagnostic
 with_fault ds fault = insert ds (position_or_len (goes_after fault) ds) (of_fault fault)

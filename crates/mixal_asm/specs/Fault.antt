@@ -7,7 +7,7 @@ use Rattle.mixal_asm.specs.declared.fault.AsmFault.{AsmFault}
 
 abbrev pub kind_number : AsmKind → ℕ
 kind_number (Text misread) = fault_number misread.fault
-kind_number (Inserted fault) = fault_number fault
+kind_number (Inserted line misread) = fault_number misread.fault
 kind_number DefinedTwice = 4
 kind_number AddressTooLarge = 9
 kind_number LocationOutOfRange = 11
@@ -17,7 +17,7 @@ kind_number SourceTooLong = 16
 
 abbrev pub kind_text : AsmKind → List ℕ
 kind_text (Text misread) = fault_text misread.fault
-kind_text (Inserted fault) = fault_text fault
+kind_text (Inserted line misread) = fault_text misread.fault
 kind_text DefinedTwice = codes "defined twice"
 kind_text AddressTooLarge = codes "address beyond two bytes"
 kind_text LocationOutOfRange = codes "location outside 0 to 3999"

@@ -5,6 +5,7 @@ pub mod PassOne
 pub mod Program
 pub mod Row
 pub mod Table
+pub mod User
 pub mod Assembly
 pub mod Chain
 pub mod Draft

@@ -1,7 +1,6 @@
 -- Which bytes of its line a fault or a warning is about.
 use Rattle.std.specs.Prelude.{ℕ, List, Option, Some, None, Result, Ok, Err}
 use Rattle.mixal_text.specs.declared.fault.TextFault.{TextFault}
-use Rattle.mixal_text.specs.declared.fault.TextFault.TheVariants.{NoSuchLocalSymbol}
 use Rattle.mixal_text.specs.declared.misread.Span.{Span}
 use Rattle.mixal_text.specs.declared.op.Mnemonic.{Mnemonic}
 use Rattle.mixal_text.specs.declared.op.Mnemonic.TheVariants.{Orig}
@@ -18,20 +17,26 @@ use Rattle.mixal_asm.specs.declared.diagnostic.Warning.TheVariants.{UndefinedSym
 
 -- ---- a fault
 
--- a dF that no dH meets is told at the OP of END, and what is wrong with a literal at all of END
-abbrev pub inserted_part : TextFault → Part
-inserted_part NoSuchLocalSymbol = part.Operation
-inserted_part fault = part.Statement
-
 -- a location beyond the last is that of a word, or what ORIG asks for
 abbrev pub location_part : Result Mnemonic TextFault → Part
 location_part (Ok Orig) = part.Address
 location_part code = part.Operation
 
--- the bytes of a line that a fault is about, if it is about some
+-- the line that a fault of a line is about: what END meets is at fault where it is used
+abbrev pub kind_line_number : ℕ → AsmKind → ℕ
+kind_line_number n (Text m) = n
+kind_line_number n (Inserted line m) = line
+kind_line_number n DefinedTwice = n
+kind_line_number n AddressTooLarge = n
+kind_line_number n LocationOutOfRange = n
+kind_line_number n NoEnd = n
+kind_line_number n StartOutOfRange = n
+kind_line_number n SourceTooLong = n
+
+-- the bytes of that line, if it is about some
 abbrev pub kind_span : List ℕ → AsmKind → Option Span
-kind_span line (Text misread) = Some misread.at
-kind_span line (Inserted fault) = Some (part_span line (inserted_part fault))
+kind_span line (Text m) = Some m.at
+kind_span line (Inserted n m) = Some m.at
 kind_span line DefinedTwice = Some (part_span line part.Label)
 kind_span line AddressTooLarge = Some (part_span line part.Address)
 kind_span line LocationOutOfRange = Some (part_span line (location_part (op_of_line line)))

@@ -47,7 +47,7 @@ fn put_fault(list: &mut Vec<Diagnostic>, fault: AsmFault) -> Result<(), Memory>
     list.insert(
         at,
         Diagnostic {
-            line: fault.line,
+            line: fault.line_about(),
             at: fault.at,
             finding: Finding::Fault(fault.kind),
         },
@@ -75,7 +75,8 @@ fn after(list: &[Diagnostic], fault: AsmFault) -> Option<usize>
 fn goes_after(fault: AsmFault, other: &Diagnostic) -> bool
     ensures { result ≡ goes_after fault other.now }
 {
-    fault.line < other.line || (fault.line == other.line && is_warning(&other.finding))
+    let line = fault.line_about();
+    line < other.line || (line == other.line && is_warning(&other.finding))
 }
 
 fn is_warning(finding: &Finding) -> bool

@@ -1,10 +1,9 @@
 //! END (1.3.2): its LOC, its ADDRESS, and the program.
-ghost use Rattle.std.specs.Prelude.{◌≡◌, ◌<◌, slice_get, false, length, Ok, Err, OnOk, IfOk};
-ghost use Rattle.std.specs.List.{list_any};
+ghost use Rattle.std.specs.Prelude.{◌≡◌, ◌<◌, slice_get, false, length, Ok, Err, OnOk, IfOk, MatchResult};
 ghost use Rattle.mix_word.specs.Word.{plus};
 ghost use Rattle.mix_refused.specs.Refused.{IfFault};
 ghost use Rattle.mixal_asm.specs.PassOne.{is_taken};
-ghost use Rattle.mixal_asm.specs.Assembly.{is_unmet, is_label, program_at, end_value, start_of, first_uses, inserted, ended, end_line};
+ghost use Rattle.mixal_asm.specs.Assembly.{is_unmet, is_label, first_unmet, met, program_at, end_value, start_of, first_uses, inserted, ended, end_line};
 
 use crate::draft::Draft;
 use crate::fault::AsmKind;
@@ -16,7 +15,7 @@ use crate::row::{Shows, Source};
 use crate::scope::OwnLocal;
 use mix_refused::{Memory, Refused};
 use mix_word::{Place, Word};
-use mixal_text::{Label, TextFault};
+use mixal_text::{Label, Misread, Span, TextFault};
 use std::alloc::Global;
 
 // The start, which is 0 to 3999, or else A15.
@@ -96,9 +95,7 @@ impl<'s> Draft<'s> {
         ensures ok { IfOk result (λ start. ended self.old number text.now loc.now address.now ≡ Ok (program_at self.new start)) }
         ensures fault { IfFault result (λ kind. ended self.old number text.now loc.now address.now ≡ Err kind) }
     {
-        if self.has_unmet(loc) {
-            return Err(Refused::Fault(AsmKind::Inserted(TextFault::NoSuchLocalSymbol)));
-        }
+        self.meet(loc)?;
         let own = self.label(loc, self.here_word())?;
         let value = self.read_end(own, text, address)?;
         let start = start_of(value)?;
@@ -106,16 +103,34 @@ impl<'s> Draft<'s> {
         Ok(start)
     }
 
-    // Whether any dF meets no dH, that of END included.
-    fn has_unmet(&self, loc: &Option<Label>) -> bool
-        ensures { result ≡ list_any (is_unmet self.now.names loc.now) (first_uses self.now.emitted) }
+    // A dF that meets no dH, that of END included, is at fault where it is used first.
+    fn meet(&self, loc: &Option<Label>) -> Result<(), AsmKind>
+        ensures { MatchResult result
+            (λ _. met self.now (first_unmet self.now loc.now) ≡ Ok self.now)
+            (λ kind. met self.now (first_unmet self.now loc.now) ≡ Err kind) }
+    {
+        match self.first_unmet(loc) {
+            None => Ok(()),
+            Some(name) => Err(self.at_use(
+                &name,
+                Misread {
+                    fault: TextFault::NoSuchLocalSymbol,
+                    at: Span { from: 0, to: 2 },
+                },
+            )),
+        }
+    }
+
+    // The first dF that meets no dH, that of END included.
+    fn first_unmet(&self, loc: &Option<Label>) -> Option<Key>
+        ensures { result ≡ first_unmet self.now loc.now }
     {
         for i in 0..self.words.use_count() {
             if self.is_unmet_at(loc, i) {
-                return true;
+                return self.use_at(i);
             }
         }
-        false
+        None
     }
 
     // Whether the name of this number is such a dF.

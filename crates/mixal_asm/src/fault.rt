@@ -2,7 +2,7 @@
 ghost use Rattle.std.specs.Prelude.{◌≡◌, Some};
 ghost use Rattle.mix_refused.specs.declared.refused.Refused.TheVariants.{Fault};
 ghost use Rattle.mixal_asm.specs.Fault.{kind_number, kind_text, kind_line, asm_fault_line};
-ghost use Rattle.mixal_asm.specs.Place.{inserted_part, kind_span, location_part};
+ghost use Rattle.mixal_asm.specs.Place.{kind_line_number, kind_span, location_part};
 
 use mix_refused::Refused;
 use mixal_text::{Misread, Mnemonic, Part, Span, TextFault, line_op, part_span};
@@ -13,8 +13,8 @@ use std::fmt;
 pub enum AsmKind {
     /// A1 to A3, A5 to A8, A10, A12, A14: a fault of a line's text, with its bytes.
     Text(Misread),
-    /// A5 to A8, A10, A14 at END: a fault of a literal, or A14, a dF that no dH meets.
-    Inserted(TextFault),
+    /// A5 to A8, A10, A14 at END: a fault of a literal, or A14, a dF that no dH meets, with the line that uses it first.
+    Inserted { line: u32, misread: Misread },
     /// A4: a symbol that a line before has defined.
     DefinedTwice,
     /// A9: an address whose magnitude is 4096 or more, at the line of the instruction, or of the name that it waits for.
@@ -36,7 +36,7 @@ impl AsmKind {
     {
         match self {
             AsmKind::Text(misread) => misread.fault.number(),
-            AsmKind::Inserted(fault) => fault.number(),
+            AsmKind::Inserted { misread, .. } => misread.fault.number(),
             AsmKind::DefinedTwice => 4,
             AsmKind::AddressTooLarge => 9,
             AsmKind::LocationOutOfRange => 11,
@@ -52,7 +52,7 @@ impl AsmKind {
     {
         match self {
             AsmKind::Text(misread) => misread.fault.text(),
-            AsmKind::Inserted(fault) => fault.text(),
+            AsmKind::Inserted { misread, .. } => misread.fault.text(),
             AsmKind::DefinedTwice => "defined twice",
             AsmKind::AddressTooLarge => "address beyond two bytes",
             AsmKind::LocationOutOfRange => "location outside 0 to 3999",
@@ -80,7 +80,7 @@ impl fmt::Display for AsmKind {
     }
 }
 
-/// A fault of a source, at its line, counted from 1, and at the bytes of that line that it is about; A13 and A16 are about none.
+/// A fault of a source, at its line, counted from 1, and at the bytes of the line that it is about; A13 and A16 are about none.
 #[derive(Clone, Copy)]
 pub struct AsmFault {
     pub line: u32,
@@ -99,28 +99,28 @@ impl AsmFault {
             kind,
         }
     }
+
+    /// The line that it is about: its own, or of what END meets that which uses it first.
+    pub(crate) fn line_about(self) -> u32
+        ensures { result ≡ kind_line_number self.line self.kind }
+    {
+        match self.kind {
+            AsmKind::Inserted { line, .. } => line,
+            _ => self.line,
+        }
+    }
 }
 
-// The bytes of a line that a fault is about, if it is about some.
+// The bytes of the line that a fault is about, if it is about some.
 fn kind_span(line: &[u8], kind: AsmKind) -> Option<Span>
     ensures { result ≡ kind_span line.now kind }
 {
     match kind {
-        AsmKind::Text(misread) => Some(misread.at),
-        AsmKind::Inserted(fault) => Some(part_span(line, inserted_part(fault))),
+        AsmKind::Text(misread) | AsmKind::Inserted { misread, .. } => Some(misread.at),
         AsmKind::DefinedTwice => Some(part_span(line, Part::Label)),
         AsmKind::AddressTooLarge | AsmKind::StartOutOfRange => Some(part_span(line, Part::Address)),
         AsmKind::LocationOutOfRange => Some(part_span(line, location_part(line_op(line)))),
         AsmKind::NoEnd | AsmKind::SourceTooLong => None,
-    }
-}
-
-fn inserted_part(fault: TextFault) -> Part
-    ensures { result ≡ inserted_part fault }
-{
-    match fault {
-        TextFault::NoSuchLocalSymbol => Part::Operation,
-        _ => Part::Statement,
     }
 }
 

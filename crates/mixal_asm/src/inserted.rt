@@ -38,7 +38,7 @@ impl<'s> Draft<'s> {
         ensures others { (symbol : List ℕ) → OnOk result (value_of self.new.names (Name symbol) ≡ value_of self.old.names (Name symbol)) }
     {
         let count = self.word_count();
-        let value = self.read_literal(text)?;
+        let value = self.read_literal(j, text)?;
         self.define(Key::Literal(j), self.here_word())?;
         self.emit_shown(Source::Literal(self.kept(text)?), count, value)
     }
@@ -92,8 +92,8 @@ impl<'s> Draft<'s> {
         self.names.value(&Key::Name(symbol.copied())).is_some() || is_own(loc, symbol)
     }
 
-    // The name of this number among those that words wait for, in the order of first use.
-    fn use_at(&self, i: usize) -> Option<Key>
+    /// The name of this number among those that words wait for, in the order of first use.
+    pub(crate) fn use_at(&self, i: usize) -> Option<Key>
         ensures { result ≡ slice_get (first_uses self.now.emitted) i }
     {
         match self.words.use_at(i) {

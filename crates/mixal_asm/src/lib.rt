@@ -25,6 +25,7 @@ mod row;
 mod scope;
 mod source;
 mod symbols;
+mod user;
 mod words;
 
 pub use assembler::Assembler;

@@ -1,15 +1,16 @@
 //! What the ADDRESS of a line says, by the names before it (1.3.2).
-ghost use Rattle.std.specs.Prelude.{◌≡◌, ◌<◌, ◌≤◌, ◌^◌, None, Ok, Err, IfOk, MatchResult};
+ghost use Rattle.std.specs.Prelude.{◌≡◌, ◌<◌, ◌≤◌, ◌-◌, ◌^◌, None, Ok, Err, IfOk, MatchResult};
 ghost use Rattle.mix_word.specs.Word.{plus};
 ghost use Rattle.mixal_text.specs.Address.{IsMachine, address_of, f_of, value_of_a_part, value_of_operand};
 ghost use Rattle.mixal_text.specs.WValue.{w_value_of};
 ghost use Rattle.mixal_text.specs.Misread.{IsWithin};
-ghost use Rattle.mixal_asm.specs.declared.fault.AsmKind.TheVariants.{Text};
 ghost use Rattle.mixal_asm.specs.PassOne.{in_line, of_address};
 ghost use Rattle.mixal_asm.specs.Assembly.{of_literal};
+ghost use Rattle.mixal_asm.specs.User.{after_equals};
 
 use crate::draft::Draft;
 use crate::fault::AsmKind;
+use crate::key::Key;
 use crate::scope::{OwnLocal, Scope};
 use mix_word::Word;
 use mixal_text::{Misread, Op, Operand, Part, Span, part_span, w_value};
@@ -32,13 +33,13 @@ impl<'s> Draft<'s> {
         };
         match w_value(address, &scope, self.here_word()) {
             Ok(value) => Ok(value),
-            Err(misread) => Err(in_line(line, misread)),
+            Err(misread) => Err(AsmKind::Text(in_line(line, misread))),
         }
     }
 
-    /// The W-value that a literal says.
-    pub(crate) fn read_literal(&self, text: &[u8]) -> Result<Word, AsmKind>
-        ensures { result ≡ of_literal (w_value_of (scope_value self.now.names None) (plus self.now.here) text.now) }
+    /// The W-value that the literal of this number says.
+    pub(crate) fn read_literal(&self, j: usize, text: &[u8]) -> Result<Word, AsmKind>
+        ensures { result ≡ of_literal self.now j (w_value_of (scope_value self.now.names None) (plus self.now.here) text.now) }
     {
         let scope = Scope {
             names: &self.names,
@@ -46,7 +47,7 @@ impl<'s> Draft<'s> {
         };
         match w_value(text, &scope, self.here_word()) {
             Ok(value) => Ok(value),
-            Err(misread) => Err(AsmKind::Inserted(misread.fault)),
+            Err(misread) => Err(self.at_use(&Key::Literal(j), after_equals(misread))),
         }
     }
 
@@ -72,22 +73,37 @@ impl<'s> Draft<'s> {
         };
         match mixal_text::address(address, op, &scope, self.here_word()) {
             Ok(operand) => Ok(operand),
-            Err(misread) => Err(in_line(line, misread)),
+            Err(misread) => Err(AsmKind::Text(in_line(line, misread))),
         }
     }
 }
 
-// A fault of the ADDRESS of a line, whose bytes are counted from the beginning of the line.
-fn in_line(line: &[u8], misread: Misread) -> AsmKind
+/// What is at fault in the ADDRESS of a line, whose bytes are counted from the beginning of the line.
+pub(crate) fn in_line(line: &[u8], misread: Misread) -> Misread
     requires { IsWithin 0 (2 ^ 63) misread.at }
-    ensures { result ≡ Text (in_line line.now misread) }
+    ensures { result ≡ in_line line.now misread }
 {
     let start = part_span(line, Part::Address).from;
-    AsmKind::Text(Misread {
+    Misread {
         fault: misread.fault,
         at: Span {
             from: start + misread.at.from,
             to: start + misread.at.to,
         },
-    })
+    }
+}
+
+// What is at fault in a literal, whose bytes are counted from its equals sign.
+fn after_equals(misread: Misread) -> Misread
+    requires { IsWithin 0 (2 ^ 63 - 1) misread.at }
+    ensures is { result ≡ after_equals misread }
+    ensures within { IsWithin 0 (2 ^ 63) result.at }
+{
+    Misread {
+        fault: misread.fault,
+        at: Span {
+            from: misread.at.from + 1,
+            to: misread.at.to + 1,
+        },
+    }
 }

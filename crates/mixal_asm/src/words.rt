@@ -2,10 +2,12 @@
 ghost use Rattle.std.specs.Prelude.{◌≡◌, ◌<◌, ◌≤◌, ◌+◌, ◌++◌, [], ◌∷◌, length, map, slice_get, count_by, option_copied, IfSome, IsTrue, IfOk, OnOk, OnErr, vec_len, vec_capacity};
 ghost use Rattle.mixal_asm.specs.PassOne.{is_awaited, with_address};
 ghost use Rattle.mixal_asm.specs.Assembly.{first_uses, references_in, is_reference, is_waiting};
+ghost use Rattle.mixal_asm.specs.User.{first_wait};
 ghost use Rattle.mixal_asm.specs.Chain.{IsLinked, IsUsed, closed, last_below, last_use, links_of};
 
 use crate::key::Key;
 use crate::names::NameTable;
+use crate::user::first_wait;
 use indexmap::IndexMap;
 use mix_refused::Memory;
 use mix_word::{Parts, Place, Word};
@@ -83,6 +85,13 @@ impl WordList {
         ensures { result ≡ is_awaited name.now (emitted_of self.now) }
     {
         self.last.contains_key(name)
+    }
+
+    /// The number of the first word that waits for a name, or waited for it before it got its value.
+    pub(crate) fn first_wait(&self, name: &Key) -> Option<usize>
+        ensures { result ≡ first_wait name.now (emitted_of self.now) }
+    {
+        first_wait(&self.entries, name)
     }
 
     /// One word more. If it waits for a name, no name before has that value.

@@ -1,6 +1,6 @@
 use Rattle.std.proofs.Common.{◌≡◌, ◌++◌, flat_map, length}
 use Rattle.mix_check.specs.Report.{diagnostic_text}
-use Rattle.mix_check.proofs.report.add_report.Given as goal
+use Rattle.mix_check.proofs.report.add_diagnostics.Given as goal
 
 abbrev pub invariant-loop-rest : goal.invariant-loop-rest
 invariant-loop-rest l = record {
