@@ -1,22 +1,20 @@
 // The page: what a person asks for, and the parts that show it.
 
 import { Bars } from "./bars.js";
-import { commandsOf } from "./buttons.js";
 import { cardsApart, isBundle, linesIn, openedOf, scriptOf, withCards } from "./bundle.js";
 import { Compare } from "./compare.js";
 import { $, copied, counted, on, put } from "./dom.js";
 import { missing, showFound, toldRefusal } from "./faults.js";
-import { Heat } from "./heat.js";
 import { Listing } from "./listing.js";
 import { Broken, STOPPED } from "./machine.js";
 import { Memory, showRegisters, showSymbols } from "./memory.js";
-import { TimeMap } from "./pictures.js";
+import { Heat, TimeMap } from "./pictures.js";
 import { choose, place } from "./place.js";
 import { toldOf } from "./sentence.js";
 import { WHOLE } from "./session.js";
 import { Store } from "./store.js";
 import { Talk } from "./talk.js";
-import { Time } from "./time.js";
+import { Time, commandsOf } from "./time.js";
 import { Output, Units } from "./units.js";
 import { Who } from "./who.js";
 
@@ -127,17 +125,9 @@ export class App {
   }
 
   // Does a command, at whose end a change that conflicts is `met`, if there is one.
-  act(command, before, met) {
-    return this.did(this.store.session.act([command], { met }), before);
-  }
-
-  go(command) {
-    this.store.enqueue(() => this.act(command));
-  }
-
-  slide(moment) {
-    this.store.enqueue(() => this.did(this.store.session.slide(moment)));
-  }
+  act(command, before, met) { return this.did(this.store.session.act([command], { met }), before); }
+  go(command) { this.store.enqueue(() => this.act(command)); }
+  slide(moment) { this.store.enqueue(() => this.did(this.store.session.slide(moment))); }
 
   // A `set` that would drop what is ahead is done when it is given twice.
   given(command) {

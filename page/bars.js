@@ -1,6 +1,6 @@
 // A range of cells as bars, with the index registers that point into it.
 
-import { $, counted, mark, note, on } from "./dom.js";
+import { $, counted, mark, on, put } from "./dom.js";
 import { Strip, keepsPictures } from "./pictures.js";
 import { CellRange } from "./range.js";
 import { OPERATIONS } from "./operations.js";
@@ -85,9 +85,6 @@ export class Bars {
   }
 
   show() {
-    const isByField = this.by === "field";
-    $("bars-field").hidden = !isByField;
-    $("main").classList.toggle("bars", this.isOpen);
     const { cells, store } = this;
     const { view } = store;
     if (!view || cells.length === 0) return;
@@ -100,7 +97,7 @@ export class Bars {
     }
     const bars = this.bars(view, cells);
     const arrows = this.arrows(view.state, cells[0], cells[cells.length - 1]);
-    const by = isByField ? ` (${field >> 3}:${field & 7})` : "";
+    const by = this.by === "field" ? ` (${field >> 3}:${field & 7})` : "";
     const title = `Cells ${this.range.ends.join(" to ")} by ${this.by}${by}`;
     const { cell: met, unit, until } = view.conflict || {};
     const conflict = cells.includes(met) ? { cell: met, use: `unit ${unit} until ${until}` } : null;
@@ -109,7 +106,7 @@ export class Bars {
     $("bars").replaceChildren(barsOf({ title: `${title}, ${after}`, text, bars, arrows, conflict }));
     this.strip.show({ cells, field, title });
     const all = this.range.cells.length;
-    note("bars-more", all > cells.length ? `These are the first ${MAX_BARS} of ${counted(all, "cell")}.` : "");
+    put($("bars-more"), all > cells.length ? `These are the first ${MAX_BARS} of ${counted(all, "cell")}.` : "");
   }
 
   bars(/** @type {View} */ { inField: { change, next }, wordIn }, cells) {

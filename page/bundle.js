@@ -3,12 +3,8 @@
 
 const HEADER_OF_CARDS = /^%unit[ \t]+0?16(?![0-9])/i;
 const KEPT = "* Kept by the page, and no commands:";
-const LESSON = "* lesson: ";
-const BREAKS = "* breakpoints at lines: ";
-const BARS = "* bars: ";
-const SHOWN = "* shown too: "; // what else is open
-const LEFT = "* still to do: ";
-
+const NAMES = { lesson: "lesson", breaks: "breakpoints at lines", bars: "bars", shown: "shown too", left: "still to do" };
+const remark = (name, text) => `* ${NAMES[name]}: ${text}`;
 const linesOf = (text) => text.replace(/\r\n?/g, "\n").split("\n");
 const whole = (text) => (text === "" || text.endsWith("\n") ? text : `${text}\n`);
 export const linesIn = (text) => linesOf(whole(text)).slice(0, -1); // without what is behind the last end of a line
@@ -31,9 +27,10 @@ export function bundleOf({ source, deck, script }) {
 export const isBundle = (text) => linesOf(text).some((line) => line === "%DEVICES" || line === "%SCRIPT");
 
 // A script of the commands that were done, and what else the page holds, as remarks.
-export function scriptOf({ done, left, breaks, bars, shown, lesson }) {
-  const named = [[LESSON, lesson], [BREAKS, breaks.join(" ")], [BARS, bars], [SHOWN, shown]].filter(([, text]) => text);
-  const kept = [...named.map((pair) => pair.join("")), ...left.map((line) => LEFT + line)];
+export function scriptOf({ done, left, breaks, ...texts }) {
+  const held = { ...texts, breaks: breaks.join(" ") };
+  const named = Object.keys(NAMES).filter((name) => held[name]).map((name) => remark(name, held[name]));
+  const kept = [...named, ...left.map((line) => remark("left", line))];
   return textOfLines(kept.length > 0 ? [...done, KEPT, ...kept] : done);
 }
 
@@ -41,16 +38,13 @@ export function scriptOf({ done, left, breaks, bars, shown, lesson }) {
 function keptIn(script) {
   const lines = linesIn(script);
   const at = lines.includes(KEPT) ? lines.lastIndexOf(KEPT) : lines.length;
-  const named = (name) => lines.slice(at + 1).filter((line) => line.startsWith(name));
-  const after = (name) => named(name).map((line) => line.slice(name.length));
-  return {
-    done: lines.slice(0, at),
-    left: after(LEFT),
-    breaks: after(BREAKS).join(" ").split(" ").map(Number).filter((line) => line > 0),
-    bars: after(BARS)[0] || "",
-    shown: (after(SHOWN)[0] || "").split(" "),
-    lesson: after(LESSON)[0] || "",
+  const after = (name) => {
+    const begin = remark(name, "");
+    return lines.slice(at + 1).filter((line) => line.startsWith(begin)).map((line) => line.slice(begin.length));
   };
+  const [breaks, shown, bars, lesson] = ["breaks", "shown", "bars", "lesson"].map((name) => after(name).join(" "));
+  const lineNumbers = breaks.split(" ").map(Number).filter((line) => line > 0);
+  return { done: lines.slice(0, at), left: after("left"), breaks: lineNumbers, shown: shown.split(" "), bars, lesson };
 }
 
 // One that waits has nothing that is done at once.

@@ -1,7 +1,7 @@
 // Two runs side by side after as many changes. The one that was kept has an engine of its own, and
 // does its commands again.
 
-import { $, all, counted, fourDigits, keepRows, listed, make, note, on, put } from "./dom.js";
+import { $, all, counted, fourDigits, keepRows, listed, make, on, put } from "./dom.js";
 import { Machine } from "./machine.js";
 import { flagsOf } from "./memory.js";
 import { Picture } from "./pictures.js";
@@ -10,13 +10,13 @@ import { Papers } from "./units.js";
 
 const CELLS_COMPARED = 100; // cells that differ
 const MOST_NAMES = 30; // of what differs
-
 const valueIn = ({ number, characters }) => `${number} “${characters}”`;
 
-const comparedIn = (/** @type {View} */ { state }) => [
+const comparedIn = (/** @type {View} */ { state, wordIn }, cells) => new Map(/** @type {any[]} */ ([
   ...state.registers.map((register) => [`r${register.name}`, valueIn(register)]),
   ...flagsOf(state).map(({ name, text }) => [name, text]),
-];
+  ...cells.map((cell) => [`cell ${fourDigits(cell)}`, valueIn(wordIn(cell))]),
+]));
 
 export class Compare extends Picture {
   constructor(store) {
@@ -46,7 +46,6 @@ export class Compare extends Picture {
     $("compare").hidden = true;
     this.papers.forget();
     for (const row of all("#papers .differs")) row.classList.remove("differs");
-    showOutput();
     $("compare-open").focus();
   }
 
@@ -61,35 +60,25 @@ export class Compare extends Picture {
     const { found: other, of: view, session } = this;
     if (!other || !session || view !== this.store.view) return;
     const cells = differingCells(view, other);
-    const others = new Map(/** @type {any[]} */ (comparedIn(other)));
-    const parts = comparedIn(view).map(([name, here]) => ({ name, here, there: others.get(name) }));
-    const [here, there] = [view, other].map(({ wordIn }) => (cell) => valueIn(wordIn(cell)));
-    const held = cells.map((cell) => ({ name: `cell ${fourDigits(cell)}`, here: here(cell), there: there(cell) }));
-    const rows = [...parts, ...held.slice(0, CELLS_COMPARED)];
+    const more = Math.max(0, cells.length - CELLS_COMPARED);
+    const others = comparedIn(other, cells);
+    const rows = [...comparedIn(view, cells)].map(([name, here]) => ({ name, here, there: others.get(name) }));
     this.papers.show(other);
     const printed = markRows();
-    showOutput();
     $("compare").hidden = false;
     const behind = view.state.done > session.total ? ", and is shown after the last of them" : "";
     put($("compare-what"), `The other run has ${counted(session.total, "change")}${behind}.`);
-    const different = [...parts, ...held].filter((part) => part.here !== part.there).map(({ name }) => name);
-    put($("compare-text"), saidOf([...different, ...printed]));
-    keepRows($("compare-rows"), rows, ({ name }) => name, freshRow, ({ children }, { name, here, there }) => {
+    const different = [...rows.filter(({ here, there }) => here !== there).map(({ name }) => name), ...printed];
+    const told = `Different: ${listed(different, MOST_NAMES)}.`;
+    put($("compare-text"), different.length > 0 ? told : "Nothing is different.");
+    const shown = rows.slice(0, rows.length - more);
+    keepRows($("compare-rows"), shown, ({ name }) => name, freshRow, ({ children }, { name, here, there }) => {
       const isSame = here === there;
       [`${name}${isSame ? "" : " ≠"}`, here, there].forEach((text, index) => put(children[index], text));
       children[0].parentNode.classList.toggle("differs", !isSame);
     });
-    const more = cells.length - CELLS_COMPARED;
-    note("compare-more", more > 0 ? `${more} more cells are different.` : "");
+    put($("compare-more"), more > 0 ? `${more} more cells are different.` : "");
   }
-}
-
-function showOutput() {
-  $("output").hidden = $("papers").childElementCount + $("other-papers").childElementCount === 0;
-}
-
-function saidOf(names) {
-  return names.length === 0 ? "Nothing is different." : `Different: ${listed(names, MOST_NAMES)}.`;
 }
 
 const freshRow = () => make("tr", {}, make("th", { scope: "row" }), make("td"), make("td"));

@@ -1,9 +1,7 @@
 // Small helps for elements.
 
 export const $ = (id) => /** @type {any} */ (document.getElementById(id));
-
 export const all = (selector, within = document) => /** @type {any[]} */ ([...within.querySelectorAll(selector)]);
-
 export const on = (id, event, work) => $(id).addEventListener(event, work);
 
 // A child that is a text stays a text. Numbers have a tenth at most.
@@ -29,13 +27,20 @@ export function mark(element, name, value) {
 
 export const isPressed = (id) => $(id).getAttribute("aria-pressed") === "true";
 
-export function note(id, text) {
-  $(id).hidden = text === "";
-  put($(id), text);
+// How far an event is from the left of an element, as a part of its width.
+export function partOf(element, { clientX }) {
+  const { left, width } = element.getBoundingClientRect();
+  return (clientX - left) / width;
 }
 
-// The button to which the tab key comes.
+// The button to which the tab key comes; one is kept, at first that of a row.
 export const stopIn = (box) => box.querySelector("button[tabindex='0']");
+
+export function keepStop(box, row = box) {
+  const button = stopIn(box) || row.querySelector("button");
+  if (button) button.tabIndex = 0;
+  return button;
+}
 
 export function stepOf(key, page) {
   return { ArrowUp: -1, ArrowDown: 1, PageUp: -page, PageDown: page, Home: -Infinity, End: Infinity }[key];
@@ -81,9 +86,7 @@ export async function copied(text) {
 }
 
 // In the next frame, since to alter a size in the same one is an error.
-export function onResize(element, work) {
-  new ResizeObserver(() => requestAnimationFrame(work)).observe(element);
-}
+export function onResize(element, work) { new ResizeObserver(() => requestAnimationFrame(work)).observe(element); }
 
 // The rows of a list by their keys. A row whose key is still there keeps its element, and the focus
 // in it. If the focus was in a row that is gone, it goes to the box.
@@ -102,7 +105,7 @@ export function keepRows(box, items, keyOf, create, update) {
     else box.insertBefore(row, at);
     update(row, item);
   }
-  if (isLost) (stopIn(box) || box.closest("[tabindex]") || box).focus();
+  if (isLost) (keepStop(box) || box.closest("[tabindex]") || box).focus();
 }
 
 // Some names, and how many more there are.

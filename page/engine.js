@@ -4,7 +4,6 @@
 const [DONE, MEMORY, NO_ROOM] = [0, 1, 3]; // statuses of a call
 const FIRST_ROOM = 1 << 18;
 const LARGE = 1 << 28; // an instance with more memory than this is not kept for another session
-
 const NO_MEMORY = "T1 out of memory";
 
 export class Engine {
@@ -67,7 +66,5 @@ export class Engine {
     return place;
   }
 
-  bytes(place, size) {
-    return new Uint8Array(this.exports.memory.buffer, Number(place), size);
-  }
+  bytes(place, size) { return new Uint8Array(this.exports.memory.buffer, Number(place), size); }
 }

@@ -5,7 +5,6 @@ import { bundleOf, openedOf } from "./bundle.js";
 import { bundleIn, fragmentOf } from "./share.js";
 import { tooLarge } from "./source.js";
 import { momentOf } from "./memory.js";
-import { fillMenu, showNotes } from "./notes.js";
 
 const FRAMED = ["bars", "registers", "output", "memory"]; // what a frame may show beside the program
 const HELD_EVERY = 1000; // milliseconds
@@ -15,9 +14,7 @@ const FRESH = "* What the program does\n        ORIG 1000\nSTART   ENTA 5       
   + "        HLT\n        END  START\n";
 const EMBED = new URLSearchParams(window.location.search).get("embed"); // the parts that a frame shows, if it is one
 export const IN_FRAME = EMBED !== null;
-
 const addressOf = (fragment, search = "") => window.location.href.split(/[?#]/)[0] + search + fragment;
-
 const sourceOf = (bundle) => openedOf(bundle, true).source;
 
 function sharedLines(text, other) {
@@ -31,7 +28,7 @@ export class Keep {
     this.lessons = lessons;
     this.lesson = null;
     app.store.on("texts", () => this.recognize());
-    fillMenu(lessons);
+    this.fillMenu();
     on("lessons", "change", () => this.choose());
     on("open", "click", () => $("file").click());
     on("file", "change", () => this.openFile());
@@ -51,7 +48,6 @@ export class Keep {
     if (!IN_FRAME) setInterval(() => this.hold(), HELD_EVERY);
     document.body.classList.toggle("embed", IN_FRAME);
     if (IN_FRAME) this.frame();
-    $("whole").hidden = !IN_FRAME;
     if (IN_FRAME) app.store.on("view", () => this.linkWhole());
   }
 
@@ -65,9 +61,23 @@ export class Keep {
     });
   }
 
+  fillMenu() {
+    const groups = new Map(this.lessons.map(({ group }) => [group, make("optgroup", { label: group })]));
+    this.lessons.forEach(({ group, name, title }, index) => {
+      groups.get(group).append(make("option", { value: String(index), "data-name": name }, title));
+    });
+    $("lessons").append(...groups.values());
+  }
+
+  // `assemble` has made HTML of the notes.
   setLesson(lesson) {
+    const { title = "", notes = "", answer = "", solution = "" } = lesson || {};
     this.lesson = lesson;
-    showNotes(lesson || undefined);
+    $("notes-title").textContent = title;
+    $("notes-text").innerHTML = notes;
+    $("answer-text").innerHTML = answer;
+    Object.assign($("answer"), { open: false, hidden: !answer && !solution });
+    $("answer-open").hidden = !solution;
   }
 
   isOf(lesson, text) {

@@ -11,14 +11,13 @@ const PLACES = ["wrap", "gutter"]; // where a line has its class
 export class Listing {
   constructor(/** @type {Store} */ store, grammar) {
     this.store = store;
-    this.rows = new WeakMap(); // of each line that was drawn its parts
     this.points = new Set(); // the lines with a breakpoint
     this.classed = []; // lines with a class
     this.marks = []; // of what is wrong
     this.bad = new Set(); // lines with a fault
     this.said = new Map(); // the texts of faults and warnings, by their lines
     this.times = new Uint32Array(); // how often cells were executed
-    this.heat = null; // how dark a line is, where somebody asks for it
+    this.heat = (_) => /** @type {string | number} */ (0); // how dark a line is
     this.wordIn = (_) => ZERO;
     this.bow = make("div", { class: "bow", "aria-hidden": "true" });
     this.source = new Source(grammar, {
@@ -147,30 +146,31 @@ export class Listing {
     }));
   }
 
+  // What was drawn beside a line.
+  rowOf(handle) { return handle.gutterMarkers?.beside; }
+
   drawRow(handle, line, isStop) {
-    let parts = this.rows.get(handle);
-    if (!parts) {
-      const button = make("button", { type: "button" });
+    if (!this.rowOf(handle)) {
       const beside = ["loc", "word", "times"].map((kind) => make("span", { class: kind }));
-      const row = make("div", { class: "line", "cm-ignore-events": "true" }, button, ...beside);
-      parts = { button, beside, row, label: "" };
-      this.rows.set(handle, parts);
-      this.cm.setGutterMarker(handle, "beside", parts.row);
+      const given = { class: "line", "cm-ignore-events": "true" };
+      this.cm.setGutterMarker(handle, "beside", make("div", given, make("button", { type: "button" }), ...beside));
     }
+    const row = this.rowOf(handle);
+    const [button, ...beside] = row.children;
     const known = this.knownOf(line);
     const isSet = this.points.has(handle);
-    const heat = this.heat ? this.heat(line) : 0;
+    const heat = this.heat(line);
     const title = this.said.get(line) || "";
-    const label = [line, ...Object.values(known), isSet, isStop, heat, title].join(" ");
-    if (parts.label === label) return;
-    parts.label = label;
-    put(parts.button, String(line));
-    parts.beside.forEach((span) => put(span, known[span.className]));
-    parts.row.style.setProperty("--heat", heat);
-    Object.assign(parts.button, { tabIndex: isStop ? 0 : -1, title });
+    const drawn = [line, ...Object.values(known), isSet, isStop, heat, title].join(" ");
+    if (row.drawn === drawn) return;
+    row.drawn = drawn;
+    put(button, String(line));
+    for (const span of beside) put(span, known[span.className]);
+    row.style.setProperty("--heat", heat);
+    Object.assign(button, { tabIndex: isStop ? 0 : -1, title });
     const said = known.loc ? `, location ${known.loc}, ${known.word}, ${known.times || "0"} times` : "";
-    mark(parts.button, "aria-label", `Line ${line}${said}: breakpoint`);
-    mark(parts.button, "aria-pressed", isSet);
+    mark(button, "aria-label", `Line ${line}${said}: breakpoint`);
+    mark(button, "aria-pressed", isSet);
   }
 
   knownOf(line) {
@@ -188,7 +188,7 @@ export class Listing {
     this.stop = this.cm.getLineHandle(line - 1);
     this.source.reveal(line);
     this.draw();
-    this.rows.get(this.stop).button.focus();
+    this.rowOf(this.stop).firstChild.focus();
   }
 
   setFound(found) {

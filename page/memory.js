@@ -1,7 +1,7 @@
 // Registers and flags, cells, symbols. What the last change altered is marked, with what it was
 // before; each name asks who wrote it.
 
-import { $, fourDigits, keepRows, make, mark, note, on, put, stopIn, walks } from "./dom.js";
+import { $, fourDigits, keepRows, keepStop, make, mark, on, put, walks } from "./dom.js";
 import { CELLS, CellRange, isCell, upTo } from "./range.js";
 import { OPERATIONS } from "./operations.js";
 import { COMPARED, itemOf } from "./sentence.js";
@@ -9,7 +9,7 @@ import { COMPARED, itemOf } from "./sentence.js";
 const CELLS_SHOWN = 500; // rows
 
 function wordRow(name, label, asked) {
-  const button = make("button", { type: "button", "aria-label": `${name}: who wrote it?` }, label);
+  const button = make("button", { type: "button", tabindex: "-1", "aria-label": `${name}: who wrote it?` }, label);
   const unseen = [1, 2].map(() => make("span", { class: "unseen" }));
   const head = make("th", { scope: "row", role: "rowheader" }, button, ...unseen);
   const clicked = () => {
@@ -46,12 +46,10 @@ export function showRegisters(store, /** @type {View} */ view) {
   const row = ({ name }) => wordRow(`r${name}`, `r${name}`, () => store.emit("ask", name, `r${name}`));
   const held = () => make("dd", {}, make("span"), make("span", { class: "will" }));
   const flag = ({ name, part }) => make("div", {}, make("dt", {}, part ? asks(part, name) : name), held());
-  const stop = stopIn($("register-rows"));
-  const current = stop ? stop.closest("tr").dataset.key : "A";
   keepRows($("register-rows"), view.state.registers, ({ name }) => name, row, (element, register) => {
     showWord(element, register.name, register, view);
-    mark(element.querySelector("button"), "tabindex", register.name === current ? "0" : "-1");
   });
+  keepStop($("register-rows"));
   keepRows($("flags"), flagsOf(view.state), ({ name }) => name, flag, (element, { part, text }) => {
     const will = itemOf(view.next, part)?.after;
     put(element.lastChild.firstChild, text);
@@ -91,7 +89,6 @@ export class Memory {
   get which() { return $("cells-which").value; }
 
   chosen() {
-    $("cells-range").hidden = this.which !== "range";
     this.range.ask();
     this.show();
   }
@@ -115,9 +112,6 @@ export class Memory {
     const all = { near, filled, range: this.range.cells }[this.which];
     const shown = all.slice(0, CELLS_SHOWN);
     this.shownCells = shown;
-    const stop = stopIn($("cell-rows"));
-    const old = stop && Number(stop.closest("tr").dataset.cell);
-    const current = [old, this.middle].find((cell) => shown.includes(cell)) ?? shown[0];
     const fresh = (cell) => {
       const name = `cell ${cell}`;
       return wordRow(name, fourDigits(cell), () => this.store.emit("ask", name, name));
@@ -129,12 +123,13 @@ export class Memory {
       element.classList.toggle("here", cell === used);
       element.classList.toggle("conflict", isMet);
       mark(element, "data-cell", cell);
-      mark(element.querySelector("button"), "tabindex", cell === current ? "0" : "-1");
+      if (cell === this.middle) keepStop($("cell-rows"), element);
     });
-    note("cells-use", until ? `Cell ${fourDigits(met)}: unit ${unit} until ${until}` : "");
+    keepStop($("cell-rows"));
+    put($("cells-use"), until ? `Cell ${fourDigits(met)}: unit ${unit} until ${until}` : "");
     const more = all.length - shown.length;
     const none = all.length === 0 ? "All cells are zero." : "";
-    note("cells-more", more > 0 ? `${more} more are not shown: choose a range.` : none);
+    put($("cells-more"), more > 0 ? `${more} more are not shown: choose a range.` : none);
     this.reveal(met ?? shown.find((cell) => view.altered.has(`cell ${cell}`)) ?? used ?? first);
   }
 
@@ -160,8 +155,6 @@ export function showSymbols({ symbols }, found, memory) {
     const parts = cells.map(([kind, text]) => make("td", { class: kind }, text));
     return make("tr", { class: isWrong && "wrong" }, head, ...parts);
   };
-  $("no-symbols").hidden = symbols.length > 0;
-  $("symbol-table").hidden = symbols.length === 0;
   $("symbol-rows").replaceChildren(...symbols.map(row));
   return warnings.length > 0 ? `Warning: ${warnings.join("; ")}.` : "";
 }

@@ -38,7 +38,5 @@ export class Path {
     return { width, sums: [...sums.slice(0, whole + 1), ...(whole * width < until ? [times] : [])] };
   }
 
-  cut(done) {
-    this.sums.length = Math.min(this.sums.length, 1 + Math.floor(done / this.width));
-  }
+  cut(done) { this.sums.length = Math.min(this.sums.length, 1 + Math.floor(done / this.width)); }
 }

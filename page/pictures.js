@@ -1,10 +1,12 @@
-// Pictures of all changes: a strip of moments below the bars, and the map of time.
+// Pictures of all changes: a strip of moments below the bars, the map of time, and the tints of
+// lines and cells.
 
-import { $, all, between, counted, isPressed, mark, note, on, saved } from "./dom.js";
+import { $, all, between, counted, isPressed, mark, on, partOf, put, saved } from "./dom.js";
 import { fileOf, mapOf, stripOf } from "./svg.js";
 
 const COLUMNS = 60; // of the strip, at most
 const MAX_ROWS = 120; // of the map
+const MOST_CHANGES = 50000; // after which cells have no tint
 
 // One ask gives all of a picture; it is asked again only where the changes, or what is asked, are
 // others. `find` asks a session for what is drawn, `draw` draws what was found, or nothing.
@@ -58,10 +60,8 @@ export class Strip extends Picture {
   constructor(store) {
     super(store);
     this.shown = null; // the cells that are drawn, by which field, the title
-    on("strip", "click", ({ clientX }) => {
-      const { left, width } = $("strip").firstChild.getBoundingClientRect();
-      const { found } = this;
-      const column = found && found[Math.floor(((clientX - left) / width) * found.length)];
+    on("strip", "click", (event) => {
+      const column = this.found?.[Math.floor(partOf($("strip").firstChild, event) * this.found.length)];
       if (column) store.emit("slide", column.moment);
     });
     on("bars-strip", "click", () => this.toggle(!this.isOpen));
@@ -110,11 +110,10 @@ export class TimeMap extends Picture {
     this.listing = listing;
     store.on("view", () => this.show());
     on("map-box", "toggle", () => this.show());
-    on("map", "click", ({ target, clientX }) => {
-      if (!this.found || !target.closest("svg")) return;
-      const { left, width } = $("map").querySelector(".field").getBoundingClientRect();
+    on("map", "click", (event) => {
+      if (!this.found || !event.target.closest("svg")) return;
       const { total } = this.found;
-      store.emit("slide", between(0, Math.round(((clientX - left) / width) * total), total));
+      store.emit("slide", between(0, Math.round(partOf($("map").querySelector(".field"), event) * total), total));
     });
     keepsPictures(store, "map", "map", "#map svg");
   }
@@ -131,9 +130,7 @@ export class TimeMap extends Picture {
     this.show();
   }
 
-  show() {
-    this.look(this.part);
-  }
+  show() { this.look(this.part); }
 
   async find(session) {
     const { total } = session;
@@ -155,7 +152,7 @@ export class TimeMap extends Picture {
     const furnish = (row) => ({ ...row, line: lineOf.get(row.cell), isBreak: breakCells.includes(row.cell) });
     const rows = found.map(furnish);
     const more = `These are the first ${MAX_ROWS} of ${counted(many, "instruction")}.`;
-    note("map-more", many === 0 ? "Nothing was done yet." : many > MAX_ROWS ? more : "");
+    put($("map-more"), many === 0 ? "Nothing was done yet." : many > MAX_ROWS ? more : "");
     if (rows.length === 0) return;
     const { done } = this.store.view.state;
     const title = `Map of ${counted(total, "change")}`;
@@ -176,4 +173,48 @@ export class TimeMap extends Picture {
     });
     return [...told, ...parts].join(" ");
   }
+}
+
+// Of each line by how often it was executed so far, and of each cell that is shown by how many of
+// all changes altered it, which its row says too.
+export class Heat extends Picture {
+  constructor(/** @type {Store} */ store, /** @type {Listing} */ listing, /** @type {Memory} */ memory) {
+    super(store);
+    this.listing = listing;
+    this.memory = memory;
+    store.on("view", (view) => this.show(view));
+    on("heat", "click", () => {
+      mark($("heat"), "aria-pressed", !this.isOpen);
+      if (store.view) store.show(store.view);
+    });
+  }
+
+  get isOpen() { return isPressed("heat"); }
+
+  show(/** @type {View} */ { times }) {
+    const { listing, memory, store: { session } } = this;
+    const heatOf = this.isOpen ? heats([...times]) : () => 0;
+    listing.heat = (line) => heatOf(times[listing.cellOf.get(line)] || 0);
+    listing.draw();
+    if (this.isOpen && session && session.total <= MOST_CHANGES) this.look(memory.shownCells.join());
+    else if (this.found) this.forget();
+  }
+
+  find(session) { return session.altersOf(this.memory.shownCells); }
+
+  draw() {
+    const counts = this.found || new Map();
+    const heatOf = heats([...counts.values()]);
+    for (const row of all("#cell-rows tr")) {
+      const count = counts.get(Number(row.dataset.cell)) || 0;
+      row.style.setProperty("--heat", heatOf(count));
+      row.title = count > 0 ? `altered by ${counted(count, "change")}` : "";
+      put(row.querySelector(".unseen + .unseen"), row.title);
+    }
+  }
+}
+
+function heats(numbers) {
+  const most = Math.log(1 + Math.max(1, ...numbers));
+  return (number) => (Math.log(1 + number) / most).toFixed(2);
 }

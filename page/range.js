@@ -1,9 +1,8 @@
 // A range of cells, whose ends a person writes as W-values.
 
-import { $, mark, note } from "./dom.js";
+import { $, mark, put } from "./dom.js";
 
 export const CELLS = 4000;
-
 export const isCell = (number) => number >= 0 && number < CELLS;
 
 export function upTo(from, to) {
@@ -46,7 +45,7 @@ export class CellRange {
     });
     const [from, to] = numbers;
     if (faults.length === 0 && from > to) faults.push(`the range ends at ${to}, before it begins at ${from}`);
-    note(this.fault, faults.length > 0 ? `Not shown: ${faults[0]}.` : "");
+    put($(this.fault), faults.length > 0 ? `Not shown: ${faults[0]}.` : "");
     if (faults.length > 0) return;
     this.cells = upTo(...numbers);
     this.taken();

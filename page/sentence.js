@@ -10,13 +10,9 @@ export const COMPARED = { L: "less", E: "equal", G: "greater" };
 export const STEPS = 1000000; // the most steps of one command
 const LARGE = 10000000; // a number from here on is told as bytes
 const MOST_PARTS = 4; // that are named
-
 const THAN = { L: "less than", E: "equal to", G: "greater than" };
-
 export const isCommand = (/** @type {Change} */ { time }) => time === "0";
-
 export const itemOf = (change, part) => change?.items?.find((item) => item.part === part);
-
 const fieldName = (f) => (f === WHOLE ? "" : `(${f >> 3}:${f & 7})`);
 
 function whereIs(location, { lineOf }) {

@@ -9,7 +9,6 @@ export const WHOLE = 5; // the field (0:5)
 const WHERE = ["mix/state", { cells: [], nonzero: false }]; // how many changes are done
 const NOP = { operation: "NOP", index: 0, field: 0, address: "0" };
 export const ZERO = { word: "+ 00 00 00 00 00", number: "0", characters: "     ", value: "0", instruction: NOP };
-
 const repl = (expression) => ["evaluate", { expression, context: "repl" }];
 
 function openingOf({ deck, cards, source }) {
@@ -39,7 +38,6 @@ export class Session {
   get done() { return this.state.done; }
   get ahead() { return this.state.ahead; }
   get total() { return this.done + this.ahead; }
-
   get isHalted() { return this.ahead === 0 && this.state.halted; }
 
   // The bodies of the answers to requests that only look.
@@ -113,9 +111,7 @@ export class Session {
     return { found, program, view };
   }
 
-  look(at = this.done) {
-    return this.see([], at);
-  }
+  look(at = this.done) { return this.see([], at); }
 
   // The answer to the last command, and a view, with the conflict of the change that is `met`. What
   // is tried is not kept if it is refused.

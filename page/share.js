@@ -18,7 +18,6 @@ async function through(stream, bytes, most = Infinity) {
 
 const lettersIn = (base64) => atob(base64.replace(/-/g, "+").replace(/_/g, "/"));
 const bytesOf = (base64) => Uint8Array.from(lettersIn(base64), (letter) => letter.charCodeAt(0));
-
 const inflate = (base64, most) => through(new DecompressionStream("deflate-raw"), bytesOf(base64), most);
 
 function lettersOf(bytes) {
@@ -37,5 +36,4 @@ export async function bundleIn(fragment) {
 }
 
 export const bytesOfBlock = (id) => inflate(document.getElementById(id).textContent.trim());
-
 export const textOfBlock = async (id) => new TextDecoder().decode(await bytesOfBlock(id));

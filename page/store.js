@@ -33,9 +33,7 @@ export class Store {
   // - "view": a moment is seen, with the answer that led to it and the view before
   // - "tell": something; "busy", "slow": whether it is; "failed": what went wrong
   // - "ask": who wrote a part; "slide": to a moment; "toggle", "edited"; "copy": a named text
-  on(what, work) {
-    this.subscribers.set(what, [...(this.subscribers.get(what) || []), work]);
-  }
+  on(what, work) { this.subscribers.set(what, [...(this.subscribers.get(what) || []), work]); }
 
   // All are told, also where one of them has a fault, which is thrown then.
   emit(what, ...given) {
@@ -50,10 +48,7 @@ export class Store {
     if (faults.length > 0) throw faults[0];
   }
 
-  tell(...said) {
-    this.emit("tell", ...said);
-  }
-
+  tell(...said) { this.emit("tell", ...said); }
   get isBusy() { return this.left > 0 || this.timer !== 0; }
 
   // What it gives, or nothing where it fails or was dropped.

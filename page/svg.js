@@ -11,10 +11,8 @@ const WIDE = 720; // of a strip and of a map
 const THICK = { "stroke-width": 2 };
 const BOLD = { "font-size": 11, "font-weight": "bold" };
 const COLOURS = { ink: "#24211c", soft: "#5e5648", bar: "#224a69", mark: "#96281c", written: "#f6d98a" };
-
 const tenths = (number) => Math.round(10 * number) / 10;
 const shape = (name, given, ...children) => furnished(document.createElementNS(PLACE, name), given, children);
-
 const solid = (kind) => ({ class: kind, fill: COLOURS[kind] });
 const lined = (kind, colour, more) => ({ class: kind, fill: "none", stroke: COLOURS[colour], ...more });
 const box = (x, y, width, height, more) => shape("rect", { x, y, width, height, ...more });

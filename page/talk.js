@@ -1,6 +1,6 @@
 // The commands with their replies, and the script that came with a program.
 
-import { $, make, note, on } from "./dom.js";
+import { $, make, on, put } from "./dom.js";
 
 const LETTERS_SHOWN = 200000; // letters of a reply that are shown
 
@@ -37,7 +37,7 @@ export class Talk {
 
   answer(command, text) {
     if (command) $("command").value = command;
-    note("command-note", text);
+    put($("command-note"), text);
   }
 
   // The first lines of the script with so many commands; comments and blank lines are none.
@@ -51,7 +51,6 @@ export class Talk {
 
   setScript(lines) {
     this.lines = lines;
-    $("script").hidden = lines.length === 0;
     $("script-lines").replaceChildren(...lines.map((line) => make("li", {}, line || " ")));
   }
 

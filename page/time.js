@@ -1,12 +1,10 @@
-// Buttons, keys and the slider: ways through the changes.
+// Buttons, keys and the slider: ways through the changes, and the commands that they are.
 
-import { $, on, put } from "./dom.js";
+import { $, all, on, put } from "./dom.js";
 import { choose } from "./place.js";
+import { STEPS } from "./sentence.js";
 
-const KEYS = {
-  F7: "back", F8: "step", F10: "over", "Control+F10": "out",
-  "Shift+F7": "to-break", "Shift+F8": "run", "Control+F7": "to-start", "Control+F8": "to-end",
-};
+const WAYS = all("#steps [aria-keyshortcuts]"); // the buttons, each with its key
 
 export class Time {
   constructor(/** @type {App} */ app) {
@@ -23,7 +21,7 @@ export class Time {
       },
     };
     this.isDragged = false;
-    for (const id of [...Object.values(KEYS), "beyond"]) on(id, "click", () => app.press(id));
+    for (const button of [...WAYS, $("beyond")]) button.addEventListener("click", () => app.press(button.id));
     on("slider", "input", () => {
       this.isDragged = true;
       $("moment").value = $("slider").value;
@@ -66,11 +64,11 @@ export class Time {
   pressed(event) {
     if (document.querySelector("dialog[open]") || event.altKey || event.metaKey) return;
     const key = `${event.ctrlKey ? "Control+" : ""}${event.shiftKey ? "Shift+" : ""}${event.key}`;
-    const other = this.others[key];
-    if (!other && !KEYS[key]) return;
+    const way = WAYS.find((button) => button.getAttribute("aria-keyshortcuts") === key);
+    if (!this.others[key] && !way) return;
     event.preventDefault();
-    if (other) other();
-    else if (!$(KEYS[key]).disabled && !$(KEYS[key]).hasAttribute("aria-disabled")) $(KEYS[key]).click();
+    if (this.others[key]) this.others[key]();
+    else if (!way.hasAttribute("aria-disabled")) way.click();
   }
 
   show({ done, ahead, total, isHalted }, state) {
@@ -98,7 +96,38 @@ export class Time {
   }
 
   hide() {
-    for (const id of [...Object.values(KEYS), "slider", "moment"]) $(id).disabled = true;
+    for (const control of [...WAYS, $("slider"), $("moment")]) control.disabled = true;
     $("beyond").hidden = true;
   }
+}
+
+// The commands of a button, one after another, each perhaps with a change that conflicts at its end.
+// The engine says where one of the breakpoints at `cells` is met, or one of `filters`, and what is
+// kept are the steps. `over` is the cell behind the next instruction, `out` the one in rJ.
+export async function* commandsOf(name, session, points) {
+  const { done, ahead } = session;
+  if (name === "step" || name === "beyond") yield [ahead > 0 ? "forth 1" : "step 1"];
+  if (name === "over" || name === "out") yield* runOf(session, { ...points, cells: [...points.cells, points[name]] });
+  if (name === "to-end" && ahead > 0) yield ["forth all"];
+  if (name === "back" && done > 0) yield ["back 1"];
+  if (name === "to-start" && done > 0) yield ["back all"];
+  if (name === "to-break" && done > 0) {
+    const end = await session.stop("reverseContinue", points);
+    yield [end.reason === "entry" ? "back all" : `back ${done - end.done}`, end.met];
+  }
+  if (name === "run") yield* runOf(session, points);
+}
+
+// Does again what was taken back, then goes on, by one step more where it stops at a fault, which
+// is told then.
+async function* runOf(session, points) {
+  const { cells, filters } = points;
+  if (session.ahead > 0) {
+    const met = await session.next([...cells.map((cell) => `loc ${cell}`), ...filters]);
+    yield met ? [`forth ${met - session.done}`, filters.length > 0 && met] : ["forth all"];
+    if (met || session.isHalted) return;
+  }
+  const isWatched = cells.length + filters.length > 0;
+  const end = isWatched ? await session.stop("continue", points) : { done: session.done + STEPS };
+  yield [`run ${end.done - session.done + (end.isFault ? 1 : 0)}`, end.met];
 }

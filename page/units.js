@@ -3,7 +3,6 @@
 import { $, all, counted, keepRows, make, put } from "./dom.js";
 
 const CARDS_SHOWN = 200; // cards
-
 const capital = (text) => text[0].toUpperCase() + text.slice(1);
 const busyOf = ({ until }, { clock }) => (BigInt(until) > BigInt(clock) ? `, busy until ${until} u` : "");
 
@@ -23,7 +22,6 @@ export class Units {
   show(/** @type {View} */ { state, units, blocks, altered }) {
     const isRead = (/** @type {Unit} */ { unread, blocks: held }) => unread && held + unread.length > 0;
     const used = units.filter((unit) => !unit.rows || unit.delay !== "0" || isRead(unit));
-    $("no-units").hidden = used.length > 0;
     const fresh = ({ unit }) => make("div", { class: "unit", "data-unit": unit });
     keepRows($("unit-list"), used, ({ unit }) => unit, fresh, (box, unit) => {
       const busy = busyOf(unit, state);
@@ -88,7 +86,6 @@ export class Papers {
   constructor(id, whose = "") {
     this.id = id;
     this.whose = whose;
-    this.drawn = new Map(); // of each unit the lines that are shown
   }
 
   forget() {
@@ -97,7 +94,6 @@ export class Papers {
 
   show(/** @type {Partial<View>} */ { state, units, altered }) {
     const written = units.filter(({ rows, pages }) => rows && rows.length + pages.length > 0);
-    for (const unit of this.drawn.keys()) if (!written.some((other) => other.unit === unit)) this.drawn.delete(unit);
     keepRows($(this.id), written, ({ unit }) => unit, (unit) => this.box(unit), (box, unit) => {
       this.update(box, unit, altered.has(`unit ${unit.unit}`), busyOf(unit, state));
     });
@@ -114,22 +110,19 @@ export class Papers {
   }
 
   // When more rows are written, the first of them is in view.
-  update(box, { unit, rows, pages }, isAltered, busy) {
+  update(box, /** @type {Unit} */ { unit, rows, pages }, isAltered, busy) {
     const paper = box.querySelector(".paper");
-    const lines = withPages(rows, pages);
-    const old = this.drawn.get(unit) || [];
-    const other = lines.findIndex((line, index) => index === old.length || line !== old[index]);
-    const same = other < 0 ? lines.length : other;
-    while (paper.childElementCount > same) paper.lastElementChild.remove();
-    const rowOf = (line) => (line === null ? make("div", { class: "page" }, "new page") : make("div", {}, line));
-    paper.append(...lines.slice(same).map(rowOf));
-    for (const row of all(".new", paper)) row.classList.remove("new");
-    if (isAltered && paper.lastElementChild) paper.lastElementChild.classList.add("new");
+    const old = paper.childElementCount;
+    const lines = withPages(rows, pages).map((text, at) => ({ text, at }));
+    keepRows(paper, lines, ({ at }) => at, () => make("div"), (row, { text, at }) => {
+      put(row, text ?? "new page");
+      row.classList.toggle("page", text === null);
+      row.classList.toggle("new", isAltered && at === lines.length - 1);
+    });
     box.classList.toggle("altered", isAltered);
     put(box.querySelector(".about"), ` unit ${unit}, ${counted(rows.length, "row")}${busy}`);
-    this.drawn.set(unit, lines);
     const topOf = (element) => element.getBoundingClientRect().top;
-    if (lines.length > old.length) paper.scrollTop += topOf(paper.children[same]) - topOf(paper) - paper.clientTop;
+    if (lines.length > old) paper.scrollTop += topOf(paper.children[old]) - topOf(paper) - paper.clientTop;
   }
 }
 
@@ -143,8 +136,6 @@ export class Output extends Papers {
   show(view) {
     const written = super.show(view);
     const rows = written.reduce((sum, unit) => sum + unit.rows.length, 0);
-    $("output").hidden = written.length === 0;
-    $("no-output").hidden = written.length > 0;
     put($("tab-rows"), rows > 0 ? ` ${rows.toLocaleString("en")}` : "");
     return written;
   }

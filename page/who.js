@@ -1,6 +1,6 @@
 // Who wrote this? The last change of a part, all others, the ways there, and a field to set it.
 
-import { $, counted, fourDigits, make, note, on, put } from "./dom.js";
+import { $, counted, fourDigits, make, on, put } from "./dom.js";
 import { refusalOf } from "./machine.js";
 import { flagsOf } from "./memory.js";
 import { CHARACTERS } from "./operations.js";
@@ -68,7 +68,6 @@ export class Who {
     put($("who-title"), `Who wrote ${name}?`);
     put($("who-word"), heldBy(part, view));
     put($("who-text"), this.told(last));
-    $("who-line").hidden = !last;
     put($("who-line"), line);
     $("who-back").disabled = !last || last.number === done;
     $("who-before").disabled = !last;
@@ -91,12 +90,11 @@ export class Who {
       return make("li", {}, make("button", given, `change ${number}: ${of(before)} → ${of(after)}`));
     });
     const isList = items.length > 1;
-    $("who-writes").hidden = !isList;
     $("who-writes").replaceChildren(...items);
     const before = `${isCut[0] ? "the last " : ""}${counted(here + 1, "change")} up to here`;
     const after = `${isCut[1] ? "the next " : ""}${counted(writes.length - 1 - here, "change")} after it`;
     const more = isCut.includes(true) && `There are more: these are ${before}, and ${after}.`;
-    note("who-many", isList ? more || `All ${counted(writes.length, "change")} that wrote it.` : "");
+    put($("who-many"), isList ? more || `All ${counted(writes.length, "change")} that wrote it.` : "");
     $("who-values").replaceChildren();
     if (isList && writes[0].before.number !== undefined) this.draw(name, writes, isCut, { done, total });
   }
@@ -132,7 +130,7 @@ export class Who {
   }
 
   refuse(text) {
-    note("who-fault", text);
+    put($("who-fault"), text);
     $("who-value").setAttribute("aria-invalid", String(text !== ""));
   }
 }

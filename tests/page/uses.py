@@ -160,7 +160,7 @@ def faults(page, native, count):
     page.caret(1)
     page.press(" JUMP 0", Keys.ENTER)
     wanted = native.bundle(" JUMP 0\n" + good).strip()
-    count.same("fault: told", page.told(), wanted.capitalize().replace(" a", " A", 1) + ". Perhaps JMP is meant, not JUMP.")
+    count.same("fault: told", page.told(), wanted.capitalize().replace(" a", " A", 1) + ": JUMP. Perhaps JMP is meant, not JUMP.")
     count.same("fault: in the list", page.text("wrong-text"), f"Line 1: {wanted.split(': ')[1]}: JUMP. Perhaps JMP is meant, not JUMP")
     count.same("fault: at its line", [row.text.strip() for row in page.all(".wrong .line button")], ["1"])
     count.same("fault: no step is offered", page.one("step").is_enabled(), False)
