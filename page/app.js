@@ -29,7 +29,7 @@ export class App {
     this.agreed = ""; // a command that is done when it is given again
     store.on("texts", (begun) => this.showTexts(begun));
     this.listing = new Listing(store, grammar);
-    store.on("view", (view) => showRegisters(store, view));
+    store.on("view", (view) => showRegisters(view));
     this.memory = new Memory(store);
     this.bars = new Bars(store);
     this.map = new TimeMap(store, this.listing);
@@ -42,13 +42,20 @@ export class App {
     this.who = new Who(this);
     store.on("view", (...shown) => this.told(...shown));
     store.on("busy", (isBusy) => $("main").setAttribute("aria-busy", String(isBusy)));
-    store.on("ask", (part, name) => store.enqueue(() => this.who.open(part, name)).then(() => this.map.watch(part)));
     for (const what of ["tell", "slow", "failed", "slide", "toggle", "edited", "copy"]) {
       store.on(what, (...given) => this[what](...given));
     }
     for (const id of ["cards", "deck"]) on(id, "input", () => this.edited());
+    on("main", "click", ({ target }) => this.clicked(target.closest("[data-part]")?.dataset.part));
     on("anew", "click", () => store.add(() => store.begin()));
     place();
+  }
+
+  // Where something is marked, somebody copies it.
+  async clicked(part) {
+    if (!part || !window.getSelection().isCollapsed) return;
+    await this.store.enqueue(() => this.who.open(part));
+    this.map.watch(part);
   }
 
   // Cards of which one looks like a header go apart, to be refused as cards.

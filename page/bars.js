@@ -25,10 +25,6 @@ export class Bars {
     });
     on("bars-by", "change", () => this.show());
     on("bars-field", "input", () => this.show());
-    on("bars", "click", ({ target }) => {
-      const bar = target.closest("[data-cell]");
-      if (bar) store.emit("ask", `cell ${bar.dataset.cell}`, `cell ${bar.dataset.cell}`);
-    });
     store.on("view", () => this.show());
     store.on("program", (program) => this.setProgram(program));
     store.on("forget", () => this.forget());

@@ -3,7 +3,9 @@
 
 const HEADER_OF_CARDS = /^%unit[ \t]+0?16(?![0-9])/i;
 const KEPT = "* Kept by the page, and no commands:";
-const NAMES = { lesson: "lesson", breaks: "breakpoints at lines", bars: "bars", shown: "shown too", left: "still to do" };
+const NAMES = {
+  lesson: "lesson", breaks: "breakpoints at lines", bars: "bars", shown: "shown too", left: "still to do",
+};
 const remark = (name, text) => `* ${NAMES[name]}: ${text}`;
 const linesOf = (text) => text.replace(/\r\n?/g, "\n").split("\n");
 const whole = (text) => (text === "" || text.endsWith("\n") ? text : `${text}\n`);

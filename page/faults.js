@@ -1,6 +1,6 @@
 // What is wrong with a text, in a list, with remedies; why a text is refused.
 
-import { $, counted, keepRows, make, put } from "./dom.js";
+import { $, counted, make, put } from "./dom.js";
 import { placeOf } from "./bundle.js";
 import { CHARACTERS, namesOfAll } from "./operations.js";
 
@@ -13,13 +13,12 @@ export function showFound(found, listing) {
   });
   listing.setFound(all);
   const go = ({ target }) => listing.source.goTo(Number(target.closest("li").dataset.line));
-  const row = () => make("li", {}, make("button", { type: "button", click: go }));
-  keepRows($("fault-rows"), all, ({ line, text }) => `${line} ${text}`, row, (element, { line, isFault, text, remedy }) => {
-    element.dataset.line = line;
-    element.className = isFault ? "wrong" : "warned";
-    element.id = element === $("fault-rows").firstChild ? "wrong-text" : "";
-    put(element.firstChild, `Line ${line}: ${text}${remedy && `. ${remedy}`}`);
+  const rows = all.map(({ line, isFault, text, remedy }, at) => {
+    const told = `Line ${line}: ${text}${remedy && `. ${remedy}`}`;
+    const given = { id: at === 0 && "wrong-text", class: isFault ? "wrong" : "warned", "data-line": String(line) };
+    return make("li", given, make("button", { type: "button", click: go }, told));
   });
+  $("fault-rows").replaceChildren(...rows);
 }
 
 // Of a source all that is said of the first line with a fault.
@@ -73,9 +72,11 @@ function remedyOf({ code }, line) {
   const [, first, operation, address] = /^(\S*)[ \t]*(\S*)[ \t]*(.*)$/.exec(line);
   if (/^[;#/]/.test(first)) return "A remark line begins with *";
   if (code === "A3" && first.endsWith(":")) return "A label has no colon";
-  if (code === "A5" && /,\s/.test(address)) return "The address ends at the first blank, so no blank comes after a comma";
+  const isCut = code === "A5" && /,\s/.test(address);
+  if (isCut) return "The address ends at the first blank, so no blank comes after a comma";
   if (code !== "A2" || namesOfAll().includes(first.toUpperCase())) return "";
   const [near, meant] = [nearTo(operation), nearTo(first)];
   if (near) return `Perhaps ${near} is meant, not ${operation}`;
-  return meant ? `${first} is at the first column, so it is read as a label: perhaps ${meant} behind a blank is meant` : "";
+  const atFirst = `${first} is at the first column, so it is read as a label`;
+  return meant ? `${atFirst}: perhaps ${meant} behind a blank is meant` : "";
 }

@@ -1,23 +1,24 @@
 // Registers and flags, cells, symbols. What the last change altered is marked, with what it was
 // before; each name asks who wrote it.
 
-import { $, fourDigits, keepRows, keepStop, make, mark, on, put, walks } from "./dom.js";
+import { $, fourDigits, keepRows, keepStop, make, on, put, walks } from "./dom.js";
 import { CELLS, CellRange, isCell, upTo } from "./range.js";
 import { OPERATIONS } from "./operations.js";
-import { COMPARED, itemOf } from "./sentence.js";
+import { COMPARED, itemOf, nameOf } from "./sentence.js";
 
 const CELLS_SHOWN = 500; // rows
 
-function wordRow(name, label, asked) {
-  const button = make("button", { type: "button", tabindex: "-1", "aria-label": `${name}: who wrote it?` }, label);
+function asks(part, label, given = {}) {
+  const name = `${nameOf(part)}: who wrote it?`;
+  return make("button", { type: "button", "data-part": part, "aria-label": name, ...given }, label);
+}
+
+function wordRow(part, label, given = {}) {
   const unseen = [1, 2].map(() => make("span", { class: "unseen" }));
-  const head = make("th", { scope: "row", role: "rowheader" }, button, ...unseen);
-  const clicked = () => {
-    if (window.getSelection().isCollapsed) asked(); // otherwise somebody marks a number to copy it
-  };
+  const head = make("th", { scope: "row", role: "rowheader" }, asks(part, label, { tabindex: "-1" }), ...unseen);
   const cells = ["word", "number", "chars", "was"].map((kind) => make("td", { class: kind, role: "cell" }));
   cells[3].append(make("span"), make("span", { class: "will" }));
-  return make("tr", { click: clicked, role: "row" }, head, ...cells);
+  return make("tr", { "data-part": part, role: "row", ...given }, head, ...cells);
 }
 
 function showWord(row, part, { word, number, characters }, /** @type {View} */ { altered, change, next }, more = []) {
@@ -32,18 +33,14 @@ function showWord(row, part, { word, number, characters }, /** @type {View} */ {
 
 // Flags, location and clock, with the part that may be asked for.
 export const flagsOf = (/** @type {State} */ state) => [
-  { name: "overflow", part: "over", text: state.over ? "on" : "off" },
-  { name: "comparison", part: "cmp", text: COMPARED[state.cmp] },
+  { name: nameOf("over"), part: "over", text: state.over ? "on" : "off" },
+  { name: nameOf("cmp"), part: "cmp", text: COMPARED[state.cmp] },
   { name: "location", part: "", text: fourDigits(state.location) },
   { name: "clock", part: "", text: `${state.clock} u` },
 ];
 
-export function showRegisters(store, /** @type {View} */ view) {
-  const asks = (part, name) => {
-    const click = () => store.emit("ask", part, name);
-    return make("button", { type: "button", "aria-label": `${name}: who wrote it?`, click }, name);
-  };
-  const row = ({ name }) => wordRow(`r${name}`, `r${name}`, () => store.emit("ask", name, `r${name}`));
+export function showRegisters(/** @type {View} */ view) {
+  const row = ({ name }) => wordRow(name, `r${name}`);
   const held = () => make("dd", {}, make("span"), make("span", { class: "will" }));
   const flag = ({ name, part }) => make("div", {}, make("dt", {}, part ? asks(part, name) : name), held());
   keepRows($("register-rows"), view.state.registers, ({ name }) => name, row, (element, register) => {
@@ -112,17 +109,13 @@ export class Memory {
     const all = { near, filled, range: this.range.cells }[this.which];
     const shown = all.slice(0, CELLS_SHOWN);
     this.shownCells = shown;
-    const fresh = (cell) => {
-      const name = `cell ${cell}`;
-      return wordRow(name, fourDigits(cell), () => this.store.emit("ask", name, name));
-    };
+    const fresh = (cell) => wordRow(`cell ${cell}`, fourDigits(cell), { "data-cell": String(cell) });
     keepRows($("cell-rows"), shown, (cell) => cell, fresh, (element, cell) => {
       const isMet = cell === met;
       const more = [cell === used && "M", isMet && "conflict"];
       showWord(element, `cell ${cell}`, view.wordIn(cell), view, more);
       element.classList.toggle("here", cell === used);
       element.classList.toggle("conflict", isMet);
-      mark(element, "data-cell", cell);
       if (cell === this.middle) keepStop($("cell-rows"), element);
     });
     keepStop($("cell-rows"));

@@ -13,6 +13,11 @@ const MOST_PARTS = 4; // that are named
 const THAN = { L: "less than", E: "equal to", G: "greater than" };
 export const isCommand = (/** @type {Change} */ { time }) => time === "0";
 export const itemOf = (change, part) => change?.items?.find((item) => item.part === part);
+export function nameOf(part) {
+  const flag = { over: "overflow", cmp: "comparison" }[part];
+  return flag || (/^(A|X|J|I\d)$/.test(part) ? `r${part}` : part);
+}
+
 const fieldName = (f) => (f === WHOLE ? "" : `(${f >> 3}:${f & 7})`);
 
 function whereIs(location, { lineOf }) {
@@ -40,8 +45,7 @@ function alterationsOf(/** @type {Change} */ { items }, written, isControl) {
       return { output, place: `${part} goes to block ${after}` }[what];
     }
     const told = (word, number) => (number && Math.abs(Number(number)) < LARGE ? number : word);
-    const name = /^(A|X|J|I\d)$/.test(part) ? `r${part}` : part;
-    return `${name} from ${told(before, beforeValue)} to ${told(after, afterValue)}`;
+    return `${nameOf(part)} from ${told(before, beforeValue)} to ${told(after, afterValue)}`;
   }).filter(Boolean);
 }
 

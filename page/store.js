@@ -32,7 +32,7 @@ export class Store {
   // - "program": it is accepted; "forget": another program was opened
   // - "view": a moment is seen, with the answer that led to it and the view before
   // - "tell": something; "busy", "slow": whether it is; "failed": what went wrong
-  // - "ask": who wrote a part; "slide": to a moment; "toggle", "edited"; "copy": a named text
+  // - "slide": to a moment; "toggle", "edited"; "copy": a named text
   on(what, work) { this.subscribers.set(what, [...(this.subscribers.get(what) || []), work]); }
 
   // All are told, also where one of them has a fault, which is thrown then.

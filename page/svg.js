@@ -65,7 +65,7 @@ export function barsOf({ title, text, bars, arrows, conflict }) {
     if (isTold) parts.push(label(x(cell), at, told, "ink", { "font-size": 11 }));
     if (isWritten) parts.push(shape("circle", { cx: x(cell), cy: above - (isTold ? 18 : 6), r: 3, ...solid("mark") }));
     if (index % every === 0) parts.push(label(x(cell), foot, fourDigits(cell), "soft"));
-    return shape("g", { "data-cell": cell }, ...parts);
+    return shape("g", { "data-cell": cell, "data-part": `cell ${cell}` }, ...parts);
   };
   const under = arrows.map(({ cell }, at) => arrows.slice(0, at).filter((other) => other.cell === cell).length);
   const arrow = ({ name, cell }, at) => {

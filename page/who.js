@@ -4,7 +4,7 @@ import { $, counted, fourDigits, make, on, put } from "./dom.js";
 import { refusalOf } from "./machine.js";
 import { flagsOf } from "./memory.js";
 import { CHARACTERS } from "./operations.js";
-import { isCommand } from "./sentence.js";
+import { isCommand, nameOf } from "./sentence.js";
 import { valuesOf } from "./svg.js";
 
 // As a W-value: also a word byte by byte and five characters in quotes, as the page shows them.
@@ -58,11 +58,11 @@ export class Who {
     this.app.go(`goto ${moment}`);
   }
 
-  // A part is what comes after `until` in a command.
-  async open(part, name) {
+  async open(part) {
     const { session, view } = this.app.store;
     const { done, ahead } = session;
     const { writes, isCut, last, line, next } = await session.writesOf(part);
+    const name = nameOf(part);
     Object.assign(this, { part, last, next });
     this.showWrites(name, writes, isCut, session);
     put($("who-title"), `Who wrote ${name}?`);
