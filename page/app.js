@@ -15,7 +15,7 @@ import { WHOLE } from "./session.js";
 import { Store } from "./store.js";
 import { Talk } from "./talk.js";
 import { Time, commandsOf } from "./time.js";
-import { Output, Units } from "./units.js";
+import { Papers, Units } from "./units.js";
 import { Who } from "./who.js";
 
 export class App {
@@ -33,7 +33,9 @@ export class App {
     this.memory = new Memory(store);
     this.bars = new Bars(store);
     this.map = new TimeMap(store, this.listing);
-    this.output = new Output(store);
+    const papers = new Papers("papers");
+    store.on("view", (view) => papers.show(view));
+    store.on("forget", () => papers.forget());
     this.units = new Units(store);
     this.heat = new Heat(store, this.listing, this.memory);
     this.compare = new Compare(store);

@@ -1,4 +1,4 @@
-// Lessons, opening, saving and sharing.
+// Lessons, opening, saving and sharing. `assemble` has made their menu, and HTML of their notes.
 
 import { $, copied, make, on, put, saved } from "./dom.js";
 import { bundleOf, openedOf } from "./bundle.js";
@@ -28,7 +28,6 @@ export class Keep {
     this.lessons = lessons;
     this.lesson = null;
     app.store.on("texts", () => this.recognize());
-    this.fillMenu();
     on("lessons", "change", () => this.choose());
     on("open", "click", () => $("file").click());
     on("file", "change", () => this.openFile());
@@ -61,15 +60,6 @@ export class Keep {
     });
   }
 
-  fillMenu() {
-    const groups = new Map(this.lessons.map(({ group }) => [group, make("optgroup", { label: group })]));
-    this.lessons.forEach(({ group, name, title }, index) => {
-      groups.get(group).append(make("option", { value: String(index), "data-name": name }, title));
-    });
-    $("lessons").append(...groups.values());
-  }
-
-  // `assemble` has made HTML of the notes.
   setLesson(lesson) {
     const { title = "", notes = "", answer = "", solution = "" } = lesson || {};
     this.lesson = lesson;

@@ -145,7 +145,9 @@ function haltedAt(/** @type {State} */ { done, clock }, was) {
   return `Halted after ${counted(done, "change")}, clock ${Number(clock).toLocaleString("en")} u${steps}.`;
 }
 
-const rowsIn = (/** @type {View} */ view) => view.units.reduce((sum, { rows }) => sum + (rows ? rows.length : 0), 0);
+export function rowsIn(/** @type {View} */ { units }) {
+  return units.reduce((sum, { rows }) => sum + (rows ? rows.length : 0), 0);
+}
 
 function printed(before, view) {
   const rows = before ? rowsIn(view) - rowsIn(before) : 0;

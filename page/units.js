@@ -1,6 +1,7 @@
 // The units: what was written, what is still to be read, tapes and disks by block.
 
 import { $, all, counted, keepRows, make, put } from "./dom.js";
+import { rowsIn } from "./sentence.js";
 
 const CARDS_SHOWN = 200; // cards
 const capital = (text) => text[0].toUpperCase() + text.slice(1);
@@ -19,10 +20,13 @@ export class Units {
     return named.map(([unit, block]) => ["mix/units", { unit, block }]);
   }
 
-  show(/** @type {View} */ { state, units, blocks, altered }) {
+  show(/** @type {View} */ view) {
+    const { state, units, blocks, altered } = view;
+    const rows = rowsIn(view);
     const isRead = (/** @type {Unit} */ { unread, blocks: held }) => unread && held + unread.length > 0;
     const used = units.filter((unit) => !unit.rows || unit.delay !== "0" || isRead(unit));
     const fresh = ({ unit }) => make("div", { class: "unit", "data-unit": unit });
+    put($("tab-rows"), rows > 0 ? ` ${rows.toLocaleString("en")}` : "");
     keepRows($("unit-list"), used, ({ unit }) => unit, fresh, (box, unit) => {
       const busy = busyOf(unit, state);
       const open = [...blocks].filter(([key]) => key.startsWith(`${unit.unit} `));
@@ -97,7 +101,6 @@ export class Papers {
     keepRows($(this.id), written, ({ unit }) => unit, (unit) => this.box(unit), (box, unit) => {
       this.update(box, unit, altered.has(`unit ${unit.unit}`), busyOf(unit, state));
     });
-    return written;
   }
 
   box({ kind, unit }) {
@@ -123,21 +126,6 @@ export class Papers {
     put(box.querySelector(".about"), ` unit ${unit}, ${counted(rows.length, "row")}${busy}`);
     const topOf = (element) => element.getBoundingClientRect().top;
     if (lines.length > old) paper.scrollTop += topOf(paper.children[old]) - topOf(paper) - paper.clientTop;
-  }
-}
-
-export class Output extends Papers {
-  constructor(store) {
-    super("papers");
-    store.on("view", (view) => this.show(view));
-    store.on("forget", () => this.forget());
-  }
-
-  show(view) {
-    const written = super.show(view);
-    const rows = written.reduce((sum, unit) => sum + unit.rows.length, 0);
-    put($("tab-rows"), rows > 0 ? ` ${rows.toLocaleString("en")}` : "");
-    return written;
   }
 }
 
