@@ -217,7 +217,7 @@ export class Session {
     };
     const [before, all = before] = await writesUpTo(done < total ? [done, total] : [done]);
     // The last of all, if they reach back to here; else the last of those that are near.
-    const reaches = (writes) => writes.length < MOST_WRITES || writes[0].number <= done;
+    const reaches = (writes) => writes.length < MOST_WRITES || writes[0].number <= done + 1;
     const near = reaches(all) ? [] : await writesUpTo([done + MOST_WRITES, done + 32 * MOST_WRITES]);
     const ahead = [...near, all].filter(reaches).pop().filter(({ number }) => number > done);
     const last = before[before.length - 1];

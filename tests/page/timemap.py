@@ -138,6 +138,13 @@ def many_writes(page, native, count):
         begin = 4 if first == 0 else round(4 + every[first] / total * 480)
         count.same(f"writes: at {moment}: the curve begins where it is known", (abs(shape[0] - begin) <= 1, shape[1]), (True, last == len(every)))
         page.press(Keys.ESCAPE)
+    page.put("text", " INCA 1\n" * 2500 + " HLT\n END 0\n")
+    page.click("run")
+    page.slide(100)
+    page.tap(page.driver.find_element(By.CSS_SELECTOR, "#register-rows tr[data-key='A'] button"))
+    page.wait(lambda: page.script("return Boolean(document.querySelector('#who-writes button'))"))
+    rows = page.script("return [...document.querySelectorAll('#who-writes button')].map(b => b.textContent)")
+    count.same("writes: each change is one", rows, [f"change {n}: {n - 1} → {n}" for n in range(1, 1101)])
 
 
 def map_grows(page, native, count):
