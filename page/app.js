@@ -74,7 +74,7 @@ export class App {
     store.refusal = toldRefusal(refusal, found, texts, listing);
     $("main").classList.toggle("stale", Boolean(refusal)); // what is seen is that of an older program
     if (refusal) this.time.hide();
-    else store.warning = showSymbols(program, found, this.memory);
+    else store.warning = showSymbols(program, found, this);
   }
 
   told(view, answer, before) {

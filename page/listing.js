@@ -53,6 +53,7 @@ export class Listing {
   }
 
   lineText(line) { return this.cm.getLine(line - 1) || ""; }
+  textOf({ line, column, endColumn }) { return [...this.lineText(line)].slice(column - 1, endColumn - 1).join(""); }
 
   edited(changes) {
     if (changes.some(({ text, removed }) => text.length !== removed.length)) this.draw();

@@ -136,9 +136,9 @@ export class Memory {
 }
 
 // Gives the warnings of symbols that are not defined.
-export function showSymbols({ symbols }, found, memory) {
-  const warnings = [...new Set(found.filter(({ code }) => code === "undefined-symbol").map(({ text }) => text))];
-  const missing = new Set(warnings.map((text) => text.split(" ")[0].toUpperCase()));
+export function showSymbols({ symbols }, found, { listing, memory }) {
+  const warnings = found.filter(({ code }) => code === "undefined-symbol");
+  const missing = new Set(warnings.map((each) => listing.textOf(each).toUpperCase()));
   const row = ({ name, value, number }) => {
     const label = `${name}: show the cells from there on`;
     const button = make("button", { type: "button", "aria-label": label, click: () => memory.showFrom(name) }, name);
@@ -149,5 +149,5 @@ export function showSymbols({ symbols }, found, memory) {
     return make("tr", { class: isWrong && "wrong" }, head, ...parts);
   };
   $("symbol-rows").replaceChildren(...symbols.map(row));
-  return warnings.length > 0 ? `Warning: ${warnings.join("; ")}.` : "";
+  return warnings.length > 0 ? `Warning: ${warnings.map(({ text }) => text).join("; ")}.` : "";
 }
