@@ -185,6 +185,7 @@ export class Heat extends Picture {
     store.on("view", (view) => this.show(view));
     on("heat", "click", () => {
       mark($("heat"), "aria-pressed", !this.isOpen);
+      $("main").classList.toggle("heat", this.isOpen); // a style that asks for the button takes time at each key
       if (store.view) store.show(store.view);
     });
   }
