@@ -28,12 +28,11 @@ export function toldRefusal(refusal, found, texts, listing) {
   const { text, line } = refusal.variables;
   const number = Number(line);
   if (text === "source") {
-    const more = found.filter(isError).length - 1;
-    const here = found.filter((each) => each.line === number);
-    const remedies = here.map((each) => remedyOf(each, listing.lineText(number)));
+    const [first, ...more] = found.filter(isError);
+    const remedy = remedyOf(first, listing.lineText(number));
     listing.source.reveal(number);
-    const told = [`Line ${line}: ${listing.said.get(number)}`, ...remedies, more > 0 && counted(more, "more fault")];
-    return told.filter(Boolean).join(". ");
+    const rest = more.length > 0 && counted(more.length, "more fault");
+    return [`Line ${line}: ${listing.said.get(number)}`, remedy, rest].filter(Boolean).join(". ");
   }
   const what = refusal.format.split(/line \d+: /).pop();
   const row = (text === "cards" ? texts.cards : texts.deck).split("\n")[number - 1] || "";
