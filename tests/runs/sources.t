@@ -46,31 +46,31 @@ Programs as they are: tabs, ALF in each form, fields, local symbols, literals, r
 What other assemblers take: operations of a binary MIX, floating point, and numbers that do not fit.
 
   $ said ' SLB 1\n END 0\n'
-  1:2: error: A2 no such operation: SLB
+  1:2: error: A2 no such operation: SLB: the operations of binary computers are left out of this machine
   $ said ' SRB 1\n END 0\n'
-  1:2: error: A2 no such operation: SRB
+  1:2: error: A2 no such operation: SRB: the operations of binary computers are left out of this machine
   $ said ' JAE 0\n END 0\n'
-  1:2: error: A2 no such operation: JAE
+  1:2: error: A2 no such operation: JAE: the operations of binary computers are left out of this machine
   $ said ' JAO 0\n END 0\n'
-  1:2: error: A2 no such operation: JAO
+  1:2: error: A2 no such operation: JAO: the operations of binary computers are left out of this machine
   $ said ' JXE 0\n END 0\n'
-  1:2: error: A2 no such operation: JXE
+  1:2: error: A2 no such operation: JXE: the operations of binary computers are left out of this machine
   $ said ' JXO 0\n END 0\n'
-  1:2: error: A2 no such operation: JXO
+  1:2: error: A2 no such operation: JXO: the operations of binary computers are left out of this machine
   $ said ' FADD 100\n END 0\n'
-  1:2: error: A2 no such operation: FADD
+  1:2: error: A2 no such operation: FADD: floating-point arithmetic is left out of this machine
   $ said ' FSUB 100\n END 0\n'
-  1:2: error: A2 no such operation: FSUB
+  1:2: error: A2 no such operation: FSUB: floating-point arithmetic is left out of this machine
   $ said ' FMUL 100\n END 0\n'
-  1:2: error: A2 no such operation: FMUL
+  1:2: error: A2 no such operation: FMUL: floating-point arithmetic is left out of this machine
   $ said ' FDIV 100\n END 0\n'
-  1:2: error: A2 no such operation: FDIV
+  1:2: error: A2 no such operation: FDIV: floating-point arithmetic is left out of this machine
   $ said ' FCMP 100\n END 0\n'
-  1:2: error: A2 no such operation: FCMP
+  1:2: error: A2 no such operation: FCMP: floating-point arithmetic is left out of this machine
   $ said ' FLOT\n END 0\n'
-  1:2: error: A2 no such operation: FLOT
+  1:2: error: A2 no such operation: FLOT: floating-point arithmetic is left out of this machine
   $ said ' FIX\n END 0\n'
-  1:2: error: A2 no such operation: FIX
+  1:2: error: A2 no such operation: FIX: floating-point arithmetic is left out of this machine
   $ said 'X EQU 1\nX EQU 2\n END 0\n'
   2:1: error: A4 defined twice: X is defined at line 1
   $ said ' ENTA 4096\n END 0\n'
@@ -194,21 +194,6 @@ Columns and labels: an operation in the first column, signs after a label, and n
   1:2: error: A2 no such operation: PRNT
   $ said '\tPRNT 5\n END 0\n'
   1:2: error: A2 no such operation: PRNT
-  $ said ' FADD 5\n FSUB 5\n FMUL 5\n FDIV 5\n FCMP 5\n FLOT\n FIX\n END 0\n'
-  1:2: error: A2 no such operation: FADD: floating-point arithmetic is left out of this machine
-  2:2: error: A2 no such operation: FSUB: floating-point arithmetic is left out of this machine
-  3:2: error: A2 no such operation: FMUL: floating-point arithmetic is left out of this machine
-  4:2: error: A2 no such operation: FDIV: floating-point arithmetic is left out of this machine
-  5:2: error: A2 no such operation: FCMP: floating-point arithmetic is left out of this machine
-  6:2: error: A2 no such operation: FLOT: floating-point arithmetic is left out of this machine
-  7:2: error: A2 no such operation: FIX: floating-point arithmetic is left out of this machine
-  $ said ' SLB 5\n SRB 5\n JAE 5\n JAO 5\n JXE 5\n JXO 5\n END 0\n'
-  1:2: error: A2 no such operation: SLB: the operations of binary computers are left out of this machine
-  2:2: error: A2 no such operation: SRB: the operations of binary computers are left out of this machine
-  3:2: error: A2 no such operation: JAE: the operations of binary computers are left out of this machine
-  4:2: error: A2 no such operation: JAO: the operations of binary computers are left out of this machine
-  5:2: error: A2 no such operation: JXE: the operations of binary computers are left out of this machine
-  6:2: error: A2 no such operation: JXO: the operations of binary computers are left out of this machine
 
 Symbols that are not defined yet, or nowhere; and remarks that are taken for an ADDRESS. What END meets is marked where it is
 used first.
