@@ -1,7 +1,7 @@
 # Completion of mixrev's words in fish: those of its --help.
 function __mixrev_words -a condition
   mixrev $argv[2..] --help 2>/dev/null | sed -nE "
-    s/'/\\\\\\\\&/g
+    s/'/\\\\&/g
     /^Commands:/,/^\$/s/^  ([a-z]+) +(.*)/-n __fish_use_subcommand -f -a \1 -d '\2'/p
     s/^Usage:[^<]*\$/-n '$condition' -f/p
     s/^ +-(.), --([a-z]+) +(.*)/-n '$condition' -s \1 -l \2 -d '\3'/p

@@ -452,14 +452,14 @@ Help.
   $ mixrev -h | grep 'mixrev debug primes.mixal session.txt'
     mixrev debug primes.mixal session.txt --devices tapes.deck
   $ mixrev run -h | grep -e --unit
-        --unit <N>           Writes only the rows of this unit, 17 to 20; may be given several times
+        --unit <N>           Only the rows of this unit, 17 to 20; may be repeated
     mixrev run primes.mixal --unit 18
   $ mixrev dap --help | grep Usage
   Usage: mixrev dap
   $ mixrev debug --help | grep Usage
   Usage: mixrev debug [OPTIONS] <SOURCE> [SCRIPT]
   $ mixrev debug -h | grep -e --devices
-        --devices <FILE>  The deck: what tapes, disks and cards hold; without one all are empty
-  A bundle may take the place of a source: its deck is taken, unless --devices names another, and its script is left out.
+        --devices <FILE>  The deck: what tapes, disks and cards hold at first
+  A bundle may take the place of a source: its deck is taken, unless --devices
   $ mixrev debug a --help | grep 'run 1000'
   Example: with the two lines `run 1000` and `show regs` in the file session.txt,

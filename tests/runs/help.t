@@ -18,11 +18,15 @@ what both say with docs/FORMATS.md.
     -h, --help     Print help
     -V, --version  Print version
   
-  A source is a program in the language MIXAL. A deck says what tapes, disks and cards hold before the program runs.
-  A script is a text file of commands, one a line, such as: step 4, back 2, forth 1, set A 7, break LOOP, run 1000, show regs.
+  A source is a program in the language MIXAL. A deck says what tapes, disks and
+  cards hold before the program runs. A script is a text file of commands, one a
+  line, such as: step 4, back 2, forth 1, set A 7, break LOOP, run 1000, show
+  regs.
   
-  Without any words, mixrev reads a bundle from standard input, if that is no terminal: the source; after a line %DEVICES a
-  deck; after a line %SCRIPT a script. The deck and the script may be left out. As the name of a file, - is standard input.
+  Without any words, mixrev reads a bundle from standard input, if that is no
+  terminal: the source; after a line %DEVICES a deck; after a line %SCRIPT a
+  script. The deck and the script may be left out. As the name of a file, - is
+  standard input.
   
   Examples:
     mixrev run primes.mixal
@@ -31,10 +35,11 @@ what both say with docs/FORMATS.md.
     mixrev list primes.mixal
     mixrev check primes.mixal sieve.mixal
   
-  The status is 0 if all is accepted, 1 if a source is refused, and 3 if a command is refused, a step meets a fault, the
-  steps of a run are used up or a strict run ends before a conflict. It is 2 if nothing could be run to its end: a mistake in
-  the words, a file that cannot be opened or read, a deck that is refused, a text that is too long, an output that takes no
-  more, or no memory.
+  The status is 0 if all is accepted, 1 if a source is refused, and 3 if a command
+  is refused, a step meets a fault, the steps of a run are used up or a strict run
+  ends before a conflict. It is 2 if nothing could be run to its end: a mistake in
+  the words, a file that cannot be opened or read, a deck that is refused, a text
+  that is too long, an output that takes no more, or no memory.
   $ mixrev run --help
   Runs a program to its halt and writes what it prints
   
@@ -44,35 +49,41 @@ what both say with docs/FORMATS.md.
     <SOURCE>  The file with the program, in the language MIXAL
   
   Options:
-        --cards <FILE>       The cards of the reader, one a line, instead of those of the deck
-        --typewriter <FILE>  The lines that the typewriter gives, one a line, instead of those of the deck
-        --devices <FILE>     The deck: what tapes, disks and cards hold; without one all are empty
-        --steps <N>          The most steps that are done, 1000000000 if it is left out
-        --unit <N>           Writes only the rows of this unit, 17 to 20; may be given several times
-        --trace              Writes each step too, as the command trace does, before what it prints
-        --strict             Ends before a step that uses cells of a transfer that is not over
-        --keep <FILE>        Writes what tapes, disks and cards hold at the end, as a deck for another run
-        --svg <FILE>         Writes a picture of the run as SVG: which lines were executed when, and how often
-        --counts             Writes no rows, but a table of how often each instruction was executed, as CSV
-        --writes <PART>      Writes no rows, but a table of each change of this part, such as A, over, 100 or X+1, as CSV
+        --cards <FILE>       The cards of the reader, one a line, not the deck's
+        --typewriter <FILE>  The lines that the typewriter gives, not the deck's
+        --devices <FILE>     The deck: what tapes, disks and cards hold at first
+        --steps <N>          The most steps that are done, 1000000000 if left out
+        --unit <N>           Only the rows of this unit, 17 to 20; may be repeated
+        --trace              Writes each step too, before what it prints
+        --strict             Ends before a step that conflicts with a transfer
+        --keep <FILE>        Writes what the units hold at the end, as a deck
+        --svg <FILE>         Writes a picture of which lines were executed when
+        --counts             Writes no rows, but how often each line was executed
+        --writes <PART>      Writes no rows, but changes of this part: A, 100, X+1
         --csv                Writes the table, or the trace, as CSV
         --json               Writes the table, or the trace, as JSON
         --latex              Writes the table, or the trace, as LaTeX
     -h, --help               Print help
   
-  The program runs to its halt, and what it prints is written at once: the rows of the card punch, the printer, the typewriter
-  and the paper tape in the order in which they are printed, without the blanks at their ends, and a page mark as a form feed.
-  If a step meets a fault, or the steps are used up, one line on standard error says where. It cannot go back.
-  A step that uses cells of a transfer that is not over is a mistake, such as a store into a line that is still printed.
-  The first of them is printed there, and how many there are; with --strict the run ends before it.
-  With --trace the line of each step, with what it altered, comes before what it prints.
-  With --keep the tapes and disks are there for the next program: it reads that file with --devices.
-  With --svg the picture has the lines of the source against the steps of the run: darker where a line was executed more often.
-  With --counts a table has a row for each instruction that was executed: the line of the source, the location, how often, and
-  the time in u. With --writes it has a row for each change of a part, with its values before and after. With --trace and one
-  of --csv, --json and --latex it has a row for each step. A run with --svg or --counts keeps its history, so a program without
-  an end needs --steps.
-  A bundle may take the place of a source: its deck is taken, unless --devices names another, and its script is left out.
+  The program runs to its halt, and what it prints is written at once: the rows of
+  the card punch, the printer, the typewriter and the paper tape in the order in
+  which they are printed, without the blanks at their ends, and a page mark as a
+  form feed. If a step meets a fault, or the steps are used up, one line on
+  standard error says where. It cannot go back.
+  A step that uses cells of a transfer that is not over is a mistake, such as a
+  store into a line that is still printed. The first of them is printed there, and
+  how many there are; with --strict the run ends before it.
+  With --trace the line of each step, with what it altered, comes before what it
+  prints. With --keep the tapes and disks are there for the next program: it reads
+  that file with --devices. With --svg the picture has the lines of the source
+  against the steps of the run: darker where a line was executed more often.
+  With --counts a table has a row for each instruction that was executed: the line
+  of the source, the location, how often, and the time in u. With --writes it has
+  a row for each change of a part, with its values before and after. With --trace
+  and one of --csv, --json and --latex it has a row for each step. A run with
+  --svg or --counts keeps its history, so a program without an end needs --steps.
+  A bundle may take the place of a source: its deck is taken, unless --devices
+  names another, and its script is left out.
   
   Example:
     mixrev run primes.mixal --unit 18
@@ -83,22 +94,27 @@ what both say with docs/FORMATS.md.
   
   Arguments:
     <SOURCE>  The file with the program, in the language MIXAL
-    [SCRIPT]  The file with the commands, one a line; without it each line of standard input is one
+    [SCRIPT]  The file with the commands, one a line; without it standard input
   
   Options:
-        --devices <FILE>  The deck: what tapes, disks and cards hold; without one all are empty
+        --devices <FILE>  The deck: what tapes, disks and cards hold at first
         --echo            Writes each command of SCRIPT before its reply
     -h, --help            Print help
   
-  Without a script it is interactive: it reads a command from standard input, executes it and prints its reply before it reads
-  the next. At a terminal, help lists the commands, and quit ends the session, as the end of the input does.
+  Without a script it is interactive: it reads a command from standard input,
+  executes it and prints its reply before it reads the next. At a terminal, help
+  lists the commands, and quit ends the session, as the end of the input does.
   
-  A script is a text file of commands, one a line: step N and run N go on, trace N shows each step, back N takes changes back,
-  forth N does them again, goto N goes to the state after the first N, set, break and clear change the machine, and show shows
-  its state, the last changes, what differs and how often each instruction was executed. With until A, until cell 100 and the
-  like, run N, back and forth stop when that is altered. A deck is a text file that says what tapes, disks and cards hold before
-  the program runs: a line such as %UNIT 0, and its blocks after it.
-  A bundle may take the place of a source: its deck is taken, unless --devices names another, and its script is left out.
+  A script is a text file of commands, one a line: step N and run N go on, trace N
+  shows each step, back N takes changes back, forth N does them again, goto N goes
+  to the state after the first N, set, break and clear change the machine, and
+  show shows its state, the last changes, what differs and how often each
+  instruction was executed. With until A, until cell 100 and the like, run N, back
+  and forth stop when that is altered. A deck is a text file that says what tapes,
+  disks and cards hold before the program runs: a line such as %UNIT 0, and its
+  blocks after it.
+  A bundle may take the place of a source: its deck is taken, unless --devices
+  names another, and its script is left out.
   
   Example: with the two lines `run 1000` and `show regs` in the file session.txt,
     mixrev debug primes.mixal session.txt
@@ -114,8 +130,9 @@ what both say with docs/FORMATS.md.
   Options:
     -h, --help  Print help
   
-  A source is a text file with a program in the language MIXAL, which ends with a line END. The listing has each line with its
-  location and its word, and then the program's symbols. If the source is refused, it has only the first fault.
+  A source is a text file with a program in the language MIXAL, which ends with a
+  line END. The listing has each line with its location and its word, and then the
+  program's symbols. If the source is refused, it has only the first fault.
   
   Example:
     mixrev list primes.mixal
@@ -131,8 +148,9 @@ what both say with docs/FORMATS.md.
         --json  Writes each fault as one JSON object a line
     -h, --help  Print help
   
-  Nothing is run. Each fault is reported as compilers do, with its file, line and column, the line and a mark; the sources one
-  after the other. A source without faults gives nothing. The status is 1 if a source has a fault.
+  Nothing is run. Each fault is reported as compilers do, with its file, line and
+  column, the line and a mark; the sources one after the other. A source without
+  faults gives nothing. The status is 1 if a source has a fault.
   
   Example:
     mixrev check primes.mixal sieve.mixal
@@ -144,8 +162,11 @@ what both say with docs/FORMATS.md.
   Options:
     -h, --help  Print help
   
-  It speaks the Debug Adapter Protocol on standard input and output, for the editor that starts it: breakpoints in the source,
-  steps forth and back, registers, cells and units.
+  It speaks the Debug Adapter Protocol on standard input and output, for the
+  editor that starts it: breakpoints in the source, steps forth and back,
+  registers, cells and units.
+  $ for command in '' run debug list check dap; do mixrev $command --help; done | grep -E '.{81}'
+  [1]
 
 A session whose input is a terminal; the echo and the prompts are left out.
   $ printf ' END 0\n' > s

@@ -51,6 +51,9 @@ Minus zero keeps its sign, and an instruction that no line of the source put the
   $ mixrev run minus.mixal --writes A </dev/null
   change,line,location,before,after
   1,1,0,0,-0
+  $ mixrev run minus.mixal --writes rA </dev/null
+  change,line,location,before,after
+  1,1,0,0,-0
   $ mixrev run minus.mixal --writes cmp </dev/null
   change,line,location,before,after
   2,2,1,E,L

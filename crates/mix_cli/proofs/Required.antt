@@ -1,54 +1,51 @@
 -- Words in which clap finds no fault give a plan.
-use Rattle.std.proofs.Common.{◌≡◌, ◌∙◌, ap, ◌&&◌, ◌||◌, ◌∷◌, ℕ, Bool, cond, true, false, not, refl, sym, arith, List, [], codes, Option, Some, None, IsSome, drop, true≢false}
+use Rattle.std.proofs.Common.{◌≡◌, ◌∙◌, ap, ◌&&◌, ◌||◌, ◌∷◌, ◌++◌, ℕ, Bool, cond, true, false, not, refl, sym, arith, List, [], codes, Option, Some, None, IsSome, drop, map, true≢false}
 use Rattle.std.specs.Option.{option_map_or, option_and_then, is_some}
 use Rattle.std.specs.List.{find, list_any}
 use Rattle.std.specs.Str.{bytes_eq}
 use Rattle.std.specs.Prelude.{option_map, slice_get}
 use Rattle.clap.specs.Walk.{Row, Text, all_of, answers_to, first_of, nothing_held, rows_after, stop_after, without}
-use Rattle.clap.specs.Simple.{App, Shape, argument_words, built, entered, filled, help_rule, version_rule, names_of, new_rule, rows_at, with_index}
+use Rattle.clap.specs.Simple.{App, Shape, argument_words, built, entered, filled, filled_from, help_rule, index_after, version_rule, names_of, rows_at, with_index}
 use Rattle.clap.specs.Takes.{is_given}
 use Rattle.clap.specs.Faults.{entered_fault, fault_of, level_fault}
 use Rattle.clap.specs.Simple.{subcommand_of}
-use Rattle.mix_cli.specs.Program.{mixrev, flag_named, required_word, required_words, option_named, steps_option, unit_option}
+use Rattle.mix_cli.specs.Program.{commands, mixrev, rule_by}
+use Rattle.mix_cli.specs.declared.program.Kind.{Kind}
+use Rattle.mix_cli.specs.declared.program.Kind.TheVariants.{File, Flag, Free, Needed, Number, Numbers, Part, Several}
 use Rattle.mix_cli.specs.Plan.{checks, check_planned, debug_planned, is_set, list_planned, run_planned, subcommand_planned}
 use Rattle.mix_cli.proofs.Filled.{AllSolid, Solid, given_value, is_missing, level_filled, some_kind, values_filled, without_filled}
 
 -- ---- each argument of the program
 
-word_solid : (i : ℕ) (id : Text) → Solid (with_index i (filled (required_word id)))
-word_solid i id again [] rows e f = absurd (some_kind _ _ e)
-word_solid i id again (v ∷ vs) rows e f = values_filled id _ _ (v ∷ vs) (without id rows) (omega arith) (without_filled id rows f)
-
-words_solid : (i : ℕ) (id : Text) → Solid (with_index i (filled (required_words id)))
-words_solid i id again [] rows e f = absurd (some_kind _ _ e)
-words_solid i id again (v ∷ vs) rows e f = values_filled id _ _ (v ∷ vs) rows (omega arith) f
-
-free_word_solid : (i : ℕ) (id : Text) → Solid (with_index i (filled (new_rule id)))
-free_word_solid i id again [] rows e f = absurd (some_kind _ _ e)
-free_word_solid i id again (v ∷ vs) rows e f = values_filled id _ _ (v ∷ vs) (without id rows) (omega arith) (without_filled id rows f)
-
-option_solid : (i : ℕ) (id : Text) → Solid (with_index i (filled (option_named id)))
-option_solid i id again [] rows e f = absurd (some_kind _ _ e)
-option_solid i id again (v ∷ vs) rows e f = values_filled id _ _ (v ∷ vs) (without id rows) (omega arith) (without_filled id rows f)
-
-flag_solid : (i : ℕ) (id : Text) → Solid (with_index i (filled (flag_named id)))
-flag_solid i id again [] rows e f = values_filled id _ _ (codes "true" ∷ []) (without id rows) (omega arith) (without_filled id rows f)
-flag_solid i id again (v ∷ vs) rows e f = values_filled id _ _ (v ∷ vs) (without id rows) (omega arith) (without_filled id rows f)
-
-steps_solid : (i : ℕ) → Solid (with_index i (filled steps_option))
-steps_solid i again [] rows e f = absurd (some_kind _ _ e)
-steps_solid i again (v ∷ vs) rows e f =
-    values_filled (codes "steps") _ _ (v ∷ vs) (without (codes "steps") rows) (omega arith) (without_filled (codes "steps") rows f)
-
-unit_solid : (i : ℕ) → Solid (with_index i (filled unit_option))
-unit_solid i again [] rows e f = absurd (some_kind _ _ e)
-unit_solid i again (v ∷ vs) rows e f = values_filled (codes "unit") _ _ (v ∷ vs) rows (omega arith) f
+argument_solid : (i : ℕ) (a : Text × Kind) → Solid (with_index i (filled (rule_by a)))
+argument_solid i (id, Flag) again [] rows e f = values_filled id _ _ (codes "true" ∷ []) (without id rows) (omega arith) (without_filled id rows f)
+argument_solid i (id, Flag) again (v ∷ vs) rows e f = values_filled id _ _ (v ∷ vs) (without id rows) (omega arith) (without_filled id rows f)
+argument_solid i (id, Several) again [] rows e f = absurd (some_kind _ _ e)
+argument_solid i (id, Several) again (v ∷ vs) rows e f = values_filled id _ _ (v ∷ vs) rows (omega arith) f
+argument_solid i (id, Numbers from to) again [] rows e f = absurd (some_kind _ _ e)
+argument_solid i (id, Numbers from to) again (v ∷ vs) rows e f = values_filled id _ _ (v ∷ vs) rows (omega arith) f
+argument_solid i (id, Needed) again [] rows e f = absurd (some_kind _ _ e)
+argument_solid i (id, Needed) again (v ∷ vs) rows e f = values_filled id _ _ (v ∷ vs) (without id rows) (omega arith) (without_filled id rows f)
+argument_solid i (id, Free) again [] rows e f = absurd (some_kind _ _ e)
+argument_solid i (id, Free) again (v ∷ vs) rows e f = values_filled id _ _ (v ∷ vs) (without id rows) (omega arith) (without_filled id rows f)
+argument_solid i (id, File) again [] rows e f = absurd (some_kind _ _ e)
+argument_solid i (id, File) again (v ∷ vs) rows e f = values_filled id _ _ (v ∷ vs) (without id rows) (omega arith) (without_filled id rows f)
+argument_solid i (id, Part) again [] rows e f = absurd (some_kind _ _ e)
+argument_solid i (id, Part) again (v ∷ vs) rows e f = values_filled id _ _ (v ∷ vs) (without id rows) (omega arith) (without_filled id rows f)
+argument_solid i (id, Number from to) again [] rows e f = absurd (some_kind _ _ e)
+argument_solid i (id, Number from to) again (v ∷ vs) rows e f =
+    values_filled id _ _ (v ∷ vs) (without id rows) (omega arith) (without_filled id rows f)
 
 help_solid : (i : ℕ) → Solid (with_index i (filled help_rule))
 help_solid i again values rows e f = f
 
 version_solid : (i : ℕ) → Solid (with_index i (filled version_rule))
 version_solid i again values rows e f = f
+
+-- those of a subcommand, after which help stands
+arguments_solid : (i : ℕ) (arguments : List (Text × Kind)) → AllSolid (filled_from i (map rule_by arguments ++ help_rule ∷ []))
+arguments_solid i [] = (help_solid i, tt)
+arguments_solid i (a ∷ rest) = (argument_solid i a, arguments_solid (index_after i (rule_by a)) rest)
 
 -- ---- the levels
 
@@ -79,71 +76,15 @@ abbrev shape_from : List Shape → Shape
 shape_from [] = tool.top
 shape_from (s ∷ rest) = s
 
-abbrev run_shape : Shape
-run_shape = shape_from tool.subs
+abbrev arguments_from : List (Text × List (Text × Kind)) → List (Text × Kind)
+arguments_from [] = []
+arguments_from (command ∷ rest) = command.1
 
-abbrev debug_shape : Shape
-debug_shape = shape_from (drop 1 tool.subs)
+abbrev shape_at : ℕ → Shape
+shape_at k = shape_from (drop k tool.subs)
 
-abbrev list_shape : Shape
-list_shape = shape_from (drop 2 tool.subs)
-
-abbrev check_shape : Shape
-check_shape = shape_from (drop 3 tool.subs)
-
-abbrev dap_shape : Shape
-dap_shape = shape_from (drop 4 tool.subs)
-
-source_solid : (i : ℕ) → Solid (with_index i (filled (required_word (codes "SOURCE"))))
-source_solid i = word_solid i (codes "SOURCE")
-
-run_solid : AllSolid run_shape.rules
-run_solid = (
-  source_solid 1,
-  (
-    option_solid 2 (codes "cards"),
-    (
-      option_solid 2 (codes "typewriter"),
-      (
-        option_solid 2 (codes "devices"),
-        (
-          steps_solid 2,
-          (
-            unit_solid 2,
-            (
-              flag_solid 2 (codes "trace"),
-              (
-                flag_solid 2 (codes "strict"),
-                (
-                  option_solid 2 (codes "keep"),
-                  (
-                    option_solid 2 (codes "svg"),
-                    (
-                      flag_solid 2 (codes "counts"),
-                      (
-                        option_solid 2 (codes "writes"),
-                        (flag_solid 2 (codes "csv"), (flag_solid 2 (codes "json"), (flag_solid 2 (codes "latex"), (help_solid 2, tt)))),
-                      ),
-                    ),
-                  ),
-                ),
-              ),
-            ),
-          ),
-        ),
-      ),
-    ),
-  ),
-)
-
-debug_solid : AllSolid debug_shape.rules
-debug_solid = (source_solid 1, (free_word_solid 2 (codes "SCRIPT"), (option_solid 3 (codes "devices"), (flag_solid 3 (codes "echo"), (help_solid 3, tt)))))
-
-list_solid : AllSolid list_shape.rules
-list_solid = (source_solid 1, (help_solid 2, tt))
-
-check_solid : AllSolid check_shape.rules
-check_solid = (words_solid 1 (codes "SOURCE"), (flag_solid 2 (codes "json"), (help_solid 2, tt)))
+abbrev solid_at : (k : ℕ) → AllSolid (filled_from 1 (map rule_by (arguments_from (drop k commands)) ++ help_rule ∷ []))
+solid_at k = arguments_solid 1 (arguments_from (drop k commands))
 
 -- where the first word of a subcommand has to be there, and nothing is wrong, it is
 module _ (s : Shape) (solid : AllSolid s.rules) (words : List Text) (e : level_fault s [] nothing_held words false [] ≡ []) where
@@ -157,26 +98,26 @@ module _ (s : Shape) (solid : AllSolid s.rules) (words : List Text) (e : level_f
       sym first ∙ ap (λ b. b && list_any (is_missing rows) s.rules) (sym all) ∙ level.3 in
       given_value (codes "SOURCE") rows level.0 (first_given (is_given (codes "SOURCE") rows) _ missing).0
 
-list_given : (words : List Text) → level_fault list_shape [] nothing_held words false [] ≡ [] → IsSome (list_planned (rows_after list_shape.rules [] words))
-list_given words e = some_planned _ (first_of (codes "SOURCE") (rows_after list_shape.rules [] words)) (source_given list_shape list_solid words e refl refl)
+list_given : (words : List Text) → level_fault (shape_at 2) [] nothing_held words false [] ≡ [] → IsSome (list_planned (rows_after (shape_at 2).rules [] words))
+list_given words e = some_planned _ (first_of (codes "SOURCE") (rows_after (shape_at 2).rules [] words)) (source_given (shape_at 2) (solid_at 2) words e refl refl)
 
-check_given : (words : List Text) → level_fault check_shape [] nothing_held words false [] ≡ [] → IsSome (check_planned (rows_after check_shape.rules [] words))
+check_given : (words : List Text) → level_fault (shape_at 3) [] nothing_held words false [] ≡ [] → IsSome (check_planned (rows_after (shape_at 3).rules [] words))
 check_given words e =
-    let rows = rows_after check_shape.rules [] words in
-    all_planned (is_set (codes "json") rows) (all_of (codes "SOURCE") rows) (all_given (codes "SOURCE") rows (source_given check_shape check_solid words e refl refl))
+    let rows = rows_after (shape_at 3).rules [] words in
+    all_planned (is_set (codes "json") rows) (all_of (codes "SOURCE") rows) (all_given (codes "SOURCE") rows (source_given (shape_at 3) (solid_at 3) words e refl refl))
 
-debug_given : (words : List Text) → level_fault debug_shape [] nothing_held words false [] ≡ [] → IsSome (debug_planned (rows_after debug_shape.rules [] words))
-debug_given words e = some_planned _ (first_of (codes "SOURCE") (rows_after debug_shape.rules [] words)) (source_given debug_shape debug_solid words e refl refl)
+debug_given : (words : List Text) → level_fault (shape_at 1) [] nothing_held words false [] ≡ [] → IsSome (debug_planned (rows_after (shape_at 1).rules [] words))
+debug_given words e = some_planned _ (first_of (codes "SOURCE") (rows_after (shape_at 1).rules [] words)) (source_given (shape_at 1) (solid_at 1) words e refl refl)
 
-run_given : (words : List Text) → level_fault run_shape [] nothing_held words false [] ≡ [] → IsSome (run_planned (rows_after run_shape.rules [] words))
-run_given words e = some_planned _ (first_of (codes "SOURCE") (rows_after run_shape.rules [] words)) (source_given run_shape run_solid words e refl refl)
+run_given : (words : List Text) → level_fault (shape_at 0) [] nothing_held words false [] ≡ [] → IsSome (run_planned (rows_after (shape_at 0).rules [] words))
+run_given words e = some_planned _ (first_of (codes "SOURCE") (rows_after (shape_at 0).rules [] words)) (source_given (shape_at 0) (solid_at 0) words e refl refl)
 
 -- ---- the command
 
 abbrev picked : Bool → Bool → Bool → Bool → Bool → Option Shape
 picked is_run is_debug is_list is_check is_dap =
-    cond is_run (Some run_shape) (cond is_debug (Some debug_shape) (cond is_list (Some list_shape)
-    (cond is_check (Some check_shape) (cond is_dap (Some dap_shape) None))))
+    cond is_run (Some (shape_at 0)) (cond is_debug (Some (shape_at 1)) (cond is_list (Some (shape_at 2))
+    (cond is_check (Some (shape_at 3)) (cond is_dap (Some (shape_at 4)) None))))
 
 entered_given : (is_run is_debug is_list is_check is_dap : Bool) (words : List Text)
     → option_map_or (λ s. level_fault s [] nothing_held words false []) (picked is_run is_debug is_list is_check is_dap) [] ≡ []

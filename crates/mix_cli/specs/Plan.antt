@@ -3,7 +3,7 @@ use Rattle.std.specs.Prelude.{ℕ, ◌^◌, ◌==◌, ◌&&◌, Bool, true, fals
 use Rattle.std.specs.List.{list_all, list_any}
 use Rattle.std.specs.Option.{is_some, option_map_or}
 use Rattle.std.specs.Char.{digit_value}
-use Rattle.std.specs.Str.{bytes_eq}
+use Rattle.std.specs.Str.{bytes_eq, str_eq_ignore_ascii_case}
 use Rattle.std.specs.Str.Parse.{digits_value, without_leading_plus}
 use Rattle.clap.specs.Words.{Kinds, Row, Text, all_of, fault_of, first_of, subcommand_of}
 use Rattle.mix_cli.specs.Program.{mixrev}
@@ -105,6 +105,19 @@ table_of rows =
     option_map (λ of. record { of = of; format = unwrap_or (form_of rows) Csv })
     (rows_asked (is_set (codes "counts") rows) (is_some (first_of (codes "writes") rows)) (is_set (codes "trace") rows && is_some (form_of rows)))
 
+-- the part that a text names: a register may have the book's r before it; capitals and small letters count the same
+unfoldable pub part_of : Text → Text
+part_of text =
+    if str_eq_ignore_ascii_case text (codes "rA") then codes "A" else
+    if str_eq_ignore_ascii_case text (codes "rX") then codes "X" else
+    if str_eq_ignore_ascii_case text (codes "rI1") then codes "I1" else
+    if str_eq_ignore_ascii_case text (codes "rI2") then codes "I2" else
+    if str_eq_ignore_ascii_case text (codes "rI3") then codes "I3" else
+    if str_eq_ignore_ascii_case text (codes "rI4") then codes "I4" else
+    if str_eq_ignore_ascii_case text (codes "rI5") then codes "I5" else
+    if str_eq_ignore_ascii_case text (codes "rI6") then codes "I6" else
+    if str_eq_ignore_ascii_case text (codes "rJ") then codes "J" else text
+
 -- of the words after `list`
 abbrev pub list_planned : List Row → Option Planned
 list_planned rows = option_map lists (first_of (codes "SOURCE") rows)
@@ -133,7 +146,7 @@ asked_by source rows = record {
   keep = first_of (codes "keep") rows;
   svg = first_of (codes "svg") rows;
   table = table_of rows;
-  part = first_of (codes "writes") rows;
+  part = option_map part_of (first_of (codes "writes") rows);
 }
 
 abbrev pub run_planned : List Row → Option Planned

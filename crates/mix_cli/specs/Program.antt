@@ -1,94 +1,77 @@
--- The words that the program takes, as clap reads them: `list SOURCE`; `check` with one SOURCE or several, and with `--json`;
--- `debug SOURCE SCRIPT`, of which SCRIPT may be left out, with `--devices FILE` and `--echo`; and `run SOURCE` with options of its own.
-use Rattle.std.specs.Prelude.{ℕ, true, Some, codes}
-use Rattle.clap.specs.Words.{App, Rule, Text, new_app, new_rule, with_rule, with_subcommand}
+-- The words that the program takes, as clap reads them.
+use Rattle.std.specs.Prelude.{ℕ, Bool, true, not, List, [], ◌∷◌, Some, codes, map}
+use Rattle.clap.specs.Words.{App, Rule, Text, new_app, new_rule, with_subcommand}
 use Rattle.clap.specs.Simple.{on_top}
+use Rattle.clap.specs.Walk.{is_empty}
 use Rattle.clap.specs.declared.builder.action.ArgAction.TheVariants.{Append, SetTrue}
 use Rattle.clap.specs.declared.builder.value_parser.ValueParser.TheVariants.{Unsigned}
+use Rattle.mix_cli.specs.declared.program.Argument.{Argument}
+use Rattle.mix_cli.specs.declared.program.Kind.{Kind}
+use Rattle.mix_cli.specs.declared.program.Kind.TheVariants.{File, Flag, Free, Needed, Number, Numbers, Part, Several}
 
 -- how many steps a run may be allowed: a step takes 1u at least, and the clock goes to 10^18
 abbrev pub max_steps : ℕ
 max_steps = 1000000000000000000
 
--- a word that has to be there, in its place
-abbrev pub required_word : Text → Rule
-required_word id = record (new_rule id) { required = true }
-
--- a word that has to be there, and that others of its kind may follow
-abbrev pub required_words : Text → Rule
-required_words id = record (required_word id) { action = Some Append }
-
--- an option with one value, which may be left out, as `--devices FILE`
+-- an option with a value, as `--devices FILE`
 abbrev pub option_named : Text → Rule
 option_named name = record (new_rule name) { long = Some name; value_names = 1 }
 
-abbrev pub devices_option : Rule
-devices_option = option_named (codes "devices")
+-- what clap reads an argument by, from its name and its kind
+abbrev pub rule_by : Text × Kind → Rule
+rule_by (name, Needed) = record (new_rule name) { required = true }
+rule_by (name, Several) = record (new_rule name) { required = true; action = Some Append }
+rule_by (name, Free) = new_rule name
+rule_by (name, Flag) = record (new_rule name) { long = Some name; action = Some SetTrue }
+rule_by (name, File) = option_named name
+rule_by (name, Part) = option_named name
+rule_by (name, Number from to) = record (option_named name) { parser = Some (Unsigned from to) }
+rule_by (name, Numbers from to) = record (option_named name) { action = Some Append; parser = Some (Unsigned from to) }
 
--- `--steps N`, a number from 1 on
-abbrev pub steps_option : Rule
-steps_option = record (option_named (codes "steps")) { parser = Some (Unsigned 1 max_steps) }
+-- `list SOURCE`, `check` with one SOURCE or several, `debug SOURCE SCRIPT`, of which SCRIPT may be left out, `run SOURCE` and `dap`
+abbrev pub commands : List (Text × List (Text × Kind))
+commands = (
+  codes "run",
+  (codes "SOURCE", Needed) ∷ (codes "cards", File) ∷ (codes "typewriter", File) ∷ (codes "devices", File) ∷ (codes "steps", Number 1 max_steps)
+      ∷ (codes "unit", Numbers 17 20) ∷ (codes "trace", Flag) ∷ (codes "strict", Flag) ∷ (codes "keep", File) ∷ (codes "svg", File)
+      ∷ (codes "counts", Flag) ∷ (codes "writes", Part) ∷ (codes "csv", Flag) ∷ (codes "json", Flag) ∷ (codes "latex", Flag) ∷ [],
+)
+    ∷ (codes "debug", (codes "SOURCE", Needed) ∷ (codes "SCRIPT", Free) ∷ (codes "devices", File) ∷ (codes "echo", Flag) ∷ [])
+    ∷ (codes "list", (codes "SOURCE", Needed) ∷ [])
+    ∷ (codes "check", (codes "SOURCE", Several) ∷ (codes "json", Flag) ∷ [])
+    ∷ (codes "dap", [])
+    ∷ []
 
--- `--unit N`, 17 to 20, as often as one likes
-abbrev pub unit_option : Rule
-unit_option = record (option_named (codes "unit")) { action = Some Append; parser = Some (Unsigned 17 20) }
+-- a subcommand that is read by some rules, and that shows its help where it is given no word or not
+abbrev pub app_with : Text → Bool → List Rule → App
+app_with name shows_help rules = on_top (λ s. record s { arg_required_else_help = shows_help; rules = rules }) (new_app name)
 
--- an option without a value, as `--json`
-abbrev pub flag_named : Text → Rule
-flag_named name = record (new_rule name) { long = Some name; action = Some SetTrue }
-
--- a command that shows its help where it is given no word
-abbrev pub helpful : App → App
-helpful app = on_top (λ s. record s { arg_required_else_help = true }) app
-
--- a subcommand whose first word is the source
-abbrev pub of_source : Text → App
-of_source name = with_rule (helpful (new_app name)) (required_word (codes "SOURCE"))
-
-abbrev pub list_app : App
-list_app = of_source (codes "list")
-
--- the first word is a source, and so is each word after it
-abbrev pub of_sources : App
-of_sources = with_rule (helpful (new_app (codes "check"))) (required_words (codes "SOURCE"))
-
-abbrev pub check_app : App
-check_app = with_rule of_sources (flag_named (codes "json"))
-
--- without a script it is a talk
-abbrev pub debug_app : App
-debug_app = with_rule (with_rule (with_rule (of_source (codes "debug")) (new_rule (codes "SCRIPT"))) devices_option) (flag_named (codes "echo"))
-
--- what goes in, what is asked of the run, and what it gives beside the rows of its units
-abbrev pub run_inputs : App
-run_inputs = with_rule (with_rule (with_rule (of_source (codes "run")) (option_named (codes "cards"))) (option_named (codes "typewriter"))) devices_option
-
-abbrev pub limited_run : App
-limited_run = with_rule (with_rule run_inputs steps_option) unit_option
-
-abbrev pub kept_run : App
-kept_run = with_rule (with_rule (with_rule limited_run (flag_named (codes "trace"))) (flag_named (codes "strict"))) (option_named (codes "keep"))
-
--- with its picture, and what it is a table of
-abbrev pub tabled_run : App
-tabled_run = with_rule (with_rule (with_rule kept_run (option_named (codes "svg"))) (flag_named (codes "counts"))) (option_named (codes "writes"))
-
--- with the form of the table
-abbrev pub run_app : App
-run_app = with_rule (with_rule (with_rule tabled_run (flag_named (codes "csv"))) (flag_named (codes "json"))) (flag_named (codes "latex"))
-
-abbrev pub dap_app : App
-dap_app = new_app (codes "dap")
+-- one that has arguments shows its help
+abbrev pub subcommand_app : Text × List (Text × Kind) → App
+subcommand_app command = app_with command.0 (not (is_empty command.1)) (map rule_by command.1)
 
 -- a subcommand has to be there, and `help` is none; it has a version, and one in long form
 abbrev pub bare_app : App
 bare_app =
-    on_top (λ s. record s { subcommand_required = true; disable_help_subcommand = true; has_version = true; has_long_version = true })
-    (helpful (new_app (codes "mixrev")))
+    on_top (λ s. record s {
+      arg_required_else_help = true;
+      subcommand_required = true;
+      disable_help_subcommand = true;
+      has_version = true;
+      has_long_version = true;
+    }) (new_app (codes "mixrev"))
 
--- the subcommands `run` and `debug`, and then all five
-abbrev pub with_sources : App
-with_sources = with_subcommand (with_subcommand bare_app run_app.top) debug_app.top
+-- a command with some subcommands more
+abbrev pub with_commands : App → List (Text × List (Text × Kind)) → App
+with_commands app [] = app
+with_commands app (command ∷ rest) = with_commands (with_subcommand app (subcommand_app command).top) rest
 
 abbrev pub mixrev : App
-mixrev = with_subcommand (with_subcommand (with_subcommand with_sources list_app.top) check_app.top) dap_app.top
+mixrev = with_commands bare_app commands
+
+-- the name and the kind of an argument in the table, and the rules of some
+abbrev pub argument_of : Argument → Text × Kind
+argument_of argument = (argument.name.now, argument.kind)
+
+abbrev pub rules_of : List Argument → List Rule
+rules_of = map (λ argument. rule_by (argument_of argument))

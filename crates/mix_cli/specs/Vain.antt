@@ -35,15 +35,13 @@ unfoldable pub clash : List Row → List (Choice × Choice) → Option Vain
 clash rows [] = None
 clash rows (pair ∷ rest) = if is_chosen rows pair.0 && is_chosen rows pair.1 then Some (Together pair.0 pair.1) else clash rows rest
 
--- the first of some forms that is chosen
-unfoldable pub first_form : List Row → List Choice → Option Vain
-first_form rows [] = None
-first_form rows (form ∷ rest) = if is_chosen rows form then Some (Alone form) else first_form rows rest
-
 -- a form, where there is nothing to write in it
 unfoldable pub alone : List Row → Option Vain
 alone rows =
-    if is_chosen rows Counts || is_chosen rows Writes || is_chosen rows Trace then None else first_form rows (Csv ∷ Json ∷ Latex ∷ [])
+    if is_chosen rows Counts || is_chosen rows Writes || is_chosen rows Trace then None else
+    if is_chosen rows Csv then Some (Alone Csv) else
+    if is_chosen rows Json then Some (Alone Json) else
+    if is_chosen rows Latex then Some (Alone Latex) else None
 
 -- two options that are not to stand together, or a form alone
 abbrev pub vain_by : Option Vain → List Row → Option Vain

@@ -1,10 +1,10 @@
 //! What clap found of a command line, as values.
 
-ghost use Rattle.std.specs.Prelude.{◌≡◌, IfOk, IsSome, Some, map, true, string_bytes, option_map};
+ghost use Rattle.std.specs.Prelude.{◌≡◌, IfOk, IsSome, Some, map, true, string_bytes, option_map, codes};
 ghost use Rattle.std.specs.List.{list_any};
 ghost use Rattle.clap.specs.Words.{all_of, first_of, found_of, rows_of};
 ghost use Rattle.std.specs.Option.{is_some};
-ghost use Rattle.mix_cli.specs.Plan.{form_of, is_set, names_unit, number_of, units_of, prints, rows_asked, steps_of, table_of};
+ghost use Rattle.mix_cli.specs.Plan.{form_of, is_set, names_unit, number_of, part_of, units_of, prints, rows_asked, steps_of, table_of};
 
 use clap::ArgMatches;
 use mix_plan::{AskedTable, TableFormat, TableOf, UnitSet};
@@ -72,6 +72,44 @@ pub(crate) fn optional(
 {
     match first(words, id) {
         Some(name) => Ok(Some(String::from_str(alloc, name)?)),
+        None => Ok(None),
+    }
+}
+
+// The part that a text names: a register may have the book's r before it.
+#[tactic(auto, unfolding(crate::specs::Plan::part_of))]
+fn part_of(text: &str) -> &str
+    ensures { result.now ≡ part_of text.now }
+{
+    if text.eq_ignore_ascii_case("rA") {
+        "A"
+    } else if text.eq_ignore_ascii_case("rX") {
+        "X"
+    } else if text.eq_ignore_ascii_case("rI1") {
+        "I1"
+    } else if text.eq_ignore_ascii_case("rI2") {
+        "I2"
+    } else if text.eq_ignore_ascii_case("rI3") {
+        "I3"
+    } else if text.eq_ignore_ascii_case("rI4") {
+        "I4"
+    } else if text.eq_ignore_ascii_case("rI5") {
+        "I5"
+    } else if text.eq_ignore_ascii_case("rI6") {
+        "I6"
+    } else if text.eq_ignore_ascii_case("rJ") {
+        "J"
+    } else {
+        text
+    }
+}
+
+/// The part whose changes are asked for.
+pub(crate) fn part(alloc: Global, words: &ArgMatches<'_>) -> Result<Option<String>, AllocError>
+    ensures { IfOk result (λ o. option_map part_of (first_of (codes "writes") (rows_of (found_of words.now))) ≡ option_map string_bytes o) }
+{
+    match first(words, "writes") {
+        Some(text) => Ok(Some(String::from_str(alloc, part_of(text))?)),
         None => Ok(None),
     }
 }

@@ -1,10 +1,9 @@
 //! The command line: what the words after the program's name ask for, and what is answered to words that ask for nothing.
 #![tactic(auto)]
 
+mod commands;
 mod fault;
 mod found;
-mod help;
-mod options;
 mod program;
 mod vain;
 mod words;

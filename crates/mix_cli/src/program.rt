@@ -1,177 +1,83 @@
-//! The words that the program takes.
+//! The words that the program takes, as clap reads them: the table of the commands, row by row.
 
-ghost use Rattle.std.specs.Prelude.{◌≡◌, IfOk, codes, true};
-ghost use Rattle.clap.specs.Words.{app_of, new_app, new_rule, with_rule, with_subcommand};
-ghost use Rattle.mix_cli.specs.Program.{bare_app, check_app, dap_app, debug_app, devices_option, kept_run, limited_run, list_app, mixrev, of_source, of_sources, required_word, required_words, run_app, run_inputs, tabled_run, with_sources};
+ghost use Rattle.std.specs.Prelude.{◌≡◌, IfOk, false, not, take, true};
+ghost use Rattle.clap.specs.Walk.{is_empty};
+ghost use Rattle.clap.specs.Words.{app_of, rule_of, with_subcommand};
+ghost use Rattle.mix_cli.specs.Program.{app_with, argument_of, bare_app, commands, mixrev, rule_by, rules_of, with_commands};
 
-use crate::help::{
-    ABOUT, LONG_VERSION, MORE, MORE_ON_CHECK, MORE_ON_DAP, MORE_ON_DEBUG, MORE_ON_LIST,
-    MORE_ON_RUN, SOURCE, VERSION,
-};
-use crate::options::{devices_option, flag_named, option_named, steps_option, unit_option};
+use crate::commands::{ABOUT, CHECK, DAP, DEBUG, LIST, LONG_VERSION, MORE, RUN, VERSION};
+use clap::builder::ValueParser;
 use clap::{Arg, ArgAction, Command};
 use std::alloc::{AllocError, Global};
 
-// A subcommand with its first word, the source. Without any word it shows its help.
-fn of_source<'a>(alloc: Global, name: &'a str) -> Result<Command<'a>, AllocError>
-    ensures app { IfOk result (λ c. app_of c ≡ of_source name.entry.now) }
-{
-    let source = Arg::new(alloc, "SOURCE").required(true).help(SOURCE);
-    Command::new(alloc, name)
-        .arg_required_else_help(true)
-        .arg(source)
+/// What an argument is: a word that is needed, one or more such words, or one that may be left out;
+/// a flag; or an option with a file, a part of the machine, a number in a range, or several numbers.
+#[derive(Clone, Copy)]
+pub enum Kind {
+    Needed,
+    Several,
+    Free,
+    Flag,
+    File,
+    Part,
+    Number(u64, u64),
+    Numbers(u64, u64),
 }
 
-fn list_command<'a>(alloc: Global) -> Result<Command<'a>, AllocError>
-    ensures app { IfOk result (λ c. app_of c ≡ list_app) }
+/// An argument, with its line of help, at most 53 characters for an option of `run`.
+#[derive(Clone, Copy)]
+pub(crate) struct Argument<'a> {
+    pub(crate) name: &'a str,
+    pub(crate) kind: Kind,
+    pub(crate) help: &'a str,
+}
+
+/// A command: its name, what it does, what help says at its end, and its arguments.
+#[derive(Clone, Copy)]
+pub(crate) struct Subcommand<'a> {
+    pub(crate) name: &'a str,
+    pub(crate) about: &'a str,
+    pub(crate) more: &'a str,
+    pub(crate) arguments: &'a [Argument<'a>],
+}
+
+fn arg_of<'a>(alloc: Global, argument: &Argument<'a>) -> Arg<'a>
+    ensures rule { rule_of result ≡ rule_by (argument_of argument.now) }
+    ensures local { result.global ≡ false }
 {
-    let command = of_source(alloc, "list")?
-        .about("Writes the listing of a source")
-        .after_help(MORE_ON_LIST);
+    let name = argument.name;
+    let arg = Arg::new(alloc, name).help(argument.help);
+    match argument.kind {
+        Kind::Needed => arg.required(true),
+        Kind::Several => arg.required(true).action(ArgAction::Append),
+        Kind::Free => arg,
+        Kind::Flag => arg.long(name).action(ArgAction::SetTrue),
+        Kind::File => arg.long(name).value_name("FILE"),
+        Kind::Part => arg.long(name).value_name("PART"),
+        Kind::Number(from, to) => arg
+            .long(name)
+            .value_name("N")
+            .value_parser(ValueParser::Unsigned(from, to)),
+        Kind::Numbers(from, to) => arg
+            .long(name)
+            .value_name("N")
+            .action(ArgAction::Append)
+            .value_parser(ValueParser::Unsigned(from, to)),
+    }
+}
+
+// A subcommand. If it has arguments, it shows its help where it is given no word.
+fn command_of<'a>(alloc: Global, row: &Subcommand<'a>) -> Result<Command<'a>, AllocError>
+    ensures app { IfOk result (λ c. app_of c ≡ app_with row.now.name.now (not (is_empty row.now.arguments.now)) (rules_of row.now.arguments.now)) }
+{
+    let mut command = Command::new(alloc, row.name)
+        .about(row.about)
+        .after_help(row.more)
+        .arg_required_else_help(!row.arguments.is_empty());
+    for one in row.arguments {
+        command = command.arg(arg_of(alloc, one))?;
+    }
     Ok(command)
-}
-
-// The subcommand `check` with its words, each of which is a source.
-fn of_sources<'a>(alloc: Global) -> Result<Command<'a>, AllocError>
-    ensures app { IfOk result (λ c. app_of c ≡ of_sources) }
-{
-    let sources = Arg::new(alloc, "SOURCE")
-        .required(true)
-        .action(ArgAction::Append)
-        .help("The files with the programs, in the language MIXAL");
-    Command::new(alloc, "check")
-        .arg_required_else_help(true)
-        .arg(sources)
-}
-
-fn check_command<'a>(alloc: Global) -> Result<Command<'a>, AllocError>
-    ensures app { IfOk result (λ c. app_of c ≡ check_app) }
-{
-    of_sources(alloc)?
-        .about("Reports all faults of sources")
-        .after_help(MORE_ON_CHECK)
-        .arg(flag_named(alloc, "json", "Writes each fault as one JSON object a line"))
-}
-
-// The subcommand `debug` with its two words, SOURCE and SCRIPT, and its deck.
-fn of_script<'a>(alloc: Global) -> Result<Command<'a>, AllocError>
-    ensures app { IfOk result (λ c. app_of c ≡ with_rule (with_rule (of_source (codes "debug")) (new_rule (codes "SCRIPT"))) devices_option) }
-{
-    let script = Arg::new(alloc, "SCRIPT").help(
-        "The file with the commands, one a line; without it each line of standard input is one",
-    );
-    of_source(alloc, "debug")?
-        .arg(script)?
-        .arg(devices_option(alloc))
-}
-
-fn debug_command<'a>(alloc: Global) -> Result<Command<'a>, AllocError>
-    ensures app { IfOk result (λ c. app_of c ≡ debug_app) }
-{
-    of_script(alloc)?
-        .about("Executes commands on the program of a source, forwards and backwards")
-        .after_help(MORE_ON_DEBUG)
-        .arg(flag_named(
-            alloc,
-            "echo",
-            "Writes each command of SCRIPT before its reply",
-        ))
-}
-
-// The subcommand `run` with what goes into the run: the source, the cards, the lines of the typewriter and the deck.
-fn of_inputs<'a>(alloc: Global) -> Result<Command<'a>, AllocError>
-    ensures app { IfOk result (λ c. app_of c ≡ run_inputs) }
-{
-    of_source(alloc, "run")?
-        .arg(option_named(
-            alloc,
-            "cards",
-            "FILE",
-            "The cards of the reader, one a line, instead of those of the deck",
-        ))?
-        .arg(option_named(
-            alloc,
-            "typewriter",
-            "FILE",
-            "The lines that the typewriter gives, one a line, instead of those of the deck",
-        ))?
-        .arg(devices_option(alloc))
-}
-
-// And with what is asked of the run: the steps and the units.
-fn limited_run<'a>(alloc: Global) -> Result<Command<'a>, AllocError>
-    ensures app { IfOk result (λ c. app_of c ≡ limited_run) }
-{
-    of_inputs(alloc)?
-        .arg(steps_option(alloc))?
-        .arg(unit_option(alloc))
-}
-
-// And with what it writes beside or instead of the rows, and when it ends.
-fn kept_run<'a>(alloc: Global) -> Result<Command<'a>, AllocError>
-    ensures app { IfOk result (λ c. app_of c ≡ kept_run) }
-{
-    limited_run(alloc)?
-        .about("Runs a program to its halt and writes what it prints")
-        .after_help(MORE_ON_RUN)
-        .arg(flag_named(
-            alloc,
-            "trace",
-            "Writes each step too, as the command trace does, before what it prints",
-        ))?
-        .arg(flag_named(
-            alloc,
-            "strict",
-            "Ends before a step that uses cells of a transfer that is not over",
-        ))?
-        .arg(option_named(
-            alloc,
-            "keep",
-            "FILE",
-            "Writes what tapes, disks and cards hold at the end, as a deck for another run",
-        ))
-}
-
-// And with its picture, and what it is a table of.
-fn tabled_run<'a>(alloc: Global) -> Result<Command<'a>, AllocError>
-    ensures app { IfOk result (λ c. app_of c ≡ tabled_run) }
-{
-    kept_run(alloc)?
-        .arg(option_named(
-            alloc,
-            "svg",
-            "FILE",
-            "Writes a picture of the run as SVG: which lines were executed when, and how often",
-        ))?
-        .arg(flag_named(
-            alloc,
-            "counts",
-            "Writes no rows, but a table of how often each instruction was executed, as CSV",
-        ))?
-        .arg(option_named(
-            alloc,
-            "writes",
-            "PART",
-            "Writes no rows, but a table of each change of this part, such as A, over, 100 or X+1, as CSV",
-        ))
-}
-
-// And with the form of the table.
-fn run_command<'a>(alloc: Global) -> Result<Command<'a>, AllocError>
-    ensures app { IfOk result (λ c. app_of c ≡ run_app) }
-{
-    tabled_run(alloc)?
-        .arg(flag_named(alloc, "csv", "Writes the table, or the trace, as CSV"))?
-        .arg(flag_named(alloc, "json", "Writes the table, or the trace, as JSON"))?
-        .arg(flag_named(alloc, "latex", "Writes the table, or the trace, as LaTeX"))
-}
-
-fn dap_command<'a>(alloc: Global) -> Command<'a>
-    ensures app { app_of result ≡ dap_app }
-{
-    Command::new(alloc, "dap")
-        .about("Is the debug adapter of an editor")
-        .after_help(MORE_ON_DAP)
 }
 
 fn bare<'a>(alloc: Global) -> Command<'a>
@@ -197,10 +103,10 @@ fn with_one<'a>(command: Command<'a>, more: Command<'a>) -> Result<Command<'a>, 
 
 // With the subcommands that go to work on a source.
 fn with_sources<'a>(alloc: Global) -> Result<Command<'a>, AllocError>
-    ensures app { IfOk result (λ c. app_of c ≡ with_sources) }
+    ensures app { IfOk result (λ c. app_of c ≡ with_commands bare_app (take 2 commands)) }
 {
-    let run = run_command(alloc)?;
-    let debug = debug_command(alloc)?;
+    let run = command_of(alloc, &RUN)?;
+    let debug = command_of(alloc, &DEBUG)?;
     let command = with_one(bare(alloc), run)?;
     with_one(command, debug)
 }
@@ -209,9 +115,10 @@ fn with_sources<'a>(alloc: Global) -> Result<Command<'a>, AllocError>
 pub(crate) fn program<'a>(alloc: Global) -> Result<Command<'a>, AllocError>
     ensures app { IfOk result (λ c. app_of c ≡ mixrev) }
 {
-    let list = list_command(alloc)?;
+    let list = command_of(alloc, &LIST)?;
     let command = with_one(with_sources(alloc)?, list)?;
-    let check = check_command(alloc)?;
+    let check = command_of(alloc, &CHECK)?;
     let command = with_one(command, check)?;
-    with_one(command, dap_command(alloc))
+    let dap = command_of(alloc, &DAP)?;
+    with_one(command, dap)
 }

@@ -2,7 +2,7 @@
 
 ghost use Rattle.std.specs.Prelude.{◌≡◌};
 ghost use Rattle.clap.specs.Words.{found_of, rows_of};
-ghost use Rattle.mix_cli.specs.Vain.{alone, clash, first_form, is_chosen, vain_in};
+ghost use Rattle.mix_cli.specs.Vain.{alone, clash, is_chosen, vain_in};
 
 use crate::found::{is_given, is_set};
 use clap::ArgMatches;
@@ -92,21 +92,6 @@ fn clash(words: &ArgMatches<'_>, pairs: &[(Choice, Choice)]) -> Option<Vain>
     None
 }
 
-// The first of some forms that is chosen.
-#[tactic(auto, unfolding(crate::specs::Vain::first_form))]
-fn first_form(words: &ArgMatches<'_>, forms: &[Choice]) -> Option<Vain>
-    ensures { result ≡ first_form (rows_of (found_of words.now)) forms.now }
-{
-    let mut rest = forms;
-    while let [form, after @ ..] = rest {
-        if is_chosen(words, *form) {
-            return Some(Vain::Alone(*form));
-        }
-        rest = after;
-    }
-    None
-}
-
 // A form, where there is nothing to write in it.
 #[tactic(auto, unfolding(crate::specs::Vain::alone))]
 fn alone(words: &ArgMatches<'_>) -> Option<Vain>
@@ -117,8 +102,14 @@ fn alone(words: &ArgMatches<'_>) -> Option<Vain>
         || is_chosen(words, Choice::Trace);
     if has_rows {
         None
+    } else if is_chosen(words, Choice::Csv) {
+        Some(Vain::Alone(Choice::Csv))
+    } else if is_chosen(words, Choice::Json) {
+        Some(Vain::Alone(Choice::Json))
+    } else if is_chosen(words, Choice::Latex) {
+        Some(Vain::Alone(Choice::Latex))
     } else {
-        first_form(words, &[Choice::Csv, Choice::Json, Choice::Latex])
+        None
     }
 }
 
