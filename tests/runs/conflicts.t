@@ -291,7 +291,7 @@ A step that would conflict is a fault, and so it is not done.
 What waits for its unit is fetched before it waits: here an IN that has just been read from a card.
 
   $ printf ' IN 16(16)\n JMP 16\n ORIG 16\n NOP\n NOP\n END 0\n' >fetched.mixal
-  $ printf '%%%%UNIT 16 delay 5\nAA O6   BE\nX\n' >cards
+  $ printf '%%UNIT 16 delay 5\nAA O6   BE\nX\n' >cards
   $ mixrev run fetched.mixal --devices cards
   stderr: fetched.mixal:4: warning: at 0016 clock 2 cell 0016 is used while unit 16 reads into it until 6
   stderr: fetched.mixal: warning: 1 step conflicts with a transfer under way

@@ -77,7 +77,7 @@ A binary of mixasm is named as one, and its status is that of a refused source.
 
   $ printf '\255\336\357' >three.mix
   $ mixrev run three.mix </dev/null 2>&1 | head -n 1
-  stderr: three.mix:1:1: error: A1 bad byte: \xad (esc)
+  stderr: three.mix:1:1: error: A1 bad byte: ?
 
 The first of two reads to the end.
 

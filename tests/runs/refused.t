@@ -274,7 +274,7 @@ An OP that is not there.
 A control byte is shown as a question mark.
   $ printf ' ENTA \f5\n END\n' >f
   $ mixrev run f
-  stderr: f:1:7: error: A1 bad byte: ?
+  stderr: f:1:7: error: A1 bad byte: a form feed: leave it out
   stderr:  ENTA ?5
   stderr:       ^
   [1]

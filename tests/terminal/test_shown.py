@@ -1,7 +1,8 @@
 """What a terminal is given of a stranger's bytes."""
+import os
+import pty
 import subprocess
-
-from conftest import Terminal
+import termios
 
 # a colour and a title of xterm; a sequence that begins with the byte 9B, alone and as a character; letters of other alphabets; a tab
 REMARK = b"\x1b[31m \x1b]0;owned\x07 \x9b1m \xc2\x9b2m \xc3\x9f \xce\x94 \xe2\x82\xac \xf0\x9f\x9a\xb2\t|\x7f"
@@ -15,21 +16,22 @@ def latin(text):
 
 def bytes_of(program, folder, *words, typed=b""):
     """All that a terminal is given."""
-    terminal = Terminal(program, *words, folder=folder)
-    terminal.encoding = None
-    terminal.setecho(False)
-    for line in typed.splitlines(True):
-        terminal.send(line.decode())
+    terminal, line = pty.openpty()
+    mode = termios.tcgetattr(line)
+    mode[3] &= ~termios.ECHO
+    termios.tcsetattr(line, termios.TCSANOW, mode)
+    process = subprocess.Popen([program, *words], cwd=folder, stdin=line, stdout=line, stderr=line)
+    os.close(line)
+    os.write(terminal, typed)
     seen = b""
     while True:
         try:
-            part = terminal.ptyproc.fileobj.read1(4096)
+            part = os.read(terminal, 4096)
         except OSError:
             break
-        if not part:
-            break
         seen += part
-    terminal.wait()
+    process.wait()
+    os.close(terminal)
     return seen.replace(b"\r\n", b"\n")
 
 
