@@ -361,7 +361,7 @@ No such option.
 The version, and the toolchain.
   $ mixrev --version
   mixrev 0.1.0
-  toolchain rattle-kit-13f, logic dac8208d650f15bf
+  toolchain Rattle, logic dac8208d650f15bf
 
 The version alone.
   $ mixrev -V
