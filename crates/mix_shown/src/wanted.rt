@@ -1,6 +1,7 @@
 //! Which bytes are shown as they are.
 
 ghost use Rattle.std.specs.Prelude.{◌≡◌, ◌++◌, OnOk};
+ghost use Rattle.mix_shown.specs.declared.wanted.Wanted.TheVariants.{General};
 ghost use Rattle.mix_shown.specs.Wanted.{after, begun, is_ascii_shown, is_shown, less, shown, shown_byte, shown_from};
 
 use std::alloc::AllocError;
@@ -13,13 +14,20 @@ pub enum Among {
     Text,
 }
 
-/// What the bytes so far want of the next one: nothing; a byte from 160 on, since one below would make them a control character; or so many bytes more of a
-/// character of UTF-8.
+/// What the bytes so far want of the next one.
 #[derive(Clone, Copy)]
 pub enum Wanted {
     Nothing,
+    /// A byte from 160 on, since one below would make them a control character.
     Printing,
+    /// So many bytes more of a character of UTF-8.
     More(u8),
+    /// After 226: 128 or 129 begins the characters that turn the direction of a text.
+    General,
+    /// After 226 and 128: 170 to 174 would turn it.
+    Turns,
+    /// After 226 and 129: 166 to 169 would turn it.
+    Isolates,
 }
 
 impl Wanted {
@@ -30,17 +38,20 @@ impl Wanted {
         if byte < 128 {
             Wanted::Nothing
         } else if byte < 192 {
-            self.less()
+            self.less(byte)
         } else {
             begun(byte)
         }
     }
 
-    fn less(self) -> Wanted
-        ensures { result ≡ less self }
+    fn less(self, byte: u8) -> Wanted
+        ensures { result ≡ less self byte }
     {
         match self {
-            Wanted::Nothing | Wanted::Printing => Wanted::Nothing,
+            Wanted::Nothing | Wanted::Printing | Wanted::Turns | Wanted::Isolates => {
+                Wanted::Nothing
+            }
+            Wanted::General => general(byte),
             Wanted::More(count) => {
                 if count <= 1 {
                     Wanted::Nothing
@@ -51,7 +62,8 @@ impl Wanted {
         }
     }
 
-    /// Whether a byte is shown as it is: a character of ASCII that is no control character, or a byte of a longer one in UTF-8 that is none.
+    /// Whether a byte is shown as it is: a character of ASCII that is no control character, or a byte of a longer one in UTF-8 that is none, and that turns
+    /// no direction.
     pub fn is_shown(self, among: Among, byte: u8) -> bool
         ensures { result ≡ is_shown among self byte }
     {
@@ -61,7 +73,9 @@ impl Wanted {
             match self {
                 Wanted::Nothing => false,
                 Wanted::Printing => 160 <= byte,
-                Wanted::More(_) => true,
+                Wanted::More(_) | Wanted::General => true,
+                Wanted::Turns => byte < 170 || 174 < byte,
+                Wanted::Isolates => byte < 166 || 169 < byte,
             }
         } else {
             true
@@ -86,12 +100,25 @@ fn begun(byte: u8) -> Wanted
 {
     if byte == 194 {
         Wanted::Printing
+    } else if byte == 226 {
+        Wanted::General
     } else if byte < 224 {
         Wanted::More(1)
     } else if byte < 240 {
         Wanted::More(2)
     } else {
         Wanted::More(3)
+    }
+}
+
+// What is wanted after 226 and one more byte.
+fn general(byte: u8) -> Wanted
+    ensures { result ≡ less General byte }
+{
+    match byte {
+        128 => Wanted::Turns,
+        129 => Wanted::Isolates,
+        _ => Wanted::More(1),
     }
 }
 
