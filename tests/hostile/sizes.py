@@ -43,7 +43,7 @@ def runs():
     yield {"f": FAULT * 104 + b" END 0\n"}, "check f", (b"".join(b"f:%d:2: error: A2 no such operation: PRNT\n" % k + FAULT + b" ^^^^\n" for k in range(1, 101)), b"", 1)
     yield {"f": FAULT * 104 + b" END 0\n"}, "check --json f", \
         (b"".join(b'{"file":"f","line":%d,"column":2,"endColumn":6,"severity":"error","code":"A2","text":"no such operation: PRNT"}\n' % k for k in range(1, 101)), b"", 1)
-    warning = b"f:%d:6: warning: the operation takes no such F: the machine will refuse the step [no-field]\n" + NO_FIELD + b"     ^^^^^^^^\n"
+    warning = b"f:%d:10: warning: the operation takes no such F: the machine will refuse the step [no-field]\n" + NO_FIELD + b"         ^^^\n"
     yield {"f": (NO_FIELD * 3999 + b" ORIG 0\n") * 4 + NO_FIELD * 3999 + b" END 0\n"}, "check f", (b"".join(warning % k for k in range(1, 20000) if k % 4000), b"", 0)
     yield {"f": b"*" * 51 + b"\n" + (b"*" * 51 + b"\n") * 19998 + b" END 0\n"}, "list f", \
         (b"".join(b" " * 24 + b"%5d  " % k + b"*" * 51 + b"\n" for k in range(1, 20000)) + b"0000" + b" " * 20 + b"20000   END 0\nsymbols 0\n", b"", 0)

@@ -161,9 +161,18 @@ The cards replace those of the deck.
   A CARD
 
 A fault and its location.
-  $ printf ' ENTA 5\n STA 4000\n END 0\n' >a.mixal
+  $ printf ' ENTA 5\n STA 4000,1\n END 0\n' >a.mixal
   $ mixrev run a.mixal
   stderr: a.mixal:2: M5 no such cell at 0001 clock 1
+  [3]
+
+A fault that can be seen in the source comes after its warning.
+  $ printf ' STA 4000\n END 0\n' >a.mixal
+  $ mixrev run a.mixal
+  stderr: a.mixal:1:6: warning: the cells are 0 to 3999: the machine will refuse the step, or the jump [no-cell]
+  stderr:  STA 4000
+  stderr:      ^^^^
+  stderr: a.mixal:1: M5 no such cell at 0000 clock 0
   [3]
 
 A loop without end.

@@ -79,13 +79,13 @@ No line of the source put a word into cell 1: it is +0, a NOP of 1u.
 
 A fault and the end of the steps are reported as of any run. A fault at the first step leaves no row.
 
-  $ printf ' ENTA 1\n LDX -1\n END 0\n' >fault.mixal
+  $ printf ' ENTA 1\n LDX -1,1\n END 0\n' >fault.mixal
   $ mixrev run fault.mixal --counts </dev/null
   line,location,count,time
   1,0,1,1
   stderr: fault.mixal:2: M5 no such cell at 0001 clock 1
   [3]
-  $ printf ' LDX -1\n END 0\n' >first.mixal
+  $ printf ' LDX -1,1\n END 0\n' >first.mixal
   $ mixrev run first.mixal --counts </dev/null
   line,location,count,time
   stderr: first.mixal:1: M5 no such cell at 0000 clock 0

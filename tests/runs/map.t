@@ -68,7 +68,7 @@ Of 241 changes in 240 columns the first two are in the first column: 2 has two b
 
 A fault at the first step leaves a map without rows.
 
-  $ printf ' LDX -1\n END 0\n' >first.mixal
+  $ printf ' LDX -1,1\n END 0\n' >first.mixal
   $ mixrev run first.mixal --svg map.svg </dev/null
   stderr: first.mixal:1: M5 no such cell at 0000 clock 0
   [3]

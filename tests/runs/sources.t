@@ -282,6 +282,65 @@ What is taken and hardly meant: a blank in an ADDRESS, and an ALF that begins la
   $ said ' ALF TITLES\n END 0\n'
   1:6: warning: ALF takes five characters, and its text has more of them, or begins later [alf-cut]
 
+An ALF in quotation marks that are less than five characters apart, and an EQU that defines nothing.
+
+  $ said ' ALF "HI"\n ALF "HELLO"\n ALF HI\nX ALF ""\n END 0\n'
+  1:7: warning: ALF takes five characters: what is missing becomes blanks [alf-short]
+  4:8: warning: ALF takes five characters: what is missing becomes blanks [alf-short]
+  $ said ' EQU 5\n2H EQU 5\nX EQU 5\n ORIG 5\n END 0\n'
+  1:2: warning: EQU without a label defines nothing [no-label]
+  $ said ' EQU X\n END 0\n'
+  1:6: error: A7 undefined symbol: X is defined nowhere
+  1:2: warning: EQU without a label defines nothing [no-label]
+
+A step that the machine refuses in any state, by its numbers: a unit that cannot do what is asked of it, a cell that is none, also
+of a jump if it is taken, and a shift by a negative number.
+
+  $ said ' IN BUF(18)\n OUT BUF(16)\n OUT BUF(18)\n IN BUF(19)\n IN BUF(17)\nBUF HLT\n END 0\n'
+  1:9: warning: the unit cannot do this: the machine will refuse the step [wrong-unit]
+  2:10: warning: the unit cannot do this: the machine will refuse the step [wrong-unit]
+  5:9: warning: the unit cannot do this: the machine will refuse the step [wrong-unit]
+  $ said ' IOC 0(16)\n IOC 0(17)\n IOC 0(18)\n IOC 0(19)\n IOC 5\n IOC 5(8)\n IOC 5(18)\n IOC 0,1(20)\n IOC 5,1(20)\n IOC -0(20)\n END 0\n'
+  1:8: warning: the unit cannot do this: the machine will refuse the step [wrong-unit]
+  2:8: warning: the unit cannot do this: the machine will refuse the step [wrong-unit]
+  4:8: warning: the unit cannot do this: the machine will refuse the step [wrong-unit]
+  6:8: warning: the unit cannot do this: the machine will refuse the step [wrong-unit]
+  7:8: warning: the unit cannot do this: the machine will refuse the step [wrong-unit]
+  $ said ' STA 4000\n STA 3999\n JMP 4095\n LDA -1\n ENTA 4000\n LDA 4000,1\n JAN 4000(1)\n LDA -0\n END 0\n'
+  1:6: warning: the cells are 0 to 3999: the machine will refuse the step, or the jump [no-cell]
+  3:6: warning: the cells are 0 to 3999: the machine will refuse the step, or the jump [no-cell]
+  4:6: warning: the cells are 0 to 3999: the machine will refuse the step, or the jump [no-cell]
+  7:6: warning: the cells are 0 to 3999: the machine will refuse the step, or the jump [no-cell]
+  $ said ' IN 3985(16)\n IN 3984(16)\n OUT 3977(18)\n OUT 3976(18)\n MOVE 3999(2)\n MOVE 4000(0)\n IN 3901\n IN 3900\n END 0\n'
+  1:5: warning: the cells are 0 to 3999: the machine will refuse the step, or the jump [no-cell]
+  3:6: warning: the cells are 0 to 3999: the machine will refuse the step, or the jump [no-cell]
+  5:7: warning: the cells are 0 to 3999: the machine will refuse the step, or the jump [no-cell]
+  7:5: warning: the cells are 0 to 3999: the machine will refuse the step, or the jump [no-cell]
+  $ said ' SLA -1\n SRC -0\n SLA 1\n SLA -1,1\n SRAX 2-3\n ENTA -1\n END 0\n'
+  1:6: warning: a shift by a negative number: the machine will refuse the step [negative-shift]
+  5:7: warning: a shift by a negative number: the machine will refuse the step [negative-shift]
+  $ said ' LDA 100(6:6)\n LDA TAB,1(6)\nTAB HLT\n END 0\n'
+  1:10: warning: the operation takes no such F: the machine will refuse the step [no-field]
+  2:12: warning: the operation takes no such F: the machine will refuse the step [no-field]
+
+Behind END the first line that reads as if it belonged to the program, unless the deck or the script of a bundle begins.
+
+  $ said ' HLT\n END 0\n\n* more\nno MIXAL\n INCA 1\n STA 5\n'
+  6:2: warning: this stands behind END and is not read [behind-end]
+  $ said ' HLT\n END 0\n%%%%DEVICES\n%%%%UNIT 16\n ADD 1\n'
+  $ said ' HLT\n END X\n ENTA 4096 one\n'
+  2:6: error: A7 undefined symbol: X is defined nowhere
+  3:2: warning: this stands behind END and is not read [behind-end]
+
+A mark has the bytes that a warning is about.
+
+  $ printf ' JMP LOPP,1\n LDA TAB,1(6)\nTAB STA 4000(1:3)\n EQU 5\n END 0\n ENTA 5 x\n' | mixrev check - | grep '[^ ]*^'
+       ^^^^
+             ^
+          ^^^^
+    ^^^
+    ^^^^^^
+
 Several faults: a line that is refused keeps its label and its cell, and hides no later fault. A hundred are reported at most.
 
   $ said ' ENTA 4096\n ORIG 5000\n JUMP 3\nX ENTA 4096\nX HLT\n JMP X\n END 4000\n'

@@ -60,7 +60,7 @@ Minus zero keeps its sign, and an instruction that no line of the source put the
 
 A fault and the end of the steps end the table too, and are reported as of any run. What is printed is not written.
 
-  $ printf ' OUT 0(18)\n LDX -1\n END 0\n' >fault.mixal
+  $ printf ' OUT 0(18)\n LDX -1,1\n END 0\n' >fault.mixal
   $ mixrev run fault.mixal --writes X --json </dev/null
   [
   ]

@@ -5,7 +5,7 @@ use Rattle.std.specs.Prelude.{if◌then◌else◌}
 use Rattle.std.proofs.lemmas.Bool.{ltb-false}
 use Rattle.std.proofs.lemmas.List.{take_all}
 use Rattle.mix_lines.specs.Lines.{lines}
-use Rattle.mixal_asm.specs.Diagnose.{diagnostics_of, is_warning, of_fault, up_to_end, warnings_in, warnings_of, with_faults}
+use Rattle.mixal_asm.specs.Diagnose.{after_end_from, diagnostics_of, is_warning, of_fault, up_to_end, warnings_of, warnings_up_to_end, with_faults}
 use Rattle.mixal_asm.specs.Faults.{faults_of, faults_from, max_faults}
 use Rattle.mixal_asm.specs.declared.diagnostic.Diagnostic.{Diagnostic}
 use Rattle.mixal_asm.specs.declared.fault.AsmFault.{AsmFault}
@@ -29,7 +29,7 @@ unfolding faults_of
 faults_of-take source = limited-take 1048576 _ (λ text. faults_from max_faults [] (lines text)) source
 
 warnings_of-take : (source : List ℕ) → warnings_of (take 1048577 source) ≡ warnings_of source
-warnings_of-take source = limited-take 1048576 _ (λ text. warnings_in (up_to_end (lines text))) source
+warnings_of-take source = limited-take 1048576 _ (λ text. warnings_up_to_end (up_to_end (lines text)) ++ after_end_from 1 (lines text)) source
 
 diagnostics_of-take : (source : List ℕ) → diagnostics_of (take 1048577 source) ≡ diagnostics_of source
 unfolding diagnostics_of

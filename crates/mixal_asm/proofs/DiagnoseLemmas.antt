@@ -1,5 +1,5 @@
 -- The warnings of a source by its mentions, and the place of a fault among them.
-use Rattle.std.proofs.Common.{◌≡◌, ℕ, ◌+◌, ◌≤◌, ◌==◌, Bool, true, not, if◌then◌else◌, List, [], ◌∷◌, ◌++◌, length, Option, Some, None, refl, sym, ap, ◌∙◌, arith}
+use Rattle.std.proofs.Common.{◌≡◌, ℕ, ◌+◌, ◌==◌, Bool, true, not, if◌then◌else◌, List, [], ◌∷◌, ◌++◌, length, Option, Some, None, refl, sym, ap, ◌∙◌, arith}
 use Rattle.std.specs.Prelude.{position}
 use Rattle.std.specs.List.{position_or_len}
 use Rattle.std.specs.Map.{lookup}
@@ -10,7 +10,7 @@ use Rattle.std.proofs.lemmas.List.Sums.{prefix_len-le-length}
 use Rattle.mix_lines.specs.Lines.{lines, lines-nil}
 use Rattle.mixal_text.specs.Slips.{symbol_used}
 use Rattle.mixal_asm.specs.declared.diagnostic.Diagnostic.{Diagnostic}
-use Rattle.mixal_asm.specs.Diagnose.{is_end, up_to_end, first_line, undefined_at, with_slips, line_warnings, warnings_from}
+use Rattle.mixal_asm.specs.Diagnose.{is_end, up_to_end, first_line, all_slips, slips_at, undefined_at, line_warnings, warnings_from}
 use Rattle.mixal_asm.proofs.IndexLemmas.{lookup-append}
 use Rattle.mixal_asm.proofs.SourceLemmas.{nothing_in}
 
@@ -21,8 +21,11 @@ missed p xs none = let most = prefix_len-le-length (λ x. not (p x)) xs in grind
 
 -- ---- the lines up to END
 
+pub no_lines : (text : List ℕ) → true ≡ (length text == 0) → lines text ≡ []
+no_lines text empty = ap lines (nothing_in text (sym empty)) ∙ lines-nil
+
 pub no_line : (text : List ℕ) → true ≡ (length text == 0) → up_to_end (lines text) ≡ []
-no_line text empty = ap (λ (t : List ℕ). up_to_end (lines t)) (nothing_in text (sym empty)) ∙ ap up_to_end lines-nil
+no_line text empty = ap up_to_end (no_lines text empty)
 
 pub last_line : (ls more : List (List ℕ)) (line : List ℕ) → ls ≡ line ∷ more → true ≡ is_end line → up_to_end ls ≡ line ∷ up_to_end (lines [])
 last_line ls more line first end =
@@ -55,7 +58,7 @@ same_line : (u v d e : List (List ℕ × ℕ)) → ((symbol : List ℕ) → firs
     → line_warnings u d n text ≡ line_warnings v e n text
 unfolding line_warnings
 same_line u v d e uses definitions n text =
-    ap (with_slips n text) (same_undefined u v d e uses definitions n text (symbol_used text))
+    ap (λ (first : List Diagnostic). first ++ slips_at n text all_slips) (same_undefined u v d e uses definitions n text (symbol_used text))
 
 pub same_warnings : (u v d e : List (List ℕ × ℕ)) → ((symbol : List ℕ) → first_line u symbol ≡ first_line v symbol)
     → ((symbol : List ℕ) → first_line d symbol ≡ first_line e symbol) → (n : ℕ) (texts : List (List ℕ))

@@ -1,5 +1,5 @@
 -- Which bytes of its line a fault or a warning is about.
-use Rattle.std.specs.Prelude.{ℕ, List, Option, Some, None, Result, Ok, Err}
+use Rattle.std.specs.Prelude.{ℕ, List, Option, Some, None, Result, Ok}
 use Rattle.mixal_text.specs.declared.fault.TextFault.{TextFault}
 use Rattle.mixal_text.specs.declared.misread.Span.{Span}
 use Rattle.mixal_text.specs.declared.op.Mnemonic.{Mnemonic}
@@ -7,13 +7,13 @@ use Rattle.mixal_text.specs.declared.op.Mnemonic.TheVariants.{Orig}
 use Rattle.mixal_text.specs.declared.parts.Part.{Part}
 use Rattle.mixal_text.specs.declared.parts.Part.TheVariants as part
 use Rattle.mixal_text.specs.declared.slips.Slip.{Slip}
-use Rattle.mixal_text.specs.declared.slips.Slip.TheVariants.{OperationAsLabel, AlfCut, BlankInAddress, NoField}
+use Rattle.mixal_text.specs.declared.slips.Slip.TheVariants.{OperationAsLabel, NoLabel, AlfCut, AlfShort, BlankInAddress, NoField, WrongUnit, NoCell, NegativeShift}
 use Rattle.mixal_text.specs.Parts.{part_span}
 use Rattle.mixal_text.specs.Line.{op_of_line}
 use Rattle.mixal_asm.specs.declared.fault.AsmKind.{AsmKind}
 use Rattle.mixal_asm.specs.declared.fault.AsmKind.TheVariants.{Text, Inserted, DefinedTwice, AddressTooLarge, LocationOutOfRange, NoEnd, StartOutOfRange, SourceTooLong}
 use Rattle.mixal_asm.specs.declared.diagnostic.Warning.{Warning}
-use Rattle.mixal_asm.specs.declared.diagnostic.Warning.TheVariants.{UndefinedSymbol, Slip as OfSlip}
+use Rattle.mixal_asm.specs.declared.diagnostic.Warning.TheVariants.{UndefinedSymbol, Slip as OfSlip, BehindEnd}
 
 -- ---- a fault
 
@@ -48,10 +48,16 @@ kind_span line SourceTooLong = None
 
 abbrev pub slip_part : Slip → Part
 slip_part OperationAsLabel = part.Label
+slip_part NoLabel = part.Operation
 slip_part AlfCut = part.Address
+slip_part AlfShort = part.Address
 slip_part BlankInAddress = part.Address
-slip_part NoField = part.Address
+slip_part NoField = part.FPart
+slip_part WrongUnit = part.FPart
+slip_part NoCell = part.APart
+slip_part NegativeShift = part.APart
 
 abbrev pub warning_part : Warning → Part
-warning_part (UndefinedSymbol symbol) = part.Address
+warning_part (UndefinedSymbol symbol) = part.APart
 warning_part (OfSlip slip) = slip_part slip
+warning_part BehindEnd = part.Statement

@@ -2,9 +2,10 @@
 ghost use Rattle.std.specs.Prelude.{◌≡◌, ◌≤◌, ◌++◌, length, position, IfOk, OnOk};
 ghost use Rattle.std.specs.List.{position_or_len};
 ghost use Rattle.mix_lines.specs.Lines.{lines};
-ghost use Rattle.mixal_asm.specs.Diagnose.{diagnostics_of, first_line, goes_after, is_warning, line_warnings, slip_if, undefined_at, up_to_end, warning_at, warnings_from, warnings_in, warnings_of, with_fault, with_faults};
+ghost use Rattle.mixal_asm.specs.Diagnose.{all_slips, diagnostics_of, first_line, goes_after, is_warning, line_warnings, slips_at, undefined_at, up_to_end, warning_at, warnings_from, warnings_of, warnings_up_to_end, with_fault, with_faults};
 ghost use Rattle.mixal_asm.specs.Source.{is_that};
 
+use crate::behind::add_after_end;
 use crate::diagnostic::{Diagnostic, Finding, Warning, warning_part};
 use crate::fault::AsmFault;
 use crate::faults::faults_of;
@@ -12,7 +13,7 @@ use crate::mentions::{Role, mentions, next_line};
 use crate::source::MAX_SOURCE_BYTES;
 use indexmap::IndexMap;
 use mix_refused::Memory;
-use mixal_text::{Slip, Symbol, part_span, survey_of};
+use mixal_text::{Slip, Survey, Symbol, part_span};
 use std::alloc::Global;
 
 /// What there is to say of a source (1.3.2), in the order of its lines: its faults, as `faults_of` has them, and before a later line
@@ -92,12 +93,14 @@ fn warnings_of(alloc: Global, text: &[u8]) -> Result<Vec<Diagnostic>, Memory>
     if text.len() > MAX_SOURCE_BYTES {
         return Ok(Vec::new(alloc));
     }
-    warnings_in(alloc, text)
+    let mut list = warnings_up_to_end(alloc, text)?;
+    add_after_end(&mut list, text)?;
+    Ok(list)
 }
 
-fn warnings_in(alloc: Global, text: &[u8]) -> Result<Vec<Diagnostic>, Memory>
+fn warnings_up_to_end(alloc: Global, text: &[u8]) -> Result<Vec<Diagnostic>, Memory>
     requires { length text.now ≤ 1048576 }
-    ensures { IfOk result (λ list. list.items ≡ warnings_in (up_to_end (lines text.now))) }
+    ensures { IfOk result (λ list. list.items ≡ warnings_up_to_end (up_to_end (lines text.now))) }
 {
     let uses = mentions(alloc, Role::Use, text)?;
     let definitions = mentions(alloc, Role::Definition, text)?;
@@ -136,24 +139,42 @@ fn add_line_warnings(
 ) -> Result<(), Memory>
     ensures { OnOk result (list.new.items ≡ list.old.items ++ line_warnings uses.now.entries definitions.now.entries number line.now) }
 {
-    let survey = survey_of(line);
-    add_undefined(list, uses, definitions, number, line, survey.used)?;
-    add_slip(
-        list,
-        number,
-        line,
-        survey.operation_as_label,
-        Slip::OperationAsLabel,
-    )?;
-    add_slip(list, number, line, survey.alf_cut, Slip::AlfCut)?;
-    add_slip(
-        list,
-        number,
-        line,
-        survey.blank_in_address,
-        Slip::BlankInAddress,
-    )?;
-    add_slip(list, number, line, survey.no_field, Slip::NoField)
+    let survey = Survey::of(line);
+    add_undefined(list, uses, definitions, number, line, survey.used())?;
+    add_slips(list, number, line, &survey)
+}
+
+// All slips, in the order in which those of a line are told.
+const SLIPS: [Slip; 9] = [
+    Slip::OperationAsLabel,
+    Slip::NoLabel,
+    Slip::AlfCut,
+    Slip::AlfShort,
+    Slip::BlankInAddress,
+    Slip::NoField,
+    Slip::WrongUnit,
+    Slip::NoCell,
+    Slip::NegativeShift,
+];
+
+// The slips of a line.
+fn add_slips(
+    list: &mut Vec<Diagnostic>,
+    number: u32,
+    line: &[u8],
+    survey: &Survey<'_>,
+) -> Result<(), Memory>
+    requires { survey.now ≡ line.now }
+    ensures { OnOk result (list.new.items ≡ list.old.items ++ slips_at number line.now all_slips) }
+{
+    let mut rest = &SLIPS[..];
+    while let [slip, more @ ..] = rest {
+        if survey.has(*slip) {
+            push_warning(list, number, line, Warning::Slip(*slip))?;
+        }
+        rest = more;
+    }
+    Ok(())
 }
 
 // A symbol that a line is the first to use, and that is the LOC of no line.
@@ -188,23 +209,8 @@ fn is_first(uses: &IndexMap<Symbol, u32>, symbol: &Symbol, number: u32) -> bool
     }
 }
 
-// A slip, if the line has it.
-fn add_slip(
-    list: &mut Vec<Diagnostic>,
-    number: u32,
-    line: &[u8],
-    has: bool,
-    slip: Slip,
-) -> Result<(), Memory>
-    ensures { OnOk result (list.new.items ≡ list.old.items ++ slip_if number line.now has slip) }
-{
-    if has {
-        push_warning(list, number, line, Warning::Slip(slip))?;
-    }
-    Ok(())
-}
-
-fn push_warning(
+/// Appends a warning of a line, at the bytes that it is about.
+pub(crate) fn push_warning(
     list: &mut Vec<Diagnostic>,
     number: u32,
     line: &[u8],

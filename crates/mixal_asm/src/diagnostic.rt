@@ -13,6 +13,8 @@ pub enum Warning {
     UndefinedSymbol(Symbol),
     /// A slip of the line.
     Slip(Slip),
+    /// The first line behind END that reads as if it belonged to the program.
+    BehindEnd,
 }
 
 /// A fault, or a warning.
@@ -39,6 +41,7 @@ impl Warning {
         match self {
             Warning::UndefinedSymbol(_) => "undefined-symbol",
             Warning::Slip(slip) => slip_name(*slip),
+            Warning::BehindEnd => "behind-end",
         }
     }
 
@@ -48,7 +51,7 @@ impl Warning {
     {
         match self {
             Warning::UndefinedSymbol(symbol) => symbol.name(),
-            Warning::Slip(_) => &[],
+            Warning::Slip(_) | Warning::BehindEnd => &[],
         }
     }
 
@@ -59,6 +62,7 @@ impl Warning {
         match self {
             Warning::UndefinedSymbol(_) => " is defined nowhere: END makes a cell of 0 for it",
             Warning::Slip(slip) => slip_text(*slip),
+            Warning::BehindEnd => "this stands behind END and is not read",
         }
     }
 }
@@ -68,8 +72,9 @@ pub(crate) fn warning_part(warning: &Warning) -> Part
     ensures { result ≡ warning_part warning.now }
 {
     match warning {
-        Warning::UndefinedSymbol(_) => Part::Address,
+        Warning::UndefinedSymbol(_) => Part::APart,
         Warning::Slip(slip) => slip_part(*slip),
+        Warning::BehindEnd => Part::Statement,
     }
 }
 
@@ -78,7 +83,10 @@ fn slip_part(slip: Slip) -> Part
 {
     match slip {
         Slip::OperationAsLabel => Part::Label,
-        Slip::AlfCut | Slip::BlankInAddress | Slip::NoField => Part::Address,
+        Slip::NoLabel => Part::Operation,
+        Slip::AlfCut | Slip::AlfShort | Slip::BlankInAddress => Part::Address,
+        Slip::NoField | Slip::WrongUnit => Part::FPart,
+        Slip::NoCell | Slip::NegativeShift => Part::APart,
     }
 }
 
@@ -87,9 +95,14 @@ fn slip_name(slip: Slip) -> &'static str
 {
     match slip {
         Slip::OperationAsLabel => "operation-as-label",
+        Slip::NoLabel => "no-label",
         Slip::AlfCut => "alf-cut",
+        Slip::AlfShort => "alf-short",
         Slip::BlankInAddress => "blank-in-address",
         Slip::NoField => "no-field",
+        Slip::WrongUnit => "wrong-unit",
+        Slip::NoCell => "no-cell",
+        Slip::NegativeShift => "negative-shift",
     }
 }
 
@@ -100,8 +113,13 @@ fn slip_text(slip: Slip) -> &'static str
         Slip::OperationAsLabel => {
             "the label is the name of an operation: if that is meant, begin the line with a blank"
         }
+        Slip::NoLabel => "EQU without a label defines nothing",
         Slip::AlfCut => "ALF takes five characters, and its text has more of them, or begins later",
+        Slip::AlfShort => "ALF takes five characters: what is missing becomes blanks",
         Slip::BlankInAddress => "a blank ends the address: what follows is a remark",
         Slip::NoField => "the operation takes no such F: the machine will refuse the step",
+        Slip::WrongUnit => "the unit cannot do this: the machine will refuse the step",
+        Slip::NoCell => "the cells are 0 to 3999: the machine will refuse the step, or the jump",
+        Slip::NegativeShift => "a shift by a negative number: the machine will refuse the step",
     }
 }

@@ -2,6 +2,7 @@
 #![tactic(auto)]
 
 mod assembler;
+mod behind;
 mod code;
 mod diagnosis;
 mod diagnostic;

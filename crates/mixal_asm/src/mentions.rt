@@ -39,7 +39,8 @@ pub(crate) fn next_line(text: &[u8]) -> Option<(&[u8], &[u8])>
     }
 }
 
-fn is_end(line: &[u8]) -> bool
+/// Whether a line is END.
+pub(crate) fn is_end(line: &[u8]) -> bool
     ensures { result ≡ is_end line.now }
 {
     !is_comment(line) && line_is_end(line)

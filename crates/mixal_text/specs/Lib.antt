@@ -18,4 +18,5 @@ pub mod Alf
 pub mod Parts
 pub mod Line
 pub mod Address
+pub mod Refused
 pub mod Slips

@@ -14,6 +14,8 @@ use Rattle.mixal_text.specs.declared.parts.Part.TheVariants as part
 use Rattle.mixal_text.specs.Words.{after_blanks, first_word, after_word}
 use Rattle.mixal_text.specs.Alf.{is_quote, alf_start}
 use Rattle.mixal_text.specs.Op.{op_of, address_after}
+use Rattle.mixal_text.specs.Part.{is_open, is_close}
+use Rattle.mixal_text.specs.WrittenF.{after_a_part}
 
 -- where a part of a text stands that begins what is left of the text
 abbrev pub span_in : List ℕ → List ℕ → List ℕ → Span
@@ -55,6 +57,26 @@ unfoldable pub address_span : List ℕ → Span
 address_span text =
     address_span_by (op_of (first_word (after_first is_blank text))) text (after_word (after_first is_blank text))
 
+-- the bytes of a span
+abbrev pub piece_at : List ℕ → Span → List ℕ
+piece_at text span = take (span.to - span.from) (drop span.from text)
+
+-- the A-part, with which an ADDRESS begins
+abbrev pub a_part_span : List ℕ → Span → Span
+a_part_span text at = record { from = at.from; to = at.to - length (after_a_part (piece_at text at)) }
+
+-- what follows the opening bracket of an ADDRESS
+abbrev pub after_open : List ℕ → List ℕ
+after_open address = after_first is_open (after_a_part address)
+
+-- F without its brackets
+abbrev pub f_span : List ℕ → Span → Span
+f_span text at =
+    record {
+      from = at.to - length (after_open (piece_at text at));
+      to = at.to - length (after_open (piece_at text at)) + length (before_first is_close (after_open (piece_at text at)));
+    }
+
 -- from one part to another, if that is not empty
 abbrev pub joined : Span → Span → Span
 joined first second = if nat_lt second.from second.to then record { from = first.from; to = second.to } else first
@@ -63,6 +85,8 @@ unfoldable pub part_span : List ℕ → Part → Span
 part_span text part.Label = label_span text
 part_span text part.Operation = operation_span text
 part_span text part.Address = address_span text
+part_span text part.APart = a_part_span text (address_span text)
+part_span text part.FPart = f_span text (address_span text)
 part_span text part.Statement = joined (operation_span text) (address_span text)
 
 -- ---- the bytes at fault in a part

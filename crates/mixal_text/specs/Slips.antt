@@ -1,5 +1,5 @@
 -- What a line uses, and what it has that is allowed and hardly meant (1.3.2).
-use Rattle.std.specs.Prelude.{ℕ, ◌==◌, ◌&&◌, ◌||◌, not, Bool, true, false, List, [], ◌∷◌, take, drop, Option, Some, None, Result, Ok, Err}
+use Rattle.std.specs.Prelude.{◌≡◌, ℕ, ◌==◌, ◌&&◌, ◌||◌, not, Bool, true, false, List, [], ◌∷◌, take, drop, length, nat_lt, is_some, is_none, Option, Some, None, Result, Ok, Err}
 use Rattle.std.specs.List.{list_all, before_first, after_first}
 use Rattle.std.specs.Char.{is_ascii_digit}
 use Rattle.mix_lines.specs.Lines.{is_blank, begins_with}
@@ -11,14 +11,15 @@ use Rattle.mixal_text.specs.declared.op.Mnemonic.{Mnemonic}
 use Rattle.mixal_text.specs.declared.op.Op.{Op}
 use Rattle.mixal_text.specs.declared.op.Op.TheVariants.{Machine, Equ, Orig, Con, Alf, End}
 use Rattle.mixal_text.specs.declared.slips.Slip.{Slip}
-use Rattle.mixal_text.specs.declared.slips.Slip.TheVariants.{OperationAsLabel, AlfCut, BlankInAddress, NoField}
+use Rattle.mixal_text.specs.declared.slips.Slip.TheVariants.{OperationAsLabel, NoLabel, AlfCut, AlfShort, BlankInAddress, NoField, WrongUnit, NoCell, NegativeShift}
 use Rattle.mixal_text.specs.Words.{is_nonblank, after_blanks, after_word}
 use Rattle.mixal_text.specs.Op.{op_of}
 use Rattle.mixal_text.specs.Symbol.{symbol_of}
 use Rattle.mixal_text.specs.Alf.{is_quote, alf_start}
 use Rattle.mixal_text.specs.Line.{LineValue, Remark, Code, loc_of_line, line_of}
 use Rattle.mixal_text.specs.Address.{is_delimiter}
-use Rattle.mixal_text.specs.WrittenF.{has_refused_f}
+use Rattle.mixal_text.specs.WrittenF.{op_refuses}
+use Rattle.mixal_text.specs.Refused.{asks_unit, has_bad_control, lacks_cell, shifts_back, step_of}
 
 -- ---- the symbol that is the A-part of an instruction
 
@@ -30,13 +31,23 @@ symbol_used_by Con address = None
 symbol_used_by (Alf word) address = None
 symbol_used_by End address = None
 
-abbrev pub symbol_in : Result LineValue Misread → Option (List ℕ)
-symbol_in (Err fault) = None
-symbol_in (Ok Remark) = None
-symbol_in (Ok (Code loc code address)) = symbol_used_by code address
+-- the OP and the ADDRESS of a line that can be read; a remark has none
+abbrev pub op_in : Result LineValue Misread → Option Op
+op_in (Err fault) = None
+op_in (Ok Remark) = None
+op_in (Ok (Code loc code address)) = Some code
+
+abbrev pub address_in : Result LineValue Misread → List ℕ
+address_in (Err fault) = []
+address_in (Ok Remark) = []
+address_in (Ok (Code loc code address)) = address
+
+abbrev pub symbol_in : Option Op → List ℕ → Option (List ℕ)
+symbol_in None address = None
+symbol_in (Some code) address = symbol_used_by code address
 
 unfoldable pub symbol_used : List ℕ → Option (List ℕ)
-symbol_used text = symbol_in (line_of text)
+symbol_used text = symbol_in (op_in (line_of text)) (address_in (line_of text))
 
 -- ---- an operation in the place of LOC
 
@@ -53,6 +64,23 @@ abbrev pub has_operation : Result (Option Label) TextFault → Bool
 has_operation (Ok loc) = is_operation loc
 has_operation (Err fault) = false
 
+abbrev pub loc_slips : Slip → List ℕ → Bool
+loc_slips OperationAsLabel text = has_operation (loc_of_line text)
+loc_slips NoLabel text = false
+loc_slips AlfCut text = false
+loc_slips AlfShort text = false
+loc_slips BlankInAddress text = false
+loc_slips NoField text = false
+loc_slips WrongUnit text = false
+loc_slips NoCell text = false
+loc_slips NegativeShift text = false
+
+-- ---- no LOC
+
+abbrev pub has_no_loc : Result (Option Label) TextFault → Bool
+has_no_loc (Ok loc) = is_none loc
+has_no_loc (Err fault) = false
+
 -- ---- an ALF without quotation marks whose text goes on after the five characters, or begins after them
 
 abbrev pub is_cut : List ℕ → Bool
@@ -62,6 +90,12 @@ is_cut text = begins_with is_nonblank (drop 5 text) || (list_all is_blank (take 
 abbrev pub alf_is_cut : List ℕ → List ℕ → Bool
 alf_is_cut [] rest = false
 alf_is_cut (first ∷ text) rest = not (is_quote first) && is_cut (alf_start rest)
+
+-- ---- an ALF whose quotation has fewer than five characters
+
+abbrev pub alf_is_short : List ℕ → Bool
+alf_is_short [] = false
+alf_is_short (first ∷ text) = is_quote first && nat_lt (length (before_first is_quote text)) 5
 
 -- ---- an ADDRESS that one blank ends, and then what reads on as a part of it
 
@@ -93,19 +127,39 @@ is_alf Con = false
 is_alf (Alf word) = true
 is_alf End = false
 
-abbrev pub has_cut_alf : Result LineValue Misread → List ℕ → Bool
-has_cut_alf (Err fault) rest = false
-has_cut_alf (Ok Remark) rest = false
-has_cut_alf (Ok (Code loc code address)) rest = is_alf code && alf_is_cut (after_blanks rest) rest
+abbrev pub is_equ : Op → Bool
+is_equ (Machine code f) = false
+is_equ Equ = true
+is_equ Orig = false
+is_equ Con = false
+is_equ (Alf word) = false
+is_equ End = false
 
-abbrev pub has_cut_address : Result LineValue Misread → List ℕ → Bool
-has_cut_address (Err fault) rest = false
-has_cut_address (Ok Remark) rest = false
-has_cut_address (Ok (Code loc code address)) rest = address_is_cut address rest
+-- by OP, ADDRESS and the line
+abbrev pub slips : Slip → Op → List ℕ → List ℕ → Bool
+slips OperationAsLabel code address text = false
+slips NoLabel code address text = is_equ code && has_no_loc (loc_of_line text)
+slips AlfCut code address text = is_alf code && alf_is_cut (after_blanks (after_op text)) (after_op text)
+slips AlfShort code address text = is_alf code && alf_is_short (after_blanks (after_op text))
+slips BlankInAddress code address text = address_is_cut address (after_op text)
+slips NoField code address text = op_refuses code address
+slips WrongUnit code address text = asks_unit code address || has_bad_control (step_of code address)
+slips NoCell code address text = lacks_cell (step_of code address)
+slips NegativeShift code address text = shifts_back (step_of code address)
 
--- whether a line has a slip
+abbrev pub slips_in : Slip → Option Op → List ℕ → List ℕ → Bool
+slips_in slip None address text = false
+slips_in slip (Some code) address text = slips slip code address text
+
+-- whether a line has a slip. That of LOC alone is one whatever follows it
 unfoldable pub has_slip : List ℕ → Slip → Bool
-has_slip text OperationAsLabel = has_operation (loc_of_line text)
-has_slip text AlfCut = has_cut_alf (line_of text) (after_op text)
-has_slip text BlankInAddress = has_cut_address (line_of text) (after_op text)
-has_slip text NoField = has_refused_f (line_of text)
+has_slip text slip = loc_slips slip text || slips_in slip (op_in (line_of text)) (address_in (line_of text)) text
+
+-- what is known of a line that was read
+pub record IsRead (text : List ℕ) (code : Option Op) (written : List ℕ) : Type 0 where
+  pub op : code ≡ op_in (line_of text)
+  pub address : written ≡ address_in (line_of text)
+
+-- whether a line reads as one that belongs to a program
+unfoldable pub is_code : List ℕ → Bool
+is_code text = is_some (op_in (line_of text))

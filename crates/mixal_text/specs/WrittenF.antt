@@ -14,7 +14,6 @@ use Rattle.mixal_text.specs.declared.op.Op.TheVariants.{Machine, Equ, Orig, Con,
 use Rattle.mixal_text.specs.Names.{NamesValue}
 use Rattle.mixal_text.specs.Part.{is_open, from_first, up_to, brackets_at}
 use Rattle.mixal_text.specs.Address.{is_equals, is_delimiter}
-use Rattle.mixal_text.specs.Line.{LineValue, Remark, Code}
 
 -- ---- the F
 
@@ -70,8 +69,3 @@ op_refuses Orig address = false
 op_refuses Con address = false
 op_refuses (Alf word) address = false
 op_refuses End address = false
-
-abbrev pub has_refused_f : Result LineValue Misread → Bool
-has_refused_f (Err fault) = false
-has_refused_f (Ok Remark) = false
-has_refused_f (Ok (Code loc code address)) = op_refuses code address

@@ -74,7 +74,7 @@ pub(crate) fn close_in(text: &[u8]) -> Option<usize>
     text.iter().position(|byte| *byte == b')')
 }
 
-fn open_in(text: &[u8]) -> Option<usize>
+pub(crate) fn open_in(text: &[u8]) -> Option<usize>
     ensures { result ≡ position is_open text.now }
 {
     text.iter().position(|byte| *byte == b'(')

@@ -4,7 +4,9 @@
 
 mod addresses;
 mod alf;
+mod alf_slips;
 mod atom;
+mod bad;
 mod cut;
 mod expressions;
 mod fault;
@@ -17,7 +19,9 @@ mod op;
 mod operator;
 mod part;
 mod parts;
+mod reads_on;
 mod references;
+mod refused;
 mod slips;
 mod symbol;
 mod valued;
@@ -36,7 +40,7 @@ pub use misread::{Misread, Span};
 pub use names::Names;
 pub use op::{Mnemonic, Op, is_without_operand};
 pub use parts::{Part, part_span};
-pub use slips::{Slip, Survey, survey_of, symbol_used};
+pub use slips::{Slip, Survey, symbol_used};
 pub use symbol::Symbol;
 pub use valued::valued_part;
 pub use w_values::w_value;

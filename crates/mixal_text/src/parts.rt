@@ -1,26 +1,29 @@
 //! Where in a line its parts stand, and which bytes of a part are at fault (1.3.2).
-ghost use Rattle.std.specs.Prelude.{◌≡◌, ◌≤◌, ◌-◌, length, position};
-ghost use Rattle.std.specs.List.{before_first, position_or_len};
+ghost use Rattle.std.specs.Prelude.{◌≡◌, ◌≤◌, ◌-◌, length};
+ghost use Rattle.std.specs.List.{before_first};
 ghost use Rattle.mixal_text.specs.Words.{after_blanks};
 ghost use Rattle.mixal_text.specs.Alf.{is_quote};
 ghost use Rattle.mixal_text.specs.Misread.{IsWithin};
-ghost use Rattle.mixal_text.specs.Parts.{span_in, alf_text, alf_piece, address_span_by, address_span, operation_span, part_misread, part_span, bad_span, character_length, is_bad, is_new, joined, narrowed};
+ghost use Rattle.mixal_text.specs.Parts.{a_part_span, after_open, f_span, span_in, alf_text, alf_piece, address_span_by, address_span, operation_span, part_misread, part_span, joined, narrowed};
 
 use crate::alf::{alf_start, quote_in};
+use crate::bad::bad_span;
+use crate::cut::{open_in, split_at_close};
 use crate::fault::TextFault;
 use crate::line::{address_after, first_word, read_op};
 use crate::misread::{Misread, Span};
 use crate::op::Mnemonic;
 use crate::words::{skip_blanks, split_word};
-use mix_lines::is_blank;
-use mix_word::code_of;
+use crate::written_f::after_a_part;
 
-/// A part of a line (1.3.2): LOC, OP, ADDRESS, or OP and ADDRESS.
+/// A part of a line (1.3.2): LOC, OP, ADDRESS, its A-part, its F without brackets, or OP and ADDRESS.
 #[derive(Clone, Copy)]
 pub enum Part {
     Label,
     Operation,
     Address,
+    APart,
+    FPart,
     Statement,
 }
 
@@ -36,6 +39,8 @@ pub fn part_span(line: &[u8], part: Part) -> Span
         Part::Label => span_in(line, line, split_word(line).0),
         Part::Operation => operation_span(line),
         Part::Address => address_span(line),
+        Part::APart => a_part_span(line, address_span(line)),
+        Part::FPart => f_span(line, address_span(line)),
         Part::Statement => joined(operation_span(line), address_span(line)),
     }
 }
@@ -118,15 +123,56 @@ fn alf_span(line: &[u8], rest: &[u8]) -> Span
     }
 }
 
-// What stands before the next quotation mark, or all where there is none.
+/// What stands before the next quotation mark, or all where there is none.
 #[tactic(auto, using(crate::proofs::PartLemmas::cuts))]
-fn before_quote(text: &[u8]) -> &[u8]
+pub(crate) fn before_quote(text: &[u8]) -> &[u8]
     ensures is { result.now ≡ before_first is_quote text.now }
     ensures within { length result.now ≤ length text.now }
 {
     match quote_in(text) {
         Some(end) => &text[..end],
         None => text,
+    }
+}
+
+fn a_part_span(line: &[u8], at: Span) -> Span
+    requires order { at.from ≤ at.to }
+    requires within { at.to ≤ length line.now }
+    ensures is { result ≡ a_part_span line.now at }
+    ensures order { result.from ≤ result.to }
+    ensures within { result.to ≤ length line.now }
+{
+    Span {
+        from: at.from,
+        to: at.to - after_a_part(&line[at.from..at.to]).len(),
+    }
+}
+
+fn f_span(line: &[u8], at: Span) -> Span
+    requires order { at.from ≤ at.to }
+    requires within { at.to ≤ length line.now }
+    ensures is { result ≡ f_span line.now at }
+    ensures order { result.from ≤ result.to }
+    ensures within { result.to ≤ length line.now }
+{
+    let inside = after_open(&line[at.from..at.to]);
+    let from = at.to - inside.len();
+    Span {
+        from,
+        to: from + split_at_close(inside).0.len(),
+    }
+}
+
+// What follows the opening bracket of an ADDRESS.
+#[tactic(auto, using(crate::proofs::PartLemmas::cuts))]
+fn after_open(address: &[u8]) -> &[u8]
+    ensures is { result.now ≡ after_open address.now }
+    ensures within { length result.now ≤ length address.now }
+{
+    let rest = after_a_part(address);
+    match open_in(rest) {
+        Some(start) => &rest[start + 1..],
+        None => &[],
     }
 }
 
@@ -157,66 +203,4 @@ fn narrowed(line: &[u8], fault: TextFault, span: Span) -> Span
         TextFault::BadByte => bad_span(line, span),
         _ => span,
     }
-}
-
-// The first bad byte of a span, with the bytes that continue its character.
-fn bad_span(line: &[u8], span: Span) -> Span
-    requires order { span.from ≤ span.to }
-    requires within { span.to ≤ length line.now }
-    ensures is { result ≡ bad_span line.now span }
-    ensures order { result.from ≤ result.to }
-    ensures within { result.to ≤ length line.now }
-{
-    let from = span.from + good_length(&line[span.from..span.to]);
-    Span {
-        from,
-        to: from + character_length(&line[from..]),
-    }
-}
-
-// How many bytes a text begins with that are no bad ones.
-#[tactic(auto, using(crate::proofs::Positions::first_place))]
-fn good_length(text: &[u8]) -> usize
-    ensures is { result ≡ position_or_len is_bad text.now }
-    ensures within { result ≤ length text.now }
-{
-    match bad_in(text) {
-        Some(end) => end,
-        None => text.len(),
-    }
-}
-
-fn bad_in(text: &[u8]) -> Option<usize>
-    ensures { result ≡ position is_bad text.now }
-{
-    text.iter()
-        .position(|byte| !(is_blank(*byte) || code_of(*byte).is_some()))
-}
-
-fn character_length(text: &[u8]) -> usize
-    ensures is { result ≡ character_length text.now }
-    ensures within { result ≤ length text.now }
-{
-    match text {
-        [] => 0,
-        [_, rest @ ..] => 1 + continued_length(rest),
-    }
-}
-
-// How many bytes a text begins with that continue a character in UTF-8.
-#[tactic(auto, using(crate::proofs::Positions::first_place))]
-fn continued_length(text: &[u8]) -> usize
-    ensures is { result ≡ position_or_len is_new text.now }
-    ensures within { result ≤ length text.now }
-{
-    match new_in(text) {
-        Some(end) => end,
-        None => text.len(),
-    }
-}
-
-fn new_in(text: &[u8]) -> Option<usize>
-    ensures { result ≡ position is_new text.now }
-{
-    text.iter().position(|byte| *byte < 128 || 192 <= *byte)
 }

@@ -1,34 +1,42 @@
 //! What a line uses, and what it has that is allowed and hardly meant (1.3.2).
-ghost use Rattle.std.specs.Prelude.{◌≡◌, take, drop};
-ghost use Rattle.std.specs.Char.{is_ascii_digit};
-ghost use Rattle.mix_lines.specs.Lines.{begins_with};
-ghost use Rattle.mixal_text.specs.declared.slips.Slip.TheVariants.{OperationAsLabel, AlfCut, BlankInAddress, NoField};
+ghost use Rattle.std.specs.Prelude.{◌≡◌};
 ghost use Rattle.mixal_text.specs.Line.{loc_of_line};
-ghost use Rattle.mixal_text.specs.Words.{after_blanks, is_nonblank};
-ghost use Rattle.mixal_text.specs.Slips.{address_is_cut, after_op, alf_is_cut, has_operation, has_slip, is_alf, is_cut, is_operation, is_sign, reads_on, symbol_used, symbol_used_by};
+ghost use Rattle.mixal_text.specs.Slips.{after_op, has_no_loc, has_operation, has_slip, is_alf, is_code, is_equ, is_operation, loc_slips, slips, symbol_used, symbol_used_by};
 
-use crate::alf::alf_start;
+use crate::alf_slips::{alf_is_cut, alf_is_short};
 use crate::cut::split_at_delimiter;
 use crate::label::Label;
 use crate::line::{Line, line_loc, read_line, read_op};
 use crate::op::Op;
+use crate::reads_on::address_is_cut;
+use crate::refused::{Step, asks_unit, has_bad_control, lacks_cell, shifts_back};
 use crate::symbol::Symbol;
-use crate::words::{are_blanks, skip_blanks, split_word};
+use crate::words::{skip_blanks, split_word};
 use crate::written_f::op_refuses;
-use mix_lines::is_blank;
+use std::marker::Model;
 
 /// What is allowed in a line and hardly meant (1.3.2).
 #[derive(Clone, Copy)]
 pub enum Slip {
     /// LOC is a symbol that names an operation.
     OperationAsLabel,
+    /// An EQU has no LOC, so it defines nothing.
+    NoLabel,
     /// The text of an ALF without quotation marks goes on after its five characters, or begins after them.
     AlfCut,
+    /// The text of an ALF between quotation marks has fewer than five characters.
+    AlfShort,
     /// One blank ends ADDRESS, and what follows reads as if it belonged to it: a comma, an opening bracket before a digit, or a
     /// sign of an operation before a number.
     BlankInAddress,
     /// An instruction has an F in numbers that its step refuses: no field, no unit, or no F of an operation.
     NoField,
+    /// An instruction asks a unit, by its numbers, for what that cannot do.
+    WrongUnit,
+    /// An instruction uses, by its numbers, a cell that is none.
+    NoCell,
+    /// A shift is by a negative number.
+    NegativeShift,
 }
 
 /// The symbol that is the A-part of a line's instruction, if it is one (1.3.2).
@@ -51,41 +59,97 @@ fn symbol_used_by(op: Op, address: &[u8]) -> Option<Symbol>
     }
 }
 
-/// What a line uses, and which slips it has (1.3.2).
+/// A line that was read once (1.3.2), seen as its bytes.
 #[derive(Drop)]
-pub struct Survey {
-    /// The symbol that is the A-part of its instruction, if it is one.
-    pub used: Option<Symbol>,
-    pub operation_as_label: bool,
-    pub alf_cut: bool,
-    pub blank_in_address: bool,
-    pub no_field: bool,
+pub struct Survey<'a> {
+    line: &'a [u8],
+    op: Option<Op>,
+    address: &'a [u8],
 }
 
-/// What a line uses, and which slips it has (1.3.2), read once.
-#[tactic(auto, unfolding(crate::specs::Slips::symbol_used, crate::specs::Slips::has_slip))]
-pub fn survey_of(line: &[u8]) -> Survey
-    ensures used { result.used ≡ symbol_used line.now }
-    ensures operation_as_label { result.operation_as_label ≡ has_slip line.now OperationAsLabel }
-    ensures alf_cut { result.alf_cut ≡ has_slip line.now AlfCut }
-    ensures blank_in_address { result.blank_in_address ≡ has_slip line.now BlankInAddress }
-    ensures no_field { result.no_field ≡ has_slip line.now NoField }
+impl<'a> Model for Survey<'a> {
+    ghost use Rattle.std.specs.Prelude.{ℕ, List};
+    ghost use Rattle.mixal_text.specs.Slips.{IsRead};
+
+    ghost Value = { List ℕ };
+
+    ghost view = { λ s. s.line.now };
+
+    ghost invariant = { λ s. IsRead s.line.now s.op s.address.now };
+}
+
+impl<'a> Survey<'a> {
+    /// Reads a line.
+    pub fn of(line: &'a [u8]) -> Survey<'a>
+        ensures { result ≡ line.now }
+    {
+        match read_line(line) {
+            Ok(Line::Code { op, address, .. }) => Survey {
+                line,
+                op: Some(op),
+                address,
+            },
+            Ok(Line::Remark) | Err(_) => Survey {
+                line,
+                op: None,
+                address: &line[..0],
+            },
+        }
+    }
+
+    /// The symbol that is the A-part of its instruction, if it is one.
+    #[tactic(auto, unfolding(crate::specs::Slips::symbol_used))]
+    pub fn used(&self) -> Option<Symbol>
+        ensures { result ≡ symbol_used self.now }
+    {
+        symbol_used_by(self.op?, self.address)
+    }
+
+    /// Whether it reads as one that belongs to a program: it is no remark, and its LOC, its OP and the bytes of its ADDRESS are as
+    /// they have to be.
+    #[tactic(auto, unfolding(crate::specs::Slips::is_code))]
+    pub fn is_code(&self) -> bool
+        ensures { result ≡ is_code self.now }
+    {
+        self.op.is_some()
+    }
+
+    /// Whether it has a slip.
+    #[tactic(auto, unfolding(crate::specs::Slips::has_slip))]
+    pub fn has(&self, slip: Slip) -> bool
+        ensures { result ≡ has_slip self.now slip }
+    {
+        match self.op {
+            Some(op) => { loc_slips(slip, self.line) || slips(slip, op, self.address, self.line) }
+            None => loc_slips(slip, self.line),
+        }
+    }
+}
+
+fn loc_slips(slip: Slip, line: &[u8]) -> bool
+    ensures { result ≡ loc_slips slip line.now }
 {
-    match read_line(line) {
-        Ok(Line::Code { op, address, .. }) => Survey {
-            used: symbol_used_by(op, address),
-            operation_as_label: has_operation(line),
-            alf_cut: is_alf(op) && alf_is_cut(after_op(line)),
-            blank_in_address: address_is_cut(address, after_op(line)),
-            no_field: op_refuses(op, address),
-        },
-        Ok(Line::Remark) | Err(_) => Survey {
-            used: None,
-            operation_as_label: has_operation(line),
-            alf_cut: false,
-            blank_in_address: false,
-            no_field: false,
-        },
+    match slip {
+        Slip::OperationAsLabel => has_operation(line),
+        _ => false,
+    }
+}
+
+fn slips(slip: Slip, op: Op, address: &[u8], line: &[u8]) -> bool
+    ensures { result ≡ slips slip op address.now line.now }
+{
+    let same = op;
+    let rest = after_op(line);
+    match slip {
+        Slip::OperationAsLabel => false,
+        Slip::NoLabel => is_equ(op) && has_no_loc(line),
+        Slip::AlfCut => is_alf(op) && alf_is_cut(rest),
+        Slip::AlfShort => is_alf(op) && alf_is_short(skip_blanks(rest)),
+        Slip::BlankInAddress => address_is_cut(address, rest),
+        Slip::NoField => op_refuses(op, address),
+        Slip::WrongUnit => asks_unit(op, address) || has_bad_control(Step::of(same, address)),
+        Slip::NoCell => lacks_cell(Step::of(op, address)),
+        Slip::NegativeShift => shifts_back(Step::of(op, address)),
     }
 }
 
@@ -107,6 +171,12 @@ fn is_operation(loc: Option<Label>) -> bool
     }
 }
 
+fn has_no_loc(line: &[u8]) -> bool
+    ensures { result ≡ has_no_loc (loc_of_line line.now) }
+{
+    matches!(line_loc(line), Ok(None))
+}
+
 // What stands after OP.
 fn after_op(line: &[u8]) -> &[u8]
     ensures { result.now ≡ after_op line.now }
@@ -121,71 +191,8 @@ fn is_alf(op: Op) -> bool
     matches!(op, Op::Alf(_))
 }
 
-fn alf_is_cut(rest: &[u8]) -> bool
-    ensures { result ≡ alf_is_cut (after_blanks rest.now) rest.now }
+fn is_equ(op: Op) -> bool
+    ensures { result ≡ is_equ op }
 {
-    match skip_blanks(rest) {
-        [] | [b'"', ..] => false,
-        _ => is_cut(alf_start(rest)),
-    }
-}
-
-fn is_cut(text: &[u8]) -> bool
-    ensures { result ≡ is_cut text.now }
-{
-    let (five, rest) = five_and_rest(text);
-    begins_nonblank(rest) || (are_blanks(five) && !are_blanks(text))
-}
-
-// The first five characters of a text, and what follows them.
-fn five_and_rest(text: &[u8]) -> (&[u8], &[u8])
-    ensures five { result.0.now ≡ take 5 text.now }
-    ensures rest { result.1.now ≡ drop 5 text.now }
-{
-    match text {
-        [_, _, _, _, _, rest @ ..] => (&text[..5], rest),
-        _ => (text, &[]),
-    }
-}
-
-fn begins_nonblank(text: &[u8]) -> bool
-    ensures { result ≡ begins_with is_nonblank text.now }
-{
-    match text {
-        [] => false,
-        [byte, ..] => !is_blank(*byte),
-    }
-}
-
-fn address_is_cut(address: &[u8], rest: &[u8]) -> bool
-    ensures { result ≡ address_is_cut address.now rest.now }
-{
-    !address.is_empty() && reads_on(split_word(skip_blanks(rest)).1)
-}
-
-// Whether what follows a blank reads as if it belonged to the ADDRESS before.
-fn reads_on(text: &[u8]) -> bool
-    ensures { result ≡ reads_on text.now }
-{
-    match text {
-        [] => false,
-        [b',', ..] => true,
-        [b'(', rest @ ..] => begins_with_digit(rest),
-        [byte, rest @ ..] => is_sign(*byte) && begins_with_digit(skip_blanks(rest)),
-    }
-}
-
-fn is_sign(byte: u8) -> bool
-    ensures { result ≡ is_sign byte }
-{
-    byte == b'+' || byte == b'-' || byte == b'*' || byte == b'/'
-}
-
-fn begins_with_digit(text: &[u8]) -> bool
-    ensures { result ≡ begins_with is_ascii_digit text.now }
-{
-    match text {
-        [] => false,
-        [byte, ..] => byte.is_ascii_digit(),
-    }
+    matches!(op, Op::Equ)
 }

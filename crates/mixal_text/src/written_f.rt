@@ -1,5 +1,5 @@
 //! An F that an ADDRESS gives in numbers, and that a step refuses whatever the machine holds (1.3.1, 1.3.2).
-ghost use Rattle.std.specs.Prelude.{◌≡◌};
+ghost use Rattle.std.specs.Prelude.{◌≡◌, ◌≤◌, length};
 ghost use Rattle.std.specs.List.{list_any};
 ghost use Rattle.mixal_text.specs.WrittenF.{after_a_part, f_in, has_needs, is_asterisk, no_names, op_refuses, refuses, takes_f, written_f};
 
@@ -10,8 +10,8 @@ use crate::op::Op;
 use crate::symbol::Symbol;
 use mix_word::{Decoded, Field, Operation, UNITS, Uses, Word, decode};
 
-// No symbol has a value.
-struct NoNames;
+/// No symbol has a value.
+pub(crate) struct NoNames;
 
 impl Names for NoNames {
     ghost names = { λ none. no_names };
@@ -63,9 +63,9 @@ fn has_needs(operation: Operation, f: u8) -> bool
     }
 }
 
-// The F of an ADDRESS, if it is given in numbers.
+/// The F of an ADDRESS, if it is given in numbers.
 #[tactic(auto, unfolding(crate::specs::WrittenF::written_f))]
-fn written_f(address: &[u8]) -> Option<u8>
+pub(crate) fn written_f(address: &[u8]) -> Option<u8>
     ensures { result ≡ written_f address.now }
 {
     f_in(split_at_bracket(after_a_part(address)).1)
@@ -83,15 +83,18 @@ fn f_in(brackets: &[u8]) -> Option<u8>
     }
 }
 
-fn has_asterisk(text: &[u8]) -> bool
+/// Whether an asterisk stands in a text.
+pub(crate) fn has_asterisk(text: &[u8]) -> bool
     ensures { result ≡ list_any is_asterisk text.now }
 {
     text.contains(&b'*')
 }
 
 #[tactic(auto, using(crate::proofs::PartLemmas::cuts))]
+/// What follows the A-part of an ADDRESS.
 pub(crate) fn after_a_part(address: &[u8]) -> &[u8]
-    ensures { result.now ≡ after_a_part address.now }
+    ensures is { result.now ≡ after_a_part address.now }
+    ensures within { length result.now ≤ length address.now }
 {
     match address {
         [b'=', rest @ ..] => match equals_in(rest) {

@@ -1,4 +1,4 @@
-use Rattle.std.proofs.Common.{refl, sym, ◌∙◌}
+use Rattle.std.proofs.Common.{refl, ◌∙◌}
 use Rattle.mixal_asm.proofs.LineLemmas.{ended_fault, ended_is, fault_by}
 use Rattle.mixal_asm.proofs.draft.Draft.ended.Goals as goal
 

@@ -1,0 +1,13 @@
+use Rattle.std.proofs.Common.{◌≡◌, ◌+◌, ◌≤◌, ◌++◌, length}
+use Rattle.mix_lines.specs.Lines.{lines}
+use Rattle.mixal_asm.specs.Diagnose.{behind_from}
+use Rattle.mixal_asm.proofs.behind.add_behind.Given as goal
+
+abbrev pub invariant-loop-line : goal.invariant-loop-line
+invariant-loop-line l = record {
+  leads : l.list.items ++ behind_from l.number (lines l.rest) ≡ l.initial.list.items ++ behind_from l.first (lines l.fn.text);
+  bound : l.number + length l.rest ≤ 1048577;
+}
+
+abbrev pub decreases-loop-line : goal.decreases-loop-line
+decreases-loop-line l = length l.rest
