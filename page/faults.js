@@ -44,15 +44,12 @@ export function toldRefusal(refusal, found, texts, listing) {
   return told;
 }
 
-// Warnings of a program that is accepted.
+// Warnings of a program that is accepted, beside those of the engine.
 export function missing(listing, { rows }, { wordIn }) {
-  const lines = listing.text.split("\n");
-  const end = lines.findIndex((line) => /^[^*\s]*[ \t]+END(\s|$)/i.test(line)) + 1;
-  const behind = lines.findIndex((line, at) => at >= end && line.trim() !== "") + 1;
+  const line = listing.text.split("\n").findIndex((text) => /^[^*\s]*[ \t]+END(\s|$)/i.test(text)) + 1;
   const halts = rows.some(({ cell, instruction }) => instruction && wordIn(cell).instruction?.operation === "HLT");
-  const noHalt = { line: end, text: "there is no HLT, so a run goes on into whatever stands behind the program" };
-  const more = { line: behind, text: "this stands behind END and is not read" };
-  return [...(halts || rows.length === 0 ? [] : [noHalt]), ...(behind > end ? [more] : [])];
+  const noHalt = { line, text: "there is no HLT, so a run goes on into whatever stands behind the program" };
+  return halts || rows.length === 0 ? [] : [noHalt];
 }
 
 const withoutOne = (word) => [...word].map((_, at) => word.slice(0, at) + word.slice(at + 1));
