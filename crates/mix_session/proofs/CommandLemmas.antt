@@ -1,7 +1,7 @@
 -- Facts of the definitions of commands, over plain variables.
-use Rattle.std.proofs.Common.{◌≡◌, ℕ, zero, suc, ◌+◌, ◌<◌, ◌≤◌, length, Bool, true, false, Option, None, Some, Result, Ok, Err, refl, ap, subst, ◌∙◌, arith, add-one, eqb, below_more, is_some, position, if◌then◌else◌}
+use Rattle.std.proofs.Common.{◌≡◌, ℕ, zero, suc, ◌+◌, ◌<◌, ◌≤◌, length, Bool, true, false, Option, None, Some, Result, Ok, Err, inl, inr, refl, ap, subst, ◌∙◌, arith, add-one, eqb, below_more, is_some, position, if◌then◌else◌}
 use Rattle.std.specs.Option.{option_map, option_or}
-use Rattle.std.specs.Result.{IfErr}
+use Rattle.std.specs.Result.{IfErr, IsOk}
 use Rattle.std.proofs.lemmas.Bool.Decides.{nat_tests}
 use Rattle.mix_machine.specs.World.{WorldState}
 use Rattle.mix_machine.specs.Do.{does}
@@ -9,7 +9,8 @@ use Rattle.mix_machine.specs.declared.old.Change.{Change}
 use Rattle.mix_machine.specs.declared.old.Change.TheVariants.{Step}
 use Rattle.mix_machine.specs.declared.fault.MixFault.{MixFault}
 use Rattle.mix_session.specs.Timeline.{Timeline, world_of, begins_with_step, with_change, back_by, forth_by, moved_once, moved}
-use Rattle.mix_session.specs.Command.{effect_of_run, effect_of_change, effect_of_result, refusal_effect, change_stage, count_of_run, least_below, is_met_by, move_conflicts, is_halt_done, end_there, end_of_move, end_of_last, end_of_more, end_at, fault_end, after, Begun}
+use Rattle.mix_session.specs.Command.{effect_of_run, effect_of_change, effect_of_result, refusal_effect, change_stage, count_of_run, least_below, is_met_by, move_conflicts, is_halt_done, end_there, Effect, end_of_move, end_of_last, end_of_more, end_at, fault_end, after, Begun}
+use Rattle.mix_session.specs.BrokenOff.{BrokenOff, IsBefore}
 use Rattle.mix_session.specs.Stops.{is_at_stop, is_awaited}
 use Rattle.mix_session.specs.Stops.{StopsState}
 use Rattle.mix_session.specs.declared.fault.Refusal.TheVariants.{RefusedByMachine}
@@ -184,3 +185,21 @@ pub effect_of_change-refused : (t : Timeline) (change : Change) (fault : MixFaul
     effect_of_change t change ≡ refusal_effect t (RefusedByMachine fault)
 unfolding effect_of_change
 effect_of_change-refused t change fault given = rw given refl
+
+-- what is broken off before its last stage, whether memory was asked for first or not
+pub broken-before : {A E : Type 0} (r : Result A E) (b : Bool) (effect : Effect) (old new : Timeline) → IfErr r (λ _. IsBefore effect new) →
+    IfErr r (λ _. BrokenOff b effect old new)
+broken-before (Ok x) b effect old new is = tt
+broken-before (Err e) false effect old new is = is
+broken-before (Err e) true effect old new is = inr is
+
+-- and before it began
+pub broken-none : (b : Bool) (effect : Effect) (t : Timeline) → b ≡ true → BrokenOff b effect t t
+broken-none true effect t is = inl refl
+broken-none false effect t is = absurd (cc)
+
+-- a change that can be done and is not
+pub before-change : (t new : Timeline) (change : Change) → IsOk (does (world_of t) change) → new ≡ t → IsBefore (effect_of_change t change) new
+unfolding effect_of_change
+before-change t new change ok same =
+    (elim (does (world_of t) change) as (λ r. IsOk r → IsBefore (effect_of_result t change r) new) [ Ok world ↦ λ _. (0, omega arith, same) | Err fault ↦ λ is. absurd (cc) ]) ok

@@ -13,6 +13,7 @@ use Rattle.mix_machine.specs.Part.{mark_of}
 use Rattle.mix_machine.specs.declared.old.Change.{Change}
 use Rattle.mix_machine.specs.declared.part.Mark.{Mark}
 use Rattle.mix_session.specs.Command.{is_met_by, is_reached_back, is_reached_forth, count_back, count_forth, effect_of_back_until, effect_of_forth_until, least_below, refusal_effect, taken_back, sought, Effect, Begun, HasEffect}
+use Rattle.mix_session.specs.BrokenOff.{IsBefore}
 use Rattle.mix_session.specs.Condition.{is_reached, watched}
 use Rattle.mix_session.specs.Conflicts.{last_conflicts}
 use Rattle.mix_session.specs.Known.{has_conflict, Tells}
@@ -168,6 +169,21 @@ Begun-forth conditions t now k below is before =
     else record { stage = sought t; last = length t.ahead; answer = Refused NoSuchChange }) now) [
       | true ↦ (k, omega (arith, least), is)
       | false ↦ (k, omega (arith, below), on_way)
+    ]
+
+-- that is before the last
+pub before-forth : (conditions : List Condition) (t now : Timeline) (k : ℕ) → k < length t.ahead → now ≡ forth_by t k →
+    ((j : ℕ) → j < k → is_reached_forth conditions t j ≡ false) → IsBefore (effect_of_forth_until conditions t) now
+unfolding effect_of_forth_until count_forth
+before-forth conditions t now k below is before =
+    let n = least_below (length t.ahead) (is_reached_forth conditions t) in
+    let least : k ≤ n = least_below-beyond (length t.ahead) k (is_reached_forth conditions t) (omega (arith, below)) before in
+    let some : ltb k (length t.ahead) ≡ true = grind (arith, nat_tests) in
+    let on_way : now ≡ sought t k = rw some is in
+    elim (ltb n (length t.ahead)) as (λ b. IsBefore (if b then record { stage = forth_by t; last = n + 1; answer = ForthUntil (n + 1) }
+    else record { stage = sought t; last = length t.ahead; answer = Refused NoSuchChange }) now) [
+      | true ↦ (k, omega (arith, least), is)
+      | false ↦ (k, below, on_way)
     ]
 
 -- none is done again

@@ -1,5 +1,6 @@
 pub mod Altered
 pub mod Answer
+pub mod BrokenOff
 pub mod Change
 pub mod Client
 pub mod Columns

@@ -1,9 +1,10 @@
 //! What a request does to the journal, and what is answered.
 
-ghost use Rattle.std.specs.Prelude.{◌≡◌, ◌≤◌, ◌<◌, ℕ, IfErr, IfOk, Ok, length};
+ghost use Rattle.std.specs.Prelude.{◌≡◌, ◌≤◌, ◌<◌, ℕ, IfErr, IfOk, Ok, false, length};
 ghost use Rattle.mix_session.specs.Timeline.{back_by, forth_by};
 ghost use Rattle.mix_session.specs.Command.{effect_of, effect_of_back, effect_of_back_within, effect_of_forth, effect_of_forth_within, effect_of_goto, effect_of_change};
 ghost use Rattle.mix_session.specs.Command.{effect_of_show, is_there, HasEffect};
+ghost use Rattle.mix_session.specs.BrokenOff.{asks_first, is_run, BrokenOff, IsBefore};
 
 mod plain;
 pub(crate) mod runs;
@@ -26,7 +27,8 @@ pub(crate) fn execute(
     journal: &mut Journal<World>,
     request: Request,
 ) -> Result<Answer, Memory>
-    ensures { HasEffect (effect_of journal.old request) journal.old journal.new result }
+    ensures effect { HasEffect (effect_of journal.old request) journal.old journal.new result }
+    ensures memory { IfErr result (λ _. is_run request ≡ false → BrokenOff (asks_first request) (effect_of journal.old request) journal.old journal.new) }
 {
     match request {
         Request::Nothing => Ok(Answer::Nothing),
@@ -82,7 +84,8 @@ pub(crate) fn go_back(journal: &mut Journal<World>, count: usize)
 }
 
 fn forth(journal: &mut Journal<World>, count: u64) -> Result<Answer, Memory>
-    ensures { HasEffect (effect_of_forth_within journal.old count) journal.old journal.new result }
+    ensures effect { HasEffect (effect_of_forth_within journal.old count) journal.old journal.new result }
+    ensures memory { IfErr result (λ _. IsBefore (effect_of_forth_within journal.old count) journal.new) }
 {
     if (journal.ahead() as u64) < count {
         return Ok(Answer::Refused(Refusal::TooFewChanges));
@@ -92,7 +95,8 @@ fn forth(journal: &mut Journal<World>, count: u64) -> Result<Answer, Memory>
 
 fn do_again(journal: &mut Journal<World>, count: usize) -> Result<Answer, Memory>
     requires { count ≤ length journal.old.ahead }
-    ensures { HasEffect (effect_of_forth journal.old count) journal.old journal.new result }
+    ensures effect { HasEffect (effect_of_forth journal.old count) journal.old journal.new result }
+    ensures memory { IfErr result (λ _. IsBefore (effect_of_forth journal.old count) journal.new) }
 {
     go_forth(journal, count)?;
     Ok(Answer::Forth(count))
@@ -100,7 +104,8 @@ fn do_again(journal: &mut Journal<World>, count: usize) -> Result<Answer, Memory
 
 // To the state after the first changes of all, those done and those ahead.
 fn go_to(journal: &mut Journal<World>, number: u64) -> Result<Answer, Memory>
-    ensures { HasEffect (effect_of_goto journal.old number) journal.old journal.new result }
+    ensures effect { HasEffect (effect_of_goto journal.old number) journal.old journal.new result }
+    ensures memory { IfErr result (λ _. IsBefore (effect_of_goto journal.old number) journal.new) }
 {
     let done = journal.done() as u64;
     if number < done {
@@ -114,7 +119,7 @@ fn go_to(journal: &mut Journal<World>, number: u64) -> Result<Answer, Memory>
 fn go_forth(journal: &mut Journal<World>, count: usize) -> Result<(), Memory>
     requires { count ≤ length journal.old.ahead }
     ensures forth { IfOk result (λ _. journal.new ≡ forth_by journal.old count) }
-    ensures memory { IfErr result (λ _. (k : ℕ) × (k ≤ count) × (journal.new ≡ forth_by journal.old k)) }
+    ensures memory { IfErr result (λ _. (k : ℕ) × (k < count) × (journal.new ≡ forth_by journal.old k)) }
 {
     for done in 0..count {
         journal.forth()?;
@@ -124,7 +129,8 @@ fn go_forth(journal: &mut Journal<World>, count: usize) -> Result<(), Memory>
 
 // Makes one change of the machine.
 fn change_by(journal: &mut Journal<World>, change: Change) -> Result<Answer, Memory>
-    ensures { HasEffect (effect_of_change journal.old change) journal.old journal.new result }
+    ensures effect { HasEffect (effect_of_change journal.old change) journal.old journal.new result }
+    ensures memory { IfErr result (λ _. IsBefore (effect_of_change journal.old change) journal.new) }
 {
     match journal.go(change) {
         Ok(()) => Ok(Answer::Done),

@@ -49,7 +49,8 @@ pub(crate) fn conflict_after(
     journal: &Journal<World>,
     number: usize,
 ) -> Result<Option<Conflict>, Memory>
-    ensures { IfOk result (λ conflict. conflict ≡ conflict_after journal.now number) }
+    ensures is { IfOk result (λ conflict. conflict ≡ conflict_after journal.now number) }
+    ensures memory { IfErr result (λ _. number < length (journal.now.changes ++ journal.now.ahead)) }
 {
     if number >= journal.all().len() {
         return Ok(None);

@@ -1,8 +1,8 @@
 //! What is asked of the changes: the machine after each of them, what each did, how often each instruction was executed, and where,
 //! and which of them altered a part.
 
-ghost use Rattle.std.specs.Prelude.{◌≡◌, ◌<◌, ℕ, IfOk, length, min, string_bytes, take};
-ghost use Rattle.mix_session.specs.Change.{world_at, change_line, change_text};
+ghost use Rattle.std.specs.Prelude.{◌≡◌, ◌<◌, ℕ, IfErr, IfOk, length, min, string_bytes, take};
+ghost use Rattle.mix_session.specs.Change.{all_changes, world_at, change_line, change_text};
 ghost use Rattle.mix_session.specs.Counts.{tally_at, tally_of_all};
 ghost use Rattle.mix_session.specs.Client.{change_numbered, conflict_after};
 ghost use Rattle.mix_session.specs.Path.{IsPath};
@@ -41,9 +41,10 @@ impl Session {
     }
 
     /// With which cell of which transfer under way before it the change after the first so many of all conflicts, of those done and those that
-    /// stand ahead; none where there is no such change. Only out of memory refuses it.
+    /// stand ahead; none where there is no such change, which takes no memory. Only out of memory refuses it.
     pub fn conflict_after(&self, alloc: Global, number: usize) -> Result<Option<Conflict>, Memory>
-        ensures { IfOk result (λ conflict. conflict ≡ conflict_after self.now.timeline number) }
+        ensures is { IfOk result (λ conflict. conflict ≡ conflict_after self.now.timeline number) }
+        ensures memory { IfErr result (λ _. number < length (all_changes self.now.timeline)) }
     {
         conflict_after(alloc, self.journal(), number)
     }
@@ -74,7 +75,8 @@ impl Session {
         until: usize,
         most: usize,
     ) -> Result<Vec<Write>, Memory>
-        ensures { IfOk result (λ list. list.items ≡ take most (writes_back self.now.timeline part (min until (length self.now.timeline.changes)))) }
+        ensures is { IfOk result (λ list. list.items ≡ take most (writes_back self.now.timeline part (min until (length self.now.timeline.changes)))) }
+        ensures memory { IfErr result (λ _. (0 < most) × (0 < length self.now.timeline.changes)) }
     {
         writes_of(alloc, self.journal(), &part, until, most)
     }

@@ -1,11 +1,12 @@
 //! A session: a program, its machine, whose changes can be taken back, and the requests and commands over it.
 
-ghost use Rattle.std.specs.Prelude.{◌≡◌, ◌<◌, ◌-◌, ◌^◌, Err, IfErr, IfOk, IfSome, length};
+ghost use Rattle.std.specs.Prelude.{◌≡◌, ◌<◌, ◌-◌, ◌^◌, Err, IfErr, IfOk, IfSome, false, length};
 ghost use Rattle.std.specs.Io.KnownBytes.{Appends, Keeps};
 ghost use Rattle.mix_session.specs.Timeline.{world_of};
 ghost use Rattle.mix_word.specs.Word.{plus};
 ghost use Rattle.mix_session.specs.Answer.{refusal_of, told_of, text_of};
 ghost use Rattle.mix_session.specs.Command.{after, effect_of, effect_of_run, reply_of, Begun, HasEffect};
+ghost use Rattle.mix_session.specs.BrokenOff.{asks_first, is_run, BrokenOff};
 ghost use Rattle.mix_session.specs.Session.{opened, request_in, effect_in};
 ghost use Rattle.mix_refused.specs.Refused.{IsFault};
 ghost use Rattle.mix_stream.specs.Stream.{AppendsFront, CountsFailure};
@@ -110,11 +111,14 @@ impl Session {
     }
 
     /// Does what is asked for, whoever asks it: a number that no line may have is taken as it is. A refusal changes nothing. Out of memory:
-    /// of steps those done stand, of `forth` the changes done again, of any other request all or nothing.
+    /// of steps those done stand, of `forth` the changes done again, of any other request nothing. No request but one of steps is out of
+    /// memory that is done whole or refused; only one that waits for a conflict asks for memory first.
     #[tactic(auto, using(crate::proofs::RefusalLemmas::refused_spares))]
     pub fn execute(&mut self, request: Request) -> Result<Answer, Memory>
         ensures program { self.new.program ≡ self.old.program }
         ensures effect { HasEffect (effect_of self.old.timeline request) self.old.timeline self.new.timeline result }
+        ensures memory { IfErr result (λ _. is_run request ≡ false →
+            BrokenOff (asks_first request) (effect_of self.old.timeline request) self.old.timeline self.new.timeline) }
         ensures refused { IfOk result (λ answer. IfSome (refusal_of answer) (λ _. self.new.timeline ≡ self.old.timeline)) }
     {
         execute(self.alloc, &mut self.journal, request)

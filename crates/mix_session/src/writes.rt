@@ -1,6 +1,6 @@
 //! The changes that altered a part of the machine, the last one first.
 
-ghost use Rattle.std.specs.Prelude.{◌≡◌, ◌++◌, IfOk, OnOk, length, min, not, take};
+ghost use Rattle.std.specs.Prelude.{◌≡◌, ◌<◌, ◌++◌, IfErr, IfOk, OnOk, length, min, not, take};
 ghost use Rattle.mix_machine.specs.Part.{is_same_mark};
 ghost use Rattle.mix_session.specs.Writes.{write_if, writes_back};
 
@@ -30,7 +30,8 @@ pub(crate) fn writes_of(
     until: usize,
     most: usize,
 ) -> Result<Vec<Write>, Memory>
-    ensures { IfOk result (λ list. list.items ≡ take most (writes_back journal.now part.now (min until (length journal.now.changes)))) }
+    ensures is { IfOk result (λ list. list.items ≡ take most (writes_back journal.now part.now (min until (length journal.now.changes)))) }
+    ensures memory { IfErr result (λ _. (0 < most) × (0 < length journal.now.changes)) }
 {
     mark_law();
     let mut list = Vec::new(alloc);

@@ -3,9 +3,10 @@
 ghost use Rattle.std.specs.Prelude.{◌≡◌, ◌≤◌, ◌<◌, ◌+◌, ℕ, IfErr, IfOk, true, false, length};
 ghost use Rattle.mix_machine.specs.Part.{mark_before};
 ghost use Rattle.mix_session.specs.Command.{count_back, effect_of_back_until, effect_of_forth_until, is_met_by, is_reached_forth, least_below, HasEffect};
+ghost use Rattle.mix_session.specs.BrokenOff.{BrokenOff, IsBefore};
 ghost use Rattle.mix_session.specs.Condition.{watched, is_met, is_conflict};
 ghost use Rattle.mix_session.specs.Conflicts.{last_conflicts};
-ghost use Rattle.mix_session.specs.Known.{IsLast, Knows};
+ghost use Rattle.mix_session.specs.Known.{has_conflict, IsLast, Knows};
 ghost use Rattle.mix_session.specs.Marks.{AreMarks};
 ghost use Rattle.mix_session.specs.Timeline.{back_by, forth_by, world_of};
 
@@ -28,7 +29,8 @@ pub(crate) fn back_until(
     journal: &mut Journal<World>,
     conditions: &Conditions,
 ) -> Result<Answer, Memory>
-    ensures { HasEffect (effect_of_back_until conditions.now journal.old) journal.old journal.new result }
+    ensures effect { HasEffect (effect_of_back_until conditions.now journal.old) journal.old journal.new result }
+    ensures memory { IfErr result (λ _. BrokenOff (has_conflict conditions.now) (effect_of_back_until conditions.now journal.old) journal.old journal.new) }
 {
     let watched = conditions.as_slice();
     let known = known_of(alloc, journal, watched)?;
@@ -105,7 +107,8 @@ pub(crate) fn forth_until(
     journal: &mut Journal<World>,
     conditions: &Conditions,
 ) -> Result<Answer, Memory>
-    ensures { HasEffect (effect_of_forth_until conditions.now journal.old) journal.old journal.new result }
+    ensures effect { HasEffect (effect_of_forth_until conditions.now journal.old) journal.old journal.new result }
+    ensures memory { IfErr result (λ _. BrokenOff (has_conflict conditions.now) (effect_of_forth_until conditions.now journal.old) journal.old journal.new) }
 {
     let watched = conditions.as_slice();
     let mut known = known_of(alloc, journal, watched)?;
@@ -123,7 +126,8 @@ fn seek_forth(
 ) -> Result<Answer, Memory>
     requires marks { AreMarks watched.now marks.old (world_of journal.old) }
     requires known { Knows watched.now Way.Again known.old journal.old }
-    ensures { HasEffect (effect_of_forth_until watched.now journal.old) journal.old journal.new result }
+    ensures effect { HasEffect (effect_of_forth_until watched.now journal.old) journal.old journal.new result }
+    ensures memory { IfErr result (λ _. IsBefore (effect_of_forth_until watched.now journal.old) journal.new) }
 {
     let all = journal.ahead();
     for done in 0..all {
