@@ -144,3 +144,10 @@ seen-next altered before_law world_law t condition k mark before is_met_now valu
     let reached : is_reached condition conflicts v w v ≡ is_met_now =
     reached_by_marks altered condition conflicts v w v given.0 real world given.1 ∙ sym by_marks in
     (v, record { led = led; world = world; marked = marked }, rw (after_is, before_is) (sym reached))
+
+-- the change itself does so
+pub change-given : (s : WorldState) (cs : List Change) (n : ℕ) (c : Change) (v w : WorldState) → n < length cs → c ≡ get_or cs n c → replay does s (take n cs) ≡ Some v →
+    replay does s (take (n + 1) cs) ≡ Some w → does v c ≡ Ok w
+change-given s cs n c v w below is e f =
+    let one : take (n + 1) cs ≡ take n cs ++ c ∷ [] = take_more cs n c below ∙ ap (λ (d : Change). take n cs ++ d ∷ []) (sym is) in
+    replay-one s (take n cs) c v w e (ap (replay does s) (sym one) ∙ f)

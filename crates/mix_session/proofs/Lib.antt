@@ -7,6 +7,7 @@ mod ConflictLemmas
 mod GoingLemmas
 mod KnownLemmas
 mod MoveLemmas
+mod NamedLemmas
 mod PathLemmas
 mod PlacesLemmas
 mod PlainLemmas

@@ -59,7 +59,7 @@ abbrev pub SameUnits : Type 0
 SameUnits = (u x : UnitState) → IsTrue (is_same_unit u x) ↔ (u ≡ x)
 
 -- A part does not differ exactly where it holds the same.
-abbrev IsSame : WorldState → WorldState → Altered → Type 0
+abbrev pub IsSame : WorldState → WorldState → Altered → Type 0
 IsSame v w (part.Register r) = register_of v r ≡ register_of w r
 IsSame v w part.Over = v.over ≡ w.over
 IsSame v w part.Cmp = v.cmp ≡ w.cmp
@@ -73,7 +73,7 @@ not-decides : {P : Type 0} (b : Bool) → Decides b P → (not b ≡ false) ↔ 
 not-decides true d = ((λ e. d.0 refl), (λ p. refl))
 not-decides false d = ((λ e. absurd (cc)), (λ p. let f = d.1 p in absurd (cc)))
 
-unaltered : (v w : WorldState) → SameUnits → (p : Altered) → (is_altered v w p ≡ false) ↔ IsSame v w p
+pub unaltered : (v w : WorldState) → SameUnits → (p : Altered) → (is_altered v w p ≡ false) ↔ IsSame v w p
 unaltered v w units (part.Register r) = not-decides _ (same-word (register_of v r) (register_of w r))
 unaltered v w units part.Over = not-decides _ (booleans_Decides v.over w.over)
 unaltered v w units part.Cmp = not-decides _ (same-indicator v.cmp w.cmp)

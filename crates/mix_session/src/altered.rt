@@ -1,17 +1,23 @@
 //! What differs between two states of the machine, as values: the parts that differ.
 
-ghost use Rattle.std.specs.Prelude.{◌≡◌, ◌<◌, ◌++◌, ◌∷◌, [], OnOk, IfOk};
+ghost use Rattle.std.specs.Prelude.{◌≡◌, ◌≤◌, ◌<◌, ◌++◌, ◌∷◌, [], Some, Ok, OnOk, IfOk};
 ghost use Rattle.std.specs.List.{filter};
+ghost use Rattle.undo_core.specs.Replay.{put_back};
+ghost use Rattle.mix_machine.specs.Do.{does};
+ghost use Rattle.mix_machine.specs.Write.{put_value};
 ghost use Rattle.mix_session.specs.Altered.{count_of, part_of, numbered, with_numbered, is_altered, alterations, altered_by};
+ghost use Rattle.mix_session.specs.Named.{Covers, HoldsAll};
 
+mod near;
 pub(crate) mod unit;
 
 use crate::show::all::unit_at;
 use crate::show::cells::place_at;
-use mix_machine::{Change, Part, Place, Reg, UnitNo, World};
+use mix_machine::{Change, Old, Part, Place, Reg, UnitNo, World};
 use mix_word::{CELLS, UNITS};
+use near::{Named, Numbers};
 use std::alloc::{AllocError, Global};
-use undo_core::Memory;
+use undo_core::{Memory, Values};
 
 /// A part of the machine, of those that an item of `show diff` tells of.
 #[derive(Clone, Copy)]
@@ -79,7 +85,7 @@ pub(crate) struct Worlds<'a> {
 pub fn alterations(alloc: Global, before: &World, after: &World) -> Result<Vec<Altered>, Memory>
     ensures { IfOk result (λ parts. parts.items ≡ alterations before.now after.now) }
 {
-    altered_among(alloc, &UNNUMBERED, Worlds { before, after })
+    altered_among(alloc, &UNNUMBERED, Named::ALL, Worlds { before, after })
 }
 
 /// The parts that a change altered between the states before and after it, of which its line tells: of a step all but the location and the
@@ -92,25 +98,55 @@ pub fn altered_by(
 ) -> Result<Vec<Altered>, Memory>
     ensures { IfOk result (λ parts. parts.items ≡ altered_by change.now before.now after.now) }
 {
+    altered_in(alloc, change, Named::ALL, Worlds { before, after })
+}
+
+/// The same of a change that overwrote these values, which name what may differ.
+pub(crate) fn altered_by_kept(
+    alloc: Global,
+    change: &Change,
+    kept: &Values<'_, Old>,
+    worlds: Worlds<'_>,
+) -> Result<Vec<Altered>, Memory>
+    requires given { does worlds.before.now change.now ≡ Ok worlds.after.now }
+    requires back { put_back put_value kept.now worlds.after.now ≡ Some worlds.before.now }
+    ensures { IfOk result (λ parts. parts.items ≡ altered_by change.now worlds.entry.before.now worlds.entry.after.now) }
+{
+    let (_before, _after) = (worlds.before.mark(Part::Loc), worlds.after.mark(Part::Loc));
+    altered_in(alloc, change, Named::by(kept), worlds)
+}
+
+// The same, where of what has numbers no others differ than these.
+fn altered_in(
+    alloc: Global,
+    change: &Change,
+    named: Named,
+    worlds: Worlds<'_>,
+) -> Result<Vec<Altered>, Memory>
+    requires { HoldsAll named worlds.before.now worlds.after.now }
+    ensures { IfOk result (λ parts. parts.items ≡ altered_by change.now worlds.entry.before.now worlds.entry.after.now) }
+{
     match change {
-        Change::Step => altered_among(alloc, &UNNUMBERED[..11], Worlds { before, after }),
-        _ => alterations(alloc, before, after),
+        Change::Step => altered_among(alloc, &UNNUMBERED[..11], named, worlds),
+        _ => altered_among(alloc, &UNNUMBERED, named, worlds),
     }
 }
 
-// What differs of these parts and of those that have numbers.
+// What differs of these parts and of those that have numbers, of which no others differ than these.
 fn altered_among(
     alloc: Global,
     unnumbered: &[Altered],
+    named: Named,
     worlds: Worlds<'_>,
 ) -> Result<Vec<Altered>, Memory>
+    requires { HoldsAll named worlds.before.now worlds.after.now }
     ensures { IfOk result (λ parts. parts.items ≡ filter (is_altered worlds.entry.before.now worlds.entry.after.now) (with_numbered unnumbered.now)) }
 {
     let mut parts = Vec::new(alloc);
     add_each(&mut parts, unnumbered, worlds)?;
-    add_numbered(&mut parts, Kind::Cells, worlds)?;
-    add_numbered(&mut parts, Kind::Breaks, worlds)?;
-    add_numbered(&mut parts, Kind::Units, worlds)?;
+    add_numbered(&mut parts, Kind::Cells, named.cells, worlds)?;
+    add_numbered(&mut parts, Kind::Breaks, named.breaks, worlds)?;
+    add_numbered(&mut parts, Kind::Units, named.units, worlds)?;
     Ok(parts)
 }
 
@@ -128,12 +164,18 @@ fn add_each(
     Ok(())
 }
 
-// Appends what differs of the parts of a kind.
+// Appends what differs of the parts of a kind, of which no others differ than these.
 #[tactic(auto, unfolding(crate::specs::Altered::numbered))]
-fn add_numbered(parts: &mut Vec<Altered>, kind: Kind, worlds: Worlds<'_>) -> Result<(), AllocError>
+fn add_numbered(
+    parts: &mut Vec<Altered>,
+    kind: Kind,
+    numbers: Numbers,
+    worlds: Worlds<'_>,
+) -> Result<(), AllocError>
+    requires { Covers kind numbers worlds.before.now worlds.after.now }
     ensures { OnOk result (parts.new.items ≡ parts.old.items ++ filter (is_altered worlds.entry.before.now worlds.entry.after.now) (numbered kind)) }
 {
-    for number in 0..kind.count() {
+    for number in numbers.first..numbers.end {
         add(parts, kind.part(number), worlds)?;
     }
     Ok(())

@@ -41,7 +41,7 @@ impl Session {
     }
 
     /// With which cell of which transfer under way before it the change after the first so many of all conflicts, of those done and those that
-    /// stand ahead; none where there is no such change, which takes no memory. Only out of memory refuses it.
+    /// stand ahead; none where there is no such change, which takes no memory.
     pub fn conflict_after(&self, alloc: Global, number: usize) -> Result<Option<Conflict>, Memory>
         ensures is { IfOk result (λ conflict. conflict ≡ conflict_after self.now.timeline number) }
         ensures memory { IfErr result (λ _. number < length (all_changes self.now.timeline)) }
@@ -100,5 +100,5 @@ pub fn change_line(
 ) -> Result<Vec<u8>, Memory>
     ensures { IfOk result (λ text. text.items ≡ change_line number change.now before.now after.now) }
 {
-    changes::line_of(alloc, number as usize, change, Worlds { before, after })
+    changes::line_between(alloc, number as usize, change, Worlds { before, after })
 }

@@ -111,8 +111,8 @@ impl Session {
     }
 
     /// Does what is asked for, whoever asks it: a number that no line may have is taken as it is. A refusal changes nothing. Out of memory:
-    /// of steps those done stand, of `forth` the changes done again, of any other request nothing. No request but one of steps is out of
-    /// memory that is done whole or refused; only one that waits for a conflict asks for memory first.
+    /// of steps those done stand, of `forth` the changes done again, of any other request nothing.
+    /// What is done whole or refused is never out of memory, but for steps, and what waits for a conflict.
     #[tactic(auto, using(crate::proofs::RefusalLemmas::refused_spares))]
     pub fn execute(&mut self, request: Request) -> Result<Answer, Memory>
         ensures program { self.new.program ≡ self.old.program }

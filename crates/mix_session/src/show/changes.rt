@@ -2,10 +2,11 @@
 
 ghost use Rattle.std.specs.Prelude.{◌≡◌, ◌+◌, ◌++◌, OnOk, IfOk, length, string_bytes};
 ghost use Rattle.mix_machine.specs.declared.old.Change.TheVariants.{Step};
+ghost use Rattle.mix_session.specs.Altered.{altered_by};
 ghost use Rattle.mix_session.specs.Change.{change_at, change_text, change_columns, change_front, change_line, change_line_at, diff_text};
 ghost use Rattle.mix_session.specs.Differences.{differences};
 
-use crate::altered::{Worlds, alterations, altered_by};
+use crate::altered::{Altered, Worlds, alterations, altered_by};
 use crate::show::columns::{add_left, add_right};
 use crate::show::differences::{add_item_columns, add_item_lines};
 use crate::timeline::{world_at, world_of};
@@ -25,7 +26,7 @@ pub(crate) fn next_line(alloc: Global, journal: &Journal<World>) -> Result<Vec<u
         after: &after,
     };
     let change = next_change(journal);
-    let line = line_of(alloc, number, &change, worlds)?;
+    let line = line_between(alloc, number, &change, worlds)?;
     Ok(line)
 }
 
@@ -40,8 +41,7 @@ pub(crate) fn next_change(journal: &Journal<World>) -> Change
 }
 
 /// The line of a change of a number.
-#[tactic(auto, unfolding(crate::specs::Change::change_line))]
-pub(crate) fn line_of(
+pub(crate) fn line_between(
     alloc: Global,
     number: usize,
     change: &Change,
@@ -49,7 +49,23 @@ pub(crate) fn line_of(
 ) -> Result<Vec<u8>, Memory>
     ensures { IfOk result (λ text. text.items ≡ change_line number change.now worlds.entry.before.now worlds.entry.after.now) }
 {
-    let mut text = front_of(alloc, number, change, worlds)?;
+    let parts = altered_by(alloc, change, worlds.before, worlds.after)?;
+    line_of(alloc, number, change, worlds, &parts)
+}
+
+/// The same, where these are the parts that the change altered.
+#[tactic(auto, unfolding(crate::specs::Change::change_line))]
+pub(crate) fn line_of(
+    alloc: Global,
+    number: usize,
+    change: &Change,
+    worlds: Worlds<'_>,
+    parts: &[Altered],
+) -> Result<Vec<u8>, Memory>
+    requires { parts.now ≡ altered_by change.now worlds.before.now worlds.after.now }
+    ensures { IfOk result (λ text. text.items ≡ change_line number change.now worlds.entry.before.now worlds.entry.after.now) }
+{
+    let mut text = front_of(alloc, number, change, worlds, parts)?;
     text.push(b'\n')?;
     Ok(text)
 }
@@ -61,14 +77,15 @@ pub(crate) fn front_of(
     number: usize,
     change: &Change,
     worlds: Worlds<'_>,
+    parts: &[Altered],
 ) -> Result<Vec<u8>, Memory>
+    requires { parts.now ≡ altered_by change.now worlds.before.now worlds.after.now }
     ensures { IfOk result (λ text. text.items ≡ change_front number change.now worlds.entry.before.now worlds.entry.after.now) }
 {
     let mut text = Vec::new(alloc);
     let time = worlds.after.clock().saturating_sub(worlds.before.clock());
     add_columns(alloc, &mut text, number, change, worlds.before, time)?;
-    let parts = altered_by(alloc, change, worlds.before, worlds.after)?;
-    add_item_columns(alloc, &mut text, worlds, &parts)?;
+    add_item_columns(alloc, &mut text, worlds, parts)?;
     Ok(text)
 }
 

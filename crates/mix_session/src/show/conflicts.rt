@@ -5,7 +5,7 @@ ghost use Rattle.undo_core.specs.Replay.{replay};
 ghost use Rattle.mix_machine.specs.Do.{does};
 ghost use Rattle.mix_session.specs.Conflicts.{conflict_at, conflict_column, conflict_line_at, conflict_text, conflicts_text, output_text, transfer_text, use_text};
 
-use crate::altered::Worlds;
+use crate::altered::{Worlds, altered_by};
 use crate::conflicts::pass;
 use crate::show::changes::front_of;
 use crate::timeline::first_world;
@@ -78,7 +78,8 @@ fn add_line_of(
 {
     let alloc = *text.allocator();
     let change = journal.all().at(number);
-    let front = front_of(alloc, number + 1, &change, worlds)?;
+    let parts = altered_by(alloc, &change, worlds.before, worlds.after)?;
+    let front = front_of(alloc, number + 1, &change, worlds, &parts)?;
     text.extend_from_slice(&front)?;
     add_conflict(alloc, text, conflict)?;
     Ok(())

@@ -1,14 +1,14 @@
 //! The lines of the changes that are done: of the last ones, or of those that meet a condition.
 
 ghost use Rattle.std.specs.Prelude.{◌≡◌, ◌≤◌, ◌<◌, ◌+◌, ◌++◌, Some, None, OnOk, IfOk, IsTrue, Ok, length, reverse, take};
-ghost use Rattle.undo_core.specs.Replay.{replay, TakesBack};
+ghost use Rattle.undo_core.specs.Replay.{put_back, replay, TakesBack};
 ghost use Rattle.mix_machine.specs.Do.{does};
 ghost use Rattle.mix_machine.specs.Write.{put_value};
 ghost use Rattle.mix_machine.specs.declared.old.Change.{Change};
 ghost use Rattle.mix_session.specs.Change.{is_chosen, chosen_line_at, last_lines, writes_text};
 ghost use Rattle.mix_session.specs.Each.{texts};
 
-use crate::altered::Worlds;
+use crate::altered::{Worlds, altered_by_kept};
 use crate::condition::Condition;
 use crate::show::changes::line_of;
 use crate::timeline::{earlier, unwind};
@@ -98,20 +98,29 @@ fn add_line_before(
     ensures text { OnOk result (text.new.items ≡ text.old.items ++ reverse (chosen_line_at chosen journal.now (number + 1))) }
 {
     unwind(journal, number, values, before);
-    add_chosen(text, journal, number, chosen, Worlds { before, after })?;
+    add_chosen(
+        text,
+        journal,
+        number,
+        chosen,
+        values,
+        Worlds { before, after },
+    )?;
     unwind(journal, number, values, after);
     Ok(())
 }
 
-// Appends the line of the change between two states, its last byte first, if it is chosen.
+// Appends the line of the change that overwrote these values, its last byte first, if it is chosen.
 fn add_chosen(
     text: &mut Vec<u8>,
     journal: &Journal<World>,
     number: usize,
     chosen: Option<Condition>,
+    values: &Values<'_, Old>,
     worlds: Worlds<'_>,
 ) -> Result<(), Memory>
     requires within { number < length journal.now.changes }
+    requires back { put_back put_value values.now worlds.after.now ≡ Some worlds.before.now }
     requires before { replay does journal.now.first (take number journal.now.changes) ≡ Some worlds.before.now }
     requires after { replay does journal.now.first (take (number + 1) journal.now.changes) ≡ Some worlds.after.now }
     ensures { OnOk result (text.new.items ≡ text.old.items ++ reverse (chosen_line_at chosen journal.now (number + 1))) }
@@ -119,7 +128,8 @@ fn add_chosen(
     let change = journal.changes().at(number);
     if is_chosen(chosen, worlds) {
         let alloc = *text.allocator();
-        let line = line_of(alloc, number + 1, &change, worlds)?;
+        let parts = altered_by_kept(alloc, &change, values, worlds)?;
+        let line = line_of(alloc, number + 1, &change, worlds, &parts)?;
         add_reversed(text, &line)?;
     }
     Ok(())

@@ -3,6 +3,7 @@ use Rattle.std.proofs.Common.{◌≡◌, ◌+◌, ◌++◌, ◌∙◌, Bool, Lis
 use Rattle.mix_machine.specs.declared.old.Change.{Change}
 use Rattle.mix_session.specs.Change.{change_line_at, chosen_line_at}
 use Rattle.mix_session.proofs.ChangeLemmas.{change_line_at-done, chosen_line_at-done}
+use Rattle.mix_session.proofs.ConditionLemmas.{change-given}
 use Rattle.mix_session.proofs.show.last.add_chosen.Goals as goal
 
 pub returns-else-is_chosen : goal.returns-else-is_chosen
@@ -26,3 +27,10 @@ returns-in_ok-add_reversed c =
     let turned = c.in_ok-add_reversed.ensures in
     let read = c.deref.ensures.value in
     cc
+
+pub altered_by_kept-requires-clause-given : goal.altered_by_kept-requires-clause-given
+altered_by_kept-requires-clause-given c =
+    let t = c.args.journal.now in
+    let change = c.at-change.result in
+    let at = c.at-change.ensures ∙ ap (λ (xs : List Change). get_or xs c.args.number change) c.changes.ensures in
+    change-given t.first t.changes c.args.number change _ _ c.requires.within at c.requires.before c.requires.after
