@@ -404,12 +404,12 @@ Commands of gdb and of mixvm: each is refused, whatever follows it, and what to 
   $ hints 'jump 3'
         1 ? C1 no such command
         1 stderr: set loc E sets the location; goto takes a number of changes
-  $ hints 'sbp 3' 'sbpa 2' 'sbpr A' sbpm sbpc sbpo rwatch enable
-        8 ? C1 no such command
-        8 stderr: break takes E, a cell, or line N; watch takes COND
-  $ hints 'tbreak 2'
-        1 ? C1 no such command
-        1 stderr: run until loc E stops at E once; break E each time
+  $ hints 'sbp 3' 'sbpa 2' 'sbpr A' sbpm sbpc sbpo rwatch enable awatch hbreak catch
+       11 ? C1 no such command
+       11 stderr: break takes E, a cell, or line N; watch takes COND
+  $ hints 'tbreak 2' thbreak
+        2 ? C1 no such command
+        2 stderr: advance E stops at E once; break E each time
   $ hints 'condition 1 A' 'ignore 1 2' commands
         3 ? C1 no such command
         3 stderr: a breakpoint has no condition: run until COND stops once, watch COND each time
@@ -440,15 +440,24 @@ Commands of gdb and of mixvm: each is refused, whatever follows it, and what to 
   $ hints restart
         1 ? C1 no such command
         1 stderr: back all begins anew
+  $ hints disassemble 'disas LOOP' frame
+        3 ? C1 no such command
+        3 stderr: where shows what comes next, where E E cells as instructions; list shows the source
+  $ hints ptype 'whatis A' 'inspect A' 'output A' printf 'call A'
+        6 ? C1 no such command
+        6 stderr: print takes a register, over, cmp, loc, clock, cell E or a word W
+  $ hints kill k
+        2 ? C1 no such command
+        2 stderr: quit ends this session
   $ hints pline psrc pprog layout
         4 ? C1 no such command
         4 stderr: list takes the number of a line, a symbol, or nothing
   $ hints edit compile sedit pedit sasm pasm
         6 ? C1 no such command
         6 stderr: edit the source elsewhere: reload reads it again
-  $ hints 'shell ls' '!' '!ls' sddir pddir scm scmf slog prompt
-        9 ? C1 no such command
-        9 stderr: a shell has that: quit ends this session
+  $ hints 'shell ls' '!' '!ls' sddir pddir scm scmf slog prompt pwd 'cd x'
+       11 ? C1 no such command
+       11 stderr: a shell has that: quit ends this session
   $ hints x/ 'x/4x 100' 'x/4 100'
         3 ? C1 no such command
         3 stderr: x E shows a cell, x E E those from the first to the second

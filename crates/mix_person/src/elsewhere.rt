@@ -20,7 +20,7 @@ const BREAKS: &str = "break takes E, a cell, or line N; watch takes COND\n";
 
 const CLEARS: &str = "clear takes E, a cell, or line N: one at a time; show breaks lists them\n";
 
-const STOPS_ONCE: &str = "run until loc E stops at E once; break E each time\n";
+const STOPS_ONCE: &str = "advance E stops at E once; break E each time\n";
 
 const ENDS_SUBROUTINE: &str =
     "run until loc E stops at E: print J shows where a subroutine returns to\n";
@@ -35,6 +35,13 @@ const SHOWS_TIME: &str = "show clock shows the time\n";
 
 const LISTS: &str = "list takes the number of a line, a symbol, or nothing\n";
 
+const SHOWS_CODE: &str =
+    "where shows what comes next, where E E cells as instructions; list shows the source\n";
+
+const PRINTS: &str = "print takes a register, over, cmp, loc, clock, cell E or a word W\n";
+
+const ENDS: &str = "quit ends this session\n";
+
 const IN_A_SHELL: &str = "a shell has that: quit ends this session\n";
 
 const IN_EDITOR: &str = "edit the source elsewhere: reload reads it again\n";
@@ -42,7 +49,7 @@ const IN_EDITOR: &str = "edit the source elsewhere: reload reads it again\n";
 const KEPT: &str = "all is recorded: back takes changes back, goto N goes to one\n";
 
 #[rattlefmt::skip]
-static ELSEWHERE: [(&str, &str); 82] = [
+static ELSEWHERE: [(&str, &str); 99] = [
     ("load", FROM_A_SHELL), ("file", FROM_A_SHELL), ("start", GOES_ON), ("info", SHOW_TAKES), ("i", SHOW_TAKES),
     ("preg", SHOWS_REGISTERS), ("pflags", SHOWS_REGISTERS), ("pc", SHOWS_REGISTERS), ("pstat", SHOWS_REGISTERS), ("pall", "show all shows everything in use\n"),
     ("pmem", SHOWS_CELLS), ("psym", "show symbols shows them all, print SYMBOL one\n"), ("weval", "print takes W, a word\n"), ("w2d", "print takes W, a word: 5 or LOOP+1\n"),
@@ -59,7 +66,10 @@ static ELSEWHERE: [(&str, &str); 82] = [
     ("edit", IN_EDITOR), ("compile", IN_EDITOR), ("sedit", IN_EDITOR), ("pedit", IN_EDITOR), ("sasm", IN_EDITOR), ("pasm", IN_EDITOR),
     ("shell", IN_A_SHELL), ("!", IN_A_SHELL), ("sddir", IN_A_SHELL), ("pddir", IN_A_SHELL), ("scm", IN_A_SHELL), ("scmf", IN_A_SHELL), ("slog", IN_A_SHELL), ("prompt", IN_A_SHELL),
     ("x/", "x E shows a cell, x E E those from the first to the second\n"), ("p/", "print shows bytes, number and characters at once\n"), ("print/", "print shows bytes, number and characters at once\n"), ("!ls", IN_A_SHELL),
-    ("&", "a symbol is its location: x X shows the cell\n"),
+    ("&", "a symbol is its location: x X shows the cell\n"), ("disassemble", SHOWS_CODE), ("disas", SHOWS_CODE),
+    ("frame", SHOWS_CODE), ("ptype", PRINTS), ("whatis", PRINTS), ("inspect", PRINTS), ("output", PRINTS),
+    ("printf", PRINTS), ("call", PRINTS), ("awatch", BREAKS), ("hbreak", BREAKS), ("catch", BREAKS),
+    ("thbreak", STOPS_ONCE), ("kill", ENDS), ("k", ENDS), ("pwd", IN_A_SHELL), ("cd", IN_A_SHELL),
 ];
 
 // Whether a word is this one, or begins with it, if that ends with a slash.
