@@ -1,7 +1,7 @@
 // Registers and flags, cells, symbols. What the last change altered is marked, with what it was
 // before; each name asks who wrote it.
 
-import { $, fourDigits, keepRows, keepStop, make, on, put, walks } from "./dom.js";
+import { $, fourDigits, keepRows, keepStop, make, on, onResize, put, walks } from "./dom.js";
 import { CELLS, CellRange, isCell, upTo } from "./range.js";
 import { OPERATIONS } from "./operations.js";
 import { COMPARED, itemOf, nameOf } from "./sentence.js";
@@ -74,10 +74,12 @@ export class Memory {
     this.store = store;
     this.middle = 0; // the cell around which cells are shown
     this.shownCells = [];
+    this.wanted = null; // the cell that is in view
     this.range = new CellRange(store, "cells", () => this.which === "range", () => this.show());
     on("cells-which", "change", () => this.chosen());
     store.on("view", () => this.show());
     store.on("program", () => this.range.ask());
+    onResize($("cells-box"), () => this.reveal());
     store.on("forget", () => Object.assign(this, { middle: -1 }));
     walks("cell-rows", 10);
     walks("register-rows", 9);
@@ -123,11 +125,12 @@ export class Memory {
     const more = all.length - shown.length;
     const none = all.length === 0 ? "All cells are zero." : "";
     put($("cells-more"), more > 0 ? `${more} more are not shown: choose a range.` : none);
-    this.reveal(met ?? shown.find((cell) => view.altered.has(`cell ${cell}`)) ?? used ?? first);
+    this.wanted = met ?? shown.find((cell) => view.altered.has(`cell ${cell}`)) ?? used ?? first;
+    this.reveal();
   }
 
-  reveal(cell) {
-    const [row, box] = [$("cell-rows").querySelector(`[data-cell="${cell}"]`), $("cells-box")];
+  reveal() {
+    const [row, box] = [$("cell-rows").querySelector(`[data-cell="${this.wanted}"]`), $("cells-box")];
     if (!row) return;
     const { offsetTop: top, offsetHeight: high } = row;
     const isSeen = top >= box.scrollTop && top + high <= box.scrollTop + box.clientHeight;

@@ -84,4 +84,41 @@ def together(page, native, count):
         count.row(f"together: {width} x {height}, with all pictures", lines >= 6 and rows >= 1, (lines, rows))
 
 
-LAYOUT = (reach, together)
+LARGE = """MOST     CON  63(1:1),63(2:2),63(3:3),63(4:4),63(5:5)
+START    LDA  MOST
+         LDAN MOST
+         STA  2000
+         ENN1 4000
+         ENT1 0
+         STZ  2000
+         HLT
+         END  START
+"""
+CUT = """const inner = (element) => { const { left, top } = element.getBoundingClientRect(); return [left + element.clientLeft + element.clientWidth, top + element.clientTop + element.clientHeight] };
+return [...document.querySelectorAll('td.was span')].filter((span) => span.textContent !== '').map((span) => {
+    const { right, bottom, width } = span.getBoundingClientRect(), row = span.closest('tr').getBoundingClientRect(), [edge] = inner(span.closest('#cells-box') || document.getElementById('registers'));
+    return [span.textContent, width > 0 && right <= Math.min(edge, row.right) + 1 && bottom <= row.bottom + 2]; })"""
+
+
+def was(page, native, count):
+    """What a register or a cell was and what it will be is seen whole at each size, with the longest numbers."""
+    page.lesson(0)
+    page.put("text", LARGE)
+    page.tab("machine")
+    for moment in range(6):
+        page.click("step") if moment else None
+        for width, height in SIZES:
+            page.size(width, height)
+            page.tab("machine")
+            page.script("return new Promise((done) => requestAnimationFrame(() => requestAnimationFrame(done)))")
+            found = page.script(CUT)
+            count.row(f"was: {width} x {height}, at {moment}", found and all(seen for _, seen in found), found)
+    page.size(1280, 900)
+    page.choose("cells-which", "near")
+    page.script("document.getElementById('cells-box').scrollTop = 0")
+    page.size(1280, 720)
+    page.script("return new Promise((done) => requestAnimationFrame(() => requestAnimationFrame(() => requestAnimationFrame(done))))")
+    count.same("was: the cell that is next stays in view in a lower window", page.script(REACHED, page.driver.find_element(By.CSS_SELECTOR, "#cell-rows tr.altered, #cell-rows tr.here")), "")
+
+
+LAYOUT = (reach, together, was)
