@@ -8,13 +8,13 @@ const PAUSE = 200; // milliseconds without a key before a text is assembled
 const SESSIONS = 5; // sessions of other texts that can come back
 const SLOW = 400; // milliseconds before a stop is offered
 
-export class Store {
+export class Store extends EventTarget {
   // `read` gives the texts as they are now, and `shown` what a session has to look at too.
   constructor(machine, read, shown) {
+    super();
     this.machine = machine;
     this.read = read;
     this.shown = shown;
-    this.subscribers = new Map();
     this.session = /** @type {Session} */ (null); // none while the texts are refused
     this.view = /** @type {View} */ (null);
     this.refusal = ""; // why there is no session
@@ -33,21 +33,8 @@ export class Store {
   // - "view": a moment is seen, with the answer that led to it and the view before
   // - "tell": something; "busy", "slow": whether it is; "failed": what went wrong
   // - "slide": to a moment; "toggle", "edited"; "copy": a named text
-  on(what, work) { this.subscribers.set(what, [...(this.subscribers.get(what) || []), work]); }
-
-  // All are told, also where one of them has a fault, which is thrown then.
-  emit(what, ...given) {
-    const faults = [];
-    for (const work of this.subscribers.get(what) || []) {
-      try {
-        work(...given);
-      } catch (fault) {
-        faults.push(fault);
-      }
-    }
-    if (faults.length > 0) throw faults[0];
-  }
-
+  on(what, work) { this.addEventListener(what, (/** @type {any} */ { detail }) => work(...detail)); }
+  emit(what, ...given) { this.dispatchEvent(new CustomEvent(what, { detail: given })); }
   tell(...said) { this.emit("tell", ...said); }
   get isBusy() { return this.left > 0 || this.timer !== 0; }
 
