@@ -1,7 +1,7 @@
 // The page: what a person asks for, and the parts that show it.
 
 import { Bars } from "./bars.js";
-import { cardsApart, isBundle, linesIn, openedOf, scriptOf, withCards } from "./bundle.js";
+import { cardsApart, isBundle, openedOf, scriptOf, withCards } from "./bundle.js";
 import { Compare } from "./compare.js";
 import { $, copied, counted, on, put } from "./dom.js";
 import { missing, showFound, toldRefusal } from "./faults.js";
@@ -60,12 +60,7 @@ export class App {
     this.map.watch(part);
   }
 
-  // Cards of which one looks like a header go apart, to be refused as cards.
-  get texts() {
-    const [source, deck, cards] = [this.listing.text, $("deck").value, $("cards").value];
-    if (/^%/m.test(cards)) return { source, deck, cards, apart: 0 };
-    return { source, deck: withCards(deck, cards), apart: linesIn(cards).length };
-  }
+  get texts() { return { source: this.listing.text, deck: $("deck").value, cards: $("cards").value }; }
 
   showTexts({ found, refusal, program, view, texts }) {
     const { store, listing } = this;
@@ -214,12 +209,12 @@ export class App {
   }
 
   partsFor(lesson) {
-    const { source, deck } = this.texts;
+    const { source, deck, cards } = this.texts;
     const { session } = this.store;
     const done = session ? session.log.map(({ command }) => command) : [];
     const { breaks, isShut } = this.listing;
     const shown = [...(this.map.isOpen ? ["map"] : []), ...(isShut ? ["no-words"] : [])].join(" ");
     const kept = { left: this.talk.lines, breaks, bars: this.bars.kept, shown, lesson };
-    return { source, deck, script: scriptOf({ done, ...kept }) };
+    return { source, deck: withCards(deck, cards), script: scriptOf({ done, ...kept }) };
   }
 }

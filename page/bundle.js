@@ -9,7 +9,7 @@ const NAMES = {
 const remark = (name, text) => `* ${NAMES[name]}: ${text}`;
 const linesOf = (text) => text.replace(/\r\n?/g, "\n").split("\n");
 const whole = (text) => (text === "" || text.endsWith("\n") ? text : `${text}\n`);
-export const linesIn = (text) => linesOf(whole(text)).slice(0, -1); // without what is behind the last end of a line
+const linesIn = (text) => linesOf(whole(text)).slice(0, -1); // without what is behind the last end of a line
 const textOfLines = (lines) => lines.map((line) => `${line}\n`).join("");
 
 function partsOf(text) {
@@ -73,17 +73,12 @@ export function cardsApart(deck) {
   return { deck: lines.join("\n") + (isLast ? "\n" : ""), cards: isLast ? cards.join("\n") : textOfLines(cards) };
 }
 
+// Cards replace those that the deck gives to unit 16.
 export function withCards(deck, cards) {
   if (cards === "") return deck;
   const lines = linesIn(deck);
   if (!placeOfCards(lines)) lines.push("%UNIT 16");
-  lines.splice(placeOfCards(lines)[0], 0, ...linesIn(cards));
+  const [from, to] = placeOfCards(lines);
+  lines.splice(from, to - from, ...linesIn(cards));
   return textOfLines(lines);
-}
-
-// Where a line of a deck is seen, of which so many lines are cards and stand apart.
-export function placeOf(deck, line, apart) {
-  const [from, to] = placeOfCards(linesOf(deck)) || [0, 0];
-  if (line > from && line <= to) return `Card ${line - from}`;
-  return `Deck, line ${line > to ? line - apart : line}`;
 }

@@ -1,7 +1,6 @@
 // What is wrong with a text, in a list, with remedies; why a text is refused.
 
 import { $, counted, make, put } from "./dom.js";
-import { placeOf } from "./bundle.js";
 import { CHARACTERS, namesOfAll } from "./operations.js";
 
 const isError = ({ severity }) => severity === "error";
@@ -35,10 +34,11 @@ export function toldRefusal(refusal, found, texts, listing) {
     return [`Line ${line}: ${listing.said.get(number)}`, remedy, rest].filter(Boolean).join(". ");
   }
   const what = refusal.format.split(/line \d+: /).pop();
-  const row = (text === "cards" ? texts.cards : texts.deck).split("\n")[number - 1] || "";
+  const [place, all] = text === "cards" ? ["Card", texts.cards] : ["Deck, line", texts.deck];
+  const row = all.split("\n")[number - 1] || "";
   const at = what.startsWith("K4") ? [...row.toUpperCase()].findIndex((letter) => !CHARACTERS.includes(letter)) : -1;
   const letter = at < 0 ? "" : `: “${[...row][at]}” at column ${at + 1}`;
-  const told = `${text === "cards" ? `Card ${line}` : placeOf(texts.deck, number, texts.apart)}: ${what}${letter}`;
+  const told = `${place} ${line}: ${what}${letter}`;
   put($("deck-fault"), told);
   $("given").open = true;
   return told;
@@ -66,8 +66,6 @@ function nearTo(word) {
 // Nothing where the text of the fault says it.
 function remedyOf({ code }, line) {
   const [, first, operation, address] = /^(\S*)[ \t]*(\S*)[ \t]*(.*)$/.exec(line);
-  if (/^[;#/]/.test(first)) return "A remark line begins with *";
-  if (code === "A3" && first.endsWith(":")) return "A label has no colon";
   const isCut = code === "A5" && /,\s/.test(address);
   if (isCut) return "The address ends at the first blank, so no blank comes after a comma";
   if (code !== "A2" || namesOfAll().includes(first.toUpperCase())) return "";

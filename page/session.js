@@ -12,7 +12,7 @@ export const ZERO = { word: "+ 00 00 00 00 00", number: "0", characters: "     "
 const repl = (expression) => ["evaluate", { expression, context: "repl" }];
 
 function openingOf({ deck, cards, source }) {
-  const texts = { sourceText: source, devicesText: deck, cardsText: cards };
+  const texts = { sourceText: source, devicesText: deck, cardsText: cards || undefined };
   return [
     ["initialize", { adapterID: "mixrev", clientID: "page", linesStartAt1: true }],
     ["launch", { program: "program.mixal", ...texts, stopOnEntry: true }],

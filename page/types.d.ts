@@ -28,7 +28,7 @@ interface Found { line: number; column?: number; endColumn?: number; severity: s
 interface Answer { success: boolean; body: any; message?: string; stopped?: { reason: string; text: string } }
 type Asked = [command: string, given: object]; // a request
 
-interface Texts { source: string; deck: string; cards: string; apart: number }
+interface Texts { source: string; deck: string; cards: string }
 interface Conflict { text: string; cell: number; unit: number; until: string }
 interface Logged { command: string; reply: string; slidFrom?: number }
 

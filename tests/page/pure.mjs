@@ -1,6 +1,6 @@
 // The modules of the page that need no page: node tests/page/pure.mjs [SEED]. The last line counts.
 import { readFileSync } from "node:fs";
-import { bundleOf, cardsApart, openedOf, placeOf, scriptOf, withCards } from "../../page/bundle.js";
+import { bundleOf, cardsApart, openedOf, scriptOf, withCards } from "../../page/bundle.js";
 import { Grammar } from "../../page/colours.js";
 import { CARD, CHARACTERS, OPERATIONS, PSEUDO, explained, filled, takeTables } from "../../page/operations.js";
 import { upTo } from "../../page/range.js";
@@ -100,8 +100,7 @@ for (let round = 0; round < 200; round += 1) {
   row("cards in their deck again", withCards(cardsApart(whole).deck, cards), whole);
   if (packs) row("a link", await bundleIn(await fragmentOf(bundle)), bundle);
 }
-const DECK = "%UNIT 19\nA\n%UNIT 16\nB\nC\n%UNIT 18\n";
-row("where lines of a deck are seen", [2, 4, 5, 6].map((line) => placeOf(DECK, line, 2)), ["Deck, line 2", "Card 1", "Card 2", "Deck, line 4"]);
+row("cards in the place of those of a deck", withCards("%UNIT 16 delay 5\nA\nB\n%UNIT 18\n", "C"), "%UNIT 16 delay 5\nC\n%UNIT 18\n");
 if (packs) row("a link that holds too much", await bundleIn(await fragmentOf("x".repeat(4194305))).catch(({ message }) => message), "it holds more than 4,194,304 bytes");
 for (const [text, isLarge] of [["\n".repeat(20000), false], ["\n".repeat(20001), true], ["x".repeat(1048576), false], ["é".repeat(524289), true]]) row(`a source of ${text.length} letters`, tooLarge(text) !== "", isLarge);
 
