@@ -138,7 +138,7 @@ export class App {
     const { store } = this;
     const work = () => {
       const { ahead } = store.session;
-      if (!/^\s*set\s/i.test(command) || ahead === 0 || this.agreed === command) return this.act(command);
+      if (!/^\s*set?\s/i.test(command) || ahead === 0 || this.agreed === command) return this.act(command);
       this.agreed = command;
       this.talk.answer(command, `This drops ${counted(ahead, "change")} ahead. Press Enter again to do it.`);
       return undefined;
@@ -211,7 +211,7 @@ export class App {
   partsFor(lesson) {
     const { source, deck, cards } = this.texts;
     const { session } = this.store;
-    const done = session ? session.log.map(({ command }) => command) : [];
+    const done = session ? session.lines : [];
     const { breaks, isShut } = this.listing;
     const shown = [...(this.map.isOpen ? ["map"] : []), ...(isShut ? ["no-words"] : [])].join(" ");
     const kept = { left: this.talk.lines, breaks, bars: this.bars.kept, shown, lesson };

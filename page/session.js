@@ -17,6 +17,7 @@ function openingOf({ deck, cards, source }) {
     ["initialize", { adapterID: "mixrev", clientID: "page", linesStartAt1: true }],
     ["launch", { program: "program.mixal", ...texts, stopOnEntry: true }],
     ["configurationDone", {}],
+    repl("goto 0"), // it does nothing, and shows whether the engine tells lines
   ];
 }
 
@@ -27,6 +28,7 @@ export class Session {
     this.texts = texts;
     this.shown = shown;
     this.launched = null; // the answer to the launch
+    this.tellsLines = false; // whether the engine says which line of a script a person's words stand for
     this.log = /** @type {Logged[]} */ ([]); // each command with its reply
     this.state = /** @type {Partial<State>} */ ({ done: 0, ahead: 0 }); // that after the last command
     this.at = 0; // so many changes are done in the engine
@@ -38,6 +40,7 @@ export class Session {
   get done() { return this.state.done; }
   get ahead() { return this.state.ahead; }
   get total() { return this.done + this.ahead; }
+  get lines() { return this.log.filter(({ isSaid }) => !isSaid).map(({ command }) => command); }
   get isHalted() { return this.ahead === 0 && this.state.halted; }
 
   // The bodies of the answers to requests that only look.
@@ -50,10 +53,13 @@ export class Session {
   async ask(requests, at = this.done) {
     if (requests.length === 0) return [];
     const isLost = this.machine.holder !== this;
-    const way = isLost ? [...openingOf(this.texts), ...this.log.map(({ command }) => repl(command))] : [];
+    const way = isLost ? [...openingOf(this.texts), ...this.lines.map(repl)] : [];
     if (at !== (isLost ? this.done : this.at)) way.push(repl(`goto ${at}`));
     const answers = await this.machine.ask(this, [...way, ...requests]);
-    if (isLost) [, this.launched] = answers;
+    if (isLost) {
+      [, this.launched] = answers;
+      this.tellsLines = answers[3].body?.line !== undefined;
+    }
     this.at = at;
     return answers.slice(way.length);
   }
@@ -64,7 +70,8 @@ export class Session {
     const answers = await this.ask([...commands.map(repl), all, ["mix/units", {}], ...blocks], at);
     const [state, units, ...found] = answers.slice(commands.length).map(({ body }) => body);
     this.at = state.done;
-    if (commands.length > 0) this.noticed(commands, state);
+    const logged = commands.map((command, index) => this.loggedOf(command, answers[index]));
+    if (commands.length > 0) this.noticed(logged, state);
     const held = blocks.flatMap(([, { unit, block }], index) => {
       const { units: one } = found[index];
       return one ? [[`${unit} ${block}`, one[0].block]] : [];
@@ -75,7 +82,13 @@ export class Session {
       state, units: units.units, blocks: new Map(held), wordIn: (cell) => cells.get(cell) || ZERO,
       altered: new Set(state.altered), field, ...(await this.momentOf(state, field)),
     };
-    return { answers, view };
+    return { answers, logged, view };
+  }
+
+  // Where words only ask something, they stand for no line.
+  loggedOf(command, answer) {
+    const line = answer.success && this.tellsLines ? answer.body.line : command;
+    return { command: line ?? command, reply: replyOf(answer), isSaid: line === undefined };
   }
 
   // The last change and the next step, with the numbers of whole words, and in a field; how often
@@ -93,9 +106,9 @@ export class Session {
   }
 
   // Forgets what may be another now. To go to a moment alters nothing.
-  noticed(commands, { done, ahead }) {
-    if (commands.every((command) => /^\s*(back|forth|goto)\b/i.test(command))) return;
-    const isAlone = commands.length === 1;
+  noticed(logged, { done, ahead }) {
+    if (logged.every(({ command, isSaid }) => isSaid || /^\s*(back|forth|goto)\b/i.test(command))) return;
+    const isAlone = logged.length === 1;
     if (isAlone && done + ahead === this.total && (done <= this.done || ahead > 0)) return;
     this.changes = {};
     this.path.cut(isAlone ? this.done : 0);
@@ -116,12 +129,12 @@ export class Session {
   // The answer to the last command, and a view, with the conflict of the change that is `met`. What
   // is tried is not kept if it is refused.
   async act(commands, { from = this.done, isTried = false, met = 0 } = {}) {
-    const { answers, view } = await this.see(commands, from);
+    const { answers, logged, view } = await this.see(commands, from);
     const asked = met ? [["mix/change", { number: met, conflict: true }]] : [];
     for (const { conflict } of await this.bodies(asked, this.at)) view.conflict = conflict;
     const answer = answers[commands.length - 1];
     if (isTried && !answer.success) return { view, answer };
-    this.log.push(...commands.map((command, index) => ({ command, reply: replyOf(answers[index]) })));
+    this.log.push(...logged);
     this.state = view.state;
     return { view, answer };
   }

@@ -30,7 +30,7 @@ type Asked = [command: string, given: object]; // a request
 
 interface Texts { source: string; deck: string; cards: string }
 interface Conflict { text: string; cell: number; unit: number; until: string }
-interface Logged { command: string; reply: string; slidFrom?: number }
+interface Logged { command: string; reply: string; isSaid: boolean; slidFrom?: number }
 
 // A moment of the machine, as all parts are shown it.
 interface View {

@@ -5,6 +5,7 @@ import { Grammar } from "../../page/colours.js";
 import { CARD, CHARACTERS, OPERATIONS, PSEUDO, explained, filled, takeTables } from "../../page/operations.js";
 import { upTo } from "../../page/range.js";
 import { Path } from "../../page/path.js";
+import { Session } from "../../page/session.js";
 import { bundleIn, fragmentOf } from "../../page/share.js";
 import { tooLarge } from "../../page/source.js";
 import { barsOf, stripOf, valuesOf } from "../../page/svg.js";
@@ -103,6 +104,28 @@ for (let round = 0; round < 200; round += 1) {
 row("cards in the place of those of a deck", withCards("%UNIT 16 delay 5\nA\nB\n%UNIT 18\n", "C"), "%UNIT 16 delay 5\nC\n%UNIT 18\n");
 if (packs) row("a link that holds too much", await bundleIn(await fragmentOf("x".repeat(4194305))).catch(({ message }) => message), "it holds more than 4,194,304 bytes");
 for (const [text, isLarge] of [["\n".repeat(20000), false], ["\n".repeat(20001), true], ["x".repeat(1048576), false], ["é".repeat(524289), true]]) row(`a source of ${text.length} letters`, tooLarge(text) !== "", isLarge);
+
+// What a person types is kept as the line of a script that it stands for, where the engine tells it, and is done again as that; what only asks is shown.
+const LINES = { "goto 0": "goto 0", "b 5": "break 5", "show regs": "show regs", "p A": undefined };
+for (const tells of [true, false]) {
+  const asked = [];
+  const answerTo = ([, { expression }]) => {
+    if (expression) asked.push(expression);
+    const line = tells && LINES[expression] && { line: LINES[expression] };
+    const body = { done: 0, ahead: 0, halted: false, cells: [], altered: [], units: [], result: "said\n", ...line };
+    return expression && !(expression in LINES) ? { success: false, message: "C1 no such command", body: {} } : { success: true, body };
+  };
+  const machine = { holder: null, ask: async (holder, requests) => Object.assign(machine, { holder }) && requests.map(answerTo) };
+  const session = new Session(machine, {}, () => ({ blocks: [], field: 5 }));
+  for (const typed of Object.keys(LINES).slice(1)) await session.act([typed]);
+  await session.act(["zz"]);
+  row("console: what is shown", session.log.map(({ command }) => command), [tells ? "break 5" : "b 5", "show regs", "p A", "zz"]);
+  row("console: what a file holds", session.lines, tells ? ["break 5", "show regs", "zz"] : ["b 5", "show regs", "p A", "zz"]);
+  machine.holder = null;
+  asked.length = 0;
+  await session.act(["show regs"]);
+  row("console: what is done again", asked, ["goto 0", ...session.lines]);
+}
 
 // The pictures, with elements that hold what they are given.
 const element = (name) => ({ name, given: {}, inside: [], setAttribute(key, value) { this.given[key] = value; }, append(...more) { this.inside.push(...more); } });
