@@ -63,7 +63,7 @@ export class Talk {
     for (const { command, reply } of more) {
       const rest = `\n(${reply.length} letters; the file that is saved gives them all)`;
       const isLong = reply.length > LETTERS_SHOWN;
-      const shown = isLong ? `${reply.slice(0, LETTERS_SHOWN)} …${rest}` : reply.slice(0, -1);
+      const shown = isLong ? `${reply.slice(0, LETTERS_SHOWN)} …${rest}` : reply.replace(/\n$/, "");
       box.append(make("p", {}, command), make("pre", {}, shown));
     }
     this.shown = [...log];
