@@ -101,7 +101,6 @@ export class App {
     const isEngine = fault instanceof Broken;
     if (!isEngine) console.error(fault);
     if (session && view) this.time.show(session, view.state);
-    this.talk.show(session ? session.log : []);
     const rest = "The text, the breakpoints and the commands are as they were.";
     if (isEngine && fault.message === STOPPED) this.tell(`Stopped. ${rest}`);
     else this.tell(isEngine ? `Not done: ${fault.message}. ${rest}` : `The page itself has a fault: ${fault}`, true);

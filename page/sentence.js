@@ -112,11 +112,6 @@ function didOf(/** @type {Change} */ change, /** @type {View} */ view, listing) 
   return row ? `${named(location, text, listing)}: ${did} (${time} u)` : `${text}: ${did}`;
 }
 
-const MEANINGS = {
-  "C1 no such command": ", Help has a list of the commands",
-  "C4 fewer changes than asked": ", there are not so many changes to go over",
-};
-
 // What is told of a moment. `answer` is that to the command which led to it from the view `before`;
 // without one the moment is only looked at.
 export function toldOf(/** @type {Shown} */ { answer, before, view, listing }) {
@@ -132,7 +127,8 @@ export function toldOf(/** @type {Shown} */ { answer, before, view, listing }) {
     const fault = `Fault ${step.exceptionId} ${step.description}, at ${at}.${steps} The step was not done.`;
     return { last, did: fault, next, isFault: true };
   }
-  if (refusal) return { last, did: `Refused: ${refusal}${MEANINGS[refusal] || ""}.`, next, isFault: true };
+  const help = refusal.startsWith("C1 ") ? ", Help has a list of the commands" : "";
+  if (refusal) return { last, did: `Refused: ${refusal}${help}.`, next, isFault: true };
   const rows = printed(before, view);
   const conflict = view.conflict ? `Conflict: ${view.conflict.text}. ` : "";
   if (state.halted) return { last, did: conflict + haltedAt(state, was) + rows, next: "Back goes back." };

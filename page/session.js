@@ -221,7 +221,7 @@ export class Session {
   }
 
   // The changes around this moment that wrote a part, and whether there may be more before or behind
-  // them; the last one that is done, with its line; the first one that is ahead.
+  // them; the last one that is done; the first one that is ahead.
   async writesOf(part) {
     const { done, total } = this;
     const writesUpTo = async (ends) => {
@@ -234,10 +234,9 @@ export class Session {
     const near = reaches(all) ? [] : await writesUpTo([done + MOST_WRITES, done + 32 * MOST_WRITES]);
     const ahead = [...near, all].filter(reaches).pop().filter(({ number }) => number > done);
     const last = before[before.length - 1];
-    const asked = last ? [["mix/change", { number: last.number }], repl("show last 1")] : [];
-    const [change, line] = last ? await this.bodies(asked, last.number) : [undefined, { result: "" }];
+    const [change] = await this.bodies(last ? [["mix/change", { number: last.number }]] : [], total);
     const next = ahead.length > 0 ? ahead[0].number : await this.next([part]);
     const isCut = [before.length === MOST_WRITES, !reaches(all)];
-    return { writes: [...before, ...ahead], isCut, last: change, line: line.result.trim(), next };
+    return { writes: [...before, ...ahead], isCut, last: change, next };
   }
 }

@@ -4,7 +4,7 @@ import { $, counted, fourDigits, make, on, put } from "./dom.js";
 import { refusalOf } from "./machine.js";
 import { flagsOf } from "./memory.js";
 import { CHARACTERS } from "./operations.js";
-import { isCommand, nameOf } from "./sentence.js";
+import { COMPARED, isCommand, nameOf } from "./sentence.js";
 import { valuesOf } from "./svg.js";
 
 // As a W-value: also a word byte by byte and five characters in quotes, as the page shows them.
@@ -20,6 +20,9 @@ function valueOf(typed) {
   const parts = bytes.map((byte, at) => (byte > 0 ? `${byte}(${first + at}:${first + at})` : "")).filter(Boolean);
   return [...(text.startsWith("-") ? ["-0(0:0)"] : []), ...parts].join(",") || "0";
 }
+
+const FLAGS = { true: "on", false: "off", ...COMPARED };
+const worthOf = (value) => value.number ?? FLAGS[value] ?? String(value);
 
 function heldBy(part, { state, wordIn }) {
   const flag = flagsOf(state).find((each) => each.part === part);
@@ -61,14 +64,13 @@ export class Who {
   async open(part) {
     const { session, view } = this.app.store;
     const { done, ahead } = session;
-    const { writes, isCut, last, line, next } = await session.writesOf(part);
+    const { writes, isCut, last, next } = await session.writesOf(part);
     const name = nameOf(part);
     Object.assign(this, { part, last, next });
     this.showWrites(name, writes, isCut, session);
     put($("who-title"), `Who wrote ${name}?`);
     put($("who-word"), heldBy(part, view));
-    put($("who-text"), this.told(last));
-    put($("who-line"), line);
+    put($("who-text"), this.told(last, writes.findLast(({ number }) => number <= done)));
     $("who-back").disabled = !last || last.number === done;
     $("who-before").disabled = !last;
     $("who-forth").disabled = !next;
@@ -83,11 +85,10 @@ export class Who {
   }
 
   showWrites(name, writes, isCut, { done, total }) {
-    const of = (value) => value.number ?? String(value);
     const here = writes.filter(({ number }) => number <= done).length - 1;
     const items = writes.map(({ number, before, after }, at) => {
       const given = { type: "button", "aria-current": at === here && "step", click: () => this.leave(number) };
-      return make("li", {}, make("button", given, `change ${number}: ${of(before)} → ${of(after)}`));
+      return make("li", {}, make("button", given, `change ${number}: ${worthOf(before)} → ${worthOf(after)}`));
     });
     const isList = items.length > 1;
     $("who-writes").replaceChildren(...items);
@@ -109,12 +110,13 @@ export class Who {
     $("who-values").append(valuesOf({ title, text, writes: numbers, isCut, total, done }));
   }
 
-  told(change) {
+  told(change, write) {
     if (!change) return "No change: it is as it was loaded.";
     const { number, location, text } = change;
-    if (isCommand(change)) return `Change ${number}, a command: ${text}.`;
+    const became = `; from ${worthOf(write.before)} to ${worthOf(write.after)}.`;
+    if (isCommand(change)) return `Change ${number}, a command: ${text}${became}`;
     const line = this.app.listing.lineOf.get(location);
-    return `Change ${number}: ${text} at location ${fourDigits(location)}${line ? `, line ${line}` : ""}.`;
+    return `Change ${number}: ${text} at location ${fourDigits(location)}${line ? `, line ${line}` : ""}${became}`;
   }
 
   async set(value) {

@@ -128,9 +128,7 @@ def who(page, native, count):
     page.lesson(0)
     page.click("run")
     page.tap(page.all("#register-rows td")[0])
-    count.row("who: of rA", page.text("who-text").startswith("Change 2: INCA 7 at location 0001, line 5"), page.text("who-text"))
-    line = native.bundle(with_script(FIRST, "run 2\nshow last 1\n")).split("\n")[1].strip()
-    count.same("who: of rA, as a line", page.text("who-line"), line)
+    count.same("who: of rA", page.text("who-text"), "Change 2: INCA 7 at location 0001, line 5; from 5 to 12.")
     page.script("document.getElementById('who').close()")
     page.choose("cells-which", "filled")
     page.tap(page.driver.find_element(By.CSS_SELECTOR, "#cell-rows tr[data-cell='100'] button"))
@@ -151,6 +149,10 @@ def who(page, native, count):
             page.click("who-forth")
     count.same("who: back there, forth and set", page.replies(), wanted)
     count.row("who: what was altered stands out", "altered" in page.all("#cell-rows tr")[-1].get_attribute("class"))
+    page.put("text", " ENT1 5\n CMP1 3000\n HLT\n END 0\n")
+    page.click("run")
+    page.tap(page.driver.find_element(By.CSS_SELECTOR, "#flags [data-part='cmp']"))
+    count.same("who: of a flag", page.text("who-text"), "Change 2: CMP1 3000 at location 0001, line 2; from equal to greater.")
 
 
 def faults(page, native, count):
@@ -179,7 +181,7 @@ def cards(page, native, count):
     page.lesson(5)  # cycles, from cards
     bundle = EXAMPLES[5].read_text()
     text = bundle.split("%UNIT 16\n")[1].split("%")[0]
-    page.script("document.getElementById('given').open = true")
+    count.same("cards: are open with a lesson that has some", page.one("cards").is_displayed(), True)
     count.same("cards: of the lesson", page.value("cards"), text)
     page.one("cards").clear()
     page.one("cards").send_keys("(ACB)(DE)(AF)=")
