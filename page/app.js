@@ -35,7 +35,7 @@ export class App {
     this.map = new TimeMap(store, this.listing);
     const papers = new Papers("papers");
     store.on("view", (view) => papers.show(view));
-    store.on("forget", () => papers.forget());
+    store.on("forget", () => papers.show());
     this.units = new Units(store);
     this.heat = new Heat(store, this.listing, this.memory);
     this.compare = new Compare(store);
@@ -198,9 +198,7 @@ export class App {
       this.talk.setScript([...done, ...left]);
       this.talk.show([]);
       this.isOpening = true;
-      await store.begin().finally(() => {
-        this.isOpening = false;
-      });
+      await store.begin().finally(() => Object.assign(this, { isOpening: false }));
       if (store.session) this.bars.open(bars, [...done, ...left]);
       if (store.session && done.length > 0) await this.actScript(done);
       this.isEdited = false;

@@ -44,7 +44,7 @@ export class Compare extends Picture {
     this.machine.stop();
     this.machine.end();
     $("compare").hidden = true;
-    this.papers.forget();
+    this.papers.show();
     for (const row of all("#papers .differs")) row.classList.remove("differs");
     $("compare-open").focus();
   }

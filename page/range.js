@@ -24,9 +24,7 @@ export class CellRange {
 
   get ends() { return this.fields.map((field) => field.value.trim()); }
 
-  set ends(ends) {
-    for (const [index, field] of this.fields.entries()) field.value = ends[index];
-  }
+  set ends(ends) { this.fields.forEach((field, index) => Object.assign(field, { value: ends[index] })); }
 
   async ask() {
     if (!this.isWanted()) return;

@@ -56,10 +56,7 @@ export class Session {
     const way = isLost ? [...openingOf(this.texts), ...this.lines.map(repl)] : [];
     if (at !== (isLost ? this.done : this.at)) way.push(repl(`goto ${at}`));
     const answers = await this.machine.ask(this, [...way, ...requests]);
-    if (isLost) {
-      [, this.launched] = answers;
-      this.tellsLines = answers[3].body?.line !== undefined;
-    }
+    if (isLost) Object.assign(this, { launched: answers[1], tellsLines: answers[3].body?.line !== undefined });
     this.at = at;
     return answers.slice(way.length);
   }

@@ -115,9 +115,7 @@ export class Source {
       change.cancel();
       refused(reason);
     });
-    cm.on("changes", (_, changes) => {
-      if (changes[0].origin !== "setValue") edited(changes);
-    });
+    cm.on("changes", (_, changes) => changes[0].origin === "setValue" || edited(changes));
     cm.on("viewportChange", drawn);
     cm.on("update", () => {
       for (const row of all("#listing .CodeMirror-gutter-wrapper[aria-hidden]")) row.removeAttribute("aria-hidden");

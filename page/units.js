@@ -92,11 +92,7 @@ export class Papers {
     this.whose = whose;
   }
 
-  forget() {
-    this.show({ units: [] });
-  }
-
-  show(/** @type {Partial<View>} */ { state, units, altered }) {
+  show(/** @type {Partial<View>} */ { state, units, altered } = { units: [] }) {
     const written = units.filter(({ rows, pages }) => rows && rows.length + pages.length > 0);
     keepRows($(this.id), written, ({ unit }) => unit, (unit) => this.box(unit), (box, unit) => {
       this.update(box, unit, altered.has(`unit ${unit.unit}`), busyOf(unit, state));

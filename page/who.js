@@ -32,13 +32,11 @@ function heldBy(part, { state, wordIn }) {
   return `${word} = ${number} = “${characters}”`;
 }
 
-function allowedIn(part) {
-  const others = { over: "Write on or off.", cmp: "Write L, E or G." };
-  if (others[part]) return others[part];
-  const isSmall = /^(I\d|J)$/.test(part);
-  if (isSmall) return "Write a number of two bytes, -4095 to 4095 (rJ: 0 to 4095), or a symbol, as KEY+1.";
-  return "Write a number, as -5; a word, as + 00 00 00 01 36; five characters in quotes; or a symbol, as KEY+1.";
-}
+const ALLOWED = {
+  over: "Write on or off.", cmp: "Write L, E or G.",
+  small: "Write a number of two bytes, -4095 to 4095 (rJ: 0 to 4095), or a symbol, as KEY+1.",
+  word: "Write a number, as -5; a word, as + 00 00 00 01 36; five characters in quotes; or a symbol, as KEY+1.",
+};
 
 export class Who {
   constructor(/** @type {App} */ app) {
@@ -103,11 +101,8 @@ export class Who {
   draw(name, writes, isCut, { done, total }) {
     const numberIn = ({ number }) => Number(number);
     const numbers = writes.map((write) => ({ ...write, before: numberIn(write.before), after: numberIn(write.after) }));
-    const [first] = numbers;
-    const begin = `${isCut[0] ? `Before change ${first.number}` : "At first"} ${first.before}`;
-    const text = `${begin}; ${numbers.map(({ number, after }) => `by change ${number}: ${after}`).join(", ")}.`;
-    const title = `${name} over ${counted(total, "change")}`;
-    $("who-values").append(valuesOf({ title, text, writes: numbers, isCut, total, done }));
+    const told = { title: `${name} over ${counted(total, "change")}`, text: "The list below has each value." };
+    $("who-values").append(valuesOf({ ...told, writes: numbers, isCut, total, done }));
   }
 
   told(change, write) {
@@ -124,7 +119,7 @@ export class Who {
     const found = await app.store.session.act([`set ${part} ${value}`], { isTried: true });
     const refusal = refusalOf(found.answer);
     if (refusal) {
-      this.refuse(`Refused: ${refusal}. ${allowedIn(part)}`);
+      this.refuse(`Refused: ${refusal}. ${ALLOWED[part] || ALLOWED[/^(I\d|J)$/.test(part) ? "small" : "word"]}`);
       return;
     }
     $("who").close();

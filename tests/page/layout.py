@@ -84,16 +84,7 @@ def together(page, native, count):
         count.row(f"together: {width} x {height}, with all pictures", lines >= 6 and rows >= 1, (lines, rows))
 
 
-LARGE = """MOST     CON  63(1:1),63(2:2),63(3:3),63(4:4),63(5:5)
-START    LDA  MOST
-         LDAN MOST
-         STA  2000
-         ENN1 4000
-         ENT1 0
-         STZ  2000
-         HLT
-         END  START
-"""
+LARGE = "MOST CON 63(1:1),63(2:2),63(3:3),63(4:4),63(5:5)\nSTART LDA MOST\n LDAN MOST\n STA 2000\n ENN1 4000\n ENT1 0\n STZ 2000\n HLT\n END START\n"
 CUT = """const inner = (element) => { const { left, top } = element.getBoundingClientRect(); return [left + element.clientLeft + element.clientWidth, top + element.clientTop + element.clientHeight] };
 return [...document.querySelectorAll('td.was span')].filter((span) => span.textContent !== '').map((span) => {
     const { right, bottom, width } = span.getBoundingClientRect(), row = span.closest('tr').getBoundingClientRect(), [edge] = inner(span.closest('#cells-box') || document.getElementById('registers'));

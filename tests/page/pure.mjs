@@ -105,7 +105,7 @@ row("cards in the place of those of a deck", withCards("%UNIT 16 delay 5\nA\nB\n
 if (packs) row("a link that holds too much", await bundleIn(await fragmentOf("x".repeat(4194305))).catch(({ message }) => message), "it holds more than 4,194,304 bytes");
 for (const [text, isLarge] of [["\n".repeat(20000), false], ["\n".repeat(20001), true], ["x".repeat(1048576), false], ["é".repeat(524289), true]]) row(`a source of ${text.length} letters`, tooLarge(text) !== "", isLarge);
 
-// What a person types is kept as the line of a script that it stands for, where the engine tells it, and is done again as that; what only asks is shown.
+// A person's words are kept, and done again, as the line that the engine tells; what asks is shown.
 const LINES = { "goto 0": "goto 0", "b 5": "break 5", "show regs": "show regs", "p A": undefined };
 for (const tells of [true, false]) {
   const asked = [];
@@ -113,12 +113,11 @@ for (const tells of [true, false]) {
     if (expression) asked.push(expression);
     const line = tells && LINES[expression] && { line: LINES[expression] };
     const body = { done: 0, ahead: 0, halted: false, cells: [], altered: [], units: [], result: "said\n", ...line };
-    return expression && !(expression in LINES) ? { success: false, message: "C1 no such command", body: {} } : { success: true, body };
+    return { success: expression !== "zz", message: "C1 no such command", body };
   };
   const machine = { holder: null, ask: async (holder, requests) => Object.assign(machine, { holder }) && requests.map(answerTo) };
   const session = new Session(machine, {}, () => ({ blocks: [], field: 5 }));
-  for (const typed of Object.keys(LINES).slice(1)) await session.act([typed]);
-  await session.act(["zz"]);
+  for (const typed of [...Object.keys(LINES).slice(1), "zz"]) await session.act([typed]);
   row("console: what is shown", session.log.map(({ command }) => command), [tells ? "break 5" : "b 5", "show regs", "p A", "zz"]);
   row("console: what a file holds", session.lines, tells ? ["break 5", "show regs", "zz"] : ["b 5", "show regs", "p A", "zz"]);
   machine.holder = null;

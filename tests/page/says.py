@@ -55,8 +55,7 @@ def sentences(page, native, count):
     page.lesson(1)
     page.lesson(0)
     page.click("step")
-    row = page.driver.find_element(By.CSS_SELECTOR, "#register-rows tr.altered")
-    count.row("sentences: what a register was, and will be", row.text.endswith("was 0 → 12"), row.text)
+    count.same("sentences: what a register was, and will be", page.script("return document.querySelector('#register-rows tr.altered .was').textContent"), "was 0 → 12")
     page.caret(5, 9)
     page.press("\ue031")  # F1
     title = page.script("""const word = document.querySelectorAll('#listing .CodeMirror-line')[5].querySelector('.cm-support'), at = word.getBoundingClientRect();

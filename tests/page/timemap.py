@@ -92,7 +92,7 @@ def writes(page, native, count):
     rows = page.script("return [...document.querySelectorAll('#who-writes button')].map(b => [b.textContent, b.getAttribute('aria-current')])")
     count.same("writes: all of rI1", rows, [["change 1: 0 → 3", None], ["change 3: 3 → 2", "step"], ["change 6: 2 → 1", None], ["change 9: 1 → 0", None]])
     said = page.script("return ['title', 'desc'].map(name => document.querySelector(`#who-values svg ${name}`).textContent)")
-    count.same("writes: as a picture", said, ["rI1 over 11 changes", "At first 0; by change 1: 3, by change 3: 2, by change 6: 1, by change 9: 0."])
+    count.same("writes: as a picture", said, ["rI1 over 11 changes", "The list below has each value."])
     page.press_button(page.all("#who-writes button")[2])
     page.idle()
     count.same("writes: a click goes there", (page.value("moment"), page.script("return document.getElementById('who').open")), ("6", False))
