@@ -81,4 +81,4 @@ REFUSED = [
     (COPY, CARDS, b"ONE\n\n" + b" " * 80 + b"%", [], b"mixrev: T5 deck refused at line 3: K3 line too long\n", 2),
     (b"", CARDS, None, [], b"a.mixal:1: error: A13 no END: the last line of a program is END\n", 1),
     # the mark stands below its part where there are tabs too
-    (b"\tENTA\t1+\trest\n END\n", b"", None, [], b"a.mixal:1:9: error: A5 bad expression: nothing is written here\n\tENTA\t1+\trest\n\t    \t  ^\n", 1)]
+    (b"\tENTA\t1+\trest\n END\n", b"", None, [], b"a.mixal:1:9: error: A5 bad expression: a number, a symbol or * is missing\n\tENTA\t1+\trest\n\t    \t  ^\n", 1)]

@@ -215,7 +215,7 @@ used first.
   $ said 'X EQU 1\n ENTA X+Z\n END 0\n'
   2:9: error: A7 undefined symbol: Z is defined nowhere
   $ said ' LDA =1+=\n END ?\n'
-  1:9: error: A5 bad expression: nothing is written here
+  1:9: error: A5 bad expression: a number, a symbol or * is missing
   2:6: error: A1 bad byte: ?
   $ said ' LDA =TAB=\n END 0\n'
   1:7: error: A7 undefined symbol: TAB is defined nowhere
@@ -249,11 +249,19 @@ used first.
   1:7: error: A5 bad expression: a remark after HLT, NUM or CHAR begins with a letter
   2:6: error: A5 bad expression: a remark after HLT, NUM or CHAR begins with a letter
   $ said ' ENTA\n CON\n END 0\n'
-  2:5: error: A5 bad expression: nothing is written here
+  2:5: error: A5 bad expression: a number, a symbol or * is missing
   $ said ' LDA =3\n END 0\n'
   1:6: error: A5 bad expression: =3
   $ said ' LDA 5(1:3\n END 0\n'
-  1:11: error: A5 bad expression: nothing is written here
+  1:11: error: A5 bad expression: a closing bracket is missing
+  $ said ' ENTA 1+\n ENTA *\n ENTA **\n CON 1(*\n CON 1(\n CON 1(0:2),\n CON 1//*(0:2\n ENTA 2,\n END 0\n'
+  1:9: error: A5 bad expression: a number, a symbol or * is missing
+  3:9: error: A5 bad expression: a number, a symbol or * is missing
+  4:9: error: A5 bad expression: a closing bracket is missing
+  5:8: error: A5 bad expression: a number, a symbol or * is missing
+  6:13: error: A5 bad expression: a number, a symbol or * is missing
+  7:14: error: A5 bad expression: a closing bracket is missing
+  8:9: error: A5 bad expression: a number, a symbol or * is missing
   $ said ' HLT\n'
   2: error: A13 no END: the last line of a program is END
   $ said ''

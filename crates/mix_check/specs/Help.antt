@@ -10,8 +10,9 @@ use Rattle.mixal_asm.specs.declared.diagnostic.Finding.TheVariants.{Fault, Warni
 use Rattle.mix_check.specs.Dialect.{operation_note, remark_note, symbol_note}
 use Rattle.mix_check.specs.Foreign.{foreign_text}
 use Rattle.mix_check.specs.Later.{late_help, late_rule, twice_help}
+use Rattle.mix_check.specs.Missing.{missing_text}
 use Rattle.mix_shown.specs.Wanted.{shown}
-use Rattle.mix_check.specs.Place.{line_of, piece_of, shown_of}
+use Rattle.mix_check.specs.Place.{front_of, piece_of, shown_of}
 
 -- ---- what a fault is about
 
@@ -29,7 +30,7 @@ abbrev pub subject : TextFault → List ℕ → List ℕ
 subject BadByte piece = or_piece (foreign_text piece) piece
 subject NoSuchOperation piece = piece_text piece
 subject BadSymbol piece = piece_text piece
-subject BadExpression piece = piece_text piece
+subject BadExpression piece = []
 subject NumberTooLarge piece = piece_text piece
 subject UndefinedSymbol piece = []
 subject ExpressionOverflow piece = []
@@ -74,28 +75,33 @@ first_text (byte ∷ text) other = byte ∷ text
 abbrev pub text_help : TextFault → List ℕ → List ℕ
 text_help fault piece = subject fault piece ++ first_text (note fault piece) (text_rule fault)
 
+-- what is left over in the place of an expression, or what is missing
+abbrev pub expression_text : List ℕ → List ℕ → List ℕ
+expression_text front [] = missing_text front
+expression_text front (byte ∷ rest) = piece_text (byte ∷ rest)
+
 -- of a symbol that is not defined yet, where it is defined; and of what may be a remark, how one begins
 abbrev pub misread_help : List ℕ → ℕ → TextFault → List ℕ → List ℕ → List ℕ
-misread_help source n UndefinedSymbol line piece = late_help source n piece ++ remark_note line
-misread_help source n BadExpression line piece = first_text (remark_note line) (text_help BadExpression piece)
-misread_help source n fault line piece = text_help fault piece
+misread_help source n UndefinedSymbol front piece = late_help source n piece ++ remark_note front
+misread_help source n BadExpression front piece = first_text (remark_note front) (expression_text front piece)
+misread_help source n fault front piece = text_help fault piece
 
--- at a line of a source, by the line and the bytes of it that are marked
+-- at a line of a source, by the bytes of it that are marked, and those before them
 abbrev pub kind_help : List ℕ → ℕ → AsmKind → List ℕ → List ℕ → List ℕ
-kind_help source n (Text misread) line piece = misread_help source n misread.fault line piece
-kind_help source n (Inserted m misread) line piece = misread_help source n misread.fault line piece
-kind_help source n DefinedTwice line piece = twice_help source piece
-kind_help source n AddressTooLarge line piece = codes ": it is -4095 to 4095"
-kind_help source n LocationOutOfRange line piece = []
-kind_help source n NoEnd line piece = codes ": the last line of a program is END"
-kind_help source n StartOutOfRange line piece = []
-kind_help source n SourceTooLong line piece = codes ": at most 20000 lines and 1048576 bytes"
+kind_help source n (Text misread) front piece = misread_help source n misread.fault front piece
+kind_help source n (Inserted m misread) front piece = misread_help source n misread.fault front piece
+kind_help source n DefinedTwice front piece = twice_help source piece
+kind_help source n AddressTooLarge front piece = codes ": it is -4095 to 4095"
+kind_help source n LocationOutOfRange front piece = []
+kind_help source n NoEnd front piece = codes ": the last line of a program is END"
+kind_help source n StartOutOfRange front piece = []
+kind_help source n SourceTooLong front piece = codes ": at most 20000 lines and 1048576 bytes"
 
 -- a warning says all by itself
 abbrev pub finding_help : List ℕ → ℕ → Finding → List ℕ → List ℕ → List ℕ
-finding_help source n (Fault kind) line piece = kind_help source n kind line piece
-finding_help source n (AWarning warning) line piece = []
+finding_help source n (Fault kind) front piece = kind_help source n kind front piece
+finding_help source n (AWarning warning) front piece = []
 
 -- what helps to mend what a diagnostic of a source is about
 unfoldable pub help_of : List ℕ → Diagnostic → List ℕ
-help_of source d = finding_help source d.line d.finding (line_of (shown_of source d)) (piece_of (shown_of source d))
+help_of source d = finding_help source d.line d.finding (front_of (shown_of source d)) (piece_of (shown_of source d))

@@ -6,5 +6,6 @@ pub mod Help
 pub mod Json
 pub mod Later
 pub mod Mark
+pub mod Missing
 pub mod Place
 pub mod Report

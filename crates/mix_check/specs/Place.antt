@@ -23,10 +23,10 @@ shown_in (Some span) line = shown_at span line
 abbrev pub shown_of : List ℕ → Diagnostic → Option Shown
 shown_of source d = shown_in d.at (slice_get (lines source) (d.line - 1))
 
--- the line that is shown, or nothing
-abbrev pub line_of : Option Shown → List ℕ
-line_of None = []
-line_of (Some place) = place.0
+-- the bytes before those that a diagnostic is about, or none
+abbrev pub front_of : Option Shown → List ℕ
+front_of None = []
+front_of (Some place) = take place.1.from place.0
 
 -- the bytes of a span
 abbrev pub bytes_at : List ℕ → Span → List ℕ

@@ -3,7 +3,7 @@
 ghost use Rattle.std.specs.Prelude.{◌≡◌, ◌≤◌, ◌-◌, IfOk, IfSome, drop, length, option_map, slice_get, take};
 ghost use Rattle.mix_lines.specs.Lines.{lines};
 ghost use Rattle.mix_check.specs.Later.{line_of_symbol};
-ghost use Rattle.mix_check.specs.Place.{bytes_at, line_of, piece_of, shown_in, shown_of};
+ghost use Rattle.mix_check.specs.Place.{bytes_at, front_of, piece_of, shown_in, shown_of};
 
 use indexmap::IndexMap;
 use mix_lines::split_line;
@@ -121,12 +121,12 @@ fn shown_in<'s>(at: Option<Span>, line: Option<&'s [u8]>) -> Option<(&'s [u8], S
     }
 }
 
-/// The line that is shown, or nothing.
-pub(crate) fn line_of<'s>(place: Option<(&'s [u8], Span)>) -> &'s [u8]
-    ensures { result.now ≡ line_of (option_map (λ p. (p.0.now, p.1)) place.entry) }
+/// The bytes before those that a diagnostic is about, or none.
+pub(crate) fn front_of<'s>(place: Option<(&'s [u8], Span)>) -> &'s [u8]
+    ensures { result.now ≡ front_of (option_map (λ p. (p.0.now, p.1)) place.entry) }
 {
     match place {
-        Some((line, _)) => line,
+        Some((line, span)) => before(line, span.from),
         None => &[],
     }
 }

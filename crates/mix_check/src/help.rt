@@ -1,15 +1,16 @@
 //! What is said after the text of a fault: what it is about, and what is allowed.
 
 ghost use Rattle.std.specs.Prelude.{◌≡◌, ◌++◌, IfOk, OnOk, option_map};
-ghost use Rattle.mix_check.specs.Help.{finding_help, first_text, help_of, kind_help, misread_help, note, or_piece, piece_text, subject, text_help, text_rule};
+ghost use Rattle.mix_check.specs.Help.{expression_text, finding_help, first_text, help_of, kind_help, misread_help, note, or_piece, piece_text, subject, text_help, text_rule};
 ghost use Rattle.mix_check.specs.Dialect.{remark_note};
-ghost use Rattle.mixal_text.specs.declared.fault.TextFault.TheVariants.{BadExpression, UndefinedSymbol};
+ghost use Rattle.mixal_text.specs.declared.fault.TextFault.TheVariants.{UndefinedSymbol};
 ghost use Rattle.mix_check.specs.Place.{piece_of, shown_of};
 
-use crate::checked::{Checked, line_of, piece_of};
+use crate::checked::{Checked, front_of, piece_of};
 use crate::dialect::{operation_note, remark_note, symbol_note};
 use crate::foreign::foreign_text;
 use crate::later::{late_help, late_rule, twice_help};
+use crate::missing::missing_text;
 use mix_shown::add_shown;
 use mixal_asm::{AsmKind, Diagnostic, Finding};
 use mixal_text::{Span, TextFault};
@@ -26,28 +27,28 @@ pub(crate) fn help_of(
     requires { option_map (λ p. (p.0.now, p.1)) place ≡ shown_of source.now diagnostic.now }
     ensures { IfOk result (λ help. help.items ≡ help_of source.now diagnostic.now) }
 {
-    let line = line_of(place);
+    let front = front_of(place);
     let piece = piece_of(place);
     match &diagnostic.finding {
-        Finding::Fault(kind) => kind_help(alloc, source, diagnostic.line, *kind, line, piece),
+        Finding::Fault(kind) => kind_help(alloc, source, diagnostic.line, *kind, front, piece),
         Finding::Warning(_) => Ok(Vec::new(alloc)),
     }
 }
 
-// What is said at a line of this number, by its text and the bytes of it that are marked.
+// What is said at a line of this number, by the bytes of it that are marked, and those before them.
 fn kind_help(
     alloc: Global,
     source: &Checked<'_>,
     number: u32,
     kind: AsmKind,
-    line: &[u8],
+    front: &[u8],
     piece: &[u8],
 ) -> Result<Vec<u8>, AllocError>
-    ensures { IfOk result (λ help. help.items ≡ kind_help source.now number kind line.now piece.now) }
+    ensures { IfOk result (λ help. help.items ≡ kind_help source.now number kind front.now piece.now) }
 {
     match kind {
         AsmKind::Text(misread) | AsmKind::Inserted { misread, .. } => {
-            misread_help(alloc, source, number, misread.fault, line, piece)
+            misread_help(alloc, source, number, misread.fault, front, piece)
         }
         AsmKind::DefinedTwice => twice_help(alloc, source, piece),
         AsmKind::AddressTooLarge => copied(alloc, ": it is -4095 to 4095"),
@@ -62,14 +63,14 @@ fn misread_help(
     source: &Checked<'_>,
     number: u32,
     fault: TextFault,
-    line: &[u8],
+    front: &[u8],
     piece: &[u8],
 ) -> Result<Vec<u8>, AllocError>
-    ensures { IfOk result (λ help. help.items ≡ misread_help source.now number fault line.now piece.now) }
+    ensures { IfOk result (λ help. help.items ≡ misread_help source.now number fault front.now piece.now) }
 {
     match fault {
-        TextFault::UndefinedSymbol => undefined_help(alloc, source, number, line, piece),
-        TextFault::BadExpression => expression_help(alloc, line, piece),
+        TextFault::UndefinedSymbol => undefined_help(alloc, source, number, front, piece),
+        TextFault::BadExpression => expression_help(alloc, front, piece),
         _ => text_help(alloc, fault, piece),
     }
 }
@@ -79,24 +80,37 @@ fn undefined_help(
     alloc: Global,
     source: &Checked<'_>,
     number: u32,
-    line: &[u8],
+    front: &[u8],
     piece: &[u8],
 ) -> Result<Vec<u8>, AllocError>
-    ensures { IfOk result (λ help. help.items ≡ misread_help source.now number UndefinedSymbol line.now piece.now) }
+    ensures { IfOk result (λ help. help.items ≡ misread_help source.now number UndefinedSymbol front.now piece.now) }
 {
     let mut help = late_help(alloc, source, number, piece)?;
-    help.extend_from_slice(remark_note(line).as_bytes())?;
+    help.extend_from_slice(remark_note(front).as_bytes())?;
     Ok(help)
 }
 
-// Of no expression how a remark begins, if it may be one.
-fn expression_help(alloc: Global, line: &[u8], piece: &[u8]) -> Result<Vec<u8>, AllocError>
-    ensures { IfOk result (λ help. help.items ≡ first_text (remark_note line.now) (text_help BadExpression piece.now)) }
+// Of no expression how a remark begins, if it may be one, and else what is left over or missing.
+fn expression_help(alloc: Global, front: &[u8], piece: &[u8]) -> Result<Vec<u8>, AllocError>
+    ensures { IfOk result (λ help. help.items ≡ first_text (remark_note front.now) (expression_text front.now piece.now)) }
 {
-    let note = remark_note(line);
+    let note = remark_note(front);
     match note.as_bytes() {
-        [] => text_help(alloc, TextFault::BadExpression, piece),
+        [] => expression_text(alloc, front, piece),
         _ => copied(alloc, note),
+    }
+}
+
+fn expression_text(alloc: Global, front: &[u8], piece: &[u8]) -> Result<Vec<u8>, AllocError>
+    ensures { IfOk result (λ help. help.items ≡ expression_text front.now piece.now) }
+{
+    match piece {
+        [] => copied(alloc, missing_text(front)),
+        _ => {
+            let mut help = Vec::new(alloc);
+            add_piece(&mut help, piece)?;
+            Ok(help)
+        }
     }
 }
 
@@ -169,7 +183,6 @@ fn add_subject(help: &mut Vec<u8>, fault: TextFault, piece: &[u8]) -> Result<(),
         TextFault::BadByte => add_known(help, foreign_text(piece), piece),
         TextFault::NoSuchOperation
         | TextFault::BadSymbol
-        | TextFault::BadExpression
         | TextFault::NumberTooLarge
         | TextFault::NoSuchLocalSymbol => add_piece(help, piece),
         _ => Ok(()),

@@ -9,6 +9,7 @@ mod foreign;
 mod help;
 mod later;
 mod mark;
+mod missing;
 mod objects;
 mod report;
 mod values;
