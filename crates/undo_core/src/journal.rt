@@ -9,7 +9,7 @@ use crate::adding::{add, add_many};
 use crate::changes::Changes;
 use crate::kept::{Kept, revert, revert_part};
 use crate::past::Past;
-use crate::places::{leave_place, newest, note_end};
+use crate::places::{leave_place, newest, note_end, reserve_place};
 use crate::runs::{Run, count_in, item_at};
 use crate::undo::Undo;
 use mix_refused::{Memory, Refused};
@@ -200,8 +200,8 @@ impl<S: Undo> Journal<S> {
         if self.ahead() == 0 {
             return Ok(false);
         }
-        self.places.reserve(1)?;
         let change = item_at(&self.changes, self.done);
+        reserve_place::<S>(&mut self.places, &change)?;
         match self.state.apply(&change, &mut self.kept) {
             Ok(()) => {
                 note_end::<S>(&mut self.places, &change, self.kept.len());

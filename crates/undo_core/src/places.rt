@@ -1,15 +1,31 @@
 //! Where changes end whose values do not say it, and how many values the last change keeps.
-ghost use Rattle.std.specs.Prelude.{◌≡◌, ◌+◌, ◌-◌, ◌<◌, ◌≤◌, ◌++◌, [], ◌∷◌, length, drop, reverse, vec_len, vec_capacity};
+ghost use Rattle.std.specs.Prelude.{◌≡◌, ◌+◌, ◌-◌, ◌<◌, ◌≤◌, ◌++◌, [], ◌∷◌, false, length, drop, reverse, vec_len, vec_capacity, OnOk};
 ghost use Rattle.undo_core.specs.Counts.{ArePlaces, is_place, newest_place, open_in, places_after, places_below};
 
 use crate::pack::Pack;
 use crate::undo::Undo;
 use crate::values::Backwards;
+use std::alloc::AllocError;
 
-/// Notes the place at which a change ends, where no value of it says its end. There is room for it.
+/// Makes room for the place of a change, if no value of it says its end: most changes ask for none.
+#[inline(always)]
+pub(crate) fn reserve_place<S: Undo>(
+    places: &mut Vec<usize>,
+    change: &S::Change,
+) -> Result<(), AllocError>
+    ensures items { places.new.items ≡ places.old.items }
+    ensures room { OnOk result (S.ends change.now ≡ false → vec_len places.new < vec_capacity places.new) }
+{
+    if !S::ends(change) {
+        places.reserve(1)?;
+    }
+    Ok(())
+}
+
+/// Notes the place at which a change ends, where no value of it says its end. There is room for it then.
 #[inline(always)]
 pub(crate) fn note_end<S: Undo>(places: &mut Vec<usize>, change: &S::Change, end: usize)
-    requires { vec_len places.old < vec_capacity places.old }
+    requires { S.ends change.now ≡ false → vec_len places.old < vec_capacity places.old }
     ensures { places.new.items ≡ places_after (S.ends change.now) end places.old.items }
 {
     if !S::ends(change) {

@@ -23,8 +23,8 @@ invariant_of-self-in-Ok g c =
     (g.met.S.Undo.parts _ _ _ c.in-Ok.ensures.real c.in-Ok.ensures.given)
     (stored_more c.self.invariant c.ahead.result (ap (λ j. j.ahead) c.self.view_is) c.ahead.ensures c.if-ahead-eq0.false)
     (rw c.deref.ensures.value at c.item_at-change.ensures)
-    (c.note_end.ensures ∙ ap (λ n. places_after (g.S.Undo.ends c.item_at-change.result) n c.reserve.new.self.items) c.len.ensures.count
-    ∙ ap (λ (ps : List ℕ). places_after (g.S.Undo.ends c.item_at-change.result) (length c.apply.new.kept.items) ps) c.reserve.ensures.items) refl
+    (c.note_end.ensures ∙ ap (λ n. places_after (g.S.Undo.ends c.item_at-change.result) n c.reserve_place.new.places.items) c.len.ensures.count
+    ∙ ap (λ (ps : List ℕ). places_after (g.S.Undo.ends c.item_at-change.result) (length c.apply.new.kept.items) ps) c.reserve_place.ensures.items) refl
 
 pub unreachable-requires : goal.unreachable-requires
 unreachable-requires g c =
@@ -39,8 +39,8 @@ returns-clause-first g c =
     rw (← c.self.view_is) (stored_first c.self.invariant
     (done_by c.in-Ok.ensures.given (g.met.S.Undo.undoes _ _ _ c.in-Ok.ensures.real c.in-Ok.ensures.given) c.in-Ok.ensures.kept refl))
 
-pub returns-in_err-reserve-clause-given : goal.returns-in_err-reserve-clause-given
-returns-in_err-reserve-clause-given g c =
+pub returns-in_err-reserve_place-clause-given : goal.returns-in_err-reserve_place-clause-given
+returns-in_err-reserve_place-clause-given g c =
     let more = stored_more c.self.invariant c.ahead.result (ap (λ j. j.ahead) c.self.view_is) c.ahead.ensures c.if-ahead-eq0.false in
     on_err c.from_residual.result (rw (← c.self.view_is) (λ d is s came. stored_next c.self.invariant d s more is came))
 
