@@ -108,7 +108,7 @@ def by_files(program, place, count):
             ("list /", is_folder), ("debug / $2", is_folder), ("debug $1 /", is_folder), ("debug $1 $2 --devices /", is_folder),
             ("list $3", not_opened), ("debug $3 $2", not_opened), ("debug $1 $3", not_opened), ("debug $1 $2 --devices $3", not_opened),
             ("debug / $3", is_folder), ("list $1/a", (b"", b"mixrev: T4 not opened: %s/a: Not a directory\n" % source.encode(), 2)),
-            ("list - </", input_is_folder), ("list - <&-", (b"", b"mixrev: T4 not opened: -%s\n" % NO_FILE, 2)), ("list $1 >/dev/full", (b"", T3, 2)), ("debug $1 $2 >/dev/full", (b"", T3, 2)), ("list $1 >&-", (b"", T3, 2)),
+            ("list - </", input_is_folder), ("list - <&-", (b"", b"mixrev: T2 read failed: -\n", 2)), ("list $1 >/dev/full", (b"", T3, 2)), ("debug $1 $2 >/dev/full", (b"", T3, 2)), ("list $1 >&-", (b"", T3, 2)),
             ("list $4", unread), ("debug $4 $2", unread), ("debug $1 $4", unread), ("debug $1 $2 --devices $4", unread), ("debug $4", unread),
             ("run $4", unread), ("run $1 --devices $4", unread), ("run $1 --cards $4", unread), ("check $1 $4 $4 $1", unread),
             ("check $1 $3", not_opened), ("check $1 /", is_folder), ("check - </dev/null >/dev/full", (b"", T3, 2)), ("check - </dev/null >&-", (b"", T3, 2))]:

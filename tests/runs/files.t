@@ -79,6 +79,38 @@ A binary of mixasm is named as one, and its status is that of a refused source.
   $ mixrev run three.mix </dev/null 2>&1 | head -n 1
   stderr: three.mix:1:1: error: A1 bad byte: ?
 
+Standard input is read from where it is: what was taken of it before is not read again, and what is not read is left.
+
+  $ printf 'TAKEN\n HLT\n END 0\n' >taken
+  $ { read -r first; mixrev list -; } <taken
+  0000  + 00 00 02 05 05      1   HLT
+  0001                        2   END 0
+  symbols 0
+
+It may be a socket, as the programs that start others give it.
+
+  $ cat >socket.py <<'END'
+  > import socket, subprocess, sys
+  > ours, theirs = socket.socketpair()
+  > ours.sendall(b" JUMP\n END 0\n")
+  > ours.shutdown(socket.SHUT_WR)
+  > sys.exit(subprocess.run(["mixrev", "check", "-"], stdin=theirs).returncode)
+  > END
+  $ python3 socket.py
+  -:1:2: error: A2 no such operation: JUMP
+   JUMP
+   ^^^^
+  [1]
+
+A folder is no text, and what is closed cannot be read.
+
+  $ mixrev list - </
+  stderr: mixrev: T4 not opened: -: Is a directory
+  [2]
+  $ mixrev list - <&-
+  stderr: mixrev: T2 read failed: -
+  [2]
+
 The first of two reads to the end.
 
   $ printf ' END 0\n' | mixrev debug - -

@@ -1,7 +1,6 @@
-//! The files of a system.
+//! The files of a system, and standard input under the name `-`.
 
-ghost use Rattle.std.specs.Prelude.{◌≡◌, None};
-ghost use Rattle.mix_run.specs.Reason.{path_of};
+ghost use Rattle.std.specs.Prelude.{None};
 
 use crate::save::save_file;
 use mix_dap::{Fault, FileLibrary, Library};
@@ -10,7 +9,7 @@ use mix_run::{Opener, Reason, Unread, Unsaved};
 use mix_stream::{Counted, read_up_to};
 use std::alloc::Global;
 use std::fs::{self, OpenFile};
-use std::io::Print;
+use std::io::{self, Input, Print, Read};
 use std::rt::Files;
 
 /// The files of a system. What they hold is known only when they are read; what is written to them is not followed.
@@ -31,8 +30,24 @@ impl<'f, F: Files> SystemFiles<'f, F> {
     }
 }
 
-impl<F: Files + Print> Opener for SystemFiles<'_, F> {
-    type Reader = Counted<F::File>;
+/// What a name leads to: a file, or standard input, which is read from where it is.
+#[derive(Drop)]
+pub enum Opened<F, I> {
+    File(F),
+    Input(I),
+}
+
+impl<F: Read, I: Read> Read for Opened<F, I> {
+    fn read(&mut self, buf: &mut [u8]) -> io::Result<usize> {
+        match self {
+            Opened::File(file) => file.read(buf),
+            Opened::Input(input) => input.read(buf),
+        }
+    }
+}
+
+impl<F: Files + Input + Print> Opener for SystemFiles<'_, F> {
+    type Reader = Counted<Opened<F::File, F::Reader>>;
 
     ghost use Rattle.std.specs.Prelude.{None};
 
@@ -44,13 +59,19 @@ impl<F: Files + Print> Opener for SystemFiles<'_, F> {
 
     ghost saved = { λ _. None };
 
-    fn open(&mut self, name: &str) -> Result<Counted<F::File>, Reason> {
-        match fs::open(self.files, path_of(name)) {
+    fn open(&mut self, name: &str) -> Result<Counted<Opened<F::File, F::Reader>>, Reason> {
+        if name == "-" {
+            return match fs::metadata(self.files, "/dev/stdin") {
+                Ok(about) if about.is_dir() => Err(Reason::Folder),
+                Ok(_) | Err(_) => Ok(Counted::of(Opened::Input(self.files.reader()))),
+            };
+        }
+        match fs::open(self.files, name) {
             Ok(file) => {
                 if is_folder(&file) {
                     Err(Reason::Folder)
                 } else {
-                    Ok(Counted::of(file))
+                    Ok(Counted::of(Opened::File(file)))
                 }
             }
             Err(error) => Err(Reason::of(error.kind())),
@@ -91,13 +112,6 @@ impl<F: Files> Library for SystemFiles<'_, F> {
     fn text(&self, alloc: Global, name: &str, most: usize) -> Result<Vec<u8>, Refused<Fault>> {
         FileLibrary::of(self.files).text(alloc, name, most)
     }
-}
-
-// Where a name leads: `-` is standard input.
-fn path_of(name: &str) -> &str
-    ensures { result.now ≡ path_of name.now }
-{
-    if name == "-" { "/dev/stdin" } else { name }
 }
 
 // A folder can be opened, but not read.
