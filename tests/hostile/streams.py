@@ -1,5 +1,5 @@
-"""Streams that fail: closed pipes, a full disk, a folder as input, an input that vanishes. The status is 2, T2 or T3 is reported, and what was
-written is a beginning of what is due."""
+"""Streams that fail: closed pipes, a full disk, a folder as input, an input that vanishes. The status is 2, T2 or T3 is reported, but nothing where
+the reader of a pipe has gone, and what was written is a beginning of what is due."""
 
 import os
 import pty
@@ -184,10 +184,10 @@ def rows(program, workers, quick=False):
         count.same("an empty input", shell('"$0" </dev/null', program, name), (b"line 1: A13 no END\n", b"", 1))
         count.same("a file taken away before it is read", shell('cp "$1" "$1.2"; exec <"$1.2"; rm "$1.2"; "$0"', program, name), (wanted, b"", 0))
 
-        count.same("| head -c 5", shell('"$0" <"$1" | head -c 5', program, long), (much[:5], T3, 2))
+        count.same("| head -c 5", shell('"$0" <"$1" | head -c 5', program, long), (much[:5], b"", 2))
         for taken in (0, 5, 4096, 70000):
             begun, errors, status = closed_pipe(program, long, taken)
-            count.same("a reader that takes %d bytes and goes" % taken, (begun, errors, status), (much[:taken], T3, 2))
+            count.same("a reader that takes %d bytes and goes" % taken, (begun, errors, status), (much[:taken], b"", 2))
 
         if takes_words(program):
             by_files(program, place, count)

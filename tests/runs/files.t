@@ -111,6 +111,23 @@ A folder is no text, and what is closed cannot be read.
   stderr: mixrev: T2 read failed: -
   [2]
 
+Whoever reads the output may go: then nothing more is written, and nothing is told.
+
+  $ cat >gone.py <<'END'
+  > import os, subprocess, sys
+  > theirs, ours = os.pipe()
+  > os.close(theirs)
+  > sys.exit(subprocess.run(sys.argv[1:], stdin=subprocess.DEVNULL, stdout=ours).returncode)
+  > END
+  $ python3 gone.py mixrev run b.mixal --keep left
+  [2]
+  $ cat "$(dirname "$(command -v mixrev)")/../stderr"
+  $ test -e left || echo nothing is kept
+  nothing is kept
+  $ python3 gone.py mixrev check hello.mix
+  [2]
+  $ cat "$(dirname "$(command -v mixrev)")/../stderr"
+
 The first of two reads to the end.
 
   $ printf ' END 0\n' | mixrev debug - -

@@ -1,11 +1,15 @@
 //! The program: what its words ask for, from files or standard input to standard output.
 #![tactic(auto)]
 
+mod pipe;
+
+use crate::pipe::{Piped, UntilClosed};
 use mix_shown::Shown;
 use mix_tool::{
     Counted, FAILED, LineFault, Streams, SystemFiles, Talker, ToolFault, line_status, read_words,
     run_plan,
 };
+use std::cell::Cell;
 use std::io::IsTerminal;
 use std::process::ExitCode;
 use std::{env, fmt, io};
@@ -42,12 +46,22 @@ fn run(rt: &HostRuntime, words: &[String]) -> ExitCode {
     match read_words(rt.alloc(), &texts, at_terminal(rt)) {
         Ok(plan) => {
             let mut files = SystemFiles::of(rt);
+            let is_closed = Cell::new(false);
             let mut client = Counted::of(rt.stdin());
             let mut streams = Streams {
                 talker: talker(rt),
                 input: Counted::of(rt.reader()),
-                out: Counted::of(Shown::of(io::writer(rt), rt.stdout().is_terminal())),
-                errors: Counted::of(Shown::of(rt.stderr(), true)),
+                out: Counted::of(Shown::of(
+                    Piped {
+                        inner: io::writer(rt),
+                        is_closed: &is_closed,
+                    },
+                    rt.stdout().is_terminal(),
+                )),
+                errors: Counted::of(UntilClosed {
+                    inner: Shown::of(rt.stderr(), true),
+                    is_closed: &is_closed,
+                }),
             };
             let status = run_plan(&mut files, rt.alloc(), &plan, &mut client, &mut streams);
             ExitCode::from(status)
