@@ -68,7 +68,7 @@ def _(program, fields, _):
 def _(program, fields, _):
     """A constant is digits alone: one of many is a number too large, and with a letter after it a symbol too long."""
     text = fields[0]
-    codes = [[it["code"] for it in program.found(f" EQU {text}{letter}".encode() + END)] for letter in ("", "A")]
+    codes = [[it["code"] for it in program.found(f"X EQU {text}{letter}".encode() + END)] for letter in ("", "A")]
     return "digits" if codes == [["A6"], ["A3"]] or text == text.strip() and delay(program, text) else "no digits"
 
 

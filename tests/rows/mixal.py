@@ -59,7 +59,7 @@ def line(program, fields, wanted):
 def outcome(program, line):
     """All that is found in a line and in one after it, but the columns; and what both give."""
     source = line + b"\r\n HLT" + END
-    found = [(it["line"], it["code"], it["severity"]) for it in program.found(source) if it["code"] not in ("alf-cut", "blank-in-address")]
+    found = [(it["line"], it["code"], it["severity"]) for it in program.found(source) if it["code"] not in ("alf-cut", "alf-short", "blank-in-address")]
     return found, program.replies(source, ["show cells 0 4", "show symbols", "show regs"])
 
 

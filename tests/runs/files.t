@@ -83,20 +83,20 @@ Standard input is read from where it is: what was taken of it before is not read
 
   $ printf 'TAKEN\n HLT\n END 0\n' >taken
   $ { read -r first; mixrev list -; } <taken
-  0000  + 00 00 02 05 05      1   HLT
-  0001                        2   END 0
+  0000  + 00 00 00 02 05      1   HLT
+  0000                        2   END 0
   symbols 0
 
 It may be a socket, as the programs that start others give it.
 
-  $ cat >socket.py <<'END'
+  $ cat >over_socket.py <<'END'
   > import socket, subprocess, sys
   > ours, theirs = socket.socketpair()
   > ours.sendall(b" JUMP\n END 0\n")
   > ours.shutdown(socket.SHUT_WR)
   > sys.exit(subprocess.run(["mixrev", "check", "-"], stdin=theirs).returncode)
   > END
-  $ python3 socket.py
+  $ python3 over_socket.py
   -:1:2: error: A2 no such operation: JUMP
    JUMP
    ^^^^

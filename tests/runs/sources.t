@@ -346,8 +346,8 @@ A mark has the bytes that a warning is about.
        ^^^^
              ^
           ^^^^
-    ^^^
-    ^^^^^^
+   ^^^
+   ^^^^^^
 
 Several faults: a line that is refused keeps its label and its cell, and hides no later fault. A hundred are reported at most.
 
