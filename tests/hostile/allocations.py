@@ -8,8 +8,8 @@ What a command asks for is what a script asks for with it as the last line, beyo
   units of 4, and room is made for three: a `set`, a `break` or a `clear` keeps one value; a step makes room for the 104 that the largest step keeps, since the
   room is made before the step is done. What a step here keeps takes one unit.
 - A reply is a text: it begins with 8 bytes or more and is doubled. So of N bytes it asks for fewer than four times N in all, and 8.
-- `back`, a refusal and what `show` writes need nothing but their reply; a blank line and a remark need nothing. `forth` makes room for the place of a
-  change before it knows whether that is a step, and only once.
+- `back`, a refusal and what `show` writes need nothing but their reply; a blank line and a remark need nothing. So it is with `forth`
+  of steps, which say by themselves where they end.
 - A change that is refused needs nothing, and may have made room in the lists. What stands ahead stays until a new change is accepted.
 - A text that is read whole by one read takes as many bytes as it has, at least 8."""
 
@@ -51,8 +51,8 @@ ROWS = [
     ("back", FIRST, b"step 4\n", b"back 2", [], b"back 2 to 0002 clock 2\n"),
     ("back all", FIRST, b"step 4\n", b"back all", [], b"back 4 to 0000 clock 0\n"),
     ("back break", FIRST, b"step 4\n", b"back break", [], b"back 4 to 0000 clock 0\n"),
-    ("forth", FIRST, b"step 4\nback 2\n", b"forth 2", [4 * PLACE], b"forth 2 to 0004 clock 14\n"),
-    ("forth all", FIRST, b"step 4\nback 2\n", b"forth all", [4 * PLACE], b"forth 2 to 0004 clock 14\n"),
+    ("forth", FIRST, b"step 4\nback 2\n", b"forth 2", [], b"forth 2 to 0004 clock 14\n"),
+    ("forth all", FIRST, b"step 4\nback 2\n", b"forth all", [], b"forth 2 to 0004 clock 14\n"),
     ("goto", FIRST, b"step 4\n", b"goto 1", [], b"back 3 to 0001 clock 1\n"),
     ("a step again, where changes stand ahead", FIRST, b"step 4\nback 4\n", b"step", [], b"ran 1 to 0001 clock 1: limit\n"),
     ("set", FIRST, b"", b"set A 5", [*LISTS, 4 * UNIT], b"ok\n"),
