@@ -37,6 +37,13 @@ END {
     p = program[i]
     printf "%-12s %12s %12s %12s %12s %12s %12s\n", p, shown(least(p, "cache_forward")), shown(least(p, "cache_back")), shown(least(p, "fresh_forward")), shown(least(p, "fresh_back")), shown(least(p, "values")), shown(least(p, "bytes"))
   }
+  if ((program[1], "counted_forward") in figure) {
+    print ""
+    print "Instructions a step, by callgrind: of 200,000 steps less those of 100,000."
+    print ""
+    printf "%-12s %12s %12s\n", "program", "forward", "back"
+    for (i = 1; i <= count; i++) printf "%-12s %12s %12s\n", program[i], shown(least(program[i], "counted_forward")), shown(least(program[i], "counted_back"))
+  }
   if (mixvm == "yes") {
     print ""
     print "mixvm, the same programs, nanoseconds of processor time a step: a run of some ten million steps less a run of one outer round, over the"

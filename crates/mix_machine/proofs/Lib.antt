@@ -12,6 +12,7 @@ pub mod EachLemmas
 pub mod Halting
 pub mod MarkLemmas
 pub mod PackLemmas
+pub mod PairLemmas
 pub mod PartLemmas
 pub mod PutLemmas
 pub mod QuietLemmas

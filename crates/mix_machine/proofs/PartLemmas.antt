@@ -1,7 +1,7 @@
 -- Of the values that are put back together only the last one is a clock, in which changes end.
-use Rattle.std.proofs.Common.{Bool, ℕ, zero, suc, true, false, cond, nat_eq, ◌≡◌, ◌+◌, ◌-◌, ◌/◌, ◌%◌, ◌<◌, ◌≤◌, ◌∙◌, List, [], ◌∷◌, ◌++◌, length, drop, reverse, nat_lt, slice_get, Option, None, Some, if◌then◌else◌, refl, sym, ap, subst, arith, length-append}
+use Rattle.std.proofs.Common.{Bool, ℕ, zero, suc, true, false, cond, nat_eq, ◌≡◌, ◌+◌, ◌-◌, ◌/◌, ◌%◌, ◌<◌, ◌≤◌, ◌∙◌, List, [], ◌∷◌, ◌++◌, length, drop, reverse, nat_lt, slice_get, Option, None, Some, if◌then◌else◌, refl, sym, ap, subst, arith}
 use Rattle.std.specs.Option.{option_map, option_map_or, option_and_then}
-use Rattle.std.proofs.lemmas.List.{reverse-append, length-reverse, length-drop}
+use Rattle.std.proofs.lemmas.List.{reverse-append, length-reverse}
 use Rattle.mix_word.specs.Word.{WordValue}
 use Rattle.mix_word.specs.Register.{all_registers}
 use Rattle.mix_word.specs.Uses.{unit_count}
@@ -15,7 +15,7 @@ use Rattle.mix_machine.specs.declared.old.Old.TheVariants as old
 use Rattle.mix_machine.specs.declared.pack.anchor.Anchor.{Anchor}
 use Rattle.mix_machine.specs.declared.pack.kind.Kind.{Kind}
 use Rattle.mix_machine.specs.declared.pack.kind.Kind.TheVariants as kind
-use Rattle.mix_machine.specs.Pack.{LastValue, said, kind_of, last_of, clock_by, says_clock, value_if, in_one, in_two, in_pair, in_three, last_cell, indicator_value, comparison_of, register_value, breakpoint_value, unit_value, short_word, long_word, time_of, shorter_row, whole_value, jump_value, short_value, store_value, value_by, last_value}
+use Rattle.mix_machine.specs.Pack.{LastValue, said, kind_of, clock_by, says_clock, value_if, in_one, in_two, in_three, last_cell, comparison_of, register_value, breakpoint_value, unit_value, short_word, long_word, time_of, shorter_row, whole_value, jump_value, short_value, store_value, value_by}
 use Rattle.mix_machine.proofs.PackLemmas.{header-value}
 
 run-step : (t : Bool) (n k : ℕ) → n ≤ k → (if t then 0 else suc n) ≤ (if t then 0 else suc k)

@@ -43,7 +43,7 @@ impl World {
         let given = arguments;
         match self.fault_of_address(word, given) {
             Some(fault) => told(Err(Refused::Fault(fault))),
-            None => self.step_of_code(parts.code, word, arguments, kept),
+            None => { self.step_of_number(word.pair_number(), parts.code, word, arguments, kept) }
         }
     }
 

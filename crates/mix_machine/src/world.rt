@@ -1,12 +1,13 @@
 //! The state of the machine, and what can be read of it (1.3.1).
 ghost use Rattle.std.specs.Prelude.{◌≡◌, ◌<◌, ◌≤◌, ◌==◌, ◌&&◌, ◌↔◌, ℕ, true, false, IsTrue, IfOk, MatchOption};
+ghost use Rattle.mix_word.specs.Word.{parts_of};
 ghost use Rattle.mix_machine.specs.World.{register_of, cell_of, unit_at, has_break, last_clock};
 ghost use Rattle.mix_machine.specs.Do.{is_halt_next, is_looked_at, is_plain_next};
 
 use crate::breakpoints::Breakpoints;
 use crate::registers::Registers;
 use crate::units::{Unit, UnitNo, Units};
-use mix_word::{Cmp, Decoded, Operation, Place, Reg, Word, decode};
+use mix_word::{Cmp, Place, Reg, Word, decode_law, number_law};
 use std::alloc::Global;
 use std::marker::Model;
 use undo_core::Memory;
@@ -127,10 +128,7 @@ impl World {
     {
         match Place::of(self.loc) {
             None => false,
-            Some(place) => {
-                let parts = self.cell(place).parts();
-                is_halt(parts.code, parts.f)
-            }
+            Some(place) => is_halt(self.cell(place)),
         }
     }
 
@@ -151,37 +149,35 @@ impl World {
             None => None,
             Some(place) => {
                 let word = self.cell(place);
-                if is_looked_at(word.parts().code) {
-                    None
-                } else {
-                    Some(word)
-                }
+                if is_looked_at(word) { None } else { Some(word) }
             }
         }
     }
 }
 
-// Whether C is that of HLT (with NUM and CHAR), or that of IOC, IN or OUT.
+// Whether C is that of HLT (with NUM and CHAR), or that of IOC, IN or OUT, whose numbers are the last.
+#[tactic(auto, using(crate::proofs::PairLemmas::not_looked_at))]
 #[inline(always)]
-fn is_looked_at(code: u8) -> bool
+fn is_looked_at(word: Word) -> bool
+    ensures { result ≡ is_looked_at (parts_of word).code }
+{
+    decode_law();
+    word.pair_number() >= 40 && is_code_looked_at(word.parts().code)
+}
+
+#[inline(always)]
+fn is_code_looked_at(code: u8) -> bool
     ensures { result ≡ is_looked_at code }
 {
     code == 5 || 35 <= code && code <= 37
 }
 
-// Whether C and F name HLT.
-fn is_halt(code: u8, f: u8) -> bool
-    ensures { result ≡ (code == 5 && f == 2) }
+// Whether C and F name HLT, which its number says.
+#[inline(always)]
+fn is_halt(word: Word) -> bool
+    ensures { result ≡ ((parts_of word).code == 5 && (parts_of word).f == 2) }
 {
-    match decode(code, f) {
-        Decoded::Named(operation) => is_hlt(operation),
-        Decoded::Floating => false,
-        Decoded::Unknown => false,
-    }
-}
-
-fn is_hlt(operation: Operation) -> bool
-    ensures { IsTrue result ↔ (operation ≡ Operation.Hlt) }
-{
-    matches!(operation, Operation::Hlt)
+    decode_law();
+    number_law();
+    word.pair_number() == 42
 }

@@ -4,6 +4,7 @@ pub mod Powers
 pub mod CharacterLemmas
 pub mod FindLemmas
 pub mod TableLemmas
+pub mod PairLemmas
 pub mod NameLemmas
 pub mod RegisterLemmas
 pub mod LengthLemmas

@@ -146,7 +146,7 @@ named_found (Some x) op e = cc
 has_code-names : (c f : ℕ) (op : Operation) → has_code c f op ≡ true → (operation_code op ≡ c) × (IsTrue (is_by_f op) → normal_f_of op ≡ f)
 has_code-names c f op e = (grind (arith, nat_tests), λ b. grind (arith, nat_tests))
 
-law_found : (op : Operation) (c f : ℕ) → decode_of c f ≡ Named op → IsNamedBy op c f
+pub law_found : (op : Operation) (c f : ℕ) → decode_of c f ≡ Named op → IsNamedBy op c f
 unfolding decode_of operation_at
 law_found op c f e =
     elim (is_floating c f) as (λ b. is_floating c f ≡ b → cond b Floating (named_or_unknown (operation_at c f)) ≡ Named op → IsNamedBy op c f) [

@@ -7,6 +7,7 @@ pub mod Uses
 pub mod Operation
 pub mod Names
 pub mod Table
+pub mod Pairs
 pub mod Text
 pub mod Field
 pub mod Shift

@@ -7,6 +7,7 @@ use crate::word::{MAX_MAGNITUDE, Sign, Word};
 
 /// ADD: the sum (1.3.1), and whether it overflows: then it is the exact sum's magnitude modulo 64^5.
 /// A sum of zero has the sign of `a`.
+#[inline(always)]
 pub fn add(a: Word, v: Word) -> (Word, bool)
     ensures { result ≡ sum_of a v }
 {
@@ -22,6 +23,7 @@ pub fn add(a: Word, v: Word) -> (Word, bool)
 }
 
 /// SUB: the difference (1.3.1), as the sum of `a` and the negated `v`, and whether it overflows.
+#[inline(always)]
 pub fn sub(a: Word, v: Word) -> (Word, bool)
     ensures { result ≡ sum_of a (negation_of v) }
 {

@@ -97,6 +97,7 @@ impl Field {
 impl Word {
     /// What a load takes (1.3.1): the bytes of a field at the right end of a word, with the sign if L is 0, or else with +.
     // (most instructions take the whole word, of which nothing has to be cut)
+    #[inline(always)]
     pub fn field_value(self, f: Field) -> Word
         ensures { result ≡ field_value_of self f }
     {
@@ -108,6 +109,7 @@ impl Word {
     }
 
     #[tactic(auto, using(crate::proofs::FieldLemmas::fields))]
+    #[inline(never)]
     fn bytes_of_field(self, f: Field) -> Word
         ensures { result ≡ field_value_of self f }
     {
@@ -121,6 +123,7 @@ impl Word {
     }
 
     /// What a store leaves (1.3.1): the word with the rightmost bytes of `v` in the field, and with the sign of `v` if L is 0.
+    #[inline(always)]
     pub fn put_field(self, f: Field, v: Word) -> Word
         ensures { result ≡ put_field_of self f v }
     {
@@ -132,6 +135,7 @@ impl Word {
     }
 
     #[tactic(auto, using(crate::proofs::FieldLemmas::fields))]
+    #[inline(never)]
     fn put_bytes_of_field(self, f: Field, v: Word) -> Word
         ensures { result ≡ put_field_of self f v }
     {

@@ -1,7 +1,9 @@
 //! What follows from the table of operations alone, for the proofs of other crates.
-ghost use Rattle.std.specs.Prelude.{◌≡◌, ◌<◌, ◌↔◌, ℕ, List, None, length};
+ghost use Rattle.std.specs.Prelude.{◌≡◌, ◌<◌, ◌%◌, ◌↔◌, ℕ, List, None, length, IsTrue};
 ghost use Rattle.mix_word.specs.declared.operation.Operation.{Operation};
 ghost use Rattle.mix_word.specs.declared.decoding.Decoded.TheVariants.{Named};
+ghost use Rattle.mix_word.specs.Operation.{operation_code};
+ghost use Rattle.mix_word.specs.Pairs.{number_of_operation, number_of_pair, is_of_register};
 ghost use Rattle.mix_word.specs.Table.{decode_of, operation_named, IsNamedBy};
 
 use crate::naming::MAX_LETTERS;
@@ -10,6 +12,12 @@ use crate::naming::MAX_LETTERS;
 /// pair is no floating one.
 pub fn decode_law()
     ensures { (c f : ℕ) (op : Operation) → (decode_of c f ≡ Named op) ↔ IsNamedBy op c f }
+{}
+
+/// A pair (C, F) that has an operation's number, and where it is of a register also the place of
+/// that register in a row of eight codes, names it (1.3.1).
+pub fn number_law()
+    ensures { (c f : ℕ) (op : Operation) → number_of_pair (decode_of c f) ≡ number_of_operation op → (IsTrue (is_of_register op) → operation_code op % 8 ≡ c % 8) → decode_of c f ≡ Named op }
 {}
 
 /// No text of over `MAX_LETTERS` letters names an operation (1.3.1).

@@ -1,16 +1,16 @@
 -- A step ends in its clock, and no other value that a change keeps is a clock.
-use Rattle.std.specs.Prelude.{ℕ, zero, suc, ◌+◌, ◌<◌, ◌≡◌, Bool, true, false, not, cond, nat_lt, length, List, [], ◌∷◌, ◌++◌, Result, Ok, Err, if◌then◌else◌, refl}
+use Rattle.std.specs.Prelude.{ℕ, zero, suc, ◌+◌, ◌≡◌, Bool, true, false, not, nat_lt, length, List, [], ◌∷◌, ◌++◌, Result, Ok, Err, if◌then◌else◌, refl}
 use Rattle.std.proofs.Common.{subst, arith}
-use Rattle.undo_core.specs.Counts.{AreOpen, AreClosed, IsPart}
+use Rattle.undo_core.specs.Counts.{AreClosed, IsPart}
 use Rattle.mix_word.specs.declared.decoding.Decoded.{Decoded}
 use Rattle.mix_machine.specs.Registers.{fits_register}
 use Rattle.mix_machine.specs.World.{WorldState, IsWorld, unit_at}
 use Rattle.mix_machine.specs.units.UnitKind.{block_length, has_place, has_medium}
-use Rattle.mix_machine.specs.Write.{Write, set, grow, print, value_at, replaced, written, kept_by, copies, each, busy, place_after, from_block, from_cell, input_writes, replace_writes, append_writes, row_writes, output_writes, control_writes, writes_in, writes_of, is_clock}
+use Rattle.mix_machine.specs.Write.{Write, set, grow, print, value_at, replaced, written, kept_by, copies, each, place_after, from_block, from_cell, input_writes, replace_writes, append_writes, row_writes, output_writes, control_writes, writes_in, writes_of, is_clock}
 use Rattle.mix_machine.specs.Decode.{decode_at, arguments_at}
 use Rattle.mix_machine.specs.Effects.{effects}
-use Rattle.mix_machine.specs.Order.{applies, operation_or_nop, clock_after}
-use Rattle.mix_machine.specs.Do.{does, kept_values, plan_of, state_after, values_kept, next_location, step_plan, step_or_fault, IsReal, is_step}
+use Rattle.mix_machine.specs.Order.{applies, operation_or_nop}
+use Rattle.mix_machine.specs.Do.{does, kept_values, plan_of, state_after, values_kept, step_plan, step_or_fault, IsReal, is_step}
 use Rattle.mix_machine.specs.law.Passed.{passed}
 use Rattle.mix_machine.specs.declared.decode.Arguments.{Arguments}
 use Rattle.mix_machine.specs.declared.units.kind.UnitKind.{UnitKind}

@@ -1,20 +1,21 @@
 //! What C and F of an instruction say of its operation: a register, a jump, a condition (1.3.1).
-ghost use Rattle.std.specs.Prelude.{◌≡◌, ◌<◌, IsTrue, MatchOption, false};
+ghost use Rattle.std.specs.Prelude.{◌≡◌, ◌<◌, ◌%◌, IsTrue};
 ghost use Rattle.mix_word.specs.Register.{offset_of};
-ghost use Rattle.mix_word.specs.Operation.{operation_code, normal_f_of, is_by_f, number_of_jump, number_of_condition};
-ghost use Rattle.mix_word.specs.Table.{decode_of, is_floating};
+ghost use Rattle.mix_word.specs.Operation.{operation_code, number_of_shift, number_of_jump};
+ghost use Rattle.mix_word.specs.Pairs.{number_of_operation, number_of_pair, is_of_register};
+ghost use Rattle.mix_word.specs.Table.{decode_of};
 
-use mix_word::{Condition, DataReg, Decoded, JumpKind, Operation, decode};
+use mix_word::{DataReg, Decoded, JumpKind, Operation, ShiftKind, number_law};
 
-/// C and F name this operation. It does nothing: what it says is its contract.
+/// C and F, which have this number, name this operation. What it says is its contract.
 #[inline(always)]
-pub(crate) fn names(op: Operation, code: u8, f: u8)
-    requires code { operation_code op ≡ code }
-    requires by_f { IsTrue (is_by_f op) → normal_f_of op ≡ f }
-    requires plain { is_floating code f ≡ false }
+pub(crate) fn names(op: Operation, number: u8, code: u8, f: u8)
+    requires number { number ≡ number_of_pair (decode_of code f) }
+    requires same { number_of_operation op ≡ number }
+    requires register { IsTrue (is_of_register op) → operation_code op % 8 ≡ code % 8 }
     ensures { decode_of code f ≡ Decoded.Named op }
 {
-    let _decoded = decode(code, f);
+    number_law();
 }
 
 /// The register of a code in its row of eight: rA, rI1 to rI6, rX.
@@ -35,12 +36,13 @@ pub(crate) fn register_at(n: u8) -> DataReg
     }
 }
 
-/// The jump of an F where C is 39, if there is one.
+/// The jump of an F where C is 39.
 #[inline(always)]
-pub(crate) fn jump_at(f: u8) -> Option<JumpKind>
-    ensures { MatchOption result (9 < f) (λ kind. number_of_jump kind ≡ f) }
+pub(crate) fn jump_at(f: u8) -> JumpKind
+    requires { f < 10 }
+    ensures { number_of_jump result ≡ f }
 {
-    let kind = match f {
+    match f {
         0 => JumpKind::Jmp,
         1 => JumpKind::Jsj,
         2 => JumpKind::Jov,
@@ -50,25 +52,22 @@ pub(crate) fn jump_at(f: u8) -> Option<JumpKind>
         6 => JumpKind::Greater,
         7 => JumpKind::GreaterEqual,
         8 => JumpKind::NotEqual,
-        9 => JumpKind::LessEqual,
-        _ => return None,
-    };
-    Some(kind)
+        _ => JumpKind::LessEqual,
+    }
 }
 
-/// What a register jump of an F asks of its register, if there is one.
+/// The shift of an F where C is 6.
 #[inline(always)]
-pub(crate) fn condition_at(f: u8) -> Option<Condition>
-    ensures { MatchOption result (5 < f) (λ condition. number_of_condition condition ≡ f) }
+pub(crate) fn shift_at(f: u8) -> ShiftKind
+    requires { f < 6 }
+    ensures { number_of_shift result ≡ f }
 {
-    let condition = match f {
-        0 => Condition::Negative,
-        1 => Condition::Zero,
-        2 => Condition::Positive,
-        3 => Condition::NotNegative,
-        4 => Condition::NotZero,
-        5 => Condition::NotPositive,
-        _ => return None,
-    };
-    Some(condition)
+    match f {
+        0 => ShiftKind::Sla,
+        1 => ShiftKind::Sra,
+        2 => ShiftKind::Slax,
+        3 => ShiftKind::Srax,
+        4 => ShiftKind::Slc,
+        _ => ShiftKind::Src,
+    }
 }

@@ -1,23 +1,16 @@
-use Rattle.std.proofs.Common.{◌≡◌, ◌∙◌, IsTrue, ap, false}
-use Rattle.mix_word.specs.declared.decoding.Decoded.TheVariants.{Named}
+use Rattle.std.proofs.Common.{◌≡◌, ◌==◌, arith}
+use Rattle.std.proofs.lemmas.Bool.Decides.{nat_tests}
+use Rattle.mix_word.specs.Word.{parts_of}
+use Rattle.mix_word.specs.Table.{decode_of}
+use Rattle.mix_word.specs.Pairs.{number_of_pair}
 use Rattle.mix_word.specs.declared.operation.Operation.TheVariants.{Hlt}
 use Rattle.mix_machine.proofs.Halting.{halt-tested}
 use Rattle.mix_machine.proofs.world.is_halt.Goals as goal
 
-pub returns-in-Named : goal.returns-in-Named
-returns-in-Named c =
-    let is = c.in-Named.is in
-    let test = c.is_hlt.ensures in
-    let back : c.decode.result ≡ Named Hlt → IsTrue c.is_hlt.result = λ h. test.1 (cc) in
-    halt-tested c.args.code c.args.f c.decode.result c.is_hlt.result (c.decode.ensures.law Hlt)
-    (λ h. let hlt = test.0 h in is ∙ ap Named hlt, back)
-
-pub returns-in-Floating : goal.returns-in-Floating
-returns-in-Floating c =
-    let is = c.in-Floating.is in
-    halt-tested c.args.code c.args.f c.decode.result false (c.decode.ensures.law Hlt) (λ h. cc, λ h. cc)
-
-pub returns-in-Unknown : goal.returns-in-Unknown
-returns-in-Unknown c =
-    let is = c.in-Unknown.is in
-    halt-tested c.args.code c.args.f c.decode.result false (c.decode.ensures.law Hlt) (λ h. cc, λ h. cc)
+pub returns : goal.returns
+returns c =
+    let code = (parts_of c.args.word).code in
+    let f = (parts_of c.args.word).f in
+    let number : c.pair_number.result ≡ number_of_pair (decode_of code f) = c.pair_number.ensures in
+    halt-tested code f (decode_of code f) (c.pair_number.result == 42) (c.decode_law.ensures code f Hlt)
+    (λ h. c.number_law.ensures code f Hlt (grind (arith, nat_tests)) (λ t. absurd (cc)), λ h. grind (arith, nat_tests))
