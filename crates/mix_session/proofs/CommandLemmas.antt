@@ -1,5 +1,5 @@
 -- Facts of the definitions of commands, over plain variables.
-use Rattle.std.proofs.Common.{◌≡◌, ℕ, zero, suc, ◌+◌, ◌<◌, ◌≤◌, length, Bool, true, false, Option, None, Some, Result, Ok, Err, inl, inr, refl, ap, subst, ◌∙◌, arith, add-one, eqb, below_more, is_some, position, if◌then◌else◌}
+use Rattle.std.proofs.Common.{◌≡◌, ℕ, zero, suc, ◌+◌, ◌<◌, ◌≤◌, length, ltb, List, [], ◌∷◌, Bool, true, false, Option, None, Some, Result, Ok, Err, inl, inr, refl, ap, subst, ◌∙◌, arith, add-one, eqb, below_more, is_some, position, if◌then◌else◌}
 use Rattle.std.specs.Option.{option_map, option_or}
 use Rattle.std.specs.Result.{IfErr, IsOk}
 use Rattle.std.proofs.lemmas.Bool.Decides.{nat_tests}
@@ -13,6 +13,8 @@ use Rattle.mix_session.specs.Command.{effect_of_run, effect_of_change, effect_of
 use Rattle.mix_session.specs.BrokenOff.{BrokenOff, IsBefore}
 use Rattle.mix_session.specs.Stops.{is_at_stop, is_awaited}
 use Rattle.mix_session.specs.Stops.{StopsState}
+use Rattle.mix_session.specs.Known.{has_conflict}
+use Rattle.mix_session.specs.declared.condition.Condition.{Condition}
 use Rattle.mix_session.specs.declared.fault.Refusal.TheVariants.{RefusedByMachine}
 use Rattle.mix_session.specs.declared.answer.Answer.TheVariants.{Ran, Done}
 use Rattle.mix_session.specs.declared.command.stops.Way.{Way}
@@ -97,6 +99,21 @@ pub Begun-run : (way : Way) (stops : StopsState) (t now : Timeline) (n k : ℕ) 
 unfolding effect_of_run count_of_run
 Begun-run way stops t now n k e within before =
     (k, least_below-beyond n k (λ j. is_some (end_at way stops t n j)) within (λ j below. ap is_some (before j below)), e)
+
+-- k of the changes, with no end after them either
+pub before-run : (way : Way) (stops : StopsState) (t now : Timeline) (n k : ℕ) → now ≡ moved way t k → k < n → end_of_last way stops t k ≡ None →
+    end_of_more way now ≡ None → ((j : ℕ) → j < k → end_at way stops t n j ≡ None) → IsBefore (effect_of_run way stops t n) now
+unfolding effect_of_run count_of_run
+before-run way stops t now n k e below last more before =
+    let none = none_before-next way stops t now n k last below e more before in
+    let least : k + 1 ≤ least_below n (λ j. is_some (end_at way stops t n j)) =
+    least_below-beyond n (k + 1) (λ j. is_some (end_at way stops t n j)) (omega (arith, below)) (λ j h. ap is_some (none j h)) in
+    (k, omega (arith, least), e)
+
+-- a step that is no fault
+pub fault_end-ok : (r : Result WorldState MixFault) → IsOk r → fault_end r ≡ None
+fault_end-ok (Ok world) ok = refl
+fault_end-ok (Err fault) ok = absurd (cc)
 
 -- a fact that holds, holds of a refusal
 pub if_err : {A E : Type 0} (r : Result A E) (P : Type 0) → P → IfErr r (λ _. P)
@@ -185,6 +202,25 @@ pub effect_of_change-refused : (t : Timeline) (change : Change) (fault : MixFaul
     effect_of_change t change ≡ refusal_effect t (RefusedByMachine fault)
 unfolding effect_of_change
 effect_of_change-refused t change fault given = rw given refl
+
+-- what stands before the last stage is begun
+pub begun-before : (effect : Effect) (t : Timeline) → IsBefore effect t → Begun effect t
+begun-before effect t is = (is.0, omega (arith, is.1), is.2)
+
+pub begun-broken : {A E : Type 0} (r : Result A E) (b : Bool) (way : Way) (stops : StopsState) (t new : Timeline) (n : ℕ) →
+    IfErr r (λ _. BrokenOff b (effect_of_run way stops t n) t new) → IfErr r (λ _. Begun (effect_of_run way stops t n) new)
+begun-broken (Ok x) b way stops t new n is = tt
+begun-broken (Err e) false way stops t new n is = begun-before (effect_of_run way stops t n) new is
+begun-broken (Err e) true way stops t new n (inl same) = rw same (Begun-none way stops t n)
+begun-broken (Err e) true way stops t new n (inr is) = begun-before (effect_of_run way stops t n) new is
+
+-- a run that watches a conflict watches something
+pub watched-some : (cs ds : List Condition) → cs ≡ ds → 0 < length cs → ltb 0 (length ds) ≡ true
+watched-some cs ds same some = rw (← same) (grind (arith, nat_tests))
+
+pub conflict-some : (cs ds : List Condition) → cs ≡ ds → has_conflict cs ≡ true → ltb 0 (length ds) ≡ true
+conflict-some [] ds same some = absurd (cc)
+conflict-some (c ∷ cs) ds same some = watched-some (c ∷ cs) ds same (omega arith)
 
 -- what is broken off before its last stage, whether memory was asked for first or not
 pub broken-before : {A E : Type 0} (r : Result A E) (b : Bool) (effect : Effect) (old new : Timeline) → IfErr r (λ _. IsBefore effect new) →

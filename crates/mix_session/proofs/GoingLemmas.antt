@@ -1,11 +1,13 @@
 -- A run that goes on, over plain variables: what is known after so many changes, and that it holds after more of them.
 use Rattle.std.proofs.Common.{◌≡◌, ◌+◌, ◌<◌, ◌≤◌, ◌∙◌, ℕ, zero, suc, Bool, true, List, None, Some, Ok, refl, ap, sym, subst, arith}
+use Rattle.std.specs.Result.{IsOk}
 use Rattle.undo_core.specs.Replay.{replay}
 use Rattle.mix_machine.specs.World.{WorldState}
 use Rattle.mix_machine.specs.Do.{does, is_plain_next}
 use Rattle.mix_machine.specs.declared.old.Change.TheVariants.{Step}
 use Rattle.mix_machine.specs.declared.part.Mark.{Mark}
-use Rattle.mix_session.specs.Command.{end_of_last, end_at, fault_end, is_halt_done, move_conflicts}
+use Rattle.mix_session.specs.BrokenOff.{IsBefore}
+use Rattle.mix_session.specs.Command.{effect_of_run, end_of_last, end_of_more, end_at, fault_end, is_halt_done, move_conflicts}
 use Rattle.mix_session.specs.Known.{KnownState, Knows, LooksOn}
 use Rattle.mix_session.specs.Marks.{AreMarks, HasMoved, IsMove, end_by_marks}
 use Rattle.mix_session.specs.Plain.{IsFree, ArePlain}
@@ -13,7 +15,7 @@ use Rattle.mix_session.specs.Stops.{StopsState}
 use Rattle.mix_session.specs.Timeline.{Timeline, world_of, with_change, moved}
 use Rattle.mix_session.specs.declared.command.stops.Way.{Way}
 use Rattle.mix_session.specs.declared.command.stops.Way.TheVariants.{New, Again, Back}
-use Rattle.mix_session.proofs.CommandLemmas.{moved-next, moved_once-first, end_of_last-next, none_before-next}
+use Rattle.mix_session.proofs.CommandLemmas.{before-run, fault_end-ok, moved-next, moved_once-first, end_of_last-next, none_before-next}
 use Rattle.mix_session.proofs.ConditionLemmas.{AlteredLaw}
 use Rattle.mix_session.proofs.MoveLemmas.{one_more}
 use Rattle.mix_session.proofs.PlainLemmas.{BreaksLaw, free-next, marks-none, plain-no_halt, quiet-move}
@@ -86,6 +88,13 @@ going-many law way stops t now next most done (suc n) marks known free g is_free
     let one = going-plain law way stops t now most done marks known free g (g.is_free (is_free (omega arith))) plain.0 plain.1 (omega (arith, within)) in
     subst (λ (k : ℕ). IsGoing way stops t next most k marks known free) more
     (going-many law way stops t (with_change now Step) next most (done + 1) n marks known free one (λ some. is_free (omega arith)) plain.2 (omega (arith, within)))
+
+-- a free run that goes on, and has a step more to do
+pub going-before : (way : Way) (stops : StopsState) (t now : Timeline) (most done : ℕ) (marks : List Mark) (known : KnownState) (free : Bool) →
+    IsGoing way stops t now most done marks known free → free ≡ true → IsOk (does (world_of now) Step) → done < most → IsBefore (effect_of_run way stops t most) now
+going-before way stops t now most done marks known free g is ok below =
+    let more : end_of_more way now ≡ None = rw (g.is_free is).new (fault_end-ok (does (world_of now) Step) ok) in
+    before-run way stops t now most done g.moved below g.going more g.before
 
 free-moved : BreaksLaw → (way : Way) (stops : StopsState) (v w : WorldState) → IsFree way stops v → IsMove way v w → IsFree way stops w
 free-moved law New stops v w free move = free-next law stops v w free move

@@ -2,7 +2,7 @@
 use Rattle.std.proofs.Common.{◌≡◌, ◌+◌, ◌-◌, ◌<◌, ◌≤◌, ◌∙◌, ◌++◌, ℕ, Bool, true, false, List, [], ◌∷◌, length, take, drop, get_or, Option, None, Some, Result, Ok, Err, refl, ap, arith, eqb, IsSome, length-append}
 use Rattle.std.proofs.lemmas.Bool.Decides.{nat_tests}
 use Rattle.std.proofs.Math.Seq.{take-length, get_or-append_seam}
-use Rattle.std.specs.Result.{IfOk}
+use Rattle.std.specs.Result.{IfOk, IsOk}
 use Rattle.mix_refused.specs.declared.refused.Memory.{Memory}
 use Rattle.undo_core.specs.History.{HoldsOfState}
 use Rattle.undo_core.specs.Replay.{replay}
@@ -22,7 +22,7 @@ use Rattle.mix_session.specs.declared.reply.End.{End}
 use Rattle.mix_session.specs.declared.reply.End.TheVariants.{Start, Fault}
 use Rattle.mix_machine.specs.declared.part.Mark.{Mark}
 use Rattle.mix_session.proofs.TimelineLemmas.{timeline-is, world_of-is, holds_now, back_by-none, back_by-next, first-step}
-use Rattle.mix_session.proofs.CommandLemmas.{moved-next}
+use Rattle.mix_session.proofs.CommandLemmas.{fault_end-ok, moved-next}
 use Rattle.mix_session.proofs.ConditionLemmas.{AlteredLaw, replay-given, replay-one, last-given}
 use Rattle.mix_session.proofs.KnownLemmas.{one_known}
 use Rattle.mix_session.proofs.RunLemmas.{last_by_marks, goes_on, AreMarks-length}
@@ -38,6 +38,20 @@ HasMoved-new t next stands first changes ahead given =
 pub HasMoved-fault : (t next : Timeline) (fault : MixFault) → IsSome (replay does t.first t.changes) → next ≡ t →
     HoldsOfState does t (λ s. does s Step ≡ Err fault) → HasMoved New t next (Some (Fault fault))
 HasMoved-fault t next fault stands same given = (same, ap fault_end (holds_now t stands given))
+
+-- a step that can be done
+pub more-new : (t : Timeline) → IsSome (replay does t.first t.changes) → HoldsOfState does t (λ s. IsOk (does s Step)) → fault_end (does (world_of t) Step) ≡ None
+more-new t stands given = fault_end-ok (does (world_of t) Step) (holds_now t stands given)
+
+next-step : (ahead : List Change) → begins_with_step ahead ≡ true → Step ≡ get_or ahead 0 Step
+next-step [] begins = absurd (cc)
+next-step (Step ∷ rest) begins = refl
+next-step (other ∷ rest) begins = absurd (cc)
+
+-- and one that stands ahead
+pub more-again : (t : Timeline) (v : WorldState) → begins_with_step t.ahead ≡ true → replay does t.first t.changes ≡ Some v →
+    ((c : Change) → c ≡ get_or t.ahead 0 c → HoldsOfState does t (λ s. IsOk (does s c))) → fault_end (does (world_of t) Step) ≡ None
+more-again t v begins here given = rw (world_of-is t t v refl here) (fault_end-ok (does v Step) (given Step (next-step t.ahead begins) v here))
 
 -- the step that stands ahead is done again
 pub HasMoved-again : (t next : Timeline) (v w : WorldState) → begins_with_step t.ahead ≡ true → next.first ≡ t.first → next.changes ≡ t.changes ++ take 1 t.ahead →

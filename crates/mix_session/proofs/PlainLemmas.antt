@@ -1,9 +1,15 @@
 -- Plain steps, over plain variables: they are new steps, and a free run goes on after each of them.
-use Rattle.std.proofs.Common.{◌≡◌, ◌<◌, ◌==◌, ◌∙◌, ◌++◌, ℕ, zero, suc, Bool, true, false, ◌&&◌, ◌||◌, not, List, [], ◌∷◌, replicate, get_or, Err, None, Some, Ok, refl, ap, sym, arith, append_assoc, nat_le, nat_lt}
+use Rattle.std.proofs.Common.{◌≡◌, ◌<◌, ◌==◌, ◌∙◌, ◌++◌, ℕ, zero, suc, Bool, true, false, ◌&&◌, ◌||◌, not, List, [], ◌∷◌, replicate, get_or, Result, Err, None, Some, Ok, refl, ap, sym, subst, arith, append_assoc, nat_le, nat_lt}
 use Rattle.std.proofs.lemmas.Bool.Decides.{nat_tests}
 use Rattle.std.proofs.lemmas.List.{append-nil}
 use Rattle.std.specs.Option.{option_and_then}
-use Rattle.std.specs.Result.{result_ok}
+use Rattle.std.specs.Result.{IsOk, OnErr, result_ok}
+use Rattle.mix_refused.specs.Refused.{IfMemory}
+use Rattle.mix_refused.specs.declared.refused.Memory.{Memory}
+use Rattle.mix_refused.specs.declared.refused.Refused.{Refused}
+use Rattle.mix_refused.specs.declared.refused.Refused.TheVariants as refused
+use Rattle.undo_core.specs.History.{HoldsOfState}
+use Rattle.mix_machine.specs.declared.fault.MixFault.{MixFault}
 use Rattle.undo_core.specs.Repeat.{Repeats}
 use Rattle.undo_core.specs.Replay.{replay}
 use Rattle.mix_machine.specs.World.{WorldState, IsWorld, has_break}
@@ -61,6 +67,16 @@ plain-repeats (suc n) t next s u os here plain done first changes none ahead =
       rw (before, after) done.1.1,
       plain-repeats n led next v u done.1.3.0 there done.1.2 done.1.3.2 first more last (λ some. ahead (omega arith)),
     )
+
+-- where memory is out, the next step could be done
+pub plain-more : {A B : Type 0} (next : Timeline) (u : WorldState) (answer : Result A (Refused MixFault)) (said : Result B Memory) →
+    replay does next.first next.changes ≡ Some u → IfMemory answer (HoldsOfState does next (λ w. IsOk (does w Step))) →
+    OnErr said (answer ≡ Err refused.Memory) → OnErr said (IsOk (does (world_of next) Step))
+plain-more {A} {B} next u answer (Ok x) here last out = tt
+plain-more {A} {B} next u answer (Err e) here last out =
+    let could : HoldsOfState does next (λ w. IsOk (does w Step)) =
+    subst (λ (a : Result A (Refused MixFault)). IfMemory a (HoldsOfState does next (λ w. IsOk (does w Step)))) out last in
+    subst (λ (w : WorldState). IsOk (does w Step)) (sym (world_of-is next next u refl here)) (could u here)
 
 -- a plain step is no halt
 code-plain : (b five other two : Bool) → (b && not (five || other)) ≡ true → (b && five && two) ≡ false

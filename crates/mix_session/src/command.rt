@@ -4,7 +4,7 @@ ghost use Rattle.std.specs.Prelude.{◌≡◌, ◌≤◌, ◌<◌, ℕ, IfErr, I
 ghost use Rattle.mix_session.specs.Timeline.{back_by, forth_by};
 ghost use Rattle.mix_session.specs.Command.{effect_of, effect_of_back, effect_of_back_within, effect_of_forth, effect_of_forth_within, effect_of_goto, effect_of_change};
 ghost use Rattle.mix_session.specs.Command.{effect_of_show, is_there, HasEffect};
-ghost use Rattle.mix_session.specs.BrokenOff.{asks_first, is_run, BrokenOff, IsBefore};
+ghost use Rattle.mix_session.specs.BrokenOff.{asks_first, BrokenOff, IsBefore};
 
 mod plain;
 pub(crate) mod runs;
@@ -28,7 +28,7 @@ pub(crate) fn execute(
     request: Request,
 ) -> Result<Answer, Memory>
     ensures effect { HasEffect (effect_of journal.old request) journal.old journal.new result }
-    ensures memory { IfErr result (λ _. is_run request ≡ false → BrokenOff (asks_first request) (effect_of journal.old request) journal.old journal.new) }
+    ensures memory { IfErr result (λ _. BrokenOff (asks_first request) (effect_of journal.old request) journal.old journal.new) }
 {
     match request {
         Request::Nothing => Ok(Answer::Nothing),

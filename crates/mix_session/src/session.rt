@@ -6,7 +6,7 @@ ghost use Rattle.mix_session.specs.Timeline.{world_of};
 ghost use Rattle.mix_word.specs.Word.{plus};
 ghost use Rattle.mix_session.specs.Answer.{refusal_of, told_of, text_of};
 ghost use Rattle.mix_session.specs.Command.{after, effect_of, effect_of_run, reply_of, Begun, HasEffect};
-ghost use Rattle.mix_session.specs.BrokenOff.{asks_first, is_run, BrokenOff};
+ghost use Rattle.mix_session.specs.BrokenOff.{asks_first, watches, BrokenOff};
 ghost use Rattle.mix_session.specs.Session.{opened, request_in, effect_in};
 ghost use Rattle.mix_refused.specs.Refused.{IsFault};
 ghost use Rattle.mix_stream.specs.Stream.{AppendsFront, CountsFailure};
@@ -112,26 +112,30 @@ impl Session {
 
     /// Does what is asked for, whoever asks it: a number that no line may have is taken as it is. A refusal changes nothing. Out of memory:
     /// of steps those done stand, of `forth` the changes done again, of any other request nothing.
-    /// What is done whole or refused is never out of memory, but for steps, and what waits for a conflict.
+    /// What is done whole or refused is never out of memory; only what waits for a conflict may be,
+    /// before anything is done.
     #[tactic(auto, using(crate::proofs::RefusalLemmas::refused_spares))]
     pub fn execute(&mut self, request: Request) -> Result<Answer, Memory>
         ensures program { self.new.program ≡ self.old.program }
         ensures effect { HasEffect (effect_of self.old.timeline request) self.old.timeline self.new.timeline result }
-        ensures memory { IfErr result (λ _. is_run request ≡ false →
+        ensures memory { IfErr result (λ _.
             BrokenOff (asks_first request) (effect_of self.old.timeline request) self.old.timeline self.new.timeline) }
         ensures refused { IfOk result (λ answer. IfSome (refusal_of answer) (λ _. self.new.timeline ≡ self.old.timeline)) }
     {
         execute(self.alloc, &mut self.journal, request)
     }
 
-    /// Makes changes, at most so many, until one of the ends holds: how many it made, and the end. Out of memory: of steps those done stand, of
-    /// changes taken back none.
+    /// Makes changes, at most so many, until one of the ends holds: how many it made, and the end.
+    /// Out of memory: of steps those done stand, of changes taken back none. What is over is never
+    /// out of memory; only a run that watches something may be, before anything is done.
     pub fn run(&mut self, way: Way, most: u32, stops: &Stops<'_>) -> Result<(u32, End), Memory>
         ensures program { self.new.program ≡ self.old.program }
         ensures first { self.new.timeline.first ≡ self.old.timeline.first }
         ensures effect { let effect = effect_of_run way stops.now self.old.timeline most in
             IfOk result (λ ran. (self.new.timeline ≡ after effect) × (effect.answer ≡ Answer.Ran ran.0 ran.1)) }
         ensures begun { IfErr result (λ _. Begun (effect_of_run way stops.now self.old.timeline most) self.new.timeline) }
+        ensures memory { IfErr result (λ _.
+            BrokenOff (watches stops.now) (effect_of_run way stops.now self.old.timeline most) self.old.timeline self.new.timeline) }
         ensures back { way ≡ Way.Back → IfErr result (λ _. self.new.timeline ≡ self.old.timeline) }
         ensures limit { IfOk result (λ ran. ran.1 ≡ End.Limit → ran.0 ≡ most) }
     {

@@ -1,7 +1,10 @@
 //! Plain steps of a run, many at a time.
 
-ghost use Rattle.std.specs.Prelude.{◌≡◌, ◌≤◌, ◌<◌, Err, IsTrue, OnOk, OnErr, true};
+ghost use Rattle.std.specs.Prelude.{◌≡◌, ◌≤◌, ◌<◌, Err, IsOk, IsTrue, OnOk, OnErr, true, false};
+ghost use Rattle.mix_machine.specs.Do.{does};
+ghost use Rattle.mix_machine.specs.declared.old.Change.TheVariants.{Step};
 ghost use Rattle.mix_session.specs.Plain.{IsFree, ArePlain};
+ghost use Rattle.mix_session.specs.Timeline.{world_of};
 
 use crate::command::stops::{Stops, Way};
 use mix_machine::{Change, MixFault, World};
@@ -41,6 +44,8 @@ pub(crate) fn plain_steps(
     ensures free { 0 < result.0 → free ≡ true }
     ensures plain { ArePlain result.0 journal.old journal.new }
     ensures memory { OnErr result.1 (free ≡ true) }
+    ensures fewer { OnErr result.1 (result.0 < most) }
+    ensures more { OnErr result.1 (IsOk (does (world_of journal.new) Step)) }
 {
     if free {
         steps_at_once(journal, most)
@@ -54,21 +59,24 @@ pub(crate) fn plain_steps(
 fn steps_at_once(journal: &mut Journal<World>, most: usize) -> (usize, Result<(), Memory>)
     ensures within { result.0 ≤ most }
     ensures plain { ArePlain result.0 journal.old journal.new }
+    ensures fewer { OnErr result.1 (result.0 < most) }
+    ensures more { OnErr result.1 (IsOk (does (world_of journal.new) Step)) }
 {
     if most == 0 || !journal.state().next_is_plain() {
         return (0, Ok(()));
     }
     let (done, answer) = journal.go_many(Change::Step, most.min(MOST_AT_ONCE));
-    (done, unless_fault(answer))
+    (done, unless_fault(answer, done < most))
 }
 
-// What steps come to, but for a fault.
-fn unless_fault(answer: Result<(), Refused<MixFault>>) -> Result<(), Memory>
+// What steps come to, but for a fault, where more are left to be done.
+fn unless_fault(answer: Result<(), Refused<MixFault>>, more: bool) -> Result<(), Memory>
     ensures memory { OnErr result (answer ≡ Err Refused.Memory) }
-    ensures other { OnOk result (answer ≡ Err Refused.Memory → ⊥) }
+    ensures more { OnErr result (more ≡ true) }
+    ensures other { OnOk result (answer ≡ Err Refused.Memory → more ≡ false) }
 {
     match answer {
-        Err(Refused::Memory) => Err(Memory),
+        Err(Refused::Memory) => if more { Err(Memory) } else { Ok(()) },
         Err(Refused::Fault(_)) | Ok(()) => Ok(()),
     }
 }

@@ -2,10 +2,11 @@
 
 ghost use Rattle.std.specs.Prelude.{◌≡◌, ◌≤◌, ◌<◌, ℕ, IfErr, IfOk, OnErr, [], ◌∷◌, Some, None, true};
 ghost use Rattle.mix_session.specs.Timeline.{world_of, begins_with_step, moved};
-ghost use Rattle.mix_session.specs.Command.{effect_of_run, effect_of_trace, effect_of_back_break, is_halt_done, end_at, Begun, HasEffect};
+ghost use Rattle.mix_session.specs.Command.{effect_of_run, effect_of_trace, effect_of_back_break, end_of_more, is_halt_done, end_at, HasEffect};
+ghost use Rattle.mix_session.specs.BrokenOff.{BrokenOff, IsBefore};
 ghost use Rattle.mix_session.specs.Stops.{no_stops, at_breaks, at_breaks_or};
 ghost use Rattle.mix_session.specs.Marks.{AreMarks, HasMoved};
-ghost use Rattle.mix_session.specs.Known.{Knows};
+ghost use Rattle.mix_session.specs.Known.{has_conflict, Knows};
 
 use crate::answer::Answer;
 use crate::command::plain::{is_free, plain_steps};
@@ -29,7 +30,8 @@ fn ran(
 ) -> Result<Answer, Memory>
     requires marks { AreMarks stops.now.watched marks.old (world_of journal.old) }
     requires known { Knows stops.now.watched Way.New known.old journal.old }
-    ensures { HasEffect (effect_of_run Way.New stops.now journal.old count) journal.old journal.new result }
+    ensures effect { HasEffect (effect_of_run Way.New stops.now journal.old count) journal.old journal.new result }
+    ensures memory { IfErr result (λ _. IsBefore (effect_of_run Way.New stops.now journal.old count) journal.new) }
 {
     let (done, end) = run_on(journal, Way::New, count as usize, stops, marks, known)?;
     Ok(Answer::Ran(done as u32, end))
@@ -37,7 +39,8 @@ fn ran(
 
 /// `step N`.
 pub(crate) fn step(journal: &mut Journal<World>, count: u32) -> Result<Answer, Memory>
-    ensures { HasEffect (effect_of_run Way.New no_stops journal.old count) journal.old journal.new result }
+    ensures effect { HasEffect (effect_of_run Way.New no_stops journal.old count) journal.old journal.new result }
+    ensures memory { IfErr result (λ _. IsBefore (effect_of_run Way.New no_stops journal.old count) journal.new) }
 {
     let (stops, mut known) = (stops_at(false, &[]), Known::nothing());
     ran(journal, count, &stops, &mut [], &mut known)
@@ -45,7 +48,8 @@ pub(crate) fn step(journal: &mut Journal<World>, count: u32) -> Result<Answer, M
 
 /// `run N`.
 pub(crate) fn run(journal: &mut Journal<World>, count: u32) -> Result<Answer, Memory>
-    ensures { HasEffect (effect_of_run Way.New at_breaks journal.old count) journal.old journal.new result }
+    ensures effect { HasEffect (effect_of_run Way.New at_breaks journal.old count) journal.old journal.new result }
+    ensures memory { IfErr result (λ _. IsBefore (effect_of_run Way.New at_breaks journal.old count) journal.new) }
 {
     let (breaks, mut known) = (stops_at(true, &[]), Known::nothing());
     ran(journal, count, &breaks, &mut [], &mut known)
@@ -58,7 +62,9 @@ pub(crate) fn run_until(
     count: u32,
     conditions: &Conditions,
 ) -> Result<Answer, Memory>
-    ensures { HasEffect (effect_of_run Way.New (at_breaks_or conditions.now) journal.old count) journal.old journal.new result }
+    ensures effect { HasEffect (effect_of_run Way.New (at_breaks_or conditions.now) journal.old count) journal.old journal.new result }
+    ensures memory { IfErr result (λ _.
+        BrokenOff (has_conflict conditions.now) (effect_of_run Way.New (at_breaks_or conditions.now) journal.old count) journal.old journal.new) }
 {
     let watched = conditions.as_slice();
     let mut known = known_of(alloc, journal, watched)?;
@@ -69,7 +75,8 @@ pub(crate) fn run_until(
 
 /// `trace N`.
 pub(crate) fn trace(journal: &mut Journal<World>, count: u32) -> Result<Answer, Memory>
-    ensures { HasEffect (effect_of_trace journal.old count) journal.old journal.new result }
+    ensures effect { HasEffect (effect_of_trace journal.old count) journal.old journal.new result }
+    ensures memory { IfErr result (λ _. IsBefore (effect_of_trace journal.old count) journal.new) }
 {
     let (stops, mut known) = (stops_at(false, &[]), Known::nothing());
     let (done, end) = run_on(
@@ -125,7 +132,7 @@ pub(crate) fn run_on(
     ensures within { IfOk result (λ r. r.0 ≤ most) }
     ensures end { IfOk result (λ r. end_at way stops.now journal.old most r.0 ≡ Some r.1) }
     ensures least { IfOk result (λ r. (k : ℕ) → k < r.0 → end_at way stops.now journal.old most k ≡ None) }
-    ensures memory { IfErr result (λ _. Begun (effect_of_run way stops.now journal.old most) journal.new) }
+    ensures memory { IfErr result (λ _. IsBefore (effect_of_run way stops.now journal.old most) journal.new) }
     ensures back { IfErr result (λ _. way ≡ Way.Back → ⊥) }
 {
     mark_law();
@@ -169,6 +176,7 @@ fn is_halt_done(way: Way, world: &World) -> bool
 fn move_once(journal: &mut Journal<World>, way: Way) -> Result<Option<End>, Memory>
     ensures moved { IfOk result (HasMoved way journal.old journal.new) }
     ensures memory { OnErr result (journal.new ≡ journal.old) }
+    ensures more { OnErr result (end_of_more way journal.old ≡ None) }
     ensures back { OnErr result (way ≡ Way.Back → ⊥) }
 {
     match way {
@@ -184,6 +192,7 @@ fn move_once(journal: &mut Journal<World>, way: Way) -> Result<Option<End>, Memo
 fn step_forth(journal: &mut Journal<World>) -> Result<Option<End>, Memory>
     ensures moved { IfOk result (HasMoved Way.New journal.old journal.new) }
     ensures memory { OnErr result (journal.new ≡ journal.old) }
+    ensures more { OnErr result (end_of_more Way.New journal.old ≡ None) }
 {
     match journal.go(Change::Step) {
         Ok(()) => Ok(None),
@@ -197,6 +206,7 @@ fn step_again(journal: &mut Journal<World>) -> Result<Option<End>, Memory>
     requires { begins_with_step journal.old.ahead ≡ true }
     ensures moved { IfOk result (HasMoved Way.Again journal.old journal.new) }
     ensures memory { OnErr result (journal.new ≡ journal.old) }
+    ensures more { OnErr result (end_of_more Way.Again journal.old ≡ None) }
 {
     let _before = journal.state();
     journal.forth()?;

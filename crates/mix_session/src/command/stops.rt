@@ -1,6 +1,6 @@
 //! What stops a run, and which way it goes.
 
-ghost use Rattle.std.specs.Prelude.{◌≡◌, ◌==◌, IfOk, Some, None, length, take, if◌then◌else◌};
+ghost use Rattle.std.specs.Prelude.{◌≡◌, ◌<◌, ◌==◌, IfErr, IfOk, Some, None, length, take, if◌then◌else◌};
 ghost use Rattle.std.specs.List.{list_any};
 ghost use Rattle.std.specs.Option.{option_or};
 ghost use Rattle.mix_session.specs.Timeline.{is_at_break};
@@ -54,7 +54,8 @@ pub(crate) fn marks_of(
     watched: &[Condition],
     world: &World,
 ) -> Result<Vec<Mark>, Memory>
-    ensures { IfOk result (λ marks. AreMarks watched.now marks.items world.now) }
+    ensures marks { IfOk result (λ marks. AreMarks watched.now marks.items world.now) }
+    ensures memory { IfErr result (λ _. 0 < length watched.now) }
 {
     let mut marks = Vec::new(alloc);
     for condition in watched {

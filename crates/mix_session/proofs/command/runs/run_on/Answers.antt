@@ -1,7 +1,8 @@
 -- Each change is one more from where the run began, so the ends are those of the world that the journal stands in.
-use Rattle.std.proofs.Common.{◌≡◌, ◌∙◌, ◌+◌, sym, arith, zero-add}
-use Rattle.mix_session.proofs.CommandLemmas.{end_at-last, end_at-limit, end_at-more, none_before-next, Begun-run, if_err}
-use Rattle.mix_session.proofs.GoingLemmas.{going-begins, going-many, going-once}
+use Rattle.std.proofs.Common.{◌≡◌, ◌∙◌, ◌<◌, ◌+◌, ◌-◌, ap, sym, arith, zero-add}
+use Rattle.mix_session.specs.Command.{end_of_more}
+use Rattle.mix_session.proofs.CommandLemmas.{end_at-last, end_at-limit, end_at-more, none_before-next, before-run, if_err}
+use Rattle.mix_session.proofs.GoingLemmas.{going-before, going-begins, going-many, going-once}
 use Rattle.mix_session.proofs.RunLemmas.{AreMarks-length}
 use Rattle.mix_session.proofs.command.runs.run_on.Goals as goal
 
@@ -28,7 +29,9 @@ returns-in_err-begun-clause-memory c =
     c.args.marks.now c.args.known.now c.is_free-free.result
     (going-begins c.args.way c.args.stops.now c.args.journal.now c.args.most c.args.marks.now c.args.known.now c.is_free-free.result _ c.state.ensures c.requires.marks c.requires.known c.is_free-free.ensures)
     plain.ensures.free plain.ensures.plain (omega (arith, plain.ensures.within)) in
-    if_err c.from_residual.result _ (Begun-run c.args.way c.args.stops.now c.args.journal.now plain.new.journal c.args.most (0 + plain.result.0) going.moved going.within going.before)
+    let fewer : plain.result.0 < c.args.most = rw c.in_err-begun.was at plain.ensures.fewer in
+    if_err c.from_residual.result _ (going-before c.args.way c.args.stops.now c.args.journal.now plain.new.journal c.args.most (0 + plain.result.0) c.args.marks.now c.args.known.now
+    c.is_free-free.result going (rw c.in_err-begun.was at plain.ensures.memory) (rw c.in_err-begun.was at plain.ensures.more) (omega (arith, fewer)))
 
 pub end_of_move-requires : goal.end_of_move-requires
 end_of_move-requires c = AreMarks-length _ _ _ c.loop-done.invariant.marked
@@ -41,8 +44,8 @@ returns-in-Ok-Some-clause-end c =
 
 pub returns-in-Err-clause-memory : goal.returns-in-Err-clause-memory
 returns-in-Err-clause-memory c =
-    Begun-run c.args.way c.args.stops.now c.args.journal.now _ c.args.most c.loop-done.done (c.in-Err.ensures.memory ∙ c.loop-done.invariant.moved)
-    (omega (arith, c.loop-done-test.true)) c.loop-done.invariant.before
+    before-run c.args.way c.args.stops.now c.args.journal.now _ c.args.most c.loop-done.done (c.in-Err.ensures.memory ∙ c.loop-done.invariant.moved)
+    c.loop-done-test.true c.loop-done.invariant.going (ap (end_of_more c.args.way) c.in-Err.ensures.memory ∙ c.in-Err.ensures.more) c.loop-done.invariant.before
 
 pub returns-in-Some-clause-moved : goal.returns-in-Some-clause-moved
 returns-in-Some-clause-moved c =
@@ -103,8 +106,9 @@ returns-in_err-answer-clause-memory c =
     let going = going-many c.change_law.ensures.breaks c.args.way c.args.stops.now c.args.journal.now c.move_once.new.journal plain.new.journal c.args.most (c.loop-done.done + 1) plain.result.0
     _ _ c.is_free-free.result (more.going (sym c.end_of_move.ensures.end ∙ c.in-None.is)) plain.ensures.free plain.ensures.plain
     (omega (arith, plain.ensures.within, c.loop-done-test.true)) in
-    if_err c.from_residual-in_err-answer.result _ (Begun-run c.args.way c.args.stops.now c.args.journal.now plain.new.journal c.args.most (c.loop-done.done + 1 + plain.result.0)
-    going.moved going.within going.before)
+    let fewer : plain.result.0 < c.args.most - (c.loop-done.done + 1) = rw c.in_err-answer.was at plain.ensures.fewer in
+    if_err c.from_residual-in_err-answer.result _ (going-before c.args.way c.args.stops.now c.args.journal.now plain.new.journal c.args.most (c.loop-done.done + 1 + plain.result.0)
+    _ _ c.is_free-free.result going (rw c.in_err-answer.was at plain.ensures.memory) (rw c.in_err-answer.was at plain.ensures.more) (omega (arith, fewer, c.loop-done-test.true)))
 
 pub returns-clause-end : goal.returns-clause-end
 returns-clause-end c =

@@ -1,22 +1,49 @@
 -- The run is that of the journal, which is the timeline of the session.
 use Rattle.std.proofs.Common.{◌∙◌, List, ap, Some, subst}
-use Rattle.mix_session.specs.Command.{effect_of_run, Begun}
+use Rattle.mix_session.specs.BrokenOff.{watches, IsBefore}
+use Rattle.mix_session.specs.Command.{effect_of_run}
+use Rattle.mix_session.specs.Timeline.{Timeline}
 use Rattle.mix_session.specs.Known.{Knows}
 use Rattle.mix_session.specs.Session.{SessionState}
 use Rattle.mix_session.specs.Stops.{StopsState}
 use Rattle.mix_session.specs.declared.condition.Condition.{Condition}
-use Rattle.mix_session.proofs.CommandLemmas.{if_err, Begun-none, run-effect, limit-is}
+use Rattle.mix_session.proofs.CommandLemmas.{begun-broken, broken-before, broken-none, conflict-some, if_err, limit-is, run-effect, watched-some}
 use Rattle.mix_session.proofs.session.Session.run.Goals as goal
+
+pub returns-in_err-marks-clause-memory : goal.returns-in_err-marks-clause-memory
+returns-in_err-marks-clause-memory c =
+    let watched = ap (λ (s : StopsState). s.watched) c.stops.view_is in
+    if_err c.from_residual.result _ (broken-none (watches c.args.stops.now) (effect_of_run c.args.way c.args.stops.now c.args.self.now.timeline c.args.most) c.args.self.now.timeline
+    (watched-some _ c.args.stops.now.watched watched c.in_err-marks.ensures.memory))
+
+pub returns-in_err-known-clause-memory : goal.returns-in_err-known-clause-memory
+returns-in_err-known-clause-memory c =
+    let watched = ap (λ (s : StopsState). s.watched) c.stops.view_is in
+    if_err c.from_residual-in_err-known.result _
+    (broken-none (watches c.args.stops.now) (effect_of_run c.args.way c.args.stops.now c.args.self.now.timeline c.args.most) c.args.self.now.timeline
+    (conflict-some _ c.args.stops.now.watched watched c.in_err-known.ensures.memory))
+
+pub returns-in_err-made-clause-memory : goal.returns-in_err-made-clause-memory
+returns-in_err-made-clause-memory c =
+    let same = ap (λ (s : SessionState). s.timeline) c.self.view_is in
+    let before = subst (λ (t : Timeline). IsBefore (effect_of_run c.args.way c.args.stops.now t c.args.most) c.run_on.new.journal) same c.in_err-made.ensures.memory in
+    broken-before c.from_residual-in_err-made.result (watches c.args.stops.now) (effect_of_run c.args.way c.args.stops.now c.args.self.now.timeline c.args.most)
+    c.args.self.now.timeline c.run_on.new.journal (if_err c.from_residual-in_err-made.result _ before)
 
 pub returns-in_err-marks-clause-begun : goal.returns-in_err-marks-clause-begun
 returns-in_err-marks-clause-begun c =
-    if_err c.from_residual.result (Begun (effect_of_run c.args.way c.args.stops.now c.args.self.now.timeline c.args.most) c.args.self.now.timeline)
-    (Begun-none c.args.way c.args.stops.now c.args.self.now.timeline c.args.most)
+    begun-broken c.from_residual.result (watches c.args.stops.now) c.args.way c.args.stops.now c.args.self.now.timeline c.args.self.now.timeline c.args.most
+    (returns-in_err-marks-clause-memory c)
 
 pub returns-in_err-known-clause-begun : goal.returns-in_err-known-clause-begun
 returns-in_err-known-clause-begun c =
-    if_err c.from_residual-in_err-known.result (Begun (effect_of_run c.args.way c.args.stops.now c.args.self.now.timeline c.args.most) c.args.self.now.timeline)
-    (Begun-none c.args.way c.args.stops.now c.args.self.now.timeline c.args.most)
+    begun-broken c.from_residual-in_err-known.result (watches c.args.stops.now) c.args.way c.args.stops.now c.args.self.now.timeline c.args.self.now.timeline c.args.most
+    (returns-in_err-known-clause-memory c)
+
+pub returns-in_err-made-clause-begun : goal.returns-in_err-made-clause-begun
+returns-in_err-made-clause-begun c =
+    begun-broken c.from_residual-in_err-made.result (watches c.args.stops.now) c.args.way c.args.stops.now c.args.self.now.timeline c.run_on.new.journal c.args.most
+    (returns-in_err-made-clause-memory c)
 
 pub run_on-requires-clause-known : goal.run_on-requires-clause-known
 run_on-requires-clause-known c =
