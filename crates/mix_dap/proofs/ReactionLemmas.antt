@@ -1,23 +1,28 @@
 -- A request is answered, or refused, and then goes on.
 use Rattle.std.proofs.Common.{◌≡◌, inr, Bool, true, false, ℕ, List, [], ◌∷◌, ◌++◌, Option, None, Some, Result, Ok, Err, refl, sym, ap, subst, ◌∙◌}
-use Rattle.std.specs.Prelude.{IfOk, OnOk}
+use Rattle.std.specs.Prelude.{IfOk, OnOk, codes, if◌then◌else◌}
 use Rattle.serde_json.specs.Data.{Data}
 use Rattle.mix_word.specs.Word.{WordValue}
+use Rattle.mix_refused.specs.Refused.{IfMemory}
+use Rattle.mix_refused.specs.declared.refused.Refused.{Refused}
+use Rattle.mix_refused.specs.declared.refused.Refused.TheVariants as refused
 use Rattle.mix_session.specs.Command.{Effect, after}
 use Rattle.mix_session.specs.Session.{SessionState}
 use Rattle.mix_session.specs.Timeline.{Timeline, world_of}
 use Rattle.mix_session.specs.declared.answer.Answer.{Answer}
 use Rattle.mix_session.specs.declared.reply.End.{End}
 use Rattle.dap_message.specs.Message.{Adds, refusal_message, reply_message}
+use Rattle.dap_message.specs.Request.{text_of}
 use Rattle.dap_message.specs.declared.outbox.Outbox.{Outbox}
 use Rattle.dap_message.specs.declared.request.Request.{Request}
-use Rattle.mix_dap.specs.Deed.{deed_of, effect_of_deed, is_console_of}
+use Rattle.mix_dap.specs.Deed.{deed_of, effect_of_deed, is_line, line_deed}
+use Rattle.mix_dap.specs.Console.{line_meant, said_of}
 use Rattle.mix_dap.specs.Events.{AddsAnswer, AddsEvents, invalidated, stopped}
 use Rattle.mix_dap.specs.Fault.{fault_number, fault_text, fault_place}
-use Rattle.mix_dap.specs.Leaves.{refusal_in}
+use Rattle.mix_dap.specs.Leaves.{BreaksOff, Leaves, refusal_in}
 use Rattle.mix_dap.specs.Output.{all_told, outputs}
 use Rattle.mix_dap.specs.Points.{PointsState}
-use Rattle.mix_dap.specs.Reaction.{Beside, Reaction, acted, asked_done, beside, evaluated, reaction, reaction_to, refuses, still, unless, written}
+use Rattle.mix_dap.specs.Reaction.{Beside, Reaction, acted, asked_done, beside, console, line_done, reaction, reaction_to, refuses, replied_unless, said_or_done, still, unless, written}
 use Rattle.mix_dap.specs.Reacts.{Answered, GoesOn, IsSame, Leaving, ReactsAs, Runs, RunsPartly, flow_after, flow_of, is_done}
 use Rattle.mix_dap.specs.Replies.{answer_message}
 use Rattle.mix_dap.specs.Runs.{RunBroken, RunDone, why_of_run}
@@ -62,10 +67,6 @@ written-refused : (asked : Result (List (ℕ × WordValue) × ℕ) Fault) (a : A
 written-refused (Ok asked) a why is = absurd (let e = is in cc)
 written-refused (Err wrong) a why is = ap (λ (b : Result Data Fault). record (still a) { body = b }) is
 
-evaluated-done : (console : Bool) (answer : Answer) (r : Request) (b : Beside) (s : SessionState) → is_done (evaluated console answer r b s).body ≡ true
-evaluated-done true answer r b s = refl
-evaluated-done false answer r b s = refl
-
 acted-done : (what : Act) (answer : Answer) (r : Request) (b : Beside) (s : SessionState) → is_done (acted what answer r b s).body ≡ true
 acted-done act.Step answer r b s = refl
 acted-done act.StepBack answer r b s = refl
@@ -76,7 +77,7 @@ acted-done act.Begin answer r b s = refl
 acted-done act.Goto answer r b s = refl
 acted-done act.SetVariable answer r b s = refl
 acted-done act.SetExpression answer r b s = refl
-acted-done act.Evaluate answer r b s = evaluated-done (is_console_of r) answer r b s
+acted-done act.Evaluate answer r b s = refl
 
 not-refused : (body : Result Data Fault) (why : Fault) → is_done body ≡ true → body ≡ Err why → ⊥
 not-refused (Ok shown) why well is = cc
@@ -94,6 +95,33 @@ asked-refused what (Ok deed) r a why is =
     unless-refused (refusal_in (effect_of_deed deed a.session.timeline)) what (effect_of_deed deed a.session.timeline) r a why is
 asked-refused what (Err wrong) r a why is = ap (λ (b : Result Data Fault). record (still a) { body = b }) is
 
+-- a line of the console
+replied-refused : (refusal : Option Fault) (line : List ℕ) (effect : Effect) (a : Adapter) (why : Fault) → (replied_unless refusal line effect a).body ≡ Err why
+    → replied_unless refusal line effect a ≡ refuses a why
+replied-refused None line effect a why is = absurd (let e = is in cc)
+replied-refused (Some wrong) line effect a why is = ap (λ (b : Result Data Fault). record (still a) { body = b }) is
+
+line-refused : (asked : Result Deed Fault) (line : List ℕ) (a : Adapter) (why : Fault) → (line_done asked line a).body ≡ Err why
+    → line_done asked line a ≡ refuses a why
+line-refused (Ok deed) line a why is =
+    replied-refused (refusal_in (effect_of_deed deed a.session.timeline)) line (effect_of_deed deed a.session.timeline) a why is
+line-refused (Err wrong) line a why is = ap (λ (b : Result Data Fault). record (still a) { body = b }) is
+
+said-refused : (said : Option (List ℕ)) (line : List ℕ) (a : Adapter) (why : Fault) → (said_or_done said line a).body ≡ Err why
+    → said_or_done said line a ≡ refuses a why
+said-refused (Some text) line a why is = absurd (let e = is in cc)
+said-refused None line a why is = line-refused (line_deed a.session line) line a why is
+
+console-refused : (typed : Option (List ℕ)) (a : Adapter) (why : Fault) → (console typed a).body ≡ Err why → console typed a ≡ refuses a why
+console-refused None a why is = ap (λ (b : Result Data Fault). record (still a) { body = b }) is
+console-refused (Some typed) a why is = said-refused (said_of a.session typed) (line_meant a.session typed) a why is
+
+acts-refused : (is_typed : Bool) (typed : Option (List ℕ)) (what : Act) (asked : Result Deed Fault) (r : Request) (a : Adapter) (why : Fault)
+    → (if is_typed then console typed a else asked_done what asked r a).body ≡ Err why
+    → (if is_typed then console typed a else asked_done what asked r a) ≡ refuses a why
+acts-refused true typed what asked r a why is = console-refused typed a why is
+acts-refused false typed what asked r a why is = asked-refused what asked r a why is
+
 refused-still : (k : Kind) (r : Request) (a : Adapter) (why : Fault) → (reaction k r a).body ≡ Err why → reaction k r a ≡ refuses a why
 refused-still kind.Initialize r a why is = absurd (let e = is in cc)
 refused-still (kind.Look look) r a why is = ap (λ (b : Result Data Fault). record (still a) { body = b }) is
@@ -106,7 +134,7 @@ refused-still kind.Cancel r a why is = absurd (let e = is in cc)
 refused-still kind.Launch r a why is = ap (λ (b : Result Data Fault). record (still a) { body = b }) is
 refused-still kind.Disconnect r a why is = absurd (let e = is in cc)
 refused-still kind.Write r a why is = written-refused (write_asked a.session r) a why is
-refused-still (kind.Act what) r a why is = asked-refused what (deed_of what r a.session) r a why is
+refused-still (kind.Act what) r a why is = acts-refused (is_line what r) (text_of r (codes "expression")) what (deed_of what r a.session) r a why is
 
 -- a refusal is told
 reacts-refuses : (x : Reaction) (r : Request) (a b : Adapter) (why : Fault) (how : Flow) (old mid new : Outbox) → x ≡ refuses a why → IsSame a b → mid ≡ old
@@ -179,6 +207,15 @@ pub on-misread : {E : Type 0} (result : Result Flow E) (asked : Result Kind Faul
     → IfOk result (λ how. ReactsAs (reaction_to asked r a) r how a old new)
 on-misread (Ok how) asked why r a old new is flows tells = reacts-misread asked why r a how old new is flows tells
 on-misread (Err wrong) asked why r a old new is flows tells = tt
+
+-- ---- out of memory
+
+pub breaks-off : {T : Type 0} (asked : Result Deed Fault) (t new : Timeline) (result : Result T (Refused Fault)) → Leaves asked t new result
+    → IfMemory result (BreaksOff asked t new)
+breaks-off asked t new (Ok done) is = tt
+breaks-off asked t new (Err (refused.Fault why)) is = tt
+breaks-off (Ok deed) t new (Err refused.Memory) is = inr is
+breaks-off (Err wrong) t new (Err refused.Memory) is = inr is
 
 -- ---- a run, and what it tells
 

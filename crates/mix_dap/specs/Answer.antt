@@ -1,5 +1,7 @@
 -- What a request of a launched program is answered with.
-use Rattle.std.specs.Prelude.{◌≡◌, ℕ, List, [], ◌∷◌, codes, string_bytes, true, None, Result, Ok, Err}
+use Rattle.std.specs.Prelude.{◌≡◌, ℕ, List, [], ◌∷◌, ◌++◌, codes, string_bytes, true, None, Result, Ok, Err}
+use Rattle.std.specs.Str.Lossy.{utf8_lossy}
+use Rattle.mix_check.specs.Report.{report}
 use Rattle.serde_json.specs.Data.{Data, null, boolean, string, number, unsigned, object, no_members, put}
 use Rattle.mix_session.specs.Session.{SessionState}
 use Rattle.mix_session.specs.Timeline.{world_of}
@@ -10,6 +12,8 @@ use Rattle.mix_dap.specs.Counts.{counts_shown}
 use Rattle.mix_dap.specs.State.{state_asked}
 use Rattle.mix_dap.specs.Locations.{locations_asked}
 use Rattle.mix_dap.specs.Events.{Event, initialized}
+use Rattle.mix_dap.specs.Launched.{launched_of}
+use Rattle.mix_dap.specs.Output.{output}
 use Rattle.mix_dap.specs.Look.{short_name, threads, stack_trace, scopes, exception_of}
 use Rattle.mix_dap.specs.Memory.{memory_asked}
 use Rattle.mix_dap.specs.Disassembly.{disassembly_asked}
@@ -58,19 +62,32 @@ continued = object (put (codes "allThreadsContinued") (boolean true) no_members)
 abbrev pub value_body : List ℕ → Data
 value_body value = object (put (codes "value") (string value) no_members)
 
--- what an expression is worth, or what a line of the script replies
+-- what an expression is worth, or what is only said of a line of the console
 abbrev pub result_body : List ℕ → Data
 result_body text = object (put (codes "variablesReference") (number (unsigned 0)) (put (codes "result") (string text) no_members))
+
+-- what a line of the console replies, after the line of a script that was done for it
+abbrev pub line_body : List ℕ → List ℕ → Data
+line_body line text =
+    object (put (codes "variablesReference") (number (unsigned 0)) (put (codes "result") (string text) (put (codes "line") (string line) no_members)))
 
 -- a launch is done, unless a text of it is refused
 abbrev pub launch_shown : Result SessionState Fault → Result Data Fault
 launch_shown (Ok session) = Ok null
 launch_shown (Err why) = Err why
 
--- what a launch tells after its answer
-abbrev pub launch_events : Result SessionState Fault → List Event
-launch_events (Ok session) = initialized ∷ []
-launch_events (Err why) = []
+-- what there is to say of a source, as `mixrev check` writes it, if there is something
+abbrev pub report_told : List ℕ → List Event
+report_told [] = []
+report_told (byte ∷ text) = output (codes "stderr") (utf8_lossy (byte ∷ text)) ∷ []
+
+-- what a launch tells after its answer: its faults and warnings, and, if it is done, that the client may begin
+abbrev pub launch_events : List Event → Result SessionState Fault → List Event
+launch_events said (Ok session) = said ++ initialized ∷ []
+launch_events said (Err why) = said
+
+abbrev pub launch_told : Texts → List Event
+launch_told texts = launch_events (report_told (report (string_bytes texts.name) texts.source.items)) (launched_of texts)
 
 -- an adapter is as its launch asked: the names of its source, whether it stops at its beginning, no breakpoint, and no fault
 abbrev pub HasTexts : Adapter → Texts → Type 0

@@ -7,7 +7,9 @@ use Rattle.mixal_text.specs.Steps.{◌>>=◌}
 use Rattle.mixal_text.specs.WValue.{w_value_of}
 use Rattle.mixal_text.specs.declared.misread.Misread.{Misread}
 use Rattle.mix_word.specs.Register.{register_named}
+use Rattle.mix_word.specs.Table.{operation_named}
 use Rattle.mix_word.specs.Word.{WordValue, plus}
+use Rattle.mix_word.specs.declared.operation.Operation.{Operation}
 use Rattle.mix_word.specs.declared.register.Reg.{Reg}
 use Rattle.mix_machine.specs.declared.old.Change.TheVariants as change
 use Rattle.mix_machine.specs.declared.part.Part.{Part}
@@ -25,6 +27,7 @@ use Rattle.mix_session.specs.declared.fault.Refusal.TheVariants.{BadArgument}
 use Rattle.mix_session.specs.declared.request.Request.TheVariants as ask
 use Rattle.dap_message.specs.Request.{text_of, number_of}
 use Rattle.dap_message.specs.declared.request.Request.{Request}
+use Rattle.mix_dap.specs.Console.{line_meant, said_of}
 use Rattle.mix_dap.specs.Scope.{scope_of, part_of, flag_named}
 use Rattle.mix_dap.specs.Watch.{part_named}
 use Rattle.mix_dap.specs.declared.deed.Deed.{Deed}
@@ -93,11 +96,36 @@ is_text text (Some other) = bytes_eq other text
 abbrev pub is_console_of : Request → Bool
 is_console_of r = is_text (codes "repl") (text_of r (codes "context"))
 
+-- whether an act is a line of the console
+abbrev pub is_line : Act → Request → Bool
+is_line act.Step r = false
+is_line act.StepBack r = false
+is_line act.Continue r = false
+is_line act.StepOut r = false
+is_line act.ReverseContinue r = false
+is_line act.Begin r = false
+is_line act.Goto r = false
+is_line act.SetVariable r = false
+is_line act.SetExpression r = false
+is_line act.Evaluate r = is_console_of r
+
 -- a line of the script, as the session reads it
 abbrev pub line_deed : SessionState → List ℕ → Result Deed Fault
 line_deed s line = do
   request ← or_refusal (request_in s line)
   Ok (deed.Do request)
+
+-- a line of the console: nothing is done where something is only said
+abbrev pub deed_unless : Option (List ℕ) → Result Deed Fault → Result Deed Fault
+deed_unless None asked = asked
+deed_unless (Some text) asked = Ok deed.Nothing
+
+abbrev pub console_deed : SessionState → List ℕ → Result Deed Fault
+console_deed s typed = deed_unless (said_of s typed) (line_deed s (line_meant s typed))
+
+abbrev pub console_asked : SessionState → Option (List ℕ) → Result Deed Fault
+console_asked s None = Err fault.BadArgument
+console_asked s (Some typed) = console_deed s typed
 
 -- a register as the book writes it, with an r before its name
 abbrev pub register_written : List ℕ → Option Reg
@@ -144,18 +172,25 @@ set_expression_deed s r = do
   holder ← ok_or (holder_of (worth_of s text)) fault.NoSuchThing
   change_deed s holder value
 
--- an expression is only looked at, if it is worth anything
-abbrev pub looked_at : Option Worth → Result Deed Fault
-looked_at (Some worth) = Ok deed.Nothing
-looked_at None = Err (fault.Session BadArgument)
+-- the operation that the expression of a hover names, without the blanks around it
+abbrev pub hovered : Request → Option Operation
+hovered r =
+    if is_text (codes "hover") (text_of r (codes "context")) then option_and_then (λ text. operation_named (trim text)) (text_of r (codes "expression"))
+    else None
 
--- `evaluate`: in the console a line of the script, elsewhere an expression
+-- an expression is only looked at, if it is worth anything, or names an operation under a hover
+abbrev pub looked_at : Option Worth → Option Operation → Result Deed Fault
+looked_at (Some worth) operation = Ok deed.Nothing
+looked_at None (Some operation) = Ok deed.Nothing
+looked_at None None = Err (fault.Session BadArgument)
+
+-- `evaluate`, but for a line of the console
 unfoldable pub evaluate_deed : SessionState → Request → Result Deed Fault
 evaluate_deed s r = do
   text ← ok_or (text_of r (codes "expression")) fault.BadArgument
-  if is_console_of r then line_deed s text else looked_at (worth_of s text)
+  looked_at (worth_of s text) (hovered r)
 
--- what a request asks of the machine that moves or changes it
+-- what a request asks of the machine that moves or changes it, and is no line of the console
 abbrev pub deed_of : Act → Request → SessionState → Result Deed Fault
 deed_of act.Step r s = Ok deed.Step
 deed_of act.StepBack r s = Ok (deed.Do (ask.Back 1))
@@ -167,6 +202,10 @@ deed_of act.Goto r s = goto_deed (number_of r (codes "targetId"))
 deed_of act.SetVariable r s = set_deed s r
 deed_of act.SetExpression r s = set_expression_deed s r
 deed_of act.Evaluate r s = evaluate_deed s r
+
+-- or is one
+abbrev pub deed_asked : Act → Request → SessionState → Result Deed Fault
+deed_asked act r s = if is_line act r then console_asked s (text_of r (codes "expression")) else deed_of act r s
 
 -- what is done of it: a step is a run of one, that nothing stops
 abbrev pub effect_of_deed : Deed → Timeline → Effect

@@ -16,7 +16,7 @@ use Rattle.dap_stream.specs.Talk.{Talks}
 use Rattle.dap_stream.specs.declared.broken.Broken.{Broken}
 use Rattle.dap_stream.specs.declared.broken.Broken.TheVariants as broken
 use Rattle.dap_stream.specs.declared.hear.Heard.TheVariants as heard
-use Rattle.mix_dap.specs.Answer.{HasTexts, launch_events, launch_shown}
+use Rattle.mix_dap.specs.Answer.{HasTexts, launch_shown, launch_told}
 use Rattle.mix_dap.specs.Before.{AskedShows, IsLaunch, client_after}
 use Rattle.mix_dap.specs.Capabilities.{unknown_client}
 use Rattle.mix_dap.specs.Events.{AddsAnswer, Sends}
@@ -59,7 +59,7 @@ at_first = (waiting unknown_client, 0)
 -- it is answered, and what belongs to its answer is told
 abbrev pub Opens : Request → Texts → List Data → ℕ → ℕ → Type 0
 Opens request texts told before last = Launches request texts
-    × Sends told before last (λ old new. AddsAnswer (answer_message request (launch_shown (launched_of texts))) (launch_events (launched_of texts)) old new)
+    × Sends told before last (λ old new. AddsAnswer (answer_message request (launch_shown (launched_of texts))) (launch_told texts) old new)
 
 -- another request is answered
 abbrev pub Replied : Asked → Request → List Data → ℕ → ℕ → Type 0

@@ -1,5 +1,5 @@
 -- What an act leaves of the timeline.
-use Rattle.std.specs.Prelude.{◌≡◌, Option, None, Some, Result, Ok, Err}
+use Rattle.std.specs.Prelude.{◌≡◌, ◌⊎◌, Option, None, Some, Result, Ok, Err}
 use Rattle.std.specs.Option.{option_map}
 use Rattle.mix_refused.specs.declared.refused.Refused.{Refused}
 use Rattle.mix_refused.specs.declared.refused.Refused.TheVariants as refused
@@ -38,3 +38,7 @@ Leaves (Ok deed) t new result = Does (effect_of_deed deed t) t new result
 Leaves (Err wrong) t new (Ok done) = ⊥
 Leaves (Err wrong) t new (Err (refused.Fault fault)) = (new ≡ t) × (fault ≡ wrong)
 Leaves (Err wrong) t new (Err refused.Memory) = new ≡ t
+
+-- out of memory: nothing is done of it yet, or a stage of it stands
+abbrev pub BreaksOff : Result Deed Fault → Timeline → Timeline → Type 0
+BreaksOff asked t new = (new ≡ t) ⊎ Leaves {T = Fault} asked t new (Err refused.Memory)

@@ -7,7 +7,9 @@ pub mod Breakpoint
 pub mod Capabilities
 pub mod Change
 pub mod Check
+pub mod Comparison
 pub mod Completions
+pub mod Console
 pub mod Counts
 pub mod Decoded
 pub mod Deed
@@ -16,6 +18,7 @@ pub mod Disassembly
 pub mod Entries
 pub mod Events
 pub mod Fault
+pub mod Hover
 pub mod Kind
 pub mod Launch
 pub mod Launched

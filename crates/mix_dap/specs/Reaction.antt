@@ -12,18 +12,20 @@ use Rattle.mix_session.specs.Session.{SessionState}
 use Rattle.mix_session.specs.Timeline.{Timeline, world_of}
 use Rattle.mix_session.specs.declared.answer.Answer.{Answer}
 use Rattle.mix_session.specs.declared.request.Request.TheVariants as ask
+use Rattle.dap_message.specs.Request.{text_of as text_in}
 use Rattle.dap_message.specs.declared.request.Request.{Request}
-use Rattle.mix_dap.specs.Answer.{shown_of, continued, value_body, result_body}
+use Rattle.mix_dap.specs.Answer.{shown_of, continued, value_body, result_body, line_body}
 use Rattle.mix_dap.specs.Capabilities.{capabilities}
 use Rattle.mix_dap.specs.Check.{checked}
-use Rattle.mix_dap.specs.Deed.{deed_of, effect_of_deed, is_console_of}
+use Rattle.mix_dap.specs.Console.{line_meant, said_of}
+use Rattle.mix_dap.specs.Deed.{deed_of, effect_of_deed, is_line, line_deed}
 use Rattle.mix_dap.specs.Events.{Event, beginning, invalidated, stopped, terminated}
 use Rattle.mix_dap.specs.Leaves.{refusal_in}
 use Rattle.mix_dap.specs.Output.{all_told, outputs}
 use Rattle.mix_dap.specs.Points.{PointsState, points_after, points_told}
 use Rattle.mix_dap.specs.Runs.{word_at}
 use Rattle.mix_dap.specs.Stopped.{end_of, fault_at, only, why_of}
-use Rattle.mix_dap.specs.Value.{value_asked, worth_asked}
+use Rattle.mix_dap.specs.Value.{evaluated, value_asked, worth_asked}
 use Rattle.mix_dap.specs.Written.{bytes_written, with_cells, write_asked}
 use Rattle.mix_dap.specs.declared.adapter.Adapter.{Adapter}
 use Rattle.mix_dap.specs.declared.adapter.Then.{Then}
@@ -105,16 +107,6 @@ stepped answer b t = record (stays b t) {
   events = outputs b.printed (world_of t) ++ stopped (why_of (word_at b.points t) (end_of answer)) ∷ [];
 }
 
--- a line of the console, or another expression
-abbrev pub evaluated : Bool → Answer → Request → Beside → SessionState → Reaction
-evaluated true answer r b s = record (stays b s.timeline) {
-  fault = None;
-  printed = all_told (world_of s.timeline);
-  body = Ok (result_body (utf8_lossy (text_of answer s.program s.timeline)));
-  events = outputs b.printed (world_of s.timeline) ++ invalidated b.client;
-}
-evaluated false answer r b s = record (stays b s.timeline) { body = Ok (result_body (worth_asked s r)) }
-
 abbrev pub acted : Act → Answer → Request → Beside → SessionState → Reaction
 acted act.Step answer r b s = stepped answer b s.timeline
 acted act.StepBack answer r b s = stepped answer b s.timeline
@@ -126,7 +118,7 @@ acted act.Begin answer r b s = record (stays b s.timeline) { fault = None; event
 acted act.Goto answer r b s = record (stays b s.timeline) { events = stopped (only (codes "goto")) ∷ [] }
 acted act.SetVariable answer r b s = record (stays b s.timeline) { body = Ok (value_body (value_asked (world_of s.timeline) r)); events = invalidated b.client }
 acted act.SetExpression answer r b s = record (stays b s.timeline) { body = Ok (value_body (worth_asked s r)); events = invalidated b.client }
-acted act.Evaluate answer r b s = evaluated (is_console_of r) answer r b s
+acted act.Evaluate answer r b s = record (stays b s.timeline) { body = Ok (result_body (evaluated s r)) }
 
 -- unless the session refuses it
 abbrev pub unless : Option Fault → Act → Effect → Request → Adapter → Reaction
@@ -140,6 +132,42 @@ deed_done act deed r a = unless (refusal_in (effect_of_deed deed a.session.timel
 abbrev pub asked_done : Act → Result Deed Fault → Request → Adapter → Reaction
 asked_done act (Ok deed) r a = deed_done act deed r a
 asked_done act (Err why) r a = refuses a why
+
+-- ---- a line of the console
+
+-- something is only said of it
+abbrev pub said : List ℕ → Adapter → Reaction
+said text a = record (still a) { body = Ok (result_body (utf8_lossy text)) }
+
+-- the line of a script that it stands for, which the session has answered so
+abbrev pub replied : List ℕ → Answer → Beside → SessionState → Reaction
+replied line answer b s = record (stays b s.timeline) {
+  fault = None;
+  printed = all_told (world_of s.timeline);
+  body = Ok (line_body (utf8_lossy line) (utf8_lossy (text_of answer s.program s.timeline)));
+  events = outputs b.printed (world_of s.timeline) ++ invalidated b.client;
+}
+
+-- unless it is refused
+abbrev pub replied_unless : Option Fault → List ℕ → Effect → Adapter → Reaction
+replied_unless None line effect a = replied line effect.answer (beside a) (record { program = a.session.program; timeline = after effect })
+replied_unless (Some why) line effect a = refuses a why
+
+abbrev pub line_done : Result Deed Fault → List ℕ → Adapter → Reaction
+line_done (Ok deed) line a = replied_unless (refusal_in (effect_of_deed deed a.session.timeline)) line (effect_of_deed deed a.session.timeline) a
+line_done (Err why) line a = refuses a why
+
+abbrev pub said_or_done : Option (List ℕ) → List ℕ → Adapter → Reaction
+said_or_done (Some text) line a = said text a
+said_or_done None line a = line_done (line_deed a.session line) line a
+
+abbrev pub console : Option (List ℕ) → Adapter → Reaction
+console None a = refuses a fault.BadArgument
+console (Some typed) a = said_or_done (said_of a.session typed) (line_meant a.session typed) a
+
+-- an act, or a line of the console
+abbrev pub acts : Act → Request → Adapter → Reaction
+acts act r a = if is_line act r then console (text_in r (codes "expression")) a else asked_done act (deed_of act r a.session) r a
 
 -- ---- the rows
 
@@ -172,7 +200,7 @@ reaction kind.Cancel r a = still a
 reaction kind.Launch r a = refuses a fault.Launched
 reaction kind.Disconnect r a = record (still a) { later = then.End }
 reaction kind.Write r a = written (write_asked a.session r) a
-reaction (kind.Act act) r a = asked_done act (deed_of act r a.session) r a
+reaction (kind.Act act) r a = acts act r a
 
 -- by what it is about: one of no known name, or with an argument that is not what it has to be, is always refused
 abbrev pub reaction_to : Result Kind Fault → Request → Adapter → Reaction

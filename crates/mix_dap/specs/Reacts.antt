@@ -10,7 +10,7 @@ use Rattle.mix_session.specs.declared.reply.End.{End}
 use Rattle.mix_session.specs.declared.request.Request.TheVariants as ask
 use Rattle.dap_message.specs.declared.outbox.Outbox.{Outbox}
 use Rattle.dap_message.specs.declared.request.Request.{Request}
-use Rattle.mix_dap.specs.Deed.{deed_of}
+use Rattle.mix_dap.specs.Deed.{deed_asked}
 use Rattle.mix_dap.specs.Events.{AddsAnswer, AddsEvents, stopped}
 use Rattle.mix_dap.specs.Kind.{kind_asked}
 use Rattle.mix_dap.specs.Leaves.{Leaves}
@@ -94,7 +94,7 @@ Reacts r a how b old new = ReactsAs (reaction_to (kind_asked r) r a) r how b old
 abbrev pub Begins : Kind → Request → SessionState → Timeline → Type 0
 Begins kind.Restart r s new = Begun (effect_of s.timeline ask.BackAll) new
 Begins kind.Write r s new = WrittenSome (write_asked s r) s.timeline new
-Begins (kind.Act act) r s new = Leaves {T = Fault} (deed_of act r s) s.timeline new (Err refused.Memory)
+Begins (kind.Act act) r s new = Leaves {T = Fault} (deed_asked act r s) s.timeline new (Err refused.Memory)
 Begins other r s new = new ≡ s.timeline
 
 -- or a part of the run that follows it

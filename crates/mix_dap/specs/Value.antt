@@ -4,6 +4,7 @@ use Rattle.std.specs.Str.{trim_end}
 use Rattle.mix_word.specs.Word.{WordValue}
 use Rattle.mix_word.specs.Text.{word_text, location_text}
 use Rattle.mix_word.specs.Instruction.{number_text}
+use Rattle.mix_word.specs.declared.operation.Operation.{Operation}
 use Rattle.mix_word.specs.declared.register.Reg.{Reg}
 use Rattle.mix_machine.specs.World.{WorldState, register_of, cell_of}
 use Rattle.mix_machine.specs.declared.part.Part.{Part}
@@ -15,7 +16,8 @@ use Rattle.mix_session.specs.ShowUnit.{characters_text}
 use Rattle.mix_session.specs.Timeline.{world_of}
 use Rattle.dap_message.specs.Request.{text_of, number_of}
 use Rattle.dap_message.specs.declared.request.Request.{Request}
-use Rattle.mix_dap.specs.Deed.{worth_of}
+use Rattle.mix_dap.specs.Deed.{hovered, worth_of}
+use Rattle.mix_dap.specs.Hover.{sentence}
 use Rattle.mix_dap.specs.Layout.{in_four_digits}
 use Rattle.mix_dap.specs.Scope.{scope_of, part_of}
 use Rattle.mix_dap.specs.declared.deed.Worth.{Worth}
@@ -76,6 +78,18 @@ text_of_worth w (Some worth) = worth_text w worth
 abbrev pub expression_asked : SessionState → Request → Option Worth
 expression_asked s r = option_and_then (worth_of s) (text_of r (codes "expression"))
 
--- the answer to `evaluate`, but for a line of the script, and to `setExpression`
+-- the answer to `setExpression`
 abbrev pub worth_asked : SessionState → Request → List ℕ
 worth_asked s r = text_of_worth (world_of s.timeline) (expression_asked s r)
+
+-- the answer to `evaluate`, but for a line of the console: what the expression is worth, or else what the operation does that a hover names
+abbrev pub sentence_of : Option Operation → List ℕ
+sentence_of None = []
+sentence_of (Some operation) = sentence operation
+
+abbrev pub looked_text : Option Worth → SessionState → Request → List ℕ
+looked_text None s r = sentence_of (hovered r)
+looked_text (Some worth) s r = worth_text (world_of s.timeline) worth
+
+abbrev pub evaluated : SessionState → Request → List ℕ
+evaluated s r = looked_text (expression_asked s r) s r

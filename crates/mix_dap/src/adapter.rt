@@ -3,7 +3,7 @@
 ghost use Rattle.std.specs.Prelude.{◌≡◌, IfErr, IfOk, IfNone, IfSome, IsErr, OnErr, OnOk, Ok};
 ghost use Rattle.dap_message.specs.Message.{refusal_message, Adds};
 ghost use Rattle.mix_dap.specs.Kind.{kind_asked};
-ghost use Rattle.mix_dap.specs.Answer.{HasTexts, launch_events, launch_shown};
+ghost use Rattle.mix_dap.specs.Answer.{HasTexts, launch_shown, launch_told};
 ghost use Rattle.mix_dap.specs.Events.{AddsAnswer};
 ghost use Rattle.mix_dap.specs.Fault.{fault_number, fault_text, fault_place};
 ghost use Rattle.mix_dap.specs.Launched.{launched_of};
@@ -14,6 +14,7 @@ ghost use Rattle.mix_dap.specs.Replies.{answer_message};
 
 mod act;
 mod answer;
+mod console;
 mod ends;
 mod legs;
 mod run;
@@ -29,6 +30,7 @@ use crate::launch::{Texts, session_of};
 use crate::list::nothing;
 use crate::points::Points;
 use crate::printed::Printed;
+use crate::report::tell_report;
 use crate::waiting::Waiting;
 use dap_message::{Outbox, Request};
 use mix_machine::MixFault;
@@ -110,17 +112,19 @@ impl Adapter {
         ensures texts { IfOk result (λ o. IfSome o (λ a. HasTexts a texts)) }
         ensures client { IfOk result (λ o. IfSome o (λ a. a.client ≡ waiting.now.client)) }
         ensures printed { IfOk result (λ o. IfSome o (λ a. a.printed ≡ none_told)) }
-        ensures prints { OnOk result (AddsAnswer (answer_message request.now (launch_shown (launched_of texts))) (launch_events (launched_of texts)) out.old out.new) }
+        ensures prints { OnOk result (AddsAnswer (answer_message request.now (launch_shown (launched_of texts))) (launch_told texts) out.old out.new) }
     {
         let session = match session_of(alloc, &texts) {
             Ok(session) => session,
             Err(Refused::Fault(fault)) => {
                 refuse(alloc, request, fault, out)?;
+                tell_report(alloc, &texts, out)?;
                 return Ok(None);
             }
             Err(Refused::Memory) => return Err(Memory),
         };
         out.reply(request, nothing())?;
+        tell_report(alloc, &texts, out)?;
         tell_event("initialized", out)?;
         Ok(Some(Adapter {
             alloc,

@@ -2,7 +2,7 @@
 
 ghost use Rattle.std.specs.Prelude.{◌≡◌, codes};
 ghost use Rattle.dap_message.specs.Request.{text_of, number_of};
-ghost use Rattle.mix_dap.specs.Deed.{or_refusal, goto_cell, goto_deed, is_settable, scope_asked, settable_part, change_deed, set_deed, is_console_of, line_deed, register_written, unless_unit, part_meant, worth_by, worth_in, worth_of, holder_of, set_expression_deed, looked_at, evaluate_deed, deed_of};
+ghost use Rattle.mix_dap.specs.Deed.{or_refusal, goto_cell, goto_deed, is_settable, scope_asked, settable_part, change_deed, set_deed, hovered, line_deed, register_written, unless_unit, part_meant, worth_by, worth_in, worth_of, holder_of, set_expression_deed, looked_at, evaluate_deed, deed_of};
 
 use crate::fault::Fault;
 use crate::kind::Act;
@@ -11,6 +11,7 @@ use crate::watch::part_named;
 use dap_message::Request;
 use mix_machine::{Change, Part, Place, Reg, Sign, Word};
 use mix_session::{Refusal, Session};
+use mix_word::{Operation, named};
 use mixal_text::w_value;
 
 /// What is asked of the machine.
@@ -33,7 +34,7 @@ pub(crate) enum Worth {
     Held(Part),
 }
 
-/// What a request asks of the machine that moves or changes it, or why it is refused.
+/// What a request asks of the machine that moves or changes it, and is no line of the console, or why it is refused.
 pub(crate) fn deed_of(act: Act, request: &Request, session: &Session) -> Result<Deed, Fault>
     ensures { result ≡ deed_of act request.now session.now }
 {
@@ -139,35 +140,41 @@ fn holder_of(worth: Option<Worth>) -> Option<Part>
     }
 }
 
-// In the console a line of the script, elsewhere an expression.
+// An expression that is no line of the console.
 #[tactic(auto, unfolding(crate::specs::Deed::evaluate_deed))]
 fn evaluate_deed(request: &Request, session: &Session) -> Result<Deed, Fault>
     ensures { result ≡ evaluate_deed session.now request.now }
 {
     let text = request.text("expression").ok_or(Fault::BadArgument)?;
-    if is_console(request) {
-        line_deed(session, text)
-    } else {
-        looked_at(worth_of(session, text))
-    }
+    looked_at(worth_of(session, text), hovered(request))
 }
 
-// A line of the script, as the session reads it.
-fn line_deed(session: &Session, line: &str) -> Result<Deed, Fault>
+/// A line of the script, as the session reads it.
+pub(crate) fn line_deed(session: &Session, line: &[u8]) -> Result<Deed, Fault>
     ensures { result ≡ line_deed session.now line.now }
 {
-    match session.read(line.as_bytes()) {
+    match session.read(line) {
         Ok(request) => Ok(Deed::Do(request)),
         Err(refusal) => Err(Fault::Session(refusal)),
     }
 }
 
-fn looked_at(worth: Option<Worth>) -> Result<Deed, Fault>
-    ensures { result ≡ looked_at worth }
+fn looked_at(worth: Option<Worth>, operation: Option<Operation>) -> Result<Deed, Fault>
+    ensures { result ≡ looked_at worth operation }
 {
-    match worth {
-        Some(_) => Ok(Deed::Nothing),
-        None => Err(Fault::Session(Refusal::BadArgument)),
+    match (worth, operation) {
+        (None, None) => Err(Fault::Session(Refusal::BadArgument)),
+        (Some(_), _) | (None, Some(_)) => Ok(Deed::Nothing),
+    }
+}
+
+/// The operation that the expression of a hover names.
+pub(crate) fn hovered(request: &Request) -> Option<Operation>
+    ensures { result ≡ hovered request.now }
+{
+    match request.text("context") {
+        Some("hover") => named(request.text("expression")?.trim().as_bytes()),
+        _ => None,
     }
 }
 
@@ -218,15 +225,5 @@ fn unless_unit(part: Part) -> Option<Part>
         Part::Register(_) | Part::Over | Part::Cmp | Part::Loc | Part::Clock | Part::Cell(_) => {
             Some(part)
         }
-    }
-}
-
-/// Whether an expression is from the console.
-pub(crate) fn is_console(request: &Request) -> bool
-    ensures { result ≡ is_console_of request.now }
-{
-    match request.text("context") {
-        Some(context) => context == "repl",
-        None => false,
     }
 }

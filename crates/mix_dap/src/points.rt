@@ -6,7 +6,9 @@ ghost use Rattle.mix_session.specs.Stops.{is_awaited};
 ghost use Rattle.mix_dap.specs.Points.{no_points, is_filter, passes, reason_at, with_arrivals, with_lines, lines_told, with_instructions, instructions_told, with_watched, watched_told, with_filters, filters_told};
 ghost use Rattle.mix_dap.specs.Runs.{stops_of};
 
+mod amount;
 mod breakpoint;
+mod comparison;
 mod entry;
 mod filters;
 mod joined;

@@ -2,15 +2,16 @@
 
 ghost use Rattle.std.specs.Prelude.{◌≡◌, ◌<◌, Some, None, IfOk, nat_lt, if◌then◌else◌, string_bytes};
 ghost use Rattle.mix_session.specs.Differences.{held_text};
-ghost use Rattle.mix_dap.specs.Value.{cell_name, word_value, register_value, row_characters, part_value, value_of_part, variable_named, variable_asked, value_asked, worth_text, text_of_worth, expression_asked, worth_asked};
+ghost use Rattle.mix_dap.specs.Value.{cell_name, word_value, register_value, row_characters, part_value, value_of_part, variable_named, variable_asked, value_asked, worth_text, text_of_worth, evaluated, expression_asked, sentence_of, worth_asked};
 
-use crate::deed::{Worth, worth_of};
+use crate::deed::{Worth, hovered, worth_of};
+use crate::hover::sentence;
 use crate::scope::{part_of, scope_of};
 use dap_message::Request;
 use mix_machine::{Part, Place, Reg, Word, World};
 use mix_refused::Memory;
 use mix_session::{Altered, Characters, Held, Session};
-use mix_word::Number;
+use mix_word::{Number, Operation};
 use std::alloc::Global;
 
 /// A word: its sign and bytes, and its number.
@@ -119,6 +120,29 @@ pub(crate) fn worth_asked(
 {
     match expression_asked(session, request) {
         Some(worth) => worth_text(alloc, session.world(), &worth),
+        None => Ok(String::new(alloc)),
+    }
+}
+
+/// The same, or what the operation does that a hover names.
+pub(crate) fn evaluated(
+    alloc: Global,
+    session: &Session,
+    request: &Request,
+) -> Result<String, Memory>
+    ensures { IfOk result (λ s. string_bytes s ≡ evaluated session.now request.now) }
+{
+    match expression_asked(session, request) {
+        Some(worth) => worth_text(alloc, session.world(), &worth),
+        None => sentence_of(alloc, hovered(request)),
+    }
+}
+
+fn sentence_of(alloc: Global, operation: Option<Operation>) -> Result<String, Memory>
+    ensures { IfOk result (λ s. string_bytes s ≡ sentence_of operation) }
+{
+    match operation {
+        Some(operation) => sentence(alloc, operation),
         None => Ok(String::new(alloc)),
     }
 }

@@ -1,17 +1,19 @@
 //! What moves the machine or changes it: it is read into values, done by the session, and told.
 
 ghost use Rattle.std.specs.Prelude.{◌≡◌, IfOk, OnErr};
+ghost use Rattle.mix_refused.specs.Refused.{IfMemory};
 ghost use Rattle.mix_session.specs.Command.{after, effect_of, effect_of_run, Begun};
 ghost use Rattle.mix_session.specs.Stops.{no_stops};
 ghost use Rattle.mix_session.specs.declared.command.stops.Way.TheVariants as ways;
 ghost use Rattle.mix_session.specs.declared.request.Request.TheVariants.{BackAll};
-ghost use Rattle.mix_dap.specs.Deed.{deed_of, effect_of_deed};
-ghost use Rattle.mix_dap.specs.Leaves.{Does, Leaves, unless_refused};
-ghost use Rattle.mix_dap.specs.Reaction.{asked_done, beside, deed_done, restarted, written};
+ghost use Rattle.mix_dap.specs.Deed.{deed_asked, effect_of_deed};
+ghost use Rattle.mix_dap.specs.Leaves.{BreaksOff, Does, unless_refused};
+ghost use Rattle.mix_dap.specs.Reaction.{acts, beside, deed_done, restarted, written};
 ghost use Rattle.mix_dap.specs.Reacts.{Answered, AnsweredOr, Keeps};
 ghost use Rattle.mix_dap.specs.Written.{Writes, write_asked};
 
 use crate::adapter::{Adapter, Then};
+use crate::console::is_line;
 use crate::deed::{Deed, deed_of};
 use crate::fault::Fault;
 use crate::kind::Act;
@@ -31,9 +33,12 @@ impl Adapter {
         ensures keeps { Keeps self.old self.new }
         ensures program { self.new.session.program ≡ self.old.session.program }
         ensures first { self.new.session.timeline.first ≡ self.old.session.timeline.first }
-        ensures leaves { Leaves (deed_of act request.now self.old.session) self.old.session.timeline self.new.session.timeline result }
-        ensures reacts { AnsweredOr (asked_done act (deed_of act request.now self.old.session) request.now self.old) request.now self.old self.new out.old out.new result }
+        ensures begun { IfMemory result (BreaksOff (deed_asked act request.now self.old.session) self.old.session.timeline self.new.session.timeline) }
+        ensures reacts { AnsweredOr (acts act request.now self.old) request.now self.old self.new out.old out.new result }
     {
+        if is_line(act, request) {
+            return self.console(request, out);
+        }
         match deed_of(act, request, &self.session) {
             Ok(deed) => self.act_on(act, deed, request, out),
             Err(fault) => Err(Refused::Fault(fault)),
@@ -95,8 +100,8 @@ impl Adapter {
     }
 }
 
-// What is asked of the machine is done by the session: its answer, unless that is a refusal.
-fn done(session: &mut Session, deed: Deed) -> Result<Answer, Refused<Fault>>
+/// What is asked of the machine is done by the session: its answer, unless that is a refusal.
+pub(crate) fn done(session: &mut Session, deed: Deed) -> Result<Answer, Refused<Fault>>
     ensures program { session.new.program ≡ session.old.program }
     ensures first { session.new.timeline.first ≡ session.old.timeline.first }
     ensures does { Does (effect_of_deed deed session.old.timeline) session.old.timeline session.new.timeline result }

@@ -1,20 +1,20 @@
 //! What was done is told: the request is answered, and then comes what the client has to know.
 #![tactic(auto, using(crate::proofs::EventLemmas::answering))]
 
-ghost use Rattle.std.specs.Prelude.{◌≡◌, [], true, Ok, IfOk, OnOk};
+ghost use Rattle.std.specs.Prelude.{◌≡◌, [], Ok, IfOk, OnOk};
+ghost use Rattle.std.specs.Str.Lossy.{utf8_lossy};
 ghost use Rattle.mix_session.specs.Timeline.{world_of};
-ghost use Rattle.mix_dap.specs.Answer.{value_body, result_body};
+ghost use Rattle.mix_dap.specs.Answer.{line_body, result_body, value_body};
 ghost use Rattle.mix_dap.specs.Events.{AddsAnswer, invalidated};
-ghost use Rattle.mix_dap.specs.Reaction.{acted, beside, evaluated, restarted, stepped};
+ghost use Rattle.mix_dap.specs.Reaction.{acted, beside, replied, restarted, stepped};
 ghost use Rattle.mix_dap.specs.Reacts.{Answered, Keeps};
 ghost use Rattle.mix_dap.specs.Replies.{answer_message};
 ghost use Rattle.mix_dap.specs.Stopped.{end_of};
 
 use crate::adapter::{Adapter, Then, Way};
-use crate::deed::is_console;
 use crate::kind::Act;
 use crate::list::nothing;
-use crate::value::{value_asked, worth_asked};
+use crate::value::{evaluated, value_asked, worth_asked};
 use dap_message::{Fields, Outbox, Request};
 use mix_machine::Reg;
 use mix_refused::Memory;
@@ -73,9 +73,8 @@ impl Adapter {
                 self.tell_value(value.as_str(), request, out)?;
                 Ok(Then::Wait)
             }
-            Act::Evaluate if is_console(request) => self.tell_command(answer, request, out),
             Act::Evaluate => {
-                let text = worth_asked(self.alloc, &self.session, request)?;
+                let text = evaluated(self.alloc, &self.session, request)?;
                 self.tell_result(text.as_str(), request, out)?;
                 Ok(Then::Wait)
             }
@@ -109,23 +108,56 @@ impl Adapter {
     }
 
     // The reply to a line of the script, and what it has written.
-    fn tell_command(
+    pub(crate) fn tell_command(
         &mut self,
+        line: &[u8],
         answer: Answer,
         request: &Request,
         out: &mut Outbox,
     ) -> Result<Then, Memory>
         ensures keeps { Keeps self.old self.new }
         ensures session { self.new.session ≡ self.old.session }
-        ensures reacts { IfOk result (λ then. Answered (evaluated true answer request.now (beside self.old) self.old.session) request.now self.new then out.old out.new) }
+        ensures reacts { IfOk result (λ then. Answered (replied line.now answer (beside self.old) self.old.session) request.now self.new then out.old out.new) }
     {
         self.fault = None;
         let text = self.session.text(&answer)?;
-        let text = String::from_utf8_lossy(self.alloc, text.as_slice())?;
-        self.tell_result(text.as_str(), request, out)?;
+        self.tell_reply(line, text.as_slice(), request, out)?;
         self.printed.tell(self.alloc, self.session.world(), out)?;
         self.invalidated(out)?;
         Ok(Then::Wait)
+    }
+
+    // A line of the script, and its reply.
+    fn tell_reply(
+        &self,
+        line: &[u8],
+        text: &[u8],
+        request: &Request,
+        out: &mut Outbox,
+    ) -> Result<(), Memory>
+        ensures { OnOk result (AddsAnswer (answer_message request.now (Ok (line_body (utf8_lossy line.now) (utf8_lossy text.now)))) [] out.old out.new) }
+    {
+        let line = String::from_utf8_lossy(self.alloc, line)?;
+        let text = String::from_utf8_lossy(self.alloc, text)?;
+        let mut body = Fields::new(self.alloc);
+        body.text("line", line.as_str())?;
+        body.text("result", text.as_str())?;
+        body.number("variablesReference", 0)?;
+        out.reply(request, body.done())?;
+        Ok(())
+    }
+
+    // What is only said of a line of the console.
+    pub(crate) fn tell_said(
+        &self,
+        text: &[u8],
+        request: &Request,
+        out: &mut Outbox,
+    ) -> Result<(), Memory>
+        ensures { OnOk result (AddsAnswer (answer_message request.now (Ok (result_body (utf8_lossy text.now)))) [] out.old out.new) }
+    {
+        let text = String::from_utf8_lossy(self.alloc, text)?;
+        self.tell_result(text.as_str(), request, out)
     }
 
     fn tell_result(&self, text: &str, request: &Request, out: &mut Outbox) -> Result<(), Memory>

@@ -4,12 +4,12 @@ ghost use Rattle.std.specs.Prelude.{◌≡◌, map};
 ghost use Rattle.std.specs.Option.{option_map};
 ghost use Rattle.std.specs.List.{list_any};
 ghost use Rattle.serde_json.specs.View.{view};
-ghost use Rattle.mix_dap.specs.Breakpoint.{is_zero, is_unequal, is_nonzero, is_worth, holds, arrives, with_arrival, stops, unless_blank, written_in, condition_in, count_by, count_in, breakpoint_at, flaw_text};
+ghost use Rattle.mix_dap.specs.Breakpoint.{holds, arrives, with_arrival, stops, unless_blank, written_in, condition_in, count_by, count_in, breakpoint_at, flaw_text};
 
-use crate::deed::{Worth, worth_of};
+use crate::points::comparison::{Comparison, comparison_in};
 use crate::points::entry::text_in;
 use mix_lines::long_number;
-use mix_machine::{Cmp, Part, Place, Word, World};
+use mix_machine::{Place, World};
 use mix_session::Session;
 use serde_json::Value;
 
@@ -17,8 +17,8 @@ use serde_json::Value;
 #[derive(Clone, Copy)]
 pub(crate) struct Breakpoint {
     pub cell: Place,
-    /// What it is to be worth, at an arrival that counts.
-    pub condition: Option<Worth>,
+    /// What is to hold at an arrival that counts.
+    pub condition: Option<Comparison>,
     /// How many arrivals more it takes until it stops a run.
     pub left: u64,
 }
@@ -30,7 +30,7 @@ pub(crate) enum Flaw {
     NoWord,
     /// There is no cell of its reference.
     NoCell,
-    /// Its condition is worth nothing.
+    /// Its condition says nothing that can hold.
     NoCondition,
     /// Its hit count is no number, or 0.
     NoCount,
@@ -98,53 +98,12 @@ pub(crate) fn stop_any(points: &[Breakpoint], world: &World) -> bool
 }
 
 // Without a condition, it always holds.
-fn holds(world: &World, condition: Option<Worth>) -> bool
+fn holds(world: &World, condition: Option<Comparison>) -> bool
     ensures { result ≡ holds world.now condition }
 {
     match condition {
         None => true,
-        Some(worth) => is_worth(world, worth),
-    }
-}
-
-// Whether a value is not 0.
-fn is_worth(world: &World, worth: Worth) -> bool
-    ensures { result ≡ is_worth world.now worth }
-{
-    match worth {
-        Worth::Word(word) => !is_zero(word),
-        Worth::Held(part) => is_nonzero(world, part),
-    }
-}
-
-// Whether a part of the machine holds another value than 0; a unit holds more than a value.
-fn is_nonzero(world: &World, part: Part) -> bool
-    ensures { result ≡ is_nonzero world.now part }
-{
-    match part {
-        Part::Register(register) => !is_zero(world.register(register)),
-        Part::Over => world.over(),
-        Part::Cmp => is_unequal(world.cmp()),
-        Part::Loc => !(world.loc() == 0),
-        Part::Clock => !(world.clock() == 0),
-        Part::Cell(place) => !is_zero(world.cell(place)),
-        Part::Unit(_) => false,
-    }
-}
-
-// -0 is 0 too.
-fn is_zero(word: Word) -> bool
-    ensures { result ≡ is_zero word }
-{
-    word.magnitude() == 0
-}
-
-fn is_unequal(cmp: Cmp) -> bool
-    ensures { result ≡ is_unequal cmp }
-{
-    match cmp {
-        Cmp::Less | Cmp::Greater => true,
-        Cmp::Equal => false,
+        Some(comparison) => comparison.holds(world),
     }
 }
 
@@ -183,15 +142,15 @@ fn unless_blank(text: &str) -> Option<&str>
     }
 }
 
-// What a watch of a text shows.
-fn condition_in(session: &Session, text: Option<&str>) -> Result<Option<Worth>, Flaw>
+// What a text says is to hold.
+fn condition_in(session: &Session, text: Option<&str>) -> Result<Option<Comparison>, Flaw>
     ensures { result ≡ condition_in session.now (option_map (λ t. t.now) text.entry) }
 {
     match text {
         None => Ok(None),
-        Some(text) => match worth_of(session, text) {
+        Some(text) => match comparison_in(session, text) {
             None => Err(Flaw::NoCondition),
-            Some(worth) => Ok(Some(worth)),
+            Some(comparison) => Ok(Some(comparison)),
         },
     }
 }

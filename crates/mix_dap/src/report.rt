@@ -1,0 +1,46 @@
+//! What there is to say of the source of a launch, told to its client.
+
+ghost use Rattle.std.specs.Prelude.{[], ◌∷◌, OnOk, codes, string_bytes};
+ghost use Rattle.std.specs.Str.Lossy.{utf8_lossy};
+ghost use Rattle.mix_check.specs.Report.{report};
+ghost use Rattle.mix_dap.specs.Answer.{report_told};
+ghost use Rattle.mix_dap.specs.Events.{AddsEvents};
+ghost use Rattle.mix_dap.specs.Output.{output};
+
+use crate::launch::Texts;
+use dap_message::Outbox;
+use mix_check::add_report;
+use mix_refused::Memory;
+use std::alloc::Global;
+
+/// Tells the faults and the warnings of the source, as `mixrev check` writes them.
+pub(crate) fn tell_report(alloc: Global, texts: &Texts, out: &mut Outbox) -> Result<(), Memory>
+    ensures { OnOk result (AddsEvents (report_told (report (string_bytes texts.now.name) texts.now.source.items)) out.old out.new) }
+{
+    let mut text = Vec::new(alloc);
+    add_report(
+        alloc,
+        texts.name.as_str(),
+        texts.source.as_slice(),
+        &mut text,
+    )?;
+    tell_text(alloc, text.as_slice(), out)
+}
+
+#[tactic(auto, using(crate::proofs::EventLemmas::events))]
+fn tell_text(alloc: Global, text: &[u8], out: &mut Outbox) -> Result<(), Memory>
+    ensures { OnOk result (AddsEvents (report_told text.now) out.old out.new) }
+{
+    match text.split_first() {
+        None => Ok(()),
+        Some(_) => tell_lossy(alloc, text, out),
+    }
+}
+
+fn tell_lossy(alloc: Global, text: &[u8], out: &mut Outbox) -> Result<(), Memory>
+    ensures { OnOk result (AddsEvents (output (codes "stderr") (utf8_lossy text.now) ∷ []) out.old out.new) }
+{
+    let text = String::from_utf8_lossy(alloc, text)?;
+    out.output("stderr", text.as_str())?;
+    Ok(())
+}
