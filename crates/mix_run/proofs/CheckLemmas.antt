@@ -1,5 +1,5 @@
 -- What is said of a source shows in its first bytes, one more than it may have.
-use Rattle.std.proofs.Common.{◌≡◌, ℕ, Bool, true, false, not, ◌≤◌, cond, ltb, List, [], ◌∷◌, ◌++◌, length, take, flat_map, None, refl, ap, ◌∙◌, arith}
+use Rattle.std.proofs.Common.{◌≡◌, ℕ, Bool, true, false, not, ◌≤◌, ltb, List, [], ◌∷◌, ◌++◌, length, take, flat_map, None, refl, ap, ◌∙◌, arith}
 use Rattle.std.specs.List.{list_any}
 use Rattle.std.specs.Prelude.{if◌then◌else◌}
 use Rattle.std.proofs.lemmas.Bool.{ltb-false}

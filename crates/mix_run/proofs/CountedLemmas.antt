@@ -2,8 +2,11 @@
 use Rattle.std.proofs.Common.{◌≡◌, ◌<◌, ◌≤◌, ◌+◌, ◌-◌, ◌==◌, ◌&&◌, ℕ, zero, suc, Bool, true, false, List, [], ◌++◌, refl, sym, ap, arith, append_assoc}
 use Rattle.std.proofs.lemmas.List.{append-nil}
 use Rattle.mixal_asm.specs.Program.{ProgramValue}
-use Rattle.std.proofs.Common.{Option, Ok, Err, codes}
+use Rattle.std.proofs.Common.{Option, Ok, Err, codes, ◌∙◌}
 use Rattle.std.specs.Io.KnownBytes.{Appends}
+use Rattle.mix_stream.specs.Stream.{AppendsFront}
+use Rattle.mix_run.specs.declared.fault.ToolFault.TheVariants as faults
+use Rattle.mix_machine.specs.World.{WorldState}
 use Rattle.mix_machine.specs.units.Units.{UnitsState}
 use Rattle.mix_session.specs.Command.{after}
 use Rattle.mix_session.specs.Counts.{tally_at}
@@ -12,16 +15,18 @@ use Rattle.mix_session.specs.Tally.{tally_in}
 use Rattle.mix_session.specs.Timeline.{Timeline, world_of}
 use Rattle.mix_session.specs.declared.tally.Tally.{Tally}
 use Rattle.mix_run.specs.Counted.{count_names, count_row, count_rows, count_rows_at, counted_run, counted_steps, counts_table, end_of}
-use Rattle.mix_run.specs.Print.{ended}
-use Rattle.mix_run.specs.PrintOutput.{PrintOutcome, Prints, counted_outcome, ran_to}
+use Rattle.mix_run.specs.Drawn.{DrawnIf}
+use Rattle.mix_run.specs.Keep.{kept_if}
+use Rattle.mix_run.specs.Print.{counted}
+use Rattle.mix_run.specs.PrintOutput.{Leaves, came_to, counted_outcome, ran_to}
 use Rattle.mix_run.specs.Table.{FieldValue, footer_text, header_text, row_text, rows_text, table_text}
-use Rattle.mix_run.specs.declared.fault.ToolFault.TheVariants as faults
 use Rattle.mix_run.specs.declared.print.PrintAnswer.TheVariants.{Ran}
-use Rattle.mix_run.specs.declared.print.loaded.RanTo.{RanTo}
+use Rattle.mix_run.specs.declared.print.PrintAnswer.{PrintAnswer}
+use Rattle.mix_run.specs.declared.print.Printed.{Printed}
 use Rattle.mix_run.specs.declared.print.options.PrintOptions.{PrintOptions}
 use Rattle.mix_run.specs.declared.print.steps.RunEnd.{RunEnd}
+use Rattle.mix_run.specs.declared.print.steps.Stepped.{Stepped}
 use Rattle.mix_run.specs.declared.table.TableFormat.{TableFormat}
-use Rattle.mix_run.proofs.Written.{Appends-nothing}
 
 -- the row of a cell, if it has one, and then those of the cells after it
 rows-cell : (format : TableFormat) (names : List FieldValue) (first : Bool) (program : ProgramValue) (tally : Tally) (p : ℕ) (rest : List (List FieldValue))
@@ -74,15 +79,44 @@ table-made format program t names cells none begun filled whole en named same eb
     rw (ew, ef, eb, en, named, rows)
     (append_assoc (header_text format (codes "rrrr") count_names) (rows_text format count_names true (count_rows program (tally_at t) 0 4000)) (footer_text format))
 
--- no memory, and nothing written
-pub no-bytes : (outcome : PrintOutcome) (told : Option (List ℕ)) → Prints outcome (Err faults.Memory) told told
-no-bytes outcome told = (0, omega arith, Appends-nothing told)
+-- the table of a session after its steps, where they led, and what is left
+pub counted-made : (format : TableFormat) (options : PrintOptions) (s0 s : SessionState) (end : RunEnd) (stepped : Stepped) (w : WorldState) (text deck map : List ℕ)
+    (answer : PrintAnswer) (p : ProgramValue) → s.program ≡ s0.program → s.timeline ≡ after (counted_steps options.steps s0.timeline)
+    → end ≡ end_of (counted_steps options.steps s0.timeline).answer → stepped.end ≡ end → stepped.conflicts ≡ counted [] → w ≡ world_of s.timeline → p ≡ s.program
+    → text ≡ counts_table format s.program s.timeline → answer ≡ Ran (came_to p stepped.end w stepped.conflicts) → deck ≡ kept_if options.keep w
+    → DrawnIf options.map s.program s.timeline [] map
+    → let run = counted_run format options.steps s0 in
+    (text ≡ run.bytes) × (answer ≡ Ran (ran_to s0.program run)) × (deck ≡ kept_if options.keep run.world)
+    × DrawnIf options.map s0.program (after (counted_steps options.steps s0.timeline)) [] map
+unfolding counted_run
+counted-made format options s0 s end stepped w text deck map answer p same steps ends is none stands here table leads keeps drawn = (
+  table ∙ rw (same, steps) refl,
+  leads ∙ rw (here, same, is, ends, none, stands, steps) refl,
+  keeps ∙ rw (stands, steps) refl,
+  rw (same, steps) at drawn,
+)
 
--- the table of a session after its steps, and where they led
-pub counted-answers : (format : TableFormat) (options : PrintOptions) (program : ProgramValue) (units : UnitsState) (s0 s : SessionState) (end : RunEnd) (ran : RanTo)
-    (text : List ℕ) (old new : Option (List ℕ)) → s0 ≡ opened program units → s.program ≡ s0.program → s.timeline ≡ after (counted_steps options.steps s0.timeline)
-    → end ≡ end_of (counted_steps options.steps s0.timeline).answer → ran ≡ ran_to s.program (ended end (world_of s.timeline))
-    → text ≡ counts_table format s.program s.timeline → Appends old new text → Prints (counted_outcome format options program units) (Ok (Ran ran)) old new
-unfolding counted_outcome counted_run opened
-counted-answers format options program units s0 s end ran text old new opens same steps ends leads table told =
-    (rw (leads, same, steps, ends, opens) refl, rw (table, same, steps, opens) at told)
+-- all of it is written
+pub counted-leaves : (format : TableFormat) (options : PrintOptions) (program : ProgramValue) (units : UnitsState) (s0 : SessionState) (text : List ℕ) (printed : Printed)
+    (a b : Option (List ℕ)) (n m : ℕ) → s0 ≡ opened program units
+    → (let run = counted_run format options.steps s0 in
+    (text ≡ run.bytes) × (printed.answer ≡ Ran (ran_to s0.program run)) × (printed.deck.items ≡ kept_if options.keep run.world)
+    × DrawnIf options.map s0.program (after (counted_steps options.steps s0.timeline)) [] printed.map.items)
+    → Appends a b text → m ≡ n
+    → Leaves (counted_outcome format options program units) (DrawnIf options.map program (after (counted_steps options.steps (opened program units).timeline)) [])
+    (Ok printed) a n b m
+unfolding counted_outcome opened
+counted-leaves format options program units s0 text printed a b n m opens made told same =
+    let here = rw opens at made in
+    ((rw (here.1, here.2) refl, here.3), rw here.0 at told, same)
+
+pub counted-begun : (format : TableFormat) (options : PrintOptions) (program : ProgramValue) (units : UnitsState) (s0 : SessionState) (text : List ℕ) (printed : Printed)
+    (a b : Option (List ℕ)) (n m : ℕ) → s0 ≡ opened program units
+    → (let run = counted_run format options.steps s0 in
+    (text ≡ run.bytes) × (printed.answer ≡ Ran (ran_to s0.program run)) × (printed.deck.items ≡ kept_if options.keep run.world)
+    × DrawnIf options.map s0.program (after (counted_steps options.steps s0.timeline)) [] printed.map.items)
+    → AppendsFront a b text → m ≡ n + 1
+    → Leaves (counted_outcome format options program units) (DrawnIf options.map program (after (counted_steps options.steps (opened program units).timeline)) [])
+    (Err faults.Write) a n b m
+unfolding counted_outcome opened
+counted-begun format options program units s0 text printed a b n m opens made begun more = let here = rw opens at made in (rw here.0 at begun, more)

@@ -1,6 +1,7 @@
 -- A map is that of the steps of a session, and what is printed beside it is that of the machine which the session begins with.
-use Rattle.std.proofs.Common.{◌≡◌, ◌∙◌, ◌++◌, ◌||◌, ℕ, Bool, true, false, List, Option, None, Some, Result, Ok, Err, OnOk, ap, is_some, refl, subst, sym, length, take}
+use Rattle.std.proofs.Common.{◌≡◌, ◌∙◌, ◌++◌, ◌||◌, ℕ, Bool, true, false, List, [], Option, None, Some, Result, Ok, Err, OnOk, ap, is_some, refl, subst, sym, length, take}
 use Rattle.std.proofs.lemmas.List.{append-nil}
+use Rattle.std.specs.Io.KnownBytes.{Appends}
 use Rattle.mixal_asm.specs.Assembly.{assembly}
 use Rattle.mixal_asm.specs.Program.{ProgramValue}
 use Rattle.mixal_asm.specs.declared.fault.AsmFault.{AsmFault}
@@ -17,35 +18,38 @@ use Rattle.mix_session.specs.Timeline.{Timeline}
 use Rattle.mix_session.specs.declared.fault.Refusal.{Refusal}
 use Rattle.mix_session.specs.declared.path.Span.{Span}
 use Rattle.mix_run.specs.Counted.{counted_steps}
-use Rattle.mix_run.specs.Drawn.{Drawn, DrawnIf, DrawnProgram, DrawnRun, Draws}
+use Rattle.mix_run.specs.Drawn.{Drawn, DrawnIf, DrawnProgram, DrawnRun, Draws, is_drawn}
+use Rattle.mix_run.specs.Keep.{kept_if}
 use Rattle.mix_run.specs.Map.{map_text, span_of}
-use Rattle.mix_run.specs.Print.{run_of}
-use Rattle.mix_run.specs.PrintOutput.{PrintOutcome, Prints, answered, bytes_of, counts_asked, counts_in, kept_of, outcome_of_run, parts_of, printed_outcome, units_asked}
+use Rattle.mix_run.specs.Print.{Run, counted, run_of}
+use Rattle.mix_run.specs.PrintOutput.{Answered, Leaves, PrintOutcome, Prints, answered, bytes_of, came_to, counted_outcome, counts_asked, counts_in, kept_of, outcome_of_run, parts_of, printed_outcome, units_asked}
 use Rattle.mix_run.specs.StepTable.{part_named, run_told, step_table, table_of}
+use Rattle.mix_run.specs.Writes.{Broken}
 use Rattle.mix_run.specs.UnitsRead.{deck_given}
 use Rattle.mix_run.specs.declared.fault.ToolFault.{ToolFault}
 use Rattle.mix_run.specs.declared.fault.ToolFault.TheVariants as faults
 use Rattle.mix_run.specs.declared.print.PrintAnswer.{PrintAnswer}
-use Rattle.mix_run.specs.declared.print.PrintAnswer.TheVariants.{NoPart}
+use Rattle.mix_run.specs.declared.print.PrintAnswer.TheVariants.{NoPart, Ran}
+use Rattle.mix_run.specs.declared.print.Printed.{Printed}
 use Rattle.mix_run.specs.declared.print.options.AskedTable.{AskedTable}
 use Rattle.mix_run.specs.declared.print.options.PrintOptions.{PrintOptions}
 use Rattle.mix_run.specs.declared.print.options.TableOf.{TableOf}
 use Rattle.mix_run.specs.declared.print.options.TableOf.TheVariants as ofs
+use Rattle.mix_run.specs.declared.print.steps.Stepped.{Stepped}
 use Rattle.mix_run.specs.declared.print.tabled.StepTable.{StepTable}
 use Rattle.mix_run.specs.declared.table.TableFormat.{TableFormat}
 use Rattle.mix_run.proofs.PrintOutputLemmas.{parts-read}
-use Rattle.mix_run.proofs.Written.{Appends-nothing, AppendsFront-all}
+use Rattle.mix_run.proofs.Written.{Appends-nothing}
 
 -- the map of a path
-pub drawn-path : {S E : Type 0} (program p : ProgramValue) (t : Timeline) (counts slice old new : List ℕ) (total : ℕ) (span : Span) (done : Result S E)
+pub drawn-path : (program p : ProgramValue) (t : Timeline) (counts slice none new : List ℕ) (total : ℕ) (span : Span)
     → total ≡ length t.changes → span ≡ span_of total → IsPath t span counts → p ≡ program → slice ≡ counts
-    → OnOk done (new ≡ old ++ map_text p total slice) → OnOk done (Drawn program t old new)
-drawn-path program p t counts slice old new total span (Ok s) all columns path same same_counts added =
-    let here : new ≡ old ++ map_text program total counts = added ∙ ap (λ (q : ProgramValue). old ++ map_text q total slice) same
-    ∙ ap (λ (cs : List ℕ). old ++ map_text program total cs) same_counts in
+    → none ≡ [] → new ≡ none ++ map_text p total slice → Drawn program t [] new
+drawn-path program p t counts slice none new total span all columns path same same_counts empty added =
+    let here : new ≡ map_text program total counts = added ∙ ap (λ (xs : List ℕ). xs ++ map_text p total slice) empty
+    ∙ ap (λ (q : ProgramValue). map_text q total slice) same ∙ ap (λ (cs : List ℕ). map_text program total cs) same_counts in
     let whole : IsPath t (span_of (length t.changes)) counts = subst (λ (s : Span). IsPath t s counts) (columns ∙ ap span_of all) path in
-    (map_text program (length t.changes) counts, (counts, whole, refl), here ∙ ap (λ (n : ℕ). old ++ map_text program n counts) all)
-drawn-path program p t counts slice old new total span (Err e) all columns path same same_counts added = tt
+    (map_text program (length t.changes) counts, (counts, whole, refl), here ∙ ap (λ (n : ℕ). map_text program n counts) all)
 
 -- the session that a program is opened in
 pub opened-program : (program : ProgramValue) (units : UnitsState) (s : SessionState) (p : ProgramValue) → s ≡ opened program units → p ≡ s.program → p ≡ program
@@ -58,80 +62,56 @@ pub loaded-world : (program : ProgramValue) (units : UnitsState) (s : SessionSta
 unfolding opened world_at
 loaded-world program units s w opens at = at ∙ ap (λ (x : SessionState). world_at x.timeline 0) opens
 
--- the program and the machine of what is told
-pub tells-same : (options : PrintOptions) (table : Option StepTable) (program p : ProgramValue) (w v : WorldState) (done : Result PrintAnswer ToolFault)
-    (old new : Option (List ℕ)) → p ≡ program → w ≡ v → Prints (answered options p (run_told table options p w)) done old new
-    → Prints (answered options program (run_told table options program v)) done old new
-tells-same options table program p w v done old new same at prints = rw (same, at) at prints
+-- what was told of a program and a machine that are these
+pub told-as : (table : Option StepTable) (options : PrintOptions) (p q : ProgramValue) (w v next : WorldState) (stepped : Stepped) (a b : Option (List ℕ)) (n m : ℕ)
+    → p ≡ q → w ≡ v
+    → ((stepped.end ≡ (run_told table options p w).end) × (stepped.conflicts ≡ counted (run_told table options p w).met) × (next ≡ (run_told table options p w).world))
+    × Appends a b (run_told table options p w).bytes × (m ≡ n)
+    → ((stepped.end ≡ (run_told table options q v).end) × (stepped.conflicts ≡ counted (run_told table options q v).met) × (next ≡ (run_told table options q v).world))
+    × Appends a b (run_told table options q v).bytes × (m ≡ n)
+told-as table options p q w v next stepped a b n m same at told = rw (same, at) at told
 
-pub keeps-same : (options : PrintOptions) (table : Option StepTable) (program p : ProgramValue) (w v : WorldState) (done : Result PrintAnswer ToolFault)
-    (old new : List ℕ) → p ≡ program → w ≡ v → OnOk done (new ≡ old ++ kept_of (answered options p (run_told table options p w)))
-    → OnOk done (new ≡ old ++ kept_of (answered options program (run_told table options program v)))
-keeps-same options table program p w v done old new same at kept = rw (same, at) at kept
+pub broken-as : (table : Option StepTable) (options : PrintOptions) (p q : ProgramValue) (w v : WorldState) (fault : ToolFault) (a b : Option (List ℕ)) (n m : ℕ)
+    → p ≡ q → w ≡ v → Broken (run_told table options p w).bytes fault a n b m → Broken (run_told table options q v).bytes fault a n b m
+broken-as table options p q w v fault a b n m same at told = rw (same, at) at told
+
+-- what is left of a run that was told
+pub leaves-made : (options : PrintOptions) (program p : ProgramValue) (run : Run) (stepped : Stepped) (world : WorldState) (printed : Printed) (IsDrawn : List ℕ → Type 0)
+    (a b : Option (List ℕ)) (n m : ℕ) → p ≡ program
+    → ((stepped.end ≡ run.end) × (stepped.conflicts ≡ counted run.met) × (world ≡ run.world)) × Appends a b run.bytes × (m ≡ n)
+    → printed.answer ≡ Ran (came_to p stepped.end world stepped.conflicts) → printed.deck.items ≡ kept_if options.keep world → IsDrawn printed.map.items
+    → Leaves (answered options program run) IsDrawn (Ok printed) a n b m
+leaves-made options program p run stepped world printed IsDrawn a b n m same told answer deck drawn =
+    ((rw (answer, deck, same, told.0.0, told.0.1, told.0.2) refl, drawn), told.1, told.2)
 
 -- what is told of the session that a program is opened in
-pub tells-opened : (options : PrintOptions) (part : List ℕ) (table : Option StepTable) (program : ProgramValue) (units : UnitsState) (s : SessionState)
-    (done : Result PrintAnswer ToolFault) (old new : Option (List ℕ)) → s ≡ opened program units → step_table options.table part s ≡ Ok table
-    → Prints (answered options s.program (run_told table options s.program (world_at s.timeline 0))) done old new
-    → Prints (printed_outcome options part program units) done old new
+pub leaves-opened : (options : PrintOptions) (part : List ℕ) (table : Option StepTable) (program : ProgramValue) (units : UnitsState) (s : SessionState)
+    (done : Result Printed ToolFault) (a b : Option (List ℕ)) (n m : ℕ) → s ≡ opened program units → step_table options.table part s ≡ Ok table
+    → Leaves (answered options s.program (run_told table options s.program (world_at s.timeline 0)))
+    (DrawnIf options.map s.program (after (counted_steps options.steps s.timeline)) []) done a n b m
+    → Leaves (printed_outcome options part program units) (DrawnRun options part program units []) done a n b m
 unfolding printed_outcome
-tells-opened options part table program units s done old new opens chosen prints =
-    let here = ap (λ (x : SessionState). step_table options.table part x) (sym opens) ∙ chosen in
-    rw here (tells-same options table program s.program (world_at s.timeline 0) (loaded program.words program.start units) done old new
-    (opened-program program units s s.program opens refl) (loaded-world program units s (world_at s.timeline 0) opens refl) prints)
-
-pub keeps-opened : (options : PrintOptions) (part : List ℕ) (table : Option StepTable) (program : ProgramValue) (units : UnitsState) (s : SessionState)
-    (done : Result PrintAnswer ToolFault) (old new : List ℕ) → s ≡ opened program units → step_table options.table part s ≡ Ok table
-    → OnOk done (new ≡ old ++ kept_of (answered options s.program (run_told table options s.program (world_at s.timeline 0))))
-    → OnOk done (new ≡ old ++ kept_of (printed_outcome options part program units))
-unfolding printed_outcome
-keeps-opened options part table program units s done old new opens chosen kept =
-    let here = ap (λ (x : SessionState). step_table options.table part x) (sym opens) ∙ chosen in
-    rw here (keeps-same options table program s.program (world_at s.timeline 0) (loaded program.words program.start units) done old new
-    (opened-program program units s s.program opens refl) (loaded-world program units s (world_at s.timeline 0) opens refl) kept)
-
-pub draws-opened : (options : PrintOptions) (part : List ℕ) (table : Option StepTable) (program : ProgramValue) (units : UnitsState) (s : SessionState)
-    (done : Result PrintAnswer ToolFault) (old new : List ℕ) → s ≡ opened program units → step_table options.table part s ≡ Ok table
-    → OnOk done (DrawnIf options.map s.program (after (counted_steps options.steps s.timeline)) old new)
-    → OnOk done (DrawnRun options part program units old new)
-draws-opened options part table program units s done old new opens chosen drawn =
+leaves-opened options part table program units s done a b n m opens chosen leaves =
     let here = ap (λ (x : SessionState). step_table options.table part x) (sym opens) ∙ chosen in
     let steps = ap (λ (x : SessionState). after (counted_steps options.steps x.timeline)) opens in
-    rw here (rw (opened-program program units s s.program opens refl, steps) at drawn)
+    let world = loaded-world program units s (world_at s.timeline 0) opens refl in
+    rw here (rw (world, steps, opened-program program units s s.program opens refl) at leaves)
 
 -- a part that is none
-pub tells-none : (options : PrintOptions) (part : List ℕ) (program : ProgramValue) (units : UnitsState) (s : SessionState) (refusal : Refusal)
-    (told : Option (List ℕ)) → s ≡ opened program units → step_table options.table part s ≡ Err refusal
-    → Prints (printed_outcome options part program units) (Ok (NoPart refusal)) told told
+pub leaves-none : (options : PrintOptions) (part : List ℕ) (program : ProgramValue) (units : UnitsState) (s : SessionState) (refusal : Refusal) (printed : Printed)
+    (told : Option (List ℕ)) (n : ℕ) → s ≡ opened program units → step_table options.table part s ≡ Err refusal → printed.answer ≡ NoPart refusal
+    → printed.deck.items ≡ [] → printed.map.items ≡ []
+    → Leaves (printed_outcome options part program units) (DrawnRun options part program units []) (Ok printed) told n told n
 unfolding printed_outcome
-tells-none options part program units s refusal told opens none =
+leaves-none options part program units s refusal printed told n opens none answer deck map =
     let here = ap (λ (x : SessionState). step_table options.table part x) (sym opens) ∙ none in
-    rw here (refl, Appends-nothing told)
-
-pub keeps-none : (options : PrintOptions) (part : List ℕ) (program : ProgramValue) (units : UnitsState) (s : SessionState) (refusal : Refusal)
-    (old : List ℕ) → s ≡ opened program units → step_table options.table part s ≡ Err refusal → old ≡ old ++ kept_of (printed_outcome options part program units)
-unfolding printed_outcome
-keeps-none options part program units s refusal old opens none =
-    let here = ap (λ (x : SessionState). step_table options.table part x) (sym opens) ∙ none in
-    rw here (sym (append-nil old))
-
-pub draws-none : (options : PrintOptions) (part : List ℕ) (program : ProgramValue) (units : UnitsState) (s : SessionState) (refusal : Refusal)
-    (old : List ℕ) → s ≡ opened program units → step_table options.table part s ≡ Err refusal → DrawnRun options part program units old old
-draws-none options part program units s refusal old opens none =
-    let here = ap (λ (x : SessionState). step_table options.table part x) (sym opens) ∙ none in
-    rw here refl
+    rw here ((rw (answer, deck) refl, map), Appends-nothing told, refl)
 
 -- the map of a session after its steps
-pub draws-after : {S E : Type 0} (steps : ℕ) (s0 s : SessionState) (done : Result S E) (old new : List ℕ) → s.program ≡ s0.program
-    → s.timeline ≡ after (counted_steps steps s0.timeline) → OnOk done (Drawn s.program s.timeline old new)
-    → OnOk done (Drawn s0.program (after (counted_steps steps s0.timeline)) old new)
-draws-after steps s0 s done old new same led drawn = rw (same, led) at drawn
-
-pub draws-counts : (map : Bool) (steps : ℕ) (program : ProgramValue) (units : UnitsState) (s0 s : SessionState) (old new : List ℕ) → s0 ≡ opened program units
-    → s.program ≡ s0.program → s.timeline ≡ after (counted_steps steps s0.timeline) → DrawnIf map s.program s.timeline old new
-    → DrawnIf map program (after (counted_steps steps (opened program units).timeline)) old new
-draws-counts map steps program units s0 s old new opens same led drawn =
-    rw (same ∙ opened-program program units s0 s0.program opens refl, led ∙ ap (λ (x : SessionState). after (counted_steps steps x.timeline)) opens) at drawn
+pub draws-after : (steps : ℕ) (s0 s : SessionState) (new : List ℕ) → s.program ≡ s0.program
+    → s.timeline ≡ after (counted_steps steps s0.timeline) → Drawn s.program s.timeline [] new
+    → Drawn s0.program (after (counted_steps steps s0.timeline)) [] new
+draws-after steps s0 s new same led drawn = rw (same, led) at drawn
 
 -- ---- which run is asked for
 
@@ -148,12 +128,14 @@ unfolding step_table
 counts-table None format part s e = absurd cc
 counts-table (Some asked) format part s e = counts-of asked.of asked format (part_named s part) e
 
-pub draws-counted : (options : PrintOptions) (part : List ℕ) (format : TableFormat) (program : ProgramValue) (units : UnitsState) (done : Result PrintAnswer ToolFault)
-    (old new : List ℕ) → counts_asked options.table ≡ Some format
-    → OnOk done (DrawnIf options.map program (after (counted_steps options.steps (opened program units).timeline)) old new)
-    → OnOk done (DrawnRun options part program units old new)
-draws-counted options part format program units done old new counts drawn =
-    rw (counts-table options.table format part (opened program units) counts) drawn
+pub leaves-counted : (options : PrintOptions) (part : List ℕ) (format : TableFormat) (program : ProgramValue) (units : UnitsState) (done : Result Printed ToolFault)
+    (a b : Option (List ℕ)) (n m : ℕ) → counts_asked options.table ≡ Some format
+    → Leaves (counted_outcome format options program units)
+    (DrawnIf options.map program (after (counted_steps options.steps (opened program units).timeline)) []) done a n b m
+    → Leaves (outcome_of_run options part program units) (DrawnRun options part program units []) done a n b m
+unfolding outcome_of_run
+leaves-counted options part format program units done a b n m counts leaves =
+    rw (counts, counts-table options.table format part (opened program units) counts) leaves
 
 no-table : (asked : Option AskedTable) → is_some asked ≡ false → asked ≡ None
 no-table None e = refl
@@ -168,37 +150,48 @@ unfolding step_table
 table-none asked part s e = rw (no-table asked e) refl
 
 -- a run without a session is told by what it prints
-pub prints-alone : (options : PrintOptions) (part : List ℕ) (program : ProgramValue) (units : UnitsState) (done : Result PrintAnswer ToolFault)
-    (old new : Option (List ℕ)) → (options.map || is_some options.table) ≡ false
-    → Prints (answered options program (run_of options (loaded program.words program.start units))) done old new
-    → Prints (outcome_of_run options part program units) done old new
+pub leaves-alone : (options : PrintOptions) (part : List ℕ) (program : ProgramValue) (units : UnitsState) (done : Result Printed ToolFault)
+    (a b : Option (List ℕ)) (n m : ℕ) → (options.map || is_some options.table) ≡ false
+    → Leaves (answered options program (run_of options (loaded program.words program.start units))) (λ map. map ≡ []) done a n b m
+    → Leaves (outcome_of_run options part program units) (DrawnRun options part program units []) done a n b m
 unfolding outcome_of_run printed_outcome
-prints-alone options part program units done old new alone prints =
-    let none = (neither options.map (is_some options.table) alone).1 in
-    let counts : counts_asked options.table ≡ None = ap counts_asked (no-table options.table none) in
-    rw (counts, table-none options.table part (opened program units) none) prints
-
-pub keeps-alone : (options : PrintOptions) (part : List ℕ) (program : ProgramValue) (units : UnitsState) (done : Result PrintAnswer ToolFault)
-    (old new : List ℕ) → (options.map || is_some options.table) ≡ false
-    → OnOk done (new ≡ old ++ kept_of (answered options program (run_of options (loaded program.words program.start units))))
-    → OnOk done (new ≡ old ++ kept_of (outcome_of_run options part program units))
-unfolding outcome_of_run printed_outcome
-keeps-alone options part program units done old new alone kept =
-    let none = (neither options.map (is_some options.table) alone).1 in
-    let counts : counts_asked options.table ≡ None = ap counts_asked (no-table options.table none) in
-    rw (counts, table-none options.table part (opened program units) none) kept
-
-pub draws-alone : (options : PrintOptions) (part : List ℕ) (program : ProgramValue) (units : UnitsState) (done : Result PrintAnswer ToolFault)
-    (old : List ℕ) → (options.map || is_some options.table) ≡ false → OnOk done (DrawnRun options part program units old old)
-draws-alone options part program units (Ok answer) old alone =
+leaves-alone options part program units done a b n m alone leaves =
     let none = neither options.map (is_some options.table) alone in
-    rw (table-none options.table part (opened program units) none.1, none.0) refl
-draws-alone options part program units (Err fault) old alone = tt
+    let counts : counts_asked options.table ≡ None = ap counts_asked (no-table options.table none.1) in
+    rw (counts, table-none options.table part (opened program units) none.1, none.0) leaves
 
--- all is written, also where there is no memory for the map
-pub all-written : (outcome : PrintOutcome) (answer : PrintAnswer) (old new : Option (List ℕ)) → Prints outcome (Ok answer) old new
-    → Prints outcome (Err faults.Memory) old new
-all-written outcome answer old new prints = AppendsFront-all old new (bytes_of outcome) prints.1
+-- and one with it in a session
+pub leaves-told : (options : PrintOptions) (part : List ℕ) (program : ProgramValue) (units : UnitsState) (done : Result Printed ToolFault)
+    (a b : Option (List ℕ)) (n m : ℕ) → counts_asked options.table ≡ None
+    → Leaves (printed_outcome options part program units) (DrawnRun options part program units []) done a n b m
+    → Leaves (outcome_of_run options part program units) (DrawnRun options part program units []) done a n b m
+unfolding outcome_of_run
+leaves-told options part program units done a b n m counts leaves = rw counts leaves
+
+-- a map beside what was there before
+added-drawn : (b : Bool) (program : ProgramValue) (t : Timeline) (old map new : List ℕ) → DrawnIf b program t [] map → new ≡ old ++ map → DrawnIf b program t old new
+added-drawn true program t old map new drawn added = (drawn.0, drawn.1, added ∙ ap (λ (m : List ℕ). old ++ m) drawn.2)
+added-drawn false program t old map new drawn added = added ∙ ap (λ (m : List ℕ). old ++ m) drawn ∙ append-nil old
+
+pub added-run : (options : PrintOptions) (part : List ℕ) (program : ProgramValue) (units : UnitsState) (old map new : List ℕ) → DrawnRun options part program units [] map
+    → new ≡ old ++ map → DrawnRun options part program units old new
+added-run options part program units old map new drawn added =
+    added-drawn (is_drawn options.map (step_table options.table part (opened program units))) program
+    (after (counted_steps options.steps (opened program units).timeline)) old map new drawn added
+
+-- what is answered of what is left
+pub prints-left : (outcome : PrintOutcome) (IsDrawn : List ℕ → Type 0) (printed : Printed) (a b : Option (List ℕ)) (n m : ℕ) → Leaves outcome IsDrawn (Ok printed) a n b m
+    → Prints outcome (Ok printed.answer) a b × (printed.deck.items ≡ kept_of outcome)
+prints-left outcome IsDrawn printed a b n m leaves =
+    let kept : printed.deck.items ≡ kept_of outcome = sym (ap kept_of leaves.0.0) in
+    ((leaves.0.0 ∙ ap (λ (deck : List ℕ). Answered (bytes_of outcome) printed.answer deck) kept, leaves.1), kept)
+
+pub prints-broken : (outcome : PrintOutcome) (fault : ToolFault) (a b : Option (List ℕ)) (n m : ℕ) → Broken (bytes_of outcome) fault a n b m → Prints outcome (Err fault) a b
+prints-broken outcome faults.Memory a b n m broken = broken.0
+prints-broken outcome faults.Write a b n m broken = broken.0
+prints-broken outcome faults.Read a b n m broken = absurd broken
+prints-broken outcome (faults.Deck fault) a b n m broken = absurd broken
+prints-broken outcome faults.Long a b n m broken = absurd broken
 
 -- units, and the parts of a text
 pub drawn-units : (options : PrintOptions) (part : List ℕ) (program : ProgramValue) (given : Result UnitsState DeckFault) (units : UnitsState) (done : Result PrintAnswer ToolFault)

@@ -1,3 +1,4 @@
+mod AnswerLemmas
 mod CheckLemmas
 mod CountedLemmas
 mod CutLemmas
@@ -18,4 +19,5 @@ mod TabledLemmas
 mod TalkLemmas
 mod TalkMeets
 mod Truncation
+mod WritesLemmas
 mod Written

@@ -1,19 +1,20 @@
 -- What is written is the beginning of a whole, and rows go on by one row.
-use Rattle.std.proofs.Common.{◌≡◌, ◌<◌, ◌≤◌, ◌+◌, ℕ, zero, suc, Bool, true, false, List, [], ◌∷◌, ◌++◌, Option, None, Some, Result, Ok, Err, IfOk, IfErr, refl, sym, ap, ◌∙◌, arith, append_assoc, drop, length, flat_map, slice_index_or}
+use Rattle.std.proofs.Common.{◌≡◌, ℕ, Bool, true, false, List, [], ◌++◌, Option, Result, Ok, Err, IfOk, refl, sym, ap, ◌∙◌, arith, append_assoc, length}
 use Rattle.std.proofs.lemmas.List.{append-nil}
 use Rattle.std.specs.Io.KnownBytes.{Appends}
 use Rattle.mix_machine.specs.Do.{does}
 use Rattle.mix_machine.specs.World.{WorldState, unit_at}
-use Rattle.mix_machine.specs.units.Row.{RowState}
 use Rattle.mix_machine.specs.units.Unit.{UnitState}
 use Rattle.mix_machine.specs.declared.fault.MixFault.{MixFault}
 use Rattle.mix_machine.specs.declared.old.Change.TheVariants.{Step}
+use Rattle.mix_session.specs.Change.{change_line}
 use Rattle.mix_stream.specs.Stream.{AppendsFront}
 use Rattle.mix_run.specs.Print.{if_asked, printed_row, printed_from, printed_between, traced_line, written_by}
-use Rattle.mix_run.specs.PrintSteps.{HasCounts, bytes_to, line_bytes, line_to, made_bytes, printed_after}
+use Rattle.mix_run.specs.PrintSteps.{HasCounts, line_bytes, line_to, printed_after}
 use Rattle.mix_run.specs.declared.print.options.PrintOptions.{PrintOptions}
 use Rattle.mix_run.specs.declared.print.options.UnitSet.{UnitSet}
 use Rattle.mix_run.specs.declared.print.rows.RowCounts.{RowCounts}
+use Rattle.mix_run.proofs.KeepLemmas.{items-none}
 use Rattle.mix_run.proofs.Written.{Appends-then, Appends-same, Appends-nothing, AppendsFront-after, AppendsFront-all}
 
 -- what is written more, where it is a beginning of what is left
@@ -36,32 +37,8 @@ pub written-begun : (a b : Option (List ℕ)) (whole left : List ℕ) → (done 
 written-begun a b whole left so_far =
     AppendsFront-after a b b so_far.0 [] left whole so_far.1 (AppendsFront-all b b [] (Appends-nothing b)) so_far.2
 
--- what is written next, and then more
-pub begun-front : (a b : Option (List ℕ)) (xs rest : List ℕ) → AppendsFront a b xs → AppendsFront a b (xs ++ rest)
-begun-front a b xs rest h = AppendsFront-after a a b [] xs rest (xs ++ rest) (Appends-nothing a) h refl
-
--- what is written after other bytes
-pub begun-later : (a b c : Option (List ℕ)) (xs ys : List ℕ) → Appends a b xs → AppendsFront b c ys → AppendsFront a c (xs ++ ys)
-begun-later a b c xs ys h k = AppendsFront-after a b c xs ys [] (xs ++ ys) h k (ap (λ t. xs ++ t) (sym (append-nil ys)))
-
--- one row, and then those after it
-pub rows-next : (rows : List RowState) (at : ℕ) (row : RowState) → at < length rows → row ≡ slice_index_or rows at None →
-    flat_map printed_row (drop at rows) ≡ printed_row row ++ flat_map printed_row (drop (at + 1) rows)
-rows-next [] at row h e = absurd (omega arith)
-rows-next (r ∷ rs) zero row h e = ap (λ x. printed_row x ++ flat_map printed_row rs) (sym e)
-rows-next (r ∷ rs) (suc at) row h e =
-    let next : suc at + 1 ≡ suc (at + 1) = omega arith in
-    rw next (rows-next rs at row (omega arith) e)
-
--- no row is left
-pub rows-none : (rows : List RowState) (at : ℕ) → length rows ≤ at → flat_map printed_row (drop at rows) ≡ []
-rows-none [] zero h = refl
-rows-none [] (suc at) h = refl
-rows-none (r ∷ rs) zero h = absurd (omega arith)
-rows-none (r ∷ rs) (suc at) h = rows-none rs at (omega arith)
-
 none-from : (asked : Bool) (count : ℕ) (u : UnitState) → count ≡ length u.rows → printed_from asked count u ≡ []
-none-from true count u e = rows-none u.rows count (omega arith)
+none-from true count u e = items-none printed_row u.rows count (omega arith)
 none-from false count u e = refl
 
 -- nothing was written since all rows
@@ -89,67 +66,37 @@ none-between units w next e =
 pub after-between : (units : UnitSet) (counts : RowCounts) (w next : WorldState) → HasCounts w counts → printed_after units counts next ≡ printed_between units w next
 after-between units counts w next h = rw (h.card_punch, h.printer, h.typewriter, h.paper_tape) refl
 
--- what holds after no error, whatever the value is
-pub on-ok : {T E : Type 0} (r : Result T E) (P : Type 0) → P → IfOk r (λ _. P)
-on-ok (Ok x) P h = h
-on-ok (Err e) P h = tt
-
--- what holds after an error, whatever it is
-pub on-error : {T E : Type 0} (r : Result T E) (P : Type 0) → P → IfErr r (λ _. P)
-on-error (Ok x) P h = tt
-on-error (Err e) P h = h
-
 no-line_to : (number : ℕ) (w : WorldState) (done : Result WorldState MixFault) → line_to false number w done ≡ []
 no-line_to number w (Ok next) = refl
 no-line_to number w (Err fault) = refl
 
 -- a step that is not traced has no line
-pub no-line : (number : ℕ) (w : WorldState) → line_bytes false number w ≡ []
-no-line number w = no-line_to number w (does w Step)
-
-pub quiet-written : (number : ℕ) (w : WorldState) (a : Option (List ℕ)) → Appends a a (line_bytes false number w)
-quiet-written number w a = Appends-same a a [] (line_bytes false number w) (sym (no-line number w)) (Appends-nothing a)
+pub quiet-line : {T E : Type 0} (r : Result T E) (number : ℕ) (w : WorldState) (text : List ℕ) → IfOk r (λ _. text ≡ text ++ line_bytes false number w)
+quiet-line (Ok x) number w text = rw (no-line_to number w (does w Step)) (sym (append-nil text))
+quiet-line (Err e) number w text = tt
 
 -- a step that is a fault has none either
-pub fault-line : (trace : Bool) (number : ℕ) (w : WorldState) (fault : MixFault) → does w Step ≡ Err fault → line_bytes trace number w ≡ []
+fault-line : (trace : Bool) (number : ℕ) (w : WorldState) (fault : MixFault) → does w Step ≡ Err fault → line_bytes trace number w ≡ []
 fault-line trace number w fault failed = rw failed refl
 
-pub fault-written : (number : ℕ) (w : WorldState) (fault : MixFault) (a : Option (List ℕ)) → does w Step ≡ Err fault → Appends a a (line_bytes true number w)
-fault-written number w fault a failed =
-    Appends-same a a [] (line_bytes true number w) (sym (fault-line true number w fault failed)) (Appends-nothing a)
+pub fault-text : (trace : Bool) (number : ℕ) (w : WorldState) (fault : MixFault) (text new : List ℕ) → does w Step ≡ Err fault
+    → new ≡ text ++ line_bytes trace number w → new ≡ text
+fault-text trace number w fault text new failed added = added ∙ ap (λ t. text ++ t) (fault-line trace number w fault failed) ∙ append-nil text
+
+pub fault-adds : (number : ℕ) (w : WorldState) (fault : MixFault) (text : List ℕ) → does w Step ≡ Err fault → text ≡ text ++ line_bytes true number w
+fault-adds number w fault text failed = rw (fault-line true number w fault failed) (sym (append-nil text))
 
 -- the line of a step that is traced, from a copy of the machine before it
-pub line-written : (number : ℕ) (w next before : WorldState) (a b : Option (List ℕ)) → does w Step ≡ Ok next → before ≡ w
-    → Appends a b (traced_line (Some before) number next) → Appends a b (line_bytes true number w)
-line-written number w next before a b done same line = rw done (rw same at line)
-
-pub line-started : (number : ℕ) (w next before : WorldState) (a b : Option (List ℕ)) → does w Step ≡ Ok next → before ≡ w
-    → AppendsFront a b (traced_line (Some before) number next) → AppendsFront a b (line_bytes true number w)
-line-started number w next before a b done same line = rw done (rw same at line)
+pub line-made : (number : ℕ) (w next before : WorldState) (line : List ℕ) → does w Step ≡ Ok next → before ≡ w → line ≡ change_line number Step before next
+    → line ≡ line_bytes true number w
+line-made number w next before line done same is = rw done (rw same at is)
 
 -- the line of a step, and then what it printed
-pub line-then : (options : PrintOptions) (number : ℕ) (counts : RowCounts) (w next : WorldState) (a b c : Option (List ℕ))
-    → HasCounts w counts → does w Step ≡ Ok next → Appends a b (line_bytes options.trace number w)
-    → Appends b c (printed_after options.units counts next) → Appends a c (written_by options number w next)
+pub line-then : (options : PrintOptions) (number : ℕ) (counts : RowCounts) (w next : WorldState) (a b c : List ℕ)
+    → HasCounts w counts → does w Step ≡ Ok next → b ≡ a ++ line_bytes options.trace number w
+    → c ≡ b ++ printed_after options.units counts next → c ≡ a ++ written_by options number w next
 line-then options number counts w next a b c h done line rows =
-    Appends-same a c (traced_line (if_asked options.trace w) number next ++ printed_after options.units counts next) (written_by options number w next)
-    (ap (λ t. traced_line (if_asked options.trace w) number next ++ t) (after-between options.units counts w next h))
-    (Appends-then a b c _ _ (rw done at line) rows)
-
-begun_to : (options : PrintOptions) (number : ℕ) (w : WorldState) (done : Result WorldState MixFault) (a b : Option (List ℕ))
-    → AppendsFront a b (line_to options.trace number w done) → AppendsFront a b (bytes_to options number w done)
-begun_to options number w (Ok next) a b line = begun-front a b (traced_line (if_asked options.trace w) number next) _ line
-begun_to options number w (Err fault) a b line = line
-
--- a beginning of the line
-pub line-begun : (options : PrintOptions) (number : ℕ) (w : WorldState) (a b : Option (List ℕ))
-    → AppendsFront a b (line_bytes options.trace number w) → AppendsFront a b (made_bytes options number w)
-line-begun options number w a b line = begun_to options number w (does w Step) a b line
-
--- the line, and a beginning of what the step printed
-pub rows-begun : (options : PrintOptions) (number : ℕ) (counts : RowCounts) (w next : WorldState) (a b c : Option (List ℕ))
-    → HasCounts w counts → does w Step ≡ Ok next → Appends a b (line_bytes options.trace number w)
-    → AppendsFront b c (printed_after options.units counts next) → AppendsFront a c (made_bytes options number w)
-rows-begun options number counts w next a b c h done line rows =
-    rw done (begun-later a b c (traced_line (if_asked options.trace w) number next) (printed_between options.units w next)
-    (rw done at line) (rw (after-between options.units counts w next h) at rows))
+    let first = traced_line (if_asked options.trace w) number next in
+    let after = printed_after options.units counts next in
+    let here : b ≡ a ++ first = rw done at line in
+    rows ∙ ap (λ t. t ++ after) here ∙ append_assoc a first after ∙ ap (λ t. a ++ (first ++ t)) (after-between options.units counts w next h)

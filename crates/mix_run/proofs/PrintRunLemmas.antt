@@ -1,19 +1,18 @@
 -- A run goes on by one step, or ends with it, and its conflicts with it.
-use Rattle.std.proofs.Common.{◌≡◌, ◌<◌, ◌≤◌, ◌+◌, ℕ, zero, suc, Bool, true, false, List, [], ◌∷◌, ◌++◌, Option, None, Some, Result, Ok, Err, IfOk, refl, sym, ap, ◌∙◌, arith, length}
+use Rattle.std.proofs.Common.{◌≡◌, ◌≤◌, ◌+◌, ℕ, zero, suc, Bool, true, false, List, [], ◌∷◌, ◌++◌, Option, None, Some, Ok, Err, refl, sym, ap, ◌∙◌, arith, length}
 use Rattle.std.proofs.lemmas.List.{append-nil, length-append}
 use Rattle.std.specs.Prelude.{option_map}
 use Rattle.std.specs.Io.KnownBytes.{Appends}
 use Rattle.std.specs.Option.{option_or}
 use Rattle.mix_machine.specs.Do.{does, is_halt_next}
-use Rattle.mix_machine.specs.Transfers.{TransfersState, conflict_of, transfer_by, transfers_after}
+use Rattle.mix_machine.specs.Transfers.{TransfersState, conflict_of, transfers_after}
 use Rattle.mix_machine.specs.World.{WorldState}
 use Rattle.mix_machine.specs.declared.fault.MixFault.{MixFault}
 use Rattle.mix_machine.specs.declared.old.Change.TheVariants.{Step}
 use Rattle.mix_machine.specs.declared.transfers.Conflict.{Conflict}
 use Rattle.mix_stream.specs.Stream.{AppendsFront}
-use Rattle.mix_run.specs.Print.{Run, conflict_at, counted, ended, first_of, listed, printed, printed_first, step_and_rest, stops, written_by}
-use Rattle.mix_run.specs.PrintSteps.{StepMakes, StepNotes, StepPrints, bytes_to, bytes_unless, conflicts_after, is_made, step_bytes}
-use Rattle.mix_run.specs.declared.fault.ToolFault.{ToolFault}
+use Rattle.mix_run.specs.Print.{Run, conflict_at, counted, ended, first_of, listed, printed, printed_first, stops, written_by}
+use Rattle.mix_run.specs.PrintSteps.{StepMakes, StepNotes, StepPrints, conflicts_after, is_made}
 use Rattle.mix_run.specs.declared.print.options.PrintOptions.{PrintOptions}
 use Rattle.mix_run.specs.declared.print.steps.RunEnd.{RunEnd}
 use Rattle.mix_run.specs.declared.print.steps.RunEnd.TheVariants.{Halted, Faulted, Conflicting, UsedUp}
@@ -55,11 +54,11 @@ run-stopped options number steps rest ts w done c e stop ok = rw (e, ok, stop) r
 
 -- what a step that ends a run leaves is the whole run from it on
 record Ends (options : PrintOptions) (number steps : ℕ) (ts : TransfersState) (w next : WorldState) (end : RunEnd) (conflicts noted : Conflicts)
-    (old new : Option (List ℕ)) : Type 0 where
+    (old new : List ℕ) : Type 0 where
   pub bytes : List ℕ
   pub met : List ConflictAt
   pub run : printed options number steps ts w ≡ record { bytes = bytes; end = end; world = next; met = met }
-  pub wrote : Appends old new bytes
+  pub wrote : new ≡ old ++ bytes
   pub adds : noted ≡ conflicts_after conflicts met
 
 -- ---- conflicts and more of them
@@ -101,38 +100,38 @@ one-more conflicts (Some c) = omega arith
 
 -- ---- a step after which a run goes on
 
-goes : (options : PrintOptions) (number steps rest : ℕ) (ts : TransfersState) (w next : WorldState) (b c : Option (List ℕ)) (s : Option Conflict)
+goes : (options : PrintOptions) (number steps rest : ℕ) (ts : TransfersState) (w next : WorldState) (b c : List ℕ) (s : Option Conflict)
     → steps ≡ suc rest → stops options.strict (conflict_of ts w Step) ≡ s → StepPrints s options number w next None b c →
     (printed options number steps ts w ≡ printed_first (written_by options number w next) (met_by ts w) (printed options (number + 1) rest (transfers_after ts w Step) next))
-    × Appends b c (written_by options number w next)
+    × (c ≡ b ++ written_by options number w next)
 goes options number steps rest ts w next b c None e is step = (run-on options number steps rest ts w next e is step.0 step.1, step.2)
 goes options number steps rest ts w next b c (Some stop) e is step = absurd step
 
-pub goes-on : (options : PrintOptions) (number steps rest : ℕ) (ts : TransfersState) (w next : WorldState) (b c : Option (List ℕ))
+pub goes-on : (options : PrintOptions) (number steps rest : ℕ) (ts : TransfersState) (w next : WorldState) (b c : List ℕ)
     → steps ≡ suc rest → StepPrints (stops options.strict (conflict_of ts w Step)) options number w next None b c →
     (printed options number steps ts w ≡ printed_first (written_by options number w next) (met_by ts w) (printed options (number + 1) rest (transfers_after ts w Step) next))
-    × Appends b c (written_by options number w next)
+    × (c ≡ b ++ written_by options number w next)
 goes-on options number steps rest ts w next b c e step =
     goes options number steps rest ts w next b c (stops options.strict (conflict_of ts w Step)) e refl step
 
 -- ---- the end of a run
 
 at-end : (options : PrintOptions) (number steps rest : ℕ) (ts after : TransfersState) (w next : WorldState) (end : RunEnd) (conflicts noted : Conflicts)
-    (b c : Option (List ℕ)) (s : Option Conflict) → steps ≡ suc rest → stops options.strict (conflict_of ts w Step) ≡ s
+    (b c : List ℕ) (s : Option Conflict) → steps ≡ suc rest → stops options.strict (conflict_of ts w Step) ≡ s
     → StepPrints s options number w next (Some end) b c → StepNotes w ts conflicts after noted (Some end)
     → Ends options number steps ts w next end conflicts noted b c
 at-end options number steps rest ts after w next Halted conflicts noted b c None e is step note = record {
   bytes = written_by options number w next ++ [];
   met = met_by ts w ++ [];
   run = run-halted options number steps rest ts w next e is step.0 step.1;
-  wrote = Appends-same b c _ _ (sym (append-nil _)) step.2;
+  wrote = step.2 ∙ ap (λ t. b ++ t) (sym (append-nil (written_by options number w next)));
   adds = conflicts-last conflicts noted (met_by ts w) note.1;
 }
 at-end options number steps rest ts after w next (Faulted fault) conflicts noted b c None e is step note = record {
   bytes = [];
   met = [];
   run = run-faulted options number steps rest ts w fault e step.0 ∙ ap (λ v. ended (Faulted fault) v) (sym step.1);
-  wrote = step.2;
+  wrote = step.2 ∙ sym (append-nil b);
   adds = conflicts-nothing conflicts noted note.1;
 }
 at-end options number steps rest ts after w next (Conflicting met) conflicts noted b c None e is step note = absurd step
@@ -142,7 +141,7 @@ at-end options number steps rest ts after w next (Faulted fault) conflicts noted
   bytes = [];
   met = [];
   run = run-faulted options number steps rest ts w fault e step.0.0 ∙ ap (λ v. ended (Faulted fault) v) (sym step.0.1);
-  wrote = step.1;
+  wrote = step.1 ∙ sym (append-nil b);
   adds = conflicts-nothing conflicts noted note.1;
 }
 at-end options number steps rest ts after w next (Conflicting met) conflicts noted b c (Some stop) e is step note = record {
@@ -150,34 +149,50 @@ at-end options number steps rest ts after w next (Conflicting met) conflicts not
   met = [];
   run = run-stopped options number steps rest ts w step.0.0.0 stop e is step.0.0.1 ∙ ap (λ d. ended (Conflicting d) w) (sym step.0.1)
       ∙ ap (λ v. ended (Conflicting met) v) (sym step.0.2);
-  wrote = step.1;
+  wrote = step.1 ∙ sym (append-nil b);
   adds = conflicts-nothing conflicts noted note.1;
 }
 at-end options number steps rest ts after w next UsedUp conflicts noted b c (Some stop) e is step note = absurd step.0
 
--- what ends a run, or the step after which it goes on
+-- what ends a run
 pub run-ended : (options : PrintOptions) (number steps rest : ℕ) (ts after : TransfersState) (w next : WorldState) (end : RunEnd) (conflicts noted : Conflicts)
-    (a b c : Option (List ℕ)) (whole : Run) → steps ≡ suc rest →
+    (text : List ℕ) (a b c : Option (List ℕ)) (whole : Run) → steps ≡ suc rest →
     (done : List ℕ) × Appends a b done × (whole.bytes ≡ done ++ (printed options number steps ts w).bytes) → (printed options number steps ts w).end ≡ whole.end →
     (printed options number steps ts w).world ≡ whole.world → conflicts_after conflicts (printed options number steps ts w).met ≡ counted whole.met →
-    StepPrints (stops options.strict (conflict_of ts w Step)) options number w next (Some end) b c → StepNotes w ts conflicts after noted (Some end) →
-    (end ≡ whole.end) × (noted ≡ counted whole.met) × (next ≡ whole.world) × Appends a c whole.bytes
-run-ended options number steps rest ts after w next end conflicts noted a b c whole e so_far is_end stands met step note =
-    let it = at-end options number steps rest ts after w next end conflicts noted b c (stops options.strict (conflict_of ts w Step)) e refl step note in (
-      sym (ap (λ r. r.end) it.run) ∙ is_end,
-      it.adds ∙ sym (ap (λ r. conflicts_after conflicts r.met) it.run) ∙ met,
-      sym (ap (λ r. r.world) it.run) ∙ stands,
-      Appends-same a c _ whole.bytes (sym (so_far.2 ∙ ap (λ r. so_far.0 ++ r.bytes) it.run)) (Appends-then a b c so_far.0 it.bytes so_far.1 it.wrote),
+    StepPrints (stops options.strict (conflict_of ts w Step)) options number w next (Some end) [] text → StepNotes w ts conflicts after noted (Some end) →
+    Appends b c text → ((end ≡ whole.end) × (noted ≡ counted whole.met) × (next ≡ whole.world)) × Appends a c whole.bytes
+run-ended options number steps rest ts after w next end conflicts noted text a b c whole e so_far is_end stands met step note told =
+    let it = at-end options number steps rest ts after w next end conflicts noted [] text (stops options.strict (conflict_of ts w Step)) e refl step note in
+    let said : Appends b c it.bytes = Appends-same b c text it.bytes it.wrote told in (
+      (
+        sym (ap (λ r. r.end) it.run) ∙ is_end,
+        it.adds ∙ sym (ap (λ r. conflicts_after conflicts r.met) it.run) ∙ met,
+        sym (ap (λ r. r.world) it.run) ∙ stands,
+      ),
+      Appends-same a c _ whole.bytes (sym (so_far.2 ∙ ap (λ r. so_far.0 ++ r.bytes) it.run)) (Appends-then a b c so_far.0 it.bytes so_far.1 said),
     )
 
-begins : (options : PrintOptions) (number : ℕ) (w : WorldState) (met : Option Conflict) (done : Result WorldState MixFault) (halts : Bool) (s : Option Conflict)
-    (rest : WorldState → Run) → is_halt_next w ≡ halts → stops options.strict met ≡ s →
-    (more : List ℕ) × ((step_and_rest options number w met done rest).bytes ≡ bytes_unless s (bytes_to options number w done) ++ more)
-begins options number w met (Ok next) true None rest e is = ([], rw (is, e) refl)
-begins options number w met (Ok next) false None rest e is = ((rest next).bytes, rw (is, e) refl)
-begins options number w met (Ok next) halts (Some c) rest e is = ([], rw is refl)
-begins options number w met (Err fault) halts None rest e is = ([], refl)
-begins options number w met (Err fault) halts (Some c) rest e is = ([], refl)
+-- what a step writes is a beginning of what the run writes from it on
+step-begins : (options : PrintOptions) (number steps rest : ℕ) (ts after : TransfersState) (w next : WorldState) (end : Option RunEnd) (conflicts noted : Conflicts)
+    (text : List ℕ) → steps ≡ suc rest → StepPrints (stops options.strict (conflict_of ts w Step)) options number w next end [] text
+    → StepNotes w ts conflicts after noted end → (more : List ℕ) × ((printed options number steps ts w).bytes ≡ text ++ more)
+step-begins options number steps rest ts after w next None conflicts noted text e step note =
+    let on = goes-on options number steps rest ts w next [] text e step in
+    let more = (printed options (number + 1) rest (transfers_after ts w Step) next).bytes in
+    (more, ap (λ r. r.bytes) on.0 ∙ ap (λ t. t ++ more) (sym on.1))
+step-begins options number steps rest ts after w next (Some end) conflicts noted text e step note =
+    let it = at-end options number steps rest ts after w next end conflicts noted [] text (stops options.strict (conflict_of ts w Step)) e refl step note in
+    ([], ap (λ r. r.bytes) it.run ∙ sym it.wrote ∙ sym (append-nil text))
+
+-- a beginning of what one step writes
+pub begun-in_step : (options : PrintOptions) (number steps rest : ℕ) (ts after : TransfersState) (w next : WorldState) (end : Option RunEnd) (conflicts noted : Conflicts)
+    (text : List ℕ) (a b c : Option (List ℕ)) (whole : List ℕ) → steps ≡ suc rest →
+    (done : List ℕ) × Appends a b done × (whole ≡ done ++ (printed options number steps ts w).bytes) →
+    StepPrints (stops options.strict (conflict_of ts w Step)) options number w next end [] text → StepNotes w ts conflicts after noted end
+    → AppendsFront b c text → AppendsFront a c whole
+begun-in_step options number steps rest ts after w next end conflicts noted text a b c whole e so_far step note begun =
+    let begins = step-begins options number steps rest ts after w next end conflicts noted text e step note in
+    AppendsFront-after a b c so_far.0 text begins.0 whole so_far.1 begun (so_far.2 ∙ ap (λ bytes. so_far.0 ++ bytes) begins.1)
 
 -- ---- a step that is made
 
@@ -195,41 +210,9 @@ notes-made (Some (Conflicting conflict)) ts after w conflicts noted is went met 
 notes-made (Some UsedUp) ts after w conflicts noted is went met = absurd cc
 
 pub notes-not_made : (end : Option RunEnd) (options : PrintOptions) (number : ℕ) (ts : TransfersState) (w next : WorldState) (conflicts : Conflicts)
-    (b c : Option (List ℕ)) → is_made end ≡ false → StepMakes options number w next end b c → StepNotes w ts conflicts ts conflicts end
+    (b c : List ℕ) → is_made end ≡ false → StepMakes options number w next end b c → StepNotes w ts conflicts ts conflicts end
 notes-not_made None options number ts w next conflicts b c is made = absurd cc
 notes-not_made (Some Halted) options number ts w next conflicts b c is made = absurd cc
 notes-not_made (Some (Faulted fault)) options number ts w next conflicts b c is made = (refl, refl)
 notes-not_made (Some (Conflicting conflict)) options number ts w next conflicts b c is made = absurd made
 notes-not_made (Some UsedUp) options number ts w next conflicts b c is made = absurd made
-
--- of a quiet watch
-quiet-end : (end : Option RunEnd) (v : Bool) (options : PrintOptions) (number : ℕ) (ts : TransfersState) (w next : WorldState) (conflicts : Conflicts)
-    (b c : Option (List ℕ)) → conflict_of ts w Step ≡ None → transfer_by w Step ≡ None → is_made end ≡ v → StepMakes options number w next end b c
-    → StepNotes w ts conflicts ts conflicts end
-quiet-end end true options number ts w next conflicts b c apart still is made =
-    notes-made end ts ts w conflicts conflicts is (rw still refl) (rw apart (sym (conflicts-same conflicts)))
-quiet-end end false options number ts w next conflicts b c apart still is made = notes-not_made end options number ts w next conflicts b c is made
-
-pub quiet-notes : (r : Result (Option RunEnd) ToolFault) (options : PrintOptions) (number : ℕ) (ts : TransfersState) (w next : WorldState) (conflicts : Conflicts)
-    (b c : Option (List ℕ)) → conflict_of ts w Step ≡ None → transfer_by w Step ≡ None → IfOk r (λ end. StepMakes options number w next end b c)
-    → IfOk r (λ end. StepNotes w ts conflicts ts conflicts end)
-quiet-notes (Err fault) options number ts w next conflicts b c apart still made = tt
-quiet-notes (Ok end) options number ts w next conflicts b c apart still made =
-    quiet-end end (is_made end) options number ts w next conflicts b c apart still refl made
-
--- what a step prints is the beginning of what the run prints
-pub step-begins : (options : PrintOptions) (number steps : ℕ) (ts : TransfersState) (w : WorldState) → 0 < steps →
-    (more : List ℕ) × ((printed options number steps ts w).bytes ≡ step_bytes options number ts w ++ more)
-step-begins options number zero ts w more = absurd (omega arith)
-step-begins options number (suc steps) ts w more =
-    begins options number w (conflict_of ts w Step) (does w Step) (is_halt_next w) (stops options.strict (conflict_of ts w Step))
-    (λ next. printed options (number + 1) steps (transfers_after ts w Step) next) refl refl
-
--- a beginning of what one step prints
-pub begun-in_step : (options : PrintOptions) (number steps : ℕ) (ts : TransfersState) (w : WorldState) (a b c : Option (List ℕ)) (whole : List ℕ) → 0 < steps →
-    (done : List ℕ) × Appends a b done × (whole ≡ done ++ (printed options number steps ts w).bytes) → AppendsFront b c (step_bytes options number ts w)
-    → AppendsFront a c whole
-begun-in_step options number steps ts w a b c whole more so_far begun =
-    let step = step-begins options number steps ts w more in
-    AppendsFront-after a b c so_far.0 (step_bytes options number ts w) step.0 whole so_far.1 begun
-    (so_far.2 ∙ ap (λ bytes. so_far.0 ++ bytes) step.1)

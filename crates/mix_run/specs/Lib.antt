@@ -24,3 +24,4 @@ pub mod Stretch
 pub mod Table
 pub mod Talk
 pub mod UnitsRead
+pub mod Writes

@@ -19,14 +19,18 @@ use Rattle.mix_run.specs.Keep.{kept_if}
 use Rattle.mix_run.specs.Print.{Run, counted, line_at}
 use Rattle.mix_run.specs.StepTable.{run_told, step_table}
 use Rattle.mix_run.specs.UnitsRead.{deck_given}
+use Rattle.mix_run.specs.Writes.{Writes}
 use Rattle.mix_run.specs.declared.print.PrintAnswer.{PrintAnswer}
 use Rattle.mix_run.specs.declared.print.PrintAnswer.TheVariants.{NoPart, Ran, Refused}
+use Rattle.mix_run.specs.declared.print.Printed.{Printed}
 use Rattle.mix_run.specs.declared.print.loaded.RanTo.{RanTo}
 use Rattle.mix_run.specs.declared.print.options.AskedTable.{AskedTable}
 use Rattle.mix_run.specs.declared.print.options.PrintOptions.{PrintOptions}
 use Rattle.mix_run.specs.declared.print.options.TableOf.{TableOf}
 use Rattle.mix_run.specs.declared.print.options.TableOf.TheVariants as of
+use Rattle.mix_run.specs.declared.print.steps.RunEnd.{RunEnd}
 use Rattle.mix_run.specs.declared.print.tabled.StepTable.{StepTable}
+use Rattle.mix_run.specs.declared.print.watch.Conflicts.{Conflicts}
 use Rattle.mix_run.specs.declared.table.TableFormat.{TableFormat}
 use Rattle.mix_session.specs.Session.{opened}
 use Rattle.mix_session.specs.declared.fault.Refusal.{Refusal}
@@ -53,16 +57,19 @@ with_typewriter units given typewriter = with_text 19 units given typewriter
 abbrev pub units_asked : PrintOptions → List ℕ → List ℕ → List ℕ → Result UnitsState DeckFault
 units_asked options deck cards typewriter = with_typewriter (with_cards (deck_of deck) options.cards cards) options.typewriter typewriter
 
--- where a run of a program came to, and its conflicts
-abbrev pub ran_to : ProgramValue → Run → RanTo
-ran_to program run = record {
-  end = run.end;
-  loc = run.world.loc;
-  clock = run.world.clock;
-  line = line_at program run.world.loc;
-  conflicts = counted run.met;
-  conflict_line = option_and_then (λ c. line_at program c.loc) (counted run.met).first;
+-- where a program came to: how it ended, the machine then, and the conflicts
+abbrev pub came_to : ProgramValue → RunEnd → WorldState → Conflicts → RanTo
+came_to program end w conflicts = record {
+  end = end;
+  loc = w.loc;
+  clock = w.clock;
+  line = line_at program w.loc;
+  conflicts = conflicts;
+  conflict_line = option_and_then (λ c. line_at program c.loc) conflicts.first;
 }
+
+abbrev pub ran_to : ProgramValue → Run → RanTo
+ran_to program run = came_to program run.end run.world (counted run.met)
 
 -- what is answered of a run
 abbrev pub answered : PrintOptions → ProgramValue → Run → PrintOutcome
@@ -110,6 +117,10 @@ print_outcome options part (Ok program) (Ok units) = outcome_of_run options part
 unfoldable pub parts_of : List ℕ → Cut
 parts_of text = if nat_lt max_bundle_bytes (length text) then record { source = text; deck = []; script = [] } else cut_of text
 
+-- what was read of a text has its deck, and a source that is assembled to the same
+abbrev pub IsReadAs : List ℕ → List ℕ → Type 0
+IsReadAs read text = (assembly (parts_of read).source ≡ assembly (parts_of text).source) × ((parts_of read).deck ≡ (parts_of text).deck)
+
 -- a bundle or a source, a deck that is given in place of its own, cards, and lines for the typewriter
 unfoldable pub print_output : PrintOptions → List ℕ → List ℕ → List ℕ → List ℕ → List ℕ → PrintOutcome
 print_output options part text deck cards typewriter =
@@ -135,3 +146,8 @@ Prints outcome (Err faults.Long) old new = ⊥
 Prints outcome (Err faults.Memory) old new = AppendsFront old new (bytes_of outcome)
 Prints outcome (Err faults.Write) old new = AppendsFront old new (bytes_of outcome)
 Prints outcome (Err faults.Read) old new = Keeps old new
+
+-- What a run of a program has written and left: all that the outcome says, and a map that is drawn as it is to be; or, broken off, a beginning.
+abbrev pub Leaves : PrintOutcome → (List ℕ → Type 0) → Result Printed ToolFault → Option (List ℕ) → ℕ → Option (List ℕ) → ℕ → Type 0
+Leaves outcome IsDrawn result old failed new failed_new =
+    Writes (bytes_of outcome) (λ p. (outcome ≡ Answered (bytes_of outcome) p.answer p.deck.items) × IsDrawn p.map.items) result old failed new failed_new

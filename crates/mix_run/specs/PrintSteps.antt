@@ -1,6 +1,5 @@
 -- What the function of one step says.
 use Rattle.std.specs.Prelude.{◌≡◌, ◌+◌, ℕ, Bool, true, false, List, [], ◌++◌, length, option_map, Option, Some, None, Result, Ok, Err}
-use Rattle.std.specs.Io.KnownBytes.{Appends}
 use Rattle.std.specs.Option.{option_or}
 use Rattle.mix_machine.specs.Do.{does, is_halt_next}
 use Rattle.mix_machine.specs.Transfers.{TransfersState, conflict_of, transfer_by, transfers_after}
@@ -8,7 +7,7 @@ use Rattle.mix_machine.specs.declared.transfers.Conflict.{Conflict}
 use Rattle.mix_machine.specs.World.{WorldState, unit_at}
 use Rattle.mix_machine.specs.declared.fault.MixFault.{MixFault}
 use Rattle.mix_machine.specs.declared.old.Change.TheVariants.{Step}
-use Rattle.mix_run.specs.Print.{conflict_at, first_of, if_asked, listed, printed_from, stops, traced_line, written_by}
+use Rattle.mix_run.specs.Print.{conflict_at, first_of, if_asked, listed, printed_from, traced_line, written_by}
 use Rattle.mix_run.specs.declared.print.options.PrintOptions.{PrintOptions}
 use Rattle.mix_run.specs.declared.print.options.UnitSet.{UnitSet}
 use Rattle.mix_run.specs.declared.print.rows.RowCounts.{RowCounts}
@@ -43,27 +42,11 @@ line_to trace number w (Err fault) = []
 abbrev pub line_bytes : Bool → ℕ → WorldState → List ℕ
 line_bytes trace number w = line_to trace number w (does w Step)
 
-abbrev pub bytes_to : PrintOptions → ℕ → WorldState → Result WorldState MixFault → List ℕ
-bytes_to options number w (Ok next) = written_by options number w next
-bytes_to options number w (Err fault) = []
-
--- what one step writes, if it is made
-abbrev pub made_bytes : PrintOptions → ℕ → WorldState → List ℕ
-made_bytes options number w = bytes_to options number w (does w Step)
-
-abbrev pub bytes_unless : Option Conflict → List ℕ → List ℕ
-bytes_unless None bytes = bytes
-bytes_unless (Some c) bytes = []
-
--- what one step writes: nothing where it ends a strict run
-abbrev pub step_bytes : PrintOptions → ℕ → TransfersState → WorldState → List ℕ
-step_bytes options number ts w = bytes_unless (stops options.strict (conflict_of ts w Step)) (made_bytes options number w)
-
 -- what a step does that is made and has written, with the end that it is, if it is one
-abbrev pub StepMakes : PrintOptions → ℕ → WorldState → WorldState → Option RunEnd → Option (List ℕ) → Option (List ℕ) → Type 0
-StepMakes options number w next None old new = (does w Step ≡ Ok next) × (is_halt_next w ≡ false) × Appends old new (written_by options number w next)
-StepMakes options number w next (Some Halted) old new = (does w Step ≡ Ok next) × (is_halt_next w ≡ true) × Appends old new (written_by options number w next)
-StepMakes options number w next (Some (Faulted fault)) old new = (does w Step ≡ Err fault) × (next ≡ w) × Appends old new []
+abbrev pub StepMakes : PrintOptions → ℕ → WorldState → WorldState → Option RunEnd → List ℕ → List ℕ → Type 0
+StepMakes options number w next None old new = (does w Step ≡ Ok next) × (is_halt_next w ≡ false) × (new ≡ old ++ written_by options number w next)
+StepMakes options number w next (Some Halted) old new = (does w Step ≡ Ok next) × (is_halt_next w ≡ true) × (new ≡ old ++ written_by options number w next)
+StepMakes options number w next (Some (Faulted fault)) old new = (does w Step ≡ Err fault) × (next ≡ w) × (new ≡ old)
 StepMakes options number w next (Some (Conflicting c)) old new = ⊥
 StepMakes options number w next (Some UsedUp) old new = ⊥
 
@@ -89,10 +72,10 @@ StepStops w next Halted c = ⊥
 StepStops w next UsedUp c = ⊥
 
 -- what one step of a run does and has written, by the conflict that ends the run before it, if one does
-abbrev pub StepPrints : Option Conflict → PrintOptions → ℕ → WorldState → WorldState → Option RunEnd → Option (List ℕ) → Option (List ℕ) → Type 0
+abbrev pub StepPrints : Option Conflict → PrintOptions → ℕ → WorldState → WorldState → Option RunEnd → List ℕ → List ℕ → Type 0
 StepPrints None options number w next end old new = StepMakes options number w next end old new
 StepPrints (Some c) options number w next None old new = ⊥
-StepPrints (Some c) options number w next (Some end) old new = StepStops w next end c × Appends old new []
+StepPrints (Some c) options number w next (Some end) old new = StepStops w next end c × (new ≡ old)
 
 -- conflicts and more of them
 abbrev pub conflicts_after : Conflicts → List ConflictAt → Conflicts

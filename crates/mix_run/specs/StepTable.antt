@@ -1,6 +1,5 @@
 -- A run that is told in a table: a row for each step, or for each that altered a part of the machine.
 use Rattle.std.specs.Prelude.{◌≡◌, ℕ, zero, suc, Bool, true, false, ◌+◌, List, [], ◌∷◌, ◌++◌, codes, Option, Some, None, Result, Ok, Err, if◌then◌else◌}
-use Rattle.std.specs.Io.KnownBytes.{Appends}
 use Rattle.mixal_asm.specs.Program.{ProgramValue}
 use Rattle.mix_word.specs.declared.register.Reg.{Reg}
 use Rattle.mix_word.specs.declared.register.Reg.TheVariants.{A, X, I1, I2, I3, I4, I5, I6, J}
@@ -174,11 +173,11 @@ abbrev pub Adds : TableFormat → List FieldValue → Bool → Bool → List (Li
 Adds format names first now rows old new = (new ≡ old ++ rows_text format names first rows) × (now ≡ still_first first rows)
 
 -- what a step does and has written, with the end that it is, if it is one
-abbrev pub StepTells : TableFormat → List FieldValue → Bool → Bool → List (List FieldValue) → WorldState → WorldState → Option RunEnd → Option (List ℕ) → Option (List ℕ) → Type 0
+abbrev pub StepTells : TableFormat → List FieldValue → Bool → Bool → List (List FieldValue) → WorldState → WorldState → Option RunEnd → List ℕ → List ℕ → Type 0
 StepTells format names first now rows w next None old new =
-    (does w Step ≡ Ok next) × (is_halt_next w ≡ false) × (now ≡ still_first first rows) × Appends old new (rows_text format names first rows)
+    (does w Step ≡ Ok next) × (is_halt_next w ≡ false) × (now ≡ still_first first rows) × (new ≡ old ++ rows_text format names first rows)
 StepTells format names first now rows w next (Some Halted) old new =
-    (does w Step ≡ Ok next) × (is_halt_next w ≡ true) × (now ≡ still_first first rows) × Appends old new (rows_text format names first rows)
-StepTells format names first now rows w next (Some (Faulted fault)) old new = (does w Step ≡ Err fault) × (next ≡ w) × Appends old new []
+    (does w Step ≡ Ok next) × (is_halt_next w ≡ true) × (now ≡ still_first first rows) × (new ≡ old ++ rows_text format names first rows)
+StepTells format names first now rows w next (Some (Faulted fault)) old new = (does w Step ≡ Err fault) × (next ≡ w) × (new ≡ old)
 StepTells format names first now rows w next (Some (Conflicting c)) old new = ⊥
 StepTells format names first now rows w next (Some UsedUp) old new = ⊥

@@ -4,9 +4,8 @@ ghost use Rattle.mix_word.specs.Uses.{unit_count};
 ghost use Rattle.mix_word.specs.Text.{sign_text};
 ghost use Rattle.mix_session.specs.ShowUnit.{block_text, block_word_text, deck_word_text, pair_text, text_after};
 ghost use Rattle.mix_run.specs.Keep.{first_kept, header_text, is_kept, kept_at, kept_block, kept_deck, kept_if, kept_part, kept_unit};
-ghost use Rattle.mix_run.specs.Print.{printed_line};
 
-use crate::print::row::line_text;
+use crate::print::row::add_line;
 use mix_machine::{Sign, Unit, UnitKind, UnitNo, Word, World};
 use mix_refused::Memory;
 use mix_word::UNITS;
@@ -146,15 +145,6 @@ fn add_block(
         }
         UnitKind::Typewriter | UnitKind::PaperTape => add_line(alloc, words, text),
     }
-}
-
-// Words in characters, without the blanks at the end, and a line feed.
-fn add_line(alloc: Global, words: &[Word], text: &mut Vec<u8>) -> Result<(), Memory>
-    ensures { OnOk result (text.new.items ≡ text.old.items ++ printed_line words.now) }
-{
-    let line = line_text(alloc, words)?;
-    text.extend_from_slice(&line)?;
-    Ok(())
 }
 
 // Words of a tape or a disk, five in a line.

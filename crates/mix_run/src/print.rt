@@ -22,6 +22,7 @@ mod part;
 mod plain;
 pub(crate) mod row;
 mod rows;
+mod sheet;
 mod steps;
 pub(crate) mod tabled;
 mod texts;
@@ -52,6 +53,15 @@ pub enum PrintAnswer {
     Ran(RanTo),
     Refused(AsmFault),
     NoPart(Refusal),
+}
+
+/// What a run leaves: its answer, the deck of what its units hold, and its map; both are empty where
+/// they are not asked for.
+#[derive(Drop)]
+pub(crate) struct Printed {
+    pub(crate) answer: PrintAnswer,
+    pub(crate) deck: Vec<u8>,
+    pub(crate) map: Vec<u8>,
 }
 
 // The units of an assembled source, and then its run; the deck of its bundle is a text.

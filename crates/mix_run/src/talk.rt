@@ -22,6 +22,7 @@ ghost use Rattle.mix_stream.specs.Stream.{ConsumesAtMost, CountsFailure};
 
 mod answer;
 mod aside;
+mod done;
 mod file;
 mod heard;
 mod input;
@@ -32,6 +33,7 @@ mod recall;
 mod reload;
 mod save;
 mod source;
+mod stopped;
 mod watched;
 
 use crate::fault::ToolFault;

@@ -1,27 +1,23 @@
 //! A program run in a session, and a table of how often each instruction was executed, and how long that took.
-ghost use Rattle.std.specs.Prelude.{◌≡◌, ◌≢◌, ◌<◌, ◌++◌, ◌-◌, ◌^◌, ◌==◌, ◌&&◌, Ok, Err, IfErr, IfOk, OnOk, min, true};
-ghost use Rattle.mixal_asm.specs.declared.fault.AsmFault.{AsmFault};
-ghost use Rattle.mix_stream.specs.Stream.{CountsFailure};
+ghost use Rattle.std.specs.Prelude.{◌≡◌, ◌<◌, ◌++◌, ◌-◌, ◌^◌, ◌==◌, ◌&&◌, [], IfOk, OnOk, min, true};
 ghost use Rattle.mix_session.specs.Command.{after};
 ghost use Rattle.mix_session.specs.Session.{opened};
 ghost use Rattle.mix_session.specs.Tally.{tally_in};
-ghost use Rattle.mix_session.specs.Timeline.{world_of};
-ghost use Rattle.mix_run.specs.Counted.{count_row, count_rows, count_rows_at, counted_run, counted_steps, counts_table, end_of, max_counted, number_or, run_end};
+ghost use Rattle.mix_run.specs.Counted.{count_row, count_rows, count_rows_at, counted_run, counted_steps, counts_table, end_of, max_counted, run_end};
 ghost use Rattle.mix_run.specs.Drawn.{DrawnIf};
-ghost use Rattle.mix_run.specs.Fault.{IsMemoryOrWrite};
-ghost use Rattle.mix_run.specs.Print.{ended, line_at};
-ghost use Rattle.mix_run.specs.PrintOutput.{Prints, counted_outcome, kept_of, ran_to};
+ghost use Rattle.mix_run.specs.Keep.{kept_if};
+ghost use Rattle.mix_run.specs.PrintOutput.{Leaves, counted_outcome, ran_to};
 ghost use Rattle.mix_run.specs.Table.{rows_text};
+ghost use Rattle.mix_run.specs.declared.print.PrintAnswer.TheVariants.{Ran};
 
 use crate::fault::ToolFault;
-use crate::keep::keep_units;
-use crate::print::PrintAnswer;
+use crate::print::Printed;
 use crate::print::drawn::draw_if;
-use crate::print::loaded::{RanTo, line_at};
+use crate::print::loaded::left;
 use crate::print::options::PrintOptions;
-use crate::print::steps::RunEnd;
-use crate::print::watch::Conflicts;
-use crate::table::{Field, TableFormat, add_footer, add_header, add_row};
+use crate::print::sheet::{Sheet, line_field};
+use crate::print::steps::{RunEnd, Stepped};
+use crate::table::{Field, TableFormat, add_footer, add_header};
 use mix_machine::Units;
 use mix_refused::Memory;
 use mix_session::{End, Session, Stops, Tally, Way};
@@ -41,25 +37,44 @@ pub(super) fn count_loaded<W: Out>(
     units: Units,
     format: TableFormat,
     options: PrintOptions,
-    kept: &mut Vec<u8>,
-    map: &mut Vec<u8>,
     out: &mut W,
-) -> Result<PrintAnswer, ToolFault>
+) -> Result<Printed, ToolFault>
     requires { W.failed out.old < 2 ^ 64 - 1 }
-    ensures output { Prints (counted_outcome format options program units) result (W.told out.old) (W.told out.new) }
-    ensures kept { OnOk result (kept.new.items ≡ kept.old.items ++ kept_of (counted_outcome format options program units)) }
-    ensures map { OnOk result (DrawnIf options.map program (after (counted_steps options.steps (opened program units).timeline)) map.old.items map.new.items) }
-    ensures write { CountsFailure (result ≡ Err ToolFault.Write) (W.failed out.old) (W.failed out.new) }
-    ensures only { IfErr result IsMemoryOrWrite }
-    ensures ran { (f : AsmFault) → result ≢ Ok (PrintAnswer.Refused f) }
+    ensures { Leaves (counted_outcome format options program units)
+        (DrawnIf options.map program (after (counted_steps options.steps (opened program units).timeline)) []) result
+        (W.told out.old) (W.failed out.old) (W.told out.new) (W.failed out.new) }
 {
     let mut session = Session::open(alloc, program, units)?;
-    let end = run_steps(&mut session, options.steps)?;
-    let text = counts_table(alloc, &session, format)?;
-    keep_units(alloc, session.world(), options.keep, kept)?;
-    draw_if(alloc, &session, options.map, map)?;
+    let made = counted(alloc, &mut session, format, options)?;
+    let (text, printed) = made;
     write_all(out, &text)?;
-    Ok(PrintAnswer::Ran(counted_to(&session, end)))
+    Ok(printed)
+}
+
+// The table of a session after its steps, and what is left of it.
+fn counted(
+    alloc: Global,
+    session: &mut Session,
+    format: TableFormat,
+    options: PrintOptions,
+) -> Result<(Vec<u8>, Printed), Memory>
+    ensures { let run = counted_run format options.steps session.old in let program = session.old.program in
+        IfOk result (λ r. (r.0.items ≡ run.bytes) × (r.1.answer ≡ Ran (ran_to program run)) × (r.1.deck.items ≡ kept_if options.keep run.world)
+        × DrawnIf options.map program (after (counted_steps options.steps session.old.timeline)) [] r.1.map.items) }
+{
+    let end = run_steps(session, options.steps)?;
+    let text = counts_table(alloc, session, format)?;
+    let map = draw_if(alloc, session, options.map)?;
+    let stepped = Stepped::alone(end);
+    let printed = left(
+        alloc,
+        session.program(),
+        session.world(),
+        stepped,
+        options.keep,
+        map,
+    )?;
+    Ok((text, printed))
 }
 
 /// So many steps at most, up to a halt or a fault.
@@ -75,12 +90,12 @@ pub(super) fn run_steps(session: &mut Session, steps: u64) -> Result<RunEnd, Mem
         watched: &[],
         location: None,
     };
-    let (_, end) = session.run(Way::New, counted(steps), &stops)?;
+    let (_, end) = session.run(Way::New, at_most(steps), &stops)?;
     Ok(run_end(end))
 }
 
 // So many steps, or the most that are counted.
-fn counted(steps: u64) -> u32
+fn at_most(steps: u64) -> u32
     ensures { result ≡ min steps max_counted }
 {
     steps.min(MAX_COUNTED) as u32
@@ -96,24 +111,6 @@ fn run_end(end: End) -> RunEnd
     }
 }
 
-// Where a run came to.
-fn counted_to(session: &Session, end: RunEnd) -> RanTo
-    ensures { result ≡ ran_to session.now.program (ended end (world_of session.now.timeline)) }
-{
-    let (loc, clock) = (session.world().loc(), session.world().clock());
-    RanTo {
-        end,
-        loc,
-        clock,
-        line: line_at(session.program(), loc),
-        conflicts: Conflicts {
-            count: 0,
-            first: None,
-        },
-        conflict_line: None,
-    }
-}
-
 // The table of all cells.
 #[tactic(auto, unfolding(crate::specs::Counted::counts_table, crate::specs::Table::table_text))]
 fn counts_table(alloc: Global, session: &Session, format: TableFormat) -> Result<Vec<u8>, Memory>
@@ -126,10 +123,14 @@ fn counts_table(alloc: Global, session: &Session, format: TableFormat) -> Result
         Field::text(b"count"),
         Field::text(b"time"),
     ];
-    let (program, cells) = (session.program(), &tallies.cells);
+    let sheet = Sheet {
+        program: session.program(),
+        format,
+        names: &names,
+    };
     let mut text = Vec::new(alloc);
     add_header(alloc, &mut text, format, b"rrrr", &names)?;
-    add_rows(alloc, &mut text, format, &names, program, cells, CELLS)?;
+    add_rows(alloc, &sheet, &tallies.cells, CELLS, &mut text)?;
     add_footer(&mut text, format)?;
     Ok(text)
 }
@@ -137,21 +138,20 @@ fn counts_table(alloc: Global, session: &Session, format: TableFormat) -> Result
 // The rows of the first cells.
 fn add_rows(
     alloc: Global,
-    text: &mut Vec<u8>,
-    format: TableFormat,
-    names: &[Field<'_>],
-    program: &Program,
+    sheet: &Sheet<'_>,
     tallies: &[Tally],
     count: u16,
+    text: &mut Vec<u8>,
 ) -> Result<(), Memory>
-    ensures { OnOk result (text.new.items ≡ text.old.items ++ rows_text format names.now true (count_rows program.now (tally_in tallies.now) 0 count)) }
+    ensures { OnOk result (text.new.items
+        ≡ text.old.items ++ rows_text sheet.now.format sheet.now.names.now true (count_rows sheet.now.program.now (tally_in tallies.now) 0 count)) }
 {
     let mut first = true;
     let mut left = count;
     while left > 0 {
         let number = count - left;
         let tally = tally_in(tallies, number);
-        first = add_cell(alloc, text, format, names, first, program, tally, number)?;
+        first = add_cell(alloc, sheet, first, tally, number, text)?;
         left -= 1;
     }
     Ok(())
@@ -170,36 +170,25 @@ fn tally_in(tallies: &[Tally], number: u16) -> Tally
 // The row of a cell, if it was executed; whether the next row is the first.
 fn add_cell(
     alloc: Global,
-    text: &mut Vec<u8>,
-    format: TableFormat,
-    names: &[Field<'_>],
+    sheet: &Sheet<'_>,
     first: bool,
-    program: &Program,
     tally: Tally,
     number: u16,
+    text: &mut Vec<u8>,
 ) -> Result<bool, Memory>
-    ensures row { OnOk result (text.new.items ≡ text.old.items ++ rows_text format names.now first (count_rows_at program.now tally number)) }
+    ensures row { OnOk result (text.new.items
+        ≡ text.old.items ++ rows_text sheet.now.format sheet.now.names.now first (count_rows_at sheet.now.program.now tally number)) }
     ensures next { IfOk result (λ next. next ≡ (first && tally.count == 0)) }
 {
     if tally.count == 0 {
         return Ok(first);
     }
     let fields = [
-        line_field(program, number),
+        line_field(sheet.program, number),
         Field::number(u128::from(number)),
         Field::number(u128::from(tally.count)),
         Field::number(tally.time),
     ];
-    add_row(alloc, text, format, names, first, &fields)?;
+    sheet.add(alloc, first, &fields, text)?;
     Ok(false)
-}
-
-/// The line of the source that put its word into a cell.
-pub(super) fn line_field(program: &Program, number: u16) -> Field<'static>
-    ensures { result ≡ number_or (line_at program.now number) }
-{
-    match line_at(program, number) {
-        Some(line) => Field::number(u128::from(line)),
-        None => Field::missing(),
-    }
 }

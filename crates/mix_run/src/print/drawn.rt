@@ -1,23 +1,20 @@
 //! A run beside a session: its map is drawn of the session's steps, and a part of which a table is to be is named there.
-ghost use Rattle.std.specs.Prelude.{◌≡◌, ◌≢◌, ◌<◌, ◌++◌, ◌-◌, ◌^◌, Ok, Err, IfErr, OnOk, length};
-ghost use Rattle.mixal_asm.specs.declared.fault.AsmFault.{AsmFault};
-ghost use Rattle.mix_stream.specs.Stream.{CountsFailure};
+ghost use Rattle.std.specs.Prelude.{◌≡◌, ◌<◌, ◌++◌, ◌-◌, ◌^◌, [], IfOk, length};
 ghost use Rattle.mix_session.specs.Command.{after};
 ghost use Rattle.mix_session.specs.Change.{world_at};
 ghost use Rattle.mix_run.specs.Counted.{counted_steps};
 ghost use Rattle.mix_run.specs.Drawn.{Drawn, DrawnIf, DrawnRun};
-ghost use Rattle.mix_run.specs.Fault.{IsMemoryOrWrite};
-ghost use Rattle.mix_run.specs.PrintOutput.{Prints, answered, kept_of, printed_outcome};
+ghost use Rattle.mix_run.specs.PrintOutput.{Leaves, answered, printed_outcome};
 ghost use Rattle.mix_run.specs.StepTable.{run_told};
 
 use crate::fault::ToolFault;
 use crate::map::{add_map, span_of};
-use crate::print::PrintAnswer;
 use crate::print::counts::run_steps;
-use crate::print::loaded::print_world;
+use crate::print::loaded::{left, tell_steps};
 use crate::print::options::PrintOptions;
 use crate::print::part::{cell_named, step_table};
 use crate::print::tabled::StepTable;
+use crate::print::{PrintAnswer, Printed};
 use mix_machine::Units;
 use mix_refused::Memory;
 use mix_session::Session;
@@ -33,23 +30,21 @@ pub(super) fn tell_loaded<W: Out>(
     units: Units,
     options: PrintOptions,
     part: &[u8],
-    kept: &mut Vec<u8>,
-    map: &mut Vec<u8>,
     out: &mut W,
-) -> Result<PrintAnswer, ToolFault>
+) -> Result<Printed, ToolFault>
     requires { W.failed out.old < 2 ^ 64 - 1 }
-    ensures output { Prints (printed_outcome options part.now program units) result (W.told out.old) (W.told out.new) }
-    ensures kept { OnOk result (kept.new.items ≡ kept.old.items ++ kept_of (printed_outcome options part.now program units)) }
-    ensures map { OnOk result (DrawnRun options part.now program units map.old.items map.new.items) }
-    ensures write { CountsFailure (result ≡ Err ToolFault.Write) (W.failed out.old) (W.failed out.new) }
-    ensures only { IfErr result IsMemoryOrWrite }
-    ensures ran { (f : AsmFault) → result ≢ Ok (PrintAnswer.Refused f) }
+    ensures { Leaves (printed_outcome options part.now program units) (DrawnRun options part.now program units []) result
+        (W.told out.old) (W.failed out.old) (W.told out.new) (W.failed out.new) }
 {
     let mut session = Session::open(alloc, program, units)?;
     let cell = cell_named(alloc, part)?;
     match step_table(&session, options.table, part, &cell) {
-        Err(refusal) => Ok(PrintAnswer::NoPart(refusal)),
-        Ok(table) => tell_session(alloc, &mut session, &table, options, kept, map, out),
+        Err(refusal) => Ok(Printed {
+            answer: PrintAnswer::NoPart(refusal),
+            deck: Vec::new(alloc),
+            map: Vec::new(alloc),
+        }),
+        Ok(table) => tell_session(alloc, &mut session, &table, options, out),
     }
 }
 
@@ -59,82 +54,55 @@ fn tell_session<W: Out>(
     session: &mut Session,
     table: &Option<StepTable>,
     options: PrintOptions,
-    kept: &mut Vec<u8>,
-    map: &mut Vec<u8>,
     out: &mut W,
-) -> Result<PrintAnswer, ToolFault>
+) -> Result<Printed, ToolFault>
     requires { W.failed out.old < 2 ^ 64 - 1 }
-    ensures output { let program = session.old.program in
-        Prints (answered options program (run_told table.now options program (world_at session.old.timeline 0))) result (W.told out.old) (W.told out.new) }
-    ensures kept { let program = session.old.program in
-        OnOk result (kept.new.items ≡ kept.old.items ++ kept_of (answered options program (run_told table.now options program (world_at session.old.timeline 0)))) }
-    ensures map { OnOk result (DrawnIf options.map session.old.program (after (counted_steps options.steps session.old.timeline)) map.old.items map.new.items) }
-    ensures write { CountsFailure (result ≡ Err ToolFault.Write) (W.failed out.old) (W.failed out.new) }
-    ensures only { IfErr result IsMemoryOrWrite }
-    ensures ran { (f : AsmFault) → result ≢ Ok (PrintAnswer.Refused f) }
+    ensures { let program = session.old.program in
+        Leaves (answered options program (run_told table.now options program (world_at session.old.timeline 0)))
+        (DrawnIf options.map program (after (counted_steps options.steps session.old.timeline)) []) result
+        (W.told out.old) (W.failed out.old) (W.told out.new) (W.failed out.new) }
 {
     let mut world = session.world_at(alloc, 0)?;
-    let answer = print_world(
-        alloc,
-        session.program(),
-        &mut world,
-        table,
-        options,
-        kept,
-        out,
-    )?;
-    draw_steps(alloc, session, options, map)?;
-    Ok(answer)
+    let stepped = tell_steps(alloc, session.program(), &mut world, table, options, out)?;
+    let map = draw_steps(alloc, session, options)?;
+    let printed = left(alloc, session.program(), &world, stepped, options.keep, map)?;
+    Ok(printed)
 }
 
-// Appends the map of a session after its steps, if it is asked for.
+// The map of a session after its steps, if it is asked for.
 fn draw_steps(
     alloc: Global,
     session: &mut Session,
     options: PrintOptions,
-    map: &mut Vec<u8>,
-) -> Result<(), Memory>
-    ensures { OnOk result (DrawnIf options.map session.old.program (after (counted_steps options.steps session.old.timeline)) map.old.items map.new.items) }
+) -> Result<Vec<u8>, Memory>
+    ensures program { session.new.program ≡ session.old.program }
+    ensures map { IfOk result (λ map. DrawnIf options.map session.old.program (after (counted_steps options.steps session.old.timeline)) [] map.items) }
 {
     if options.map {
-        run_and_draw(alloc, session, options.steps, map)
+        run_steps(session, options.steps)?;
+        draw(alloc, session)
     } else {
-        Ok(())
+        Ok(Vec::new(alloc))
     }
 }
 
-fn run_and_draw(
-    alloc: Global,
-    session: &mut Session,
-    steps: u64,
-    map: &mut Vec<u8>,
-) -> Result<(), Memory>
-    ensures { OnOk result (Drawn session.old.program (after (counted_steps steps session.old.timeline)) map.old.items map.new.items) }
-{
-    run_steps(session, steps)?;
-    draw(alloc, session, map)
-}
-
-/// Appends the map of the changes of a session, if it is asked for.
-pub(super) fn draw_if(
-    alloc: Global,
-    session: &Session,
-    map: bool,
-    text: &mut Vec<u8>,
-) -> Result<(), Memory>
-    ensures { OnOk result (DrawnIf map session.now.program session.now.timeline text.old.items text.new.items) }
+/// The map of the changes of a session, if it is asked for.
+pub(super) fn draw_if(alloc: Global, session: &Session, map: bool) -> Result<Vec<u8>, Memory>
+    ensures { IfOk result (λ text. DrawnIf map session.now.program session.now.timeline [] text.items) }
 {
     if map {
-        draw(alloc, session, text)
+        draw(alloc, session)
     } else {
-        Ok(())
+        Ok(Vec::new(alloc))
     }
 }
 
-fn draw(alloc: Global, session: &Session, text: &mut Vec<u8>) -> Result<(), Memory>
-    ensures { OnOk result (Drawn session.now.program session.now.timeline text.old.items text.new.items) }
+fn draw(alloc: Global, session: &Session) -> Result<Vec<u8>, Memory>
+    ensures { IfOk result (λ text. Drawn session.now.program session.now.timeline [] text.items) }
 {
     let total = session.changes().len();
     let counts = session.path(alloc, span_of(total))?;
-    add_map(alloc, session.program(), total, &counts, text)
+    let mut text = Vec::new(alloc);
+    add_map(alloc, session.program(), total, &counts, &mut text)?;
+    Ok(text)
 }

@@ -1,11 +1,11 @@
 //! Plain steps, as most of a run are: they alter no unit, and are no halt.
-ghost use Rattle.std.specs.Prelude.{◌≡◌, ◌≤◌, ◌+◌, ◌-◌, IfOk, IfErr};
+ghost use Rattle.std.specs.Prelude.{◌≡◌, ◌≤◌, ◌+◌, ◌-◌, IfOk};
 ghost use Rattle.mix_run.specs.Print.{printed};
 
-use crate::fault::ToolFault;
 use crate::print::options::PrintOptions;
 use crate::print::watch::Watch;
 use mix_machine::{Change, Old, World, change_law, transfer_law};
+use mix_refused::Memory;
 use mix_word::decode_law;
 use undo_core::{Kept, Refused, Undo};
 
@@ -20,13 +20,12 @@ pub(super) fn plain_steps(
     watch: &Watch,
     options: PrintOptions,
     most: u64,
-) -> Result<u64, ToolFault>
+) -> Result<u64, Memory>
     requires { most ≤ options.steps }
     ensures fewer { IfOk result (λ left. left ≤ most) }
     ensures same { IfOk result (λ left. printed options (options.steps - most + 1) most watch.now.transfers world.old
         ≡ printed options (options.steps - left + 1) left watch.now.transfers world.new) }
     ensures units { IfOk result (λ _. world.new.units ≡ world.old.units) }
-    ensures only { IfErr result (λ fault. fault ≡ ToolFault.Memory) }
 {
     // (the clock goes no way but forward, so one look at it does for all steps)
     if options.trace || world.clock() < watch.transfers.last_end() {
@@ -44,7 +43,7 @@ pub(super) fn plain_steps(
         kept.clear();
         let (done, answer) = world.apply_many(&Change::Step, left.min(TOGETHER) as usize, kept);
         match answer {
-            Err(Refused::Memory) => return Err(ToolFault::Memory),
+            Err(Refused::Memory) => return Err(Memory),
             _ => left -= done as u64,
         }
         // (the next step is a fault)

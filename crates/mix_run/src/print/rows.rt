@@ -1,18 +1,14 @@
 //! The rows that a step has written, as they are printed.
-ghost use Rattle.std.specs.Prelude.{◌≡◌, ◌<◌, ◌-◌, ◌^◌, IfErr, OnOk, Err, None, drop, flat_map, length, slice_index_or};
-ghost use Rattle.std.specs.Io.KnownBytes.{Appends};
+ghost use Rattle.std.specs.Prelude.{◌≡◌, ◌<◌, ◌++◌, OnOk, None, drop, flat_map, length, slice_index_or};
 ghost use Rattle.mix_word.specs.Uses.{unit_count};
 ghost use Rattle.mix_machine.specs.World.{unit_at};
-ghost use Rattle.mix_run.specs.Fault.{IsMemoryOrWrite};
-ghost use Rattle.mix_stream.specs.Stream.{AppendsFront, CountsFailure};
 ghost use Rattle.mix_run.specs.Print.{printed_row, printed_from};
 ghost use Rattle.mix_run.specs.PrintSteps.{HasCounts, printed_after};
 
-use crate::fault::ToolFault;
 use crate::print::options::UnitSet;
-use crate::print::row::print_row;
+use crate::print::row::add_row;
 use mix_machine::{Row, Unit, UnitNo, World};
-use mix_stream::Out;
+use mix_refused::Memory;
 use std::alloc::Global;
 
 /// How many rows stand in each of the units that are printed.
@@ -24,102 +20,70 @@ pub(crate) struct RowCounts {
     paper_tape: u16,
 }
 
-/// The rows that were written after the first ones, of the units that are asked for; their numbers become those of all rows.
+/// Appends the rows that were written after the first ones, of the units that are asked for; their
+/// numbers become those of all rows.
 #[inline(always)]
-pub(super) fn print_new<W: Out>(
+pub(super) fn add_new(
     alloc: Global,
     world: &World,
     before: &mut RowCounts,
     units: UnitSet,
-    out: &mut W,
-) -> Result<(), ToolFault>
-    requires { W.failed out.old < 2 ^ 64 - 1 }
+    text: &mut Vec<u8>,
+) -> Result<(), Memory>
     ensures counts { OnOk result (HasCounts world.now before.new) }
-    ensures written { OnOk result (Appends (W.told out.old) (W.told out.new) (printed_after units before.old world.now)) }
-    ensures begun { AppendsFront (W.told out.old) (W.told out.new) (printed_after units before.old world.now) }
-    ensures write { CountsFailure (result ≡ Err ToolFault.Write) (W.failed out.old) (W.failed out.new) }
-    ensures only { IfErr result IsMemoryOrWrite }
+    ensures rows { OnOk result (text.new.items ≡ text.old.items ++ printed_after units before.old world.now) }
 {
     let after = row_counts(world);
     if after == *before {
         return Ok(());
     }
-    print_rows(alloc, world, *before, units, out)?;
+    add_rows(alloc, world, *before, units, text)?;
     *before = after;
     Ok(())
 }
 
 // The rows of the units that are asked for, from these numbers on.
-fn print_rows<W: Out>(
+fn add_rows(
     alloc: Global,
     world: &World,
     from: RowCounts,
     units: UnitSet,
-    out: &mut W,
-) -> Result<(), ToolFault>
-    requires { W.failed out.old < 2 ^ 64 - 1 }
-    ensures written { OnOk result (Appends (W.told out.old) (W.told out.new) (printed_after units from world.now)) }
-    ensures begun { AppendsFront (W.told out.old) (W.told out.new) (printed_after units from world.now) }
-    ensures write { CountsFailure (result ≡ Err ToolFault.Write) (W.failed out.old) (W.failed out.new) }
-    ensures only { IfErr result IsMemoryOrWrite }
+    text: &mut Vec<u8>,
+) -> Result<(), Memory>
+    ensures { OnOk result (text.new.items ≡ text.old.items ++ printed_after units from world.now) }
 {
-    print_unit(
-        alloc,
-        unit_at(world, 17),
-        from.card_punch,
-        units.card_punch,
-        out,
-    )?;
-    print_unit(alloc, unit_at(world, 18), from.printer, units.printer, out)?;
-    print_unit(
-        alloc,
-        unit_at(world, 19),
-        from.typewriter,
-        units.typewriter,
-        out,
-    )?;
-    print_unit(
-        alloc,
-        unit_at(world, 20),
-        from.paper_tape,
-        units.paper_tape,
-        out,
-    )?;
-    Ok(())
+    let (punch, printer) = (unit_at(world, 17), unit_at(world, 18));
+    add_unit(alloc, punch, from.card_punch, units.card_punch, text)?;
+    add_unit(alloc, printer, from.printer, units.printer, text)?;
+    let (typewriter, tape) = (unit_at(world, 19), unit_at(world, 20));
+    add_unit(alloc, typewriter, from.typewriter, units.typewriter, text)?;
+    add_unit(alloc, tape, from.paper_tape, units.paper_tape, text)
 }
 
 // The rows of a unit from this number on, if it is asked for.
-fn print_unit<W: Out>(
+fn add_unit(
     alloc: Global,
     unit: &Unit,
     from: u16,
     asked: bool,
-    out: &mut W,
-) -> Result<(), ToolFault>
-    requires { W.failed out.old < 2 ^ 64 - 1 }
-    ensures written { OnOk result (Appends (W.told out.old) (W.told out.new) (printed_from asked from unit.now)) }
-    ensures begun { AppendsFront (W.told out.old) (W.told out.new) (printed_from asked from unit.now) }
-    ensures write { CountsFailure (result ≡ Err ToolFault.Write) (W.failed out.old) (W.failed out.new) }
-    ensures only { IfErr result IsMemoryOrWrite }
+    text: &mut Vec<u8>,
+) -> Result<(), Memory>
+    ensures { OnOk result (text.new.items ≡ text.old.items ++ printed_from asked from unit.now) }
 {
     if asked {
-        print_from(alloc, unit, from, out)
+        add_from(alloc, unit, from, text)
     } else {
         Ok(())
     }
 }
 
 // The rows of a unit from this number on.
-fn print_from<W: Out>(alloc: Global, unit: &Unit, from: u16, out: &mut W) -> Result<(), ToolFault>
-    requires { W.failed out.old < 2 ^ 64 - 1 }
-    ensures written { OnOk result (Appends (W.told out.old) (W.told out.new) (flat_map printed_row (drop from unit.now.rows))) }
-    ensures begun { AppendsFront (W.told out.old) (W.told out.new) (flat_map printed_row (drop from unit.now.rows)) }
-    ensures write { CountsFailure (result ≡ Err ToolFault.Write) (W.failed out.old) (W.failed out.new) }
-    ensures only { IfErr result IsMemoryOrWrite }
+fn add_from(alloc: Global, unit: &Unit, from: u16, text: &mut Vec<u8>) -> Result<(), Memory>
+    ensures { OnOk result (text.new.items ≡ text.old.items ++ flat_map printed_row (drop from unit.now.rows)) }
 {
     let mut at = from;
     while at < unit.rows() {
-        print_row(alloc, row_at(unit, at), out)?;
+        add_row(alloc, row_at(unit, at), text)?;
         at += 1;
     }
     Ok(())

@@ -1,19 +1,18 @@
 //! A run that is told in a table: a row for each step, or for each that altered a part of the machine.
-ghost use Rattle.std.specs.Prelude.{◌≡◌, ◌<◌, ◌-◌, ◌^◌, IfOk, IfErr, Err, true};
-ghost use Rattle.std.specs.Io.KnownBytes.{Appends};
-ghost use Rattle.mix_stream.specs.Stream.{AppendsFront, CountsFailure};
-ghost use Rattle.mix_run.specs.Fault.{IsMemoryOrWrite};
-ghost use Rattle.mix_run.specs.StepTable.{StepTells, rows_made, rows_of, tabled, tabled_run};
+ghost use Rattle.std.specs.Prelude.{◌≡◌, ◌<◌, ◌-◌, ◌^◌, [], true};
+ghost use Rattle.mix_run.specs.Print.{counted};
+ghost use Rattle.mix_run.specs.StepTable.{columns_of, tabled, tabled_run};
 ghost use Rattle.mix_run.specs.Table.{rows_text, table_text};
+ghost use Rattle.mix_run.specs.Writes.{Writes};
 
-mod row;
 mod step;
 
 use crate::fault::ToolFault;
-use crate::print::steps::RunEnd;
-use crate::print::tabled::step::add_step;
+use crate::print::sheet::Sheet;
+use crate::print::steps::{RunEnd, Stepped};
+use crate::print::tabled::step::{Rows, table_step};
 use crate::table::{Field, TableFormat, add_footer, add_header};
-use mix_machine::{Old, Part, World};
+use mix_machine::{Part, World};
 use mix_stream::{Out, write_all};
 use mixal_asm::Program;
 use std::alloc::Global;
@@ -35,13 +34,11 @@ pub(super) fn write_table<W: Out>(
     steps: u64,
     world: &mut World,
     out: &mut W,
-) -> Result<RunEnd, ToolFault>
+) -> Result<Stepped, ToolFault>
     requires { W.failed out.old < 2 ^ 64 - 1 }
-    ensures told { let run = tabled_run table.now steps program.now world.old in
-        IfOk result (λ end. (end ≡ run.end) × (world.new ≡ run.world) × Appends (W.told out.old) (W.told out.new) run.bytes) }
-    ensures begun { AppendsFront (W.told out.old) (W.told out.new) (tabled_run table.now steps program.now world.old).bytes }
-    ensures write { CountsFailure (result ≡ Err ToolFault.Write) (W.failed out.old) (W.failed out.new) }
-    ensures only { IfErr result IsMemoryOrWrite }
+    ensures { let run = tabled_run table.now steps program.now world.old in
+        Writes run.bytes (λ s. (s.end ≡ run.end) × (s.conflicts ≡ counted run.met) × (world.new ≡ run.world)) result
+        (W.told out.old) (W.failed out.old) (W.told out.new) (W.failed out.new) }
 {
     match table.part {
         None => {
@@ -63,16 +60,12 @@ pub(super) fn write_table<W: Out>(
                 Field::text(b"comparison"),
                 Field::text(b"clock"),
             ];
-            write_rows(
-                alloc,
+            let sheet = Sheet {
                 program,
-                table,
-                b"rrrlrrrrrrrrrccr",
-                &names,
-                steps,
-                world,
-                out,
-            )
+                format: table.format,
+                names: &names,
+            };
+            write_rows(alloc, &sheet, &table.part, steps, world, out)
         }
         Some(_) => {
             let names = [
@@ -82,8 +75,23 @@ pub(super) fn write_table<W: Out>(
                 Field::text(b"before"),
                 Field::text(b"after"),
             ];
-            write_rows(alloc, program, table, b"rrrrr", &names, steps, world, out)
+            let sheet = Sheet {
+                program,
+                format: table.format,
+                names: &names,
+            };
+            write_rows(alloc, &sheet, &table.part, steps, world, out)
         }
+    }
+}
+
+// How the columns are aligned.
+fn alignment(part: &Option<Part>) -> &'static [u8]
+    ensures { result.now ≡ columns_of part.now }
+{
+    match part {
+        None => b"rrrlrrrrrrrrrccr",
+        Some(_) => b"rrrrr",
     }
 }
 
@@ -91,99 +99,62 @@ pub(super) fn write_table<W: Out>(
 #[tactic(auto, unfolding(crate::specs::Table::table_text))]
 fn write_rows<W: Out>(
     alloc: Global,
-    program: &Program,
-    table: &StepTable,
-    columns: &[u8],
-    names: &[Field<'_>],
+    sheet: &Sheet<'_>,
+    part: &Option<Part>,
     steps: u64,
     world: &mut World,
     out: &mut W,
-) -> Result<RunEnd, ToolFault>
+) -> Result<Stepped, ToolFault>
     requires { W.failed out.old < 2 ^ 64 - 1 }
-    ensures told { let run = tabled program.now table.now.part 1 steps world.old in
-        IfOk result (λ end. (end ≡ run.end) × (world.new ≡ run.world)
-        × Appends (W.told out.old) (W.told out.new) (table_text table.now.format columns.now names.now run.rows)) }
-    ensures begun { AppendsFront (W.told out.old) (W.told out.new)
-        (table_text table.now.format columns.now names.now (tabled program.now table.now.part 1 steps world.old).rows) }
-    ensures write { CountsFailure (result ≡ Err ToolFault.Write) (W.failed out.old) (W.failed out.new) }
-    ensures only { IfErr result IsMemoryOrWrite }
+    ensures { let run = tabled sheet.now.program.now part.now 1 steps world.old in
+        Writes (table_text sheet.now.format (columns_of part.now) sheet.now.names.now run.rows)
+        (λ s. (s.end ≡ run.end) × (s.conflicts ≡ counted []) × (world.new ≡ run.world)) result
+        (W.told out.old) (W.failed out.old) (W.told out.new) (W.failed out.new) }
 {
-    let mut before = Vec::new(alloc);
-    add_header(alloc, &mut before, table.format, columns, names)?;
+    let (mut before, mut after) = (Vec::new(alloc), Vec::new(alloc));
+    add_header(
+        alloc,
+        &mut before,
+        sheet.format,
+        alignment(part),
+        sheet.names,
+    )?;
+    add_footer(&mut after, sheet.format)?;
     write_all(out, &before)?;
-    let end = write_steps(alloc, program, table, names, steps, world, out)?;
-    let mut after = Vec::new(alloc);
-    add_footer(&mut after, table.format)?;
+    let end = write_steps(alloc, sheet, part, steps, world, out)?;
     write_all(out, &after)?;
-    Ok(end)
+    Ok(Stepped::alone(end))
 }
 
 // Steps, each with its rows.
 fn write_steps<W: Out>(
     alloc: Global,
-    program: &Program,
-    table: &StepTable,
-    names: &[Field<'_>],
+    sheet: &Sheet<'_>,
+    part: &Option<Part>,
     steps: u64,
     world: &mut World,
     out: &mut W,
 ) -> Result<RunEnd, ToolFault>
     requires { W.failed out.old < 2 ^ 64 - 1 }
-    ensures told { let run = tabled program.now table.now.part 1 steps world.old in
-        IfOk result (λ end. (end ≡ run.end) × (world.new ≡ run.world)
-        × Appends (W.told out.old) (W.told out.new) (rows_text table.now.format names.now true run.rows)) }
-    ensures begun { AppendsFront (W.told out.old) (W.told out.new)
-        (rows_text table.now.format names.now true (tabled program.now table.now.part 1 steps world.old).rows) }
-    ensures write { CountsFailure (result ≡ Err ToolFault.Write) (W.failed out.old) (W.failed out.new) }
-    ensures only { IfErr result IsMemoryOrWrite }
+    ensures { let run = tabled sheet.now.program.now part.now 1 steps world.old in
+        Writes (rows_text sheet.now.format sheet.now.names.now true run.rows) (λ end. (end ≡ run.end) × (world.new ≡ run.world)) result
+        (W.told out.old) (W.failed out.old) (W.told out.new) (W.failed out.new) }
 {
-    let mut kept = Kept::new(alloc);
-    let mut first = true;
+    let mut rows = Rows {
+        kept: Kept::new(alloc),
+        number: 1,
+        first: true,
+    };
     let mut left = steps;
     while left > 0 {
-        let number = steps - left + 1;
-        match write_step(
-            alloc, program, table, names, number, &mut first, world, &mut kept, out,
-        )? {
+        let mut text = Vec::new(alloc);
+        rows.number = steps - left + 1;
+        let end = table_step(alloc, sheet, part, &mut rows, world, &mut text)?;
+        write_all(out, &text)?;
+        match end {
             None => left -= 1,
             Some(end) => return Ok(end),
         }
     }
     Ok(RunEnd::UsedUp)
-}
-
-// The step of a number and its rows; its end, if it ends the run.
-fn write_step<W: Out>(
-    alloc: Global,
-    program: &Program,
-    table: &StepTable,
-    names: &[Field<'_>],
-    number: u64,
-    first: &mut bool,
-    world: &mut World,
-    kept: &mut Kept<Old>,
-    out: &mut W,
-) -> Result<Option<RunEnd>, ToolFault>
-    requires { W.failed out.old < 2 ^ 64 - 1 }
-    ensures told { IfOk result (λ end. StepTells table.now.format names.now first.old first.new
-        (rows_of program.now table.now.part number world.old world.new) world.old world.new end (W.told out.old) (W.told out.new)) }
-    ensures begun { IfErr result (λ _. AppendsFront (W.told out.old) (W.told out.new)
-        (rows_text table.now.format names.now first.old (rows_made program.now table.now.part number world.old))) }
-    ensures write { CountsFailure (result ≡ Err ToolFault.Write) (W.failed out.old) (W.failed out.new) }
-    ensures only { IfErr result IsMemoryOrWrite }
-{
-    let halts = world.next_is_halt();
-    let mut text = Vec::new(alloc);
-    match add_step(
-        alloc, program, table, names, number, first, world, kept, &mut text,
-    )? {
-        None => {}
-        Some(fault) => return Ok(Some(RunEnd::Faulted(fault))),
-    }
-    write_all(out, &text)?;
-    if halts {
-        Ok(Some(RunEnd::Halted))
-    } else {
-        Ok(None)
-    }
 }

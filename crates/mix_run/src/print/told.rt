@@ -1,25 +1,25 @@
 //! The run of a program as it is asked for: beside a session or not, told by what it prints or in a table.
-ghost use Rattle.std.specs.Prelude.{◌≡◌, ◌≢◌, ◌<◌, ◌++◌, ◌-◌, ◌^◌, ◌||◌, Ok, Err, IfErr, OnOk, is_some};
+ghost use Rattle.std.specs.Prelude.{◌≡◌, ◌≢◌, ◌<◌, ◌++◌, ◌-◌, ◌^◌, ◌||◌, [], Ok, Err, IfErr, OnOk, is_some};
 ghost use Rattle.mixal_asm.specs.declared.fault.AsmFault.{AsmFault};
 ghost use Rattle.mix_stream.specs.Stream.{CountsFailure};
 ghost use Rattle.mix_run.specs.Drawn.{DrawnRun};
 ghost use Rattle.mix_run.specs.Fault.{IsMemoryOrWrite};
-ghost use Rattle.mix_run.specs.PrintOutput.{Prints, counts_asked, kept_of, outcome_of_run};
+ghost use Rattle.mix_run.specs.PrintOutput.{Leaves, Prints, counts_asked, kept_of, outcome_of_run};
 
 use crate::fault::ToolFault;
-use crate::print::PrintAnswer;
 use crate::print::counts::count_loaded;
 use crate::print::drawn::tell_loaded;
 use crate::print::loaded::print_loaded;
 use crate::print::options::{AskedTable, PrintOptions, TableOf};
+use crate::print::{PrintAnswer, Printed};
 use crate::table::TableFormat;
 use mix_machine::Units;
+use mix_refused::Memory;
 use mix_stream::Out;
 use mixal_asm::Program;
 use std::alloc::Global;
 
-/// The run of a program with its units, as it is asked for.
-#[tactic(auto, unfolding(crate::specs::PrintOutput::outcome_of_run))]
+/// The run of a program with its units; what is to be kept and drawn is appended.
 pub(super) fn run_loaded<W: Out>(
     alloc: Global,
     program: Program,
@@ -38,13 +38,41 @@ pub(super) fn run_loaded<W: Out>(
     ensures only { IfErr result IsMemoryOrWrite }
     ensures ran { (f : AsmFault) → result ≢ Ok (PrintAnswer.Refused f) }
 {
+    let left = run_program(alloc, program, units, options, part, out)?;
+    append(kept, &left.deck)?;
+    append(map, &left.map)?;
+    Ok(left.answer)
+}
+
+// Appends one text to another.
+fn append(text: &mut Vec<u8>, more: &[u8]) -> Result<(), Memory>
+    ensures { OnOk result (text.new.items ≡ text.old.items ++ more.now) }
+{
+    text.extend_from_slice(more)?;
+    Ok(())
+}
+
+// What a run of a program leaves.
+#[tactic(auto, unfolding(crate::specs::PrintOutput::outcome_of_run))]
+fn run_program<W: Out>(
+    alloc: Global,
+    program: Program,
+    units: Units,
+    options: PrintOptions,
+    part: &[u8],
+    out: &mut W,
+) -> Result<Printed, ToolFault>
+    requires { W.failed out.old < 2 ^ 64 - 1 }
+    ensures { Leaves (outcome_of_run options part.now program units) (DrawnRun options part.now program units []) result
+        (W.told out.old) (W.failed out.old) (W.told out.new) (W.failed out.new) }
+{
     match counts_asked(options.table) {
-        Some(format) => count_loaded(alloc, program, units, format, options, kept, map, out),
+        Some(format) => count_loaded(alloc, program, units, format, options, out),
         None => {
             if needs_session(options) {
-                tell_loaded(alloc, program, units, options, part, kept, map, out)
+                tell_loaded(alloc, program, units, options, part, out)
             } else {
-                print_loaded(alloc, &program, units, options, kept, out)
+                print_loaded(alloc, &program, units, options, out)
             }
         }
     }

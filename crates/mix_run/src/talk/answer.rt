@@ -16,9 +16,11 @@ use crate::commands::command;
 use crate::fault::ToolFault;
 use crate::opener::Opener;
 use crate::talk::aside::{Talker, after_reply, help, say_bytes, tell};
+use crate::talk::done::done;
 use crate::talk::listing::list;
 use crate::talk::recall::Recall;
 use crate::talk::source::refuse_in_file;
+use crate::talk::stopped::{tell_more, tell_run};
 use mix_person::{Line, kind_of, only_said};
 use mix_session::{Session, Told};
 use mix_stream::Out;
@@ -48,7 +50,11 @@ fn answer_command<W: Out, E: Out>(
         }
         None => {
             let after = after_reply(session, typed);
-            let told = command(session, typed, out)?;
+            let before = session.world().clock();
+            let answer = done(session, typed, out)?;
+            tell_run(recall.allocator(), session, typed, before, &answer, errors)?;
+            tell_more(recall.allocator(), session, &answer, errors)?;
+            let told = answer.told();
             tell(after, told, session, typed, errors);
             recall.tell_displays(after, session, errors);
             recall.keep(after, typed)?;

@@ -15,6 +15,7 @@ use crate::bundle::{MAX_BUNDLE_BYTES, Origin, copy_of, parts_of};
 use crate::opener::Opener;
 use crate::statuses::tell_refusal;
 use crate::talk::aside::{After, Talker, say, say_bytes, tell};
+use crate::talk::done::answer_to;
 use crate::talk::file::tell_file;
 use crate::talk::recall::Recall;
 use crate::talk::source::tell_unread;
@@ -60,10 +61,7 @@ fn tell_redone<E: Out>(session: &Session, line: &[u8], answer: Answer, errors: &
 fn redo_line<E: Out>(session: &mut Session, line: &[u8], errors: &mut E) -> Result<(), Memory>
     ensures { OnOk result (session.new ≡ record session.old { timeline = after (effect_in session.old line.now) }) }
 {
-    let answer = match session.read(line) {
-        Ok(request) => session.execute(request)?,
-        Err(refusal) => Answer::Refused(refusal),
-    };
+    let answer = answer_to(session, line)?;
     tell_redone(session, line, answer, errors);
     Ok(())
 }

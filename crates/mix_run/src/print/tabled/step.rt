@@ -1,156 +1,210 @@
 //! A step and its rows in a table.
-ghost use Rattle.std.specs.Prelude.{◌≡◌, IfOk, IfErr, OnOk, None, Some, not};
-ghost use Rattle.mix_machine.specs.Part.{is_same_mark};
+ghost use Rattle.std.specs.Prelude.{◌≡◌, IfOk, OnOk, None, Some};
+ghost use Rattle.mix_session.specs.Keyword.{indicator_name, toggle_name};
 ghost use Rattle.mix_run.specs.PrintSteps.{HasStepped};
-ghost use Rattle.mix_run.specs.StepTable.{Adds, rows_made, write_rows};
+ghost use Rattle.mix_run.specs.StepTable.{Adds, StepTells, mark_field, register_field, rows_made, rows_of, trace_row, write_row};
+ghost use Rattle.mix_run.specs.Table.FieldValue.{Text};
 
-use crate::fault::ToolFault;
-use crate::print::tabled::StepTable;
-use crate::print::tabled::row::{add_trace_row, add_write_row};
+use crate::print::sheet::{Sheet, line_field};
+use crate::print::steps::RunEnd;
 use crate::print::trace::quiet_step;
-use crate::table::{Field, TableFormat};
+use crate::table::Field;
 use mix_machine::{Change, Mark, MixFault, Old, Part, World, mark_law};
 use mix_refused::Memory;
 use mix_session::change_text;
+use mix_word::{Cmp, Reg};
 use mixal_asm::Program;
 use std::alloc::Global;
 use undo_core::Kept;
 
-/// A step, and its rows; its fault, if it is one.
-pub(super) fn add_step(
+/// What is kept from one step to the next: room for what a step overwrites, the number of the next
+/// step, and whether its row is the first.
+#[derive(Drop)]
+pub(super) struct Rows {
+    pub(super) kept: Kept<Old>,
+    pub(super) number: u64,
+    pub(super) first: bool,
+}
+
+/// The next step, and its rows; its end, if it ends the run.
+pub(super) fn table_step(
     alloc: Global,
-    program: &Program,
-    table: &StepTable,
-    names: &[Field<'_>],
-    number: u64,
-    first: &mut bool,
+    sheet: &Sheet<'_>,
+    part: &Option<Part>,
+    rows: &mut Rows,
     world: &mut World,
-    kept: &mut Kept<Old>,
     text: &mut Vec<u8>,
-) -> Result<Option<MixFault>, ToolFault>
-    ensures stepped { IfOk result (HasStepped world.old world.new) }
-    ensures rows { OnOk result (Adds table.now.format names.now first.old first.new (rows_made program.now table.now.part number world.old) text.old.items text.new.items) }
-    ensures only { IfErr result (λ fault. fault ≡ ToolFault.Memory) }
+) -> Result<Option<RunEnd>, Memory>
+    ensures { IfOk result (λ end. StepTells sheet.now.format sheet.now.names.now rows.old.first rows.new.first
+        (rows_of sheet.now.program.now part.now rows.old.number world.old world.new) world.old world.new end text.old.items text.new.items) }
 {
-    match &table.part {
-        None => add_traced(
-            alloc,
-            program,
-            table.format,
-            names,
-            number,
-            first,
-            world,
-            kept,
-            text,
-        ),
-        Some(part) => add_altered(
-            alloc,
-            program,
-            table.format,
-            part,
-            names,
-            number,
-            first,
-            world,
-            kept,
-            text,
-        ),
+    let halts = world.next_is_halt();
+    match add_step(alloc, sheet, part, rows, world, text)? {
+        None => {}
+        Some(fault) => return Ok(Some(RunEnd::Faulted(fault))),
+    }
+    if halts {
+        Ok(Some(RunEnd::Halted))
+    } else {
+        Ok(None)
+    }
+}
+
+// A step, and its rows; its fault, if it is one.
+fn add_step(
+    alloc: Global,
+    sheet: &Sheet<'_>,
+    part: &Option<Part>,
+    rows: &mut Rows,
+    world: &mut World,
+    text: &mut Vec<u8>,
+) -> Result<Option<MixFault>, Memory>
+    ensures stepped { IfOk result (HasStepped world.old world.new) }
+    ensures rows { OnOk result (Adds sheet.now.format sheet.now.names.now rows.old.first rows.new.first
+        (rows_made sheet.now.program.now part.now rows.old.number world.old) text.old.items text.new.items) }
+{
+    match part {
+        None => traced(alloc, sheet, rows, world, text),
+        Some(part) => altered(alloc, sheet, part, rows, world, text),
     }
 }
 
 // A step, and the row of it.
-fn add_traced(
+fn traced(
     alloc: Global,
-    program: &Program,
-    format: TableFormat,
-    names: &[Field<'_>],
-    number: u64,
-    first: &mut bool,
+    sheet: &Sheet<'_>,
+    rows: &mut Rows,
     world: &mut World,
-    kept: &mut Kept<Old>,
     text: &mut Vec<u8>,
-) -> Result<Option<MixFault>, ToolFault>
+) -> Result<Option<MixFault>, Memory>
     ensures stepped { IfOk result (HasStepped world.old world.new) }
-    ensures rows { OnOk result (Adds format names.now first.old first.new (rows_made program.now None number world.old) text.old.items text.new.items) }
-    ensures only { IfErr result (λ fault. fault ≡ ToolFault.Memory) }
+    ensures rows { OnOk result (Adds sheet.now.format sheet.now.names.now rows.old.first rows.new.first
+        (rows_made sheet.now.program.now None rows.old.number world.old) text.old.items text.new.items) }
 {
     let loc = world.loc();
     let instruction = change_text(alloc, &Change::Step, world)?;
-    match quiet_step(world, kept)? {
+    match quiet_step(world, &mut rows.kept)? {
         None => {}
         Some(fault) => return Ok(Some(fault)),
     }
     let instruction = instruction.as_bytes();
-    add_trace_row(
-        alloc,
-        text,
-        format,
-        names,
-        *first,
-        program,
-        number,
-        loc,
-        instruction,
-        world,
-    )?;
-    *first = false;
+    let fields = trace_row(sheet.program, rows.number, loc, instruction, world);
+    sheet.add(alloc, rows.first, &fields, text)?;
+    rows.first = false;
     Ok(None)
 }
 
 // A step, and its row if it altered a part.
-fn add_altered(
+fn altered(
     alloc: Global,
-    program: &Program,
-    format: TableFormat,
+    sheet: &Sheet<'_>,
     part: &Part,
-    names: &[Field<'_>],
-    number: u64,
-    first: &mut bool,
+    rows: &mut Rows,
     world: &mut World,
-    kept: &mut Kept<Old>,
     text: &mut Vec<u8>,
-) -> Result<Option<MixFault>, ToolFault>
+) -> Result<Option<MixFault>, Memory>
     ensures stepped { IfOk result (HasStepped world.old world.new) }
-    ensures rows { OnOk result (Adds format names.now first.old first.new (rows_made program.now (Some part.now) number world.old) text.old.items text.new.items) }
-    ensures only { IfErr result (λ fault. fault ≡ ToolFault.Memory) }
+    ensures rows { OnOk result (Adds sheet.now.format sheet.now.names.now rows.old.first rows.new.first
+        (rows_made sheet.now.program.now (Some part.now) rows.old.number world.old) text.old.items text.new.items) }
 {
     mark_law();
     let loc = world.loc();
     let before = world.mark(*part);
-    match quiet_step(world, kept)? {
+    match quiet_step(world, &mut rows.kept)? {
         None => {}
         Some(fault) => return Ok(Some(fault)),
     }
     let after = world.mark(*part);
-    add_write(
-        alloc, text, format, names, first, program, number, loc, &before, &after,
-    )?;
+    if before.is_same(after) {
+        return Ok(None);
+    }
+    let fields = write_row(sheet.program, rows.number, loc, &before, &after);
+    sheet.add(alloc, rows.first, &fields, text)?;
+    rows.first = false;
     Ok(None)
 }
 
-// The row of a step that altered a part, by the marks before and after it; none if they are the same.
-fn add_write(
-    alloc: Global,
-    text: &mut Vec<u8>,
-    format: TableFormat,
-    names: &[Field<'_>],
-    first: &mut bool,
+// The row of a step: its number, the line and the location of its instruction, and what it left.
+fn trace_row<'a>(
+    program: &Program,
+    number: u64,
+    loc: u16,
+    instruction: &'a [u8],
+    world: &World,
+) -> [Field<'a>; 16]
+    ensures { result ≡ trace_row program.now number loc instruction.entry.now world.now }
+{
+    [
+        Field::number(u128::from(number)),
+        line_field(program, loc),
+        Field::number(u128::from(loc)),
+        Field::text(instruction),
+        register_field(world, Reg::A),
+        register_field(world, Reg::X),
+        register_field(world, Reg::I1),
+        register_field(world, Reg::I2),
+        register_field(world, Reg::I3),
+        register_field(world, Reg::I4),
+        register_field(world, Reg::I5),
+        register_field(world, Reg::I6),
+        register_field(world, Reg::J),
+        Field::text(toggle_name(world.over())),
+        Field::text(indicator_name(world.cmp())),
+        Field::number(u128::from(world.clock())),
+    ]
+}
+
+// The row of a step that altered a part: its number, the line and the location of its instruction,
+// and what the part held before and after it.
+fn write_row(
     program: &Program,
     number: u64,
     loc: u16,
     before: &Mark,
     after: &Mark,
-) -> Result<(), Memory>
-    ensures { OnOk result (Adds format names.now first.old first.new
-        (write_rows (not (is_same_mark before.now after.now)) program.now number loc before.now after.now) text.old.items text.new.items) }
+) -> [Field<'static>; 5]
+    ensures { result ≡ write_row program.now number loc before.now after.now }
 {
-    if before.is_same(*after) {
-        return Ok(());
+    [
+        Field::number(u128::from(number)),
+        line_field(program, loc),
+        Field::number(u128::from(loc)),
+        mark_field(before),
+        mark_field(after),
+    ]
+}
+
+fn register_field(world: &World, register: Reg) -> Field<'static>
+    ensures { result ≡ register_field world.now register }
+{
+    Field::signed(world.register(register))
+}
+
+// What a part holds.
+fn mark_field(mark: &Mark) -> Field<'static>
+    ensures { result ≡ mark_field mark.now }
+{
+    match mark {
+        Mark::Word(word) => Field::signed(*word),
+        Mark::Toggle(over) => Field::text(toggle_name(*over)),
+        Mark::Indicator(cmp) => Field::text(indicator_name(*cmp)),
+        Mark::Location(loc) => Field::number(u128::from(*loc)),
+        Mark::Time(time) => Field::number(u128::from(*time)),
     }
-    add_write_row(
-        alloc, text, format, names, *first, program, number, loc, before, after,
-    )?;
-    *first = false;
-    Ok(())
+}
+
+fn toggle_name(over: bool) -> &'static [u8]
+    ensures { result.now ≡ toggle_name over }
+{
+    if over { b"on" } else { b"off" }
+}
+
+fn indicator_name(cmp: Cmp) -> &'static [u8]
+    ensures { result.now ≡ indicator_name cmp }
+{
+    match cmp {
+        Cmp::Less => b"L",
+        Cmp::Equal => b"E",
+        Cmp::Greater => b"G",
+    }
 }

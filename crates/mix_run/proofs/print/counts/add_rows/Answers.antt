@@ -11,12 +11,12 @@ pub loop-left-preserved : goal.loop-left-preserved
 loop-left-preserved c =
     let tallies = tally_in c.args.tallies.now in
     let number = c.args.count - c.loop-left.left in
-    let said = rows_text c.args.format c.args.names.now c.loop-left.first (count_rows_at c.args.program.now (tallies number) number) in
-    let more = count_rows c.args.program.now tallies (c.args.count - (c.loop-left.left - 1)) (c.loop-left.left - 1) in
+    let said = rows_text c.args.sheet.now.format c.args.sheet.now.names.now c.loop-left.first (count_rows_at c.args.sheet.now.program.now (tallies number) number) in
+    let more = count_rows c.args.sheet.now.program.now tallies (c.args.count - (c.loop-left.left - 1)) (c.loop-left.left - 1) in
     let next = rw c.tally_in-tally.ensures at c.in_ok-first.ensures.next in
-    let parts = rows-next c.args.format c.args.names.now c.loop-left.first c.args.program.now tallies c.args.count c.loop-left.left
+    let parts = rows-next c.args.sheet.now.format c.args.sheet.now.names.now c.loop-left.first c.args.sheet.now.program.now tallies c.args.count c.loop-left.left
     (omega (arith, c.loop-left-test.true)) c.loop-left.invariant.within
-    ∙ ap (λ (first : Bool). said ++ rows_text c.args.format c.args.names.now first more) (sym next) in
+    ∙ ap (λ (first : Bool). said ++ rows_text c.args.sheet.now.format c.args.sheet.now.names.now first more) (sym next) in
     record {
       within = omega (arith, c.loop-left.invariant.within);
       rows = added-more _ _ said _ _ _ c.loop-left.invariant.rows parts (rw c.tally_in-tally.ensures at c.in_ok-first.ensures.row);
@@ -25,5 +25,5 @@ loop-left-preserved c =
 pub returns : goal.returns
 returns c =
     added-all _ _ _ c.loop-left.invariant.rows
-    (rows-none c.args.format c.args.names.now c.loop-left.first c.args.program.now (tally_in c.args.tallies.now) (c.args.count - c.loop-left.left) c.loop-left.left
+    (rows-none c.args.sheet.now.format c.args.sheet.now.names.now c.loop-left.first c.args.sheet.now.program.now (tally_in c.args.tallies.now) (c.args.count - c.loop-left.left) c.loop-left.left
     (omega (arith, c.loop-left-test.false)))

@@ -8,8 +8,8 @@ use Rattle.mix_run.proofs.print.counts.add_rows.Given as goal
 abbrev pub invariant-loop-left : goal.invariant-loop-left
 invariant-loop-left l = record {
   within : l.left ≤ l.count;
-  rows : l.text.items ++ rows_text l.format l.names l.first (count_rows l.program (tally_in l.tallies) (l.count - l.left) l.left)
-      ≡ l.fn.text.items ++ rows_text l.format l.names true (count_rows l.program (tally_in l.tallies) 0 l.count);
+  rows : l.text.items ++ rows_text l.sheet.format l.sheet.names.now l.first (count_rows l.sheet.program.now (tally_in l.tallies) (l.count - l.left) l.left)
+      ≡ l.fn.text.items ++ rows_text l.sheet.format l.sheet.names.now true (count_rows l.sheet.program.now (tally_in l.tallies) 0 l.count);
 }
 
 abbrev pub decreases-loop-left : goal.decreases-loop-left

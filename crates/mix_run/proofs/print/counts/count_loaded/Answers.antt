@@ -1,43 +1,25 @@
 -- What is written is the table after the steps; without memory nothing is.
-use Rattle.std.proofs.Common.{◌∙◌}
+use Rattle.std.proofs.Common.{refl}
 use Rattle.std.proofs.lemmas.Result.{err_from_is_err_and}
-use Rattle.mix_run.specs.PrintOutput.{counted_outcome}
-use Rattle.mix_run.proofs.CountedLemmas.{counted-answers, no-bytes}
-use Rattle.mix_run.proofs.DrawnLemmas.{draws-counts}
+use Rattle.mix_run.proofs.CountedLemmas.{counted-begun, counted-leaves}
+use Rattle.mix_run.proofs.WritesLemmas.{begun-none}
 use Rattle.mix_run.proofs.print.counts.count_loaded.Goals as goal
 
-pub returns-in_err-session-clause-output : goal.returns-in_err-session-clause-output
-returns-in_err-session-clause-output g c =
-    let p = err_from_is_err_and c.from_residual.result c.from_residual.ensures.1 in
-    rw (p.1, p.2) (no-bytes (counted_outcome c.args.format c.args.options c.args.program c.args.units) _)
+pub returns-in_err-session : goal.returns-in_err-session
+returns-in_err-session g c =
+    let p = err_from_is_err_and c.from_residual.result c.from_residual.ensures.1 in rw (p.1, p.2) (begun-none _ _, refl)
 
-pub returns-in_err-end-clause-output : goal.returns-in_err-end-clause-output
-returns-in_err-end-clause-output g c =
-    let p = err_from_is_err_and c.from_residual-in_err-end.result c.from_residual-in_err-end.ensures.1 in
-    rw (p.1, p.2) (no-bytes (counted_outcome c.args.format c.args.options c.args.program c.args.units) _)
+pub returns-in_err-made : goal.returns-in_err-made
+returns-in_err-made g c =
+    let p = err_from_is_err_and c.from_residual-in_err-made.result c.from_residual-in_err-made.ensures.1 in rw (p.1, p.2) (begun-none _ _, refl)
 
-pub returns-in_err-text-clause-output : goal.returns-in_err-text-clause-output
-returns-in_err-text-clause-output g c =
-    let p = err_from_is_err_and c.from_residual-in_err-text.result c.from_residual-in_err-text.ensures.1 in
-    rw (p.1, p.2) (no-bytes (counted_outcome c.args.format c.args.options c.args.program c.args.units) _)
+pub returns-in_err-write_all : goal.returns-in_err-write_all
+returns-in_err-write_all g c =
+    let p = err_from_is_err_and c.from_residual-in_err-write_all.result c.from_residual-in_err-write_all.ensures.1 in
+    rw (p.1, p.2) (counted-begun c.args.format c.args.options c.args.program c.args.units c.in_ok-session.session c.in_ok-made.made.0.items c.in_ok-made.made.1 _ _ _ _ c.in_ok-session.ensures
+    c.in_ok-made.ensures (rw c.deref.ensures.value at c.in_err-write_all.ensures.begun) (c.in_err-write_all.ensures.failed.0.0 refl))
 
-pub returns-in_err-keep_units-clause-output : goal.returns-in_err-keep_units-clause-output
-returns-in_err-keep_units-clause-output g c =
-    let p = err_from_is_err_and c.from_residual-in_err-keep_units.result c.from_residual-in_err-keep_units.ensures.1 in
-    rw (p.1, p.2) (no-bytes (counted_outcome c.args.format c.args.options c.args.program c.args.units) _)
-
-pub returns-in_err-draw_if-clause-output : goal.returns-in_err-draw_if-clause-output
-returns-in_err-draw_if-clause-output g c =
-    let p = err_from_is_err_and c.from_residual-in_err-draw_if.result c.from_residual-in_err-draw_if.ensures.1 in
-    rw (p.1, p.2) (no-bytes (counted_outcome c.args.format c.args.options c.args.program c.args.units) _)
-
-pub returns-clause-output : goal.returns-clause-output
-returns-clause-output g c =
-    counted-answers c.args.format c.args.options c.args.program c.args.units c.in_ok-session.session c.run_steps.new.session c.in_ok-end.end _ _ _ _
-    c.in_ok-session.ensures c.in_ok-end.ensures.program c.in_ok-end.ensures.run.0 c.in_ok-end.ensures.run.1 c.counted_to.ensures
-    (c.deref.ensures.value ∙ c.in_ok-text.ensures) c.in_ok-write_all.ensures.written
-
-pub returns-clause-map : goal.returns-clause-map
-returns-clause-map g c =
-    draws-counts c.args.options.map c.args.options.steps c.args.program c.args.units c.in_ok-session.session c.run_steps.new.session _ _ c.in_ok-session.ensures
-    c.in_ok-end.ensures.program c.in_ok-end.ensures.run.0 c.in_ok-draw_if.ensures
+pub returns : goal.returns
+returns g c =
+    counted-leaves c.args.format c.args.options c.args.program c.args.units c.in_ok-session.session c.in_ok-made.made.0.items c.in_ok-made.made.1 _ _ _ _ c.in_ok-session.ensures
+    c.in_ok-made.ensures (rw c.deref.ensures.value at c.in_ok-write_all.ensures.written) (c.in_ok-write_all.ensures.failed.1 (λ e. cc))

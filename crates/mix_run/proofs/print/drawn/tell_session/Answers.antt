@@ -1,39 +1,49 @@
 -- What is told is of the machine that the session begins with.
-use Rattle.std.proofs.Common.{Ok, Err}
+use Rattle.std.proofs.Common.{◌∙◌, [], refl}
 use Rattle.std.proofs.lemmas.Result.{err_from_is_err_and}
 use Rattle.mix_session.specs.Change.{world_at}
-use Rattle.mix_run.specs.PrintOutput.{answered}
+use Rattle.mix_session.specs.Command.{after}
+use Rattle.mix_run.specs.Counted.{counted_steps}
+use Rattle.mix_run.specs.Drawn.{DrawnIf}
 use Rattle.mix_run.specs.StepTable.{run_told}
-use Rattle.mix_run.proofs.CountedLemmas.{no-bytes}
-use Rattle.mix_run.proofs.DrawnLemmas.{all-written, keeps-same, tells-same}
+use Rattle.mix_run.proofs.DrawnLemmas.{broken-as, leaves-made, told-as}
+use Rattle.mix_run.proofs.Written.{AppendsFront-all}
+use Rattle.mix_run.proofs.WritesLemmas.{begun-none}
 use Rattle.mix_run.proofs.print.drawn.tell_session.Goals as goal
 
-pub returns-in_err-world-clause-output : goal.returns-in_err-world-clause-output
-returns-in_err-world-clause-output g c =
-    let p = err_from_is_err_and c.from_residual.result c.from_residual.ensures.1 in
-    let program = c.args.session.now.program in
-    rw (p.1, p.2) (no-bytes (answered c.args.options program (run_told c.args.table.now c.args.options program (world_at c.args.session.now.timeline 0))) _)
+pub returns-in_err-world : goal.returns-in_err-world
+returns-in_err-world g c =
+    let p = err_from_is_err_and c.from_residual.result c.from_residual.ensures.1 in rw (p.1, p.2) (begun-none _ _, refl)
 
-pub returns-in_err-answer-clause-output : goal.returns-in_err-answer-clause-output
-returns-in_err-answer-clause-output g c =
-    let p = err_from_is_err_and c.from_residual-in_err-answer.result c.from_residual-in_err-answer.ensures.1 in
-    rw (p.1, p.2) (tells-same c.args.options c.args.table.now _ _ _ _ (Err c.in_err-answer.field-0.0) (g.W.Out.told c.args.out.now)
-    (g.W.Out.told c.print_world.new.out) c.program.ensures c.in_ok-world.ensures c.in_err-answer.ensures.output)
+pub returns-in_err-stepped : goal.returns-in_err-stepped
+returns-in_err-stepped g c =
+    let p = err_from_is_err_and c.from_residual-in_err-stepped.result c.from_residual-in_err-stepped.ensures.1 in
+    let s = c.args.session.now in
+    rw (p.1, p.2) (broken-as c.args.table.now c.args.options c.program.result.now s.program c.in_ok-world.world (world_at s.timeline 0) _ _ _ _ _
+    c.program.ensures c.in_ok-world.ensures c.in_err-stepped.ensures)
 
-pub returns-in_err-draw_steps-clause-output : goal.returns-in_err-draw_steps-clause-output
-returns-in_err-draw_steps-clause-output g c =
-    let p = err_from_is_err_and c.from_residual-in_err-draw_steps.result c.from_residual-in_err-draw_steps.ensures.1 in
-    let program = c.args.session.now.program in
-    rw (p.1, p.2) (all-written (answered c.args.options program (run_told c.args.table.now c.args.options program (world_at c.args.session.now.timeline 0)))
-    c.in_ok-answer.answer (g.W.Out.told c.args.out.now) (g.W.Out.told c.print_world.new.out)
-    (tells-same c.args.options c.args.table.now _ _ _ _ (Ok c.in_ok-answer.answer) (g.W.Out.told c.args.out.now)
-    (g.W.Out.told c.print_world.new.out) c.program.ensures c.in_ok-world.ensures c.in_ok-answer.ensures.output))
+pub returns-in_err-map : goal.returns-in_err-map
+returns-in_err-map g c =
+    let p = err_from_is_err_and c.from_residual-in_err-map.result c.from_residual-in_err-map.ensures.1 in
+    let s = c.args.session.now in
+    let told = told-as c.args.table.now c.args.options c.program.result.now s.program c.in_ok-world.world (world_at s.timeline 0) c.tell_steps.new.world
+    c.in_ok-stepped.stepped _ _ _ _ c.program.ensures c.in_ok-world.ensures c.in_ok-stepped.ensures in
+    rw (p.1, p.2) (AppendsFront-all _ _ _ told.1, told.2)
 
-pub returns-clause-output : goal.returns-clause-output
-returns-clause-output g c =
-    tells-same c.args.options c.args.table.now _ _ _ _ (Ok c.in_ok-answer.answer) (g.W.Out.told c.args.out.now) (g.W.Out.told c.print_world.new.out)
-    c.program.ensures c.in_ok-world.ensures c.in_ok-answer.ensures.output
+pub returns-in_err-printed : goal.returns-in_err-printed
+returns-in_err-printed g c =
+    let p = err_from_is_err_and c.from_residual-in_err-printed.result c.from_residual-in_err-printed.ensures.1 in
+    let s = c.args.session.now in
+    let told = told-as c.args.table.now c.args.options c.program.result.now s.program c.in_ok-world.world (world_at s.timeline 0) c.tell_steps.new.world
+    c.in_ok-stepped.stepped _ _ _ _ c.program.ensures c.in_ok-world.ensures c.in_ok-stepped.ensures in
+    rw (p.1, p.2) (AppendsFront-all _ _ _ told.1, told.2)
 
-pub returns-clause-kept : goal.returns-clause-kept
-returns-clause-kept g c =
-    keeps-same c.args.options c.args.table.now _ _ _ _ (Ok c.in_ok-answer.answer) _ _ c.program.ensures c.in_ok-world.ensures c.in_ok-answer.ensures.kept
+pub returns : goal.returns
+returns g c =
+    let s = c.args.session.now in
+    let told = told-as c.args.table.now c.args.options c.program.result.now s.program c.in_ok-world.world (world_at s.timeline 0) c.tell_steps.new.world
+    c.in_ok-stepped.stepped _ _ _ _ c.program.ensures c.in_ok-world.ensures c.in_ok-stepped.ensures in
+    let drawn = DrawnIf c.args.options.map s.program (after (counted_steps c.args.options.steps s.timeline)) [] in
+    leaves-made c.args.options s.program c.program-2.result.now (run_told c.args.table.now c.args.options s.program (world_at s.timeline 0))
+    c.in_ok-stepped.stepped c.tell_steps.new.world c.in_ok-printed.printed drawn _ _ _ _ (c.program-2.ensures ∙ c.in_ok-map.ensures.program) told
+    c.in_ok-printed.ensures.answer c.in_ok-printed.ensures.deck (rw c.in_ok-printed.ensures.map c.in_ok-map.ensures.map)

@@ -2,6 +2,6 @@
 use Rattle.std.specs.Prelude.{refl}
 use Rattle.mix_run.proofs.print.steps.end_before.Goals as goal
 
-pub returns-clause-stops : goal.returns-clause-stops
-returns-clause-stops c =
-    let stepped = rw c.in-None.is at c.in_ok-quiet_step.ensures.stepped in ((c.quiet_step.new.world, rw c.in_ok-other.ensures at stepped), refl, refl)
+pub returns : goal.returns
+returns c =
+    let stepped = rw c.in-None.is at c.in_ok-quiet_step.ensures in ((c.quiet_step.new.world, rw c.in_ok-other.ensures at stepped), refl, refl)

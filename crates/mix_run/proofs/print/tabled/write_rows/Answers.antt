@@ -1,48 +1,70 @@
 -- What is before the rows, they, and what is after them.
-use Rattle.mix_run.specs.StepTable.{tabled}
-use Rattle.std.proofs.Common.{◌∙◌}
-use Rattle.mix_run.proofs.TabledLemmas.{end-begun, front-begun, front-done, middle-begun, table-told}
-use Rattle.mix_run.proofs.Written.{AppendsFront-all}
+use Rattle.std.proofs.Common.{◌∙◌, ◌++◌, [], true, refl, sym}
+use Rattle.std.proofs.lemmas.Result.{err_from_is_err_and}
+use Rattle.mix_run.specs.StepTable.{columns_of, tabled}
+use Rattle.mix_run.specs.Table.{footer_text, header_text, rows_text}
+use Rattle.mix_run.proofs.TabledLemmas.{alone, table-parts, table-split}
+use Rattle.mix_run.proofs.Written.{Appends-nothing, Appends-same, Appends-then}
+use Rattle.mix_run.proofs.WritesLemmas.{begun-none, writes-failed, broken-then}
 use Rattle.mix_run.proofs.print.tabled.write_rows.Goals as goal
 
-pub returns-in_err-write_all-clause-begun : goal.returns-in_err-write_all-clause-begun
-returns-in_err-write_all-clause-begun g c =
-    let rows = (tabled c.args.program.now c.args.table.now.part 1 c.args.steps c.args.world.now).rows in
-    front-begun c.args.table.now.format c.args.columns.now c.args.names.now rows _ _ _ _ c.new-before.ensures.items
-    (c.deref.ensures.value ∙ c.in_ok-add_header.ensures) c.in_err-write_all.ensures.begun
+pub returns-in_err-add_header : goal.returns-in_err-add_header
+returns-in_err-add_header g c =
+    let p = err_from_is_err_and c.from_residual.result c.from_residual.ensures.1 in rw (p.1, p.2) (begun-none _ _, refl)
 
-pub returns-in_err-end-clause-begun : goal.returns-in_err-end-clause-begun
-returns-in_err-end-clause-begun g c =
-    let rows = (tabled c.args.program.now c.args.table.now.part 1 c.args.steps c.args.world.now).rows in
-    middle-begun c.args.table.now.format c.args.columns.now c.args.names.now rows _ _ _
-    (front-done c.args.table.now.format c.args.columns.now c.args.names.now _ _ _ _ c.new-before.ensures.items
-    (c.deref.ensures.value ∙ c.in_ok-add_header.ensures) c.in_ok-write_all.ensures.written) c.in_err-end.ensures.begun
+pub returns-in_err-add_footer : goal.returns-in_err-add_footer
+returns-in_err-add_footer g c =
+    let p = err_from_is_err_and c.from_residual-in_err-add_footer.result c.from_residual-in_err-add_footer.ensures.1 in rw (p.1, p.2) (begun-none _ _, refl)
 
-pub returns-in_err-add_footer-clause-begun : goal.returns-in_err-add_footer-clause-begun
-returns-in_err-add_footer-clause-begun g c =
-    let rows = (tabled c.args.program.now c.args.table.now.part 1 c.args.steps c.args.world.now).rows in
-    middle-begun c.args.table.now.format c.args.columns.now c.args.names.now rows _ _ _
-    (front-done c.args.table.now.format c.args.columns.now c.args.names.now _ _ _ _ c.new-before.ensures.items
-    (c.deref.ensures.value ∙ c.in_ok-add_header.ensures) c.in_ok-write_all.ensures.written) (AppendsFront-all _ _ _ c.in_ok-end.ensures.told.2)
+pub returns-in_err-write_all : goal.returns-in_err-write_all
+returns-in_err-write_all g c =
+    let p = err_from_is_err_and c.from_residual-in_err-write_all.result c.from_residual-in_err-write_all.ensures.1 in
+    let format = c.args.sheet.now.format in
+    let names = c.args.sheet.now.names.now in
+    let columns = columns_of c.args.part.now in
+    let rows = (tabled c.args.sheet.now.program.now c.args.part.now 1 c.args.steps c.args.world.now).rows in
+    let header = c.deref.ensures.value ∙ alone _ _ _ c.new-before.ensures.items (rw c.alignment.ensures at c.in_ok-add_header.ensures) in
+    rw (p.1, p.2) (writes-failed [] (header_text format columns names) (rows_text format names true rows ++ footer_text format) _ _ _ _ _ _ _
+    (Appends-nothing _) refl (table-parts format columns names rows) (rw header at c.in_err-write_all.ensures.begun)
+    (c.in_err-write_all.ensures.failed.0.0 refl))
 
-pub returns-in_err-write_all-2-clause-begun : goal.returns-in_err-write_all-2-clause-begun
-returns-in_err-write_all-2-clause-begun g c =
-    let rows = (tabled c.args.program.now c.args.table.now.part 1 c.args.steps c.args.world.now).rows in
-    end-begun c.args.table.now.format c.args.columns.now c.args.names.now rows _ _ _ _ _ _ c.new-after.ensures.items
-    (c.deref-2.ensures.value ∙ c.in_ok-add_footer.ensures)
-    (front-done c.args.table.now.format c.args.columns.now c.args.names.now _ _ _ _ c.new-before.ensures.items
-    (c.deref.ensures.value ∙ c.in_ok-add_header.ensures) c.in_ok-write_all.ensures.written) c.in_ok-end.ensures.told.2 c.in_err-write_all-2.ensures.begun
+pub returns-in_err-end : goal.returns-in_err-end
+returns-in_err-end g c =
+    let p = err_from_is_err_and c.from_residual-in_err-end.result c.from_residual-in_err-end.ensures.1 in
+    let format = c.args.sheet.now.format in
+    let names = c.args.sheet.now.names.now in
+    let columns = columns_of c.args.part.now in
+    let rows = (tabled c.args.sheet.now.program.now c.args.part.now 1 c.args.steps c.args.world.now).rows in
+    let header = c.deref.ensures.value ∙ alone _ _ _ c.new-before.ensures.items (rw c.alignment.ensures at c.in_ok-add_header.ensures) in
+    rw (p.1, p.2) (broken-then (header_text format columns names) (rows_text format names true rows) (footer_text format) _ _ _ _ _ _ _ _
+    (Appends-same _ _ _ _ header c.in_ok-write_all.ensures.written) (c.in_ok-write_all.ensures.failed.1 (λ e. cc)) (table-parts format columns names rows)
+    c.in_err-end.ensures)
 
-pub returns-clause-told : goal.returns-clause-told
-returns-clause-told g c =
-    let rows = (tabled c.args.program.now c.args.table.now.part 1 c.args.steps c.args.world.now).rows in (
-      c.in_ok-end.ensures.told.0,
-      c.in_ok-end.ensures.told.1,
-      table-told c.args.table.now.format c.args.columns.now c.args.names.now rows _ _ _ _ _ _ c.new-after.ensures.items
-          (c.deref-2.ensures.value ∙ c.in_ok-add_footer.ensures)
-          (front-done c.args.table.now.format c.args.columns.now c.args.names.now _ _ _ _ c.new-before.ensures.items
-          (c.deref.ensures.value ∙ c.in_ok-add_header.ensures) c.in_ok-write_all.ensures.written) c.in_ok-end.ensures.told.2 c.in_ok-write_all-2.ensures.written,
+pub returns-in_err-write_all-2 : goal.returns-in_err-write_all-2
+returns-in_err-write_all-2 g c =
+    let p = err_from_is_err_and c.from_residual-in_err-write_all-2.result c.from_residual-in_err-write_all-2.ensures.1 in
+    let format = c.args.sheet.now.format in
+    let names = c.args.sheet.now.names.now in
+    let columns = columns_of c.args.part.now in
+    let rows = (tabled c.args.sheet.now.program.now c.args.part.now 1 c.args.steps c.args.world.now).rows in
+    let header = c.deref.ensures.value ∙ alone _ _ _ c.new-before.ensures.items (rw c.alignment.ensures at c.in_ok-add_header.ensures) in
+    let footer = c.deref-2.ensures.value ∙ alone _ _ _ c.new-after.ensures.items c.in_ok-add_footer.ensures in
+    let front = Appends-then _ _ _ _ _ (Appends-same _ _ _ _ header c.in_ok-write_all.ensures.written) c.in_ok-end.ensures.1 in
+    rw (p.1, p.2) (writes-failed (header_text format columns names ++ rows_text format names true rows) (footer_text format) [] _ _ _ _ _ _ _
+    front (c.in_ok-end.ensures.2 ∙ c.in_ok-write_all.ensures.failed.1 (λ e. cc)) (table-split format columns names rows)
+    (rw footer at c.in_err-write_all-2.ensures.begun) (c.in_err-write_all-2.ensures.failed.0.0 refl))
+
+pub returns : goal.returns
+returns g c =
+    let format = c.args.sheet.now.format in
+    let names = c.args.sheet.now.names.now in
+    let columns = columns_of c.args.part.now in
+    let rows = (tabled c.args.sheet.now.program.now c.args.part.now 1 c.args.steps c.args.world.now).rows in
+    let header = c.deref.ensures.value ∙ alone _ _ _ c.new-before.ensures.items (rw c.alignment.ensures at c.in_ok-add_header.ensures) in
+    let footer = c.deref-2.ensures.value ∙ alone _ _ _ c.new-after.ensures.items c.in_ok-add_footer.ensures in
+    let first = Appends-same _ _ _ _ header c.in_ok-write_all.ensures.written in
+    let last = Appends-same _ _ _ _ footer c.in_ok-write_all-2.ensures.written in (
+      (rw c.alone.ensures.end c.in_ok-end.ensures.0.0, c.alone.ensures.conflicts, c.in_ok-end.ensures.0.1),
+      Appends-same _ _ _ _ (sym (table-parts format columns names rows)) (Appends-then _ _ _ _ _ first (Appends-then _ _ _ _ _ c.in_ok-end.ensures.1 last)),
+      c.in_ok-write_all-2.ensures.failed.1 (λ e. cc) ∙ c.in_ok-end.ensures.2 ∙ c.in_ok-write_all.ensures.failed.1 (λ e. cc),
     )
-
-pub returns-clause-begun : goal.returns-clause-begun
-returns-clause-begun g c = AppendsFront-all _ _ _ (returns-clause-told g c).2

@@ -1,0 +1,138 @@
+//! What a person is told beside the replies: what has stopped a run and how much time it took,
+//! where breakpoints are, and the numbers of symbols.
+
+use crate::talk::aside::{say, say_bytes};
+use mix_lines::Words;
+use mix_machine::Place;
+use mix_refused::Memory;
+use mix_session::{Answer, End, Session, Topic};
+use mix_stream::Out;
+use mix_word::{CELLS, Location};
+use mixal_asm::Source;
+use std::alloc::Global;
+
+// A location, with the symbol and the number of its line of the source.
+fn say_location<E: Out>(
+    alloc: Global,
+    session: &Session,
+    location: u16,
+    errors: &mut E,
+) -> Result<(), Memory> {
+    let program = session.program();
+    let number = format!(in alloc; "{}", Location(location))?;
+    say(number.as_str(), errors);
+    let source = match Place::of(location) {
+        Some(place) => program.source_at(place),
+        None => None,
+    };
+    match source {
+        Some(Source::Line(line, _)) => {
+            for (symbol, _) in program.symbols() {
+                if program.line_of(symbol) == Some(*line) {
+                    say(" ", errors);
+                    say_bytes(symbol.name(), errors);
+                }
+            }
+            let line = format!(in alloc; ", line {line}")?;
+            say(line.as_str(), errors);
+        }
+        Some(Source::Literal(_) | Source::Name(_)) | None => {}
+    }
+    Ok(())
+}
+
+/// Of a run that began at this time a person is told what has stopped it, if it was a breakpoint
+/// or a condition, and, if the time was not 0, how much it took.
+pub(crate) fn tell_run<E: Out>(
+    alloc: Global,
+    session: &Session,
+    typed: &[u8],
+    before: u64,
+    answer: &Answer,
+    errors: &mut E,
+) -> Result<(), Memory> {
+    let Answer::Ran(_, end) = answer else {
+        return Ok(());
+    };
+    let mut words = Words::of(typed);
+    match words.next() {
+        Some(word) if word.eq_ignore_ascii_case(b"run") => {}
+        Some(_) | None => return Ok(()),
+    }
+    let is_stopped = matches!(end, End::Break | End::Until(_));
+    if is_stopped {
+        say("stopped by", errors);
+    }
+    match end {
+        End::Break => say(" a breakpoint", errors),
+        End::Until(number) => {
+            // the condition comes after so many of the words `until` and `or`
+            let wanted = number.saturating_add(1);
+            let mut seen = 0usize;
+            while let Some(word) = words.next() {
+                if word.eq_ignore_ascii_case(b"until") || word.eq_ignore_ascii_case(b"or") {
+                    seen = seen.saturating_add(1);
+                } else if seen == wanted {
+                    say(" ", errors);
+                    say_bytes(word, errors);
+                }
+            }
+        }
+        End::Halt | End::Fault(_) | End::Arrived | End::Limit | End::Start => {}
+    }
+    if is_stopped {
+        say(" at ", errors);
+        say_location(alloc, session, session.world().loc(), errors)?;
+    }
+    let time = session.world().clock().saturating_sub(before);
+    if before > 0 && time > 0 {
+        let text = format!(in alloc; "took {time}u\n")?;
+        say(if is_stopped { "; " } else { "" }, errors);
+        say(text.as_str(), errors);
+    } else if is_stopped {
+        say("\n", errors);
+    }
+    Ok(())
+}
+
+/// After `show breaks` a person is told the line of each breakpoint, and after `show symbols` each
+/// symbol with its number in decimal.
+pub(crate) fn tell_more<E: Out>(
+    alloc: Global,
+    session: &Session,
+    answer: &Answer,
+    errors: &mut E,
+) -> Result<(), Memory> {
+    let program = session.program();
+    match answer {
+        Answer::Shows(Topic::Breaks) => {
+            for number in 0..CELLS {
+                match Place::of(number) {
+                    Some(place) if session.world().is_break(place) => {
+                        say_location(alloc, session, number, errors)?;
+                        match program.source_at(place) {
+                            Some(Source::Line(_, text)) => {
+                                say(": ", errors);
+                                say_bytes(text, errors);
+                            }
+                            Some(Source::Literal(_) | Source::Name(_)) | None => {}
+                        }
+                        say("\n", errors);
+                    }
+                    Some(_) | None => {}
+                }
+            }
+        }
+        Answer::Shows(Topic::Symbols) => {
+            for (symbol, word) in program.symbols() {
+                let number = word.number();
+                let number = format!(in alloc; "{number:11}  ")?;
+                say(number.as_str(), errors);
+                say_bytes(symbol.name(), errors);
+                say("\n", errors);
+            }
+        }
+        _ => {}
+    }
+    Ok(())
+}
