@@ -2,7 +2,7 @@
 
 ;;; Commentary:
 ;; In a buffer of Emacs's own mixal-mode `M-x compile' checks the source, and Flycheck checks it while it is typed.
-;; For dap-mode: a debug provider and a template, and the commands that run backwards, which dap-mode has not.
+;; For Eglot: the language server.  For dap-mode: a debug provider and a template, and the commands that run backwards, which dap-mode has not.
 ;; A template may have `:devices' and `:cards' too, as ../README.md says.
 
 ;;; Code:
@@ -25,6 +25,11 @@
     :error-patterns '((error line-start "-:" line ":" (optional column ":") " error: " (message) line-end)
                       (warning line-start "-:" line ":" (optional column ":") " warning: " (message) line-end)))
   (add-to-list 'flycheck-checkers 'mixrev))
+
+;; `M-x eglot' speaks with the language server.
+(defvar eglot-server-programs)
+(with-eval-after-load 'eglot
+  (add-to-list 'eglot-server-programs '(mixal-mode . ("mixrev" "lsp"))))
 
 (declare-function dap-register-debug-provider "ext:dap-mode")
 (declare-function dap-register-debug-template "ext:dap-mode")

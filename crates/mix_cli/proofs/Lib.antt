@@ -2,3 +2,4 @@ mod Filled
 mod Lines
 mod Numbers
 mod Required
+mod Table

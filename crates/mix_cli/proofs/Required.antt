@@ -114,21 +114,22 @@ run_given words e = some_planned _ (first_of (codes "SOURCE") (rows_after (shape
 
 -- ---- the command
 
-abbrev picked : Bool → Bool → Bool → Bool → Bool → Option Shape
-picked is_run is_debug is_list is_check is_dap =
+abbrev picked : Bool → Bool → Bool → Bool → Bool → Bool → Option Shape
+picked is_run is_debug is_list is_check is_dap is_lsp =
     cond is_run (Some (shape_at 0)) (cond is_debug (Some (shape_at 1)) (cond is_list (Some (shape_at 2))
-    (cond is_check (Some (shape_at 3)) (cond is_dap (Some (shape_at 4)) None))))
+    (cond is_check (Some (shape_at 3)) (cond is_dap (Some (shape_at 4)) (cond is_lsp (Some (shape_at 5)) None)))))
 
-entered_given : (is_run is_debug is_list is_check is_dap : Bool) (words : List Text)
-    → option_map_or (λ s. level_fault s [] nothing_held words false []) (picked is_run is_debug is_list is_check is_dap) [] ≡ []
-    → is_some (option_map (λ s. rows_at s words) (picked is_run is_debug is_list is_check is_dap)) ≡ true
-    → IsSome (option_and_then subcommand_planned (option_map (λ s. rows_at s words) (picked is_run is_debug is_list is_check is_dap)))
-entered_given true is_debug is_list is_check is_dap words e there = run_given words e
-entered_given false true is_list is_check is_dap words e there = debug_given words e
-entered_given false false true is_check is_dap words e there = list_given words e
-entered_given false false false true is_dap words e there = check_given words e
-entered_given false false false false true words e there = refl
-entered_given false false false false false words e there = absurd (true≢false (sym there))
+entered_given : (is_run is_debug is_list is_check is_dap is_lsp : Bool) (words : List Text)
+    → option_map_or (λ s. level_fault s [] nothing_held words false []) (picked is_run is_debug is_list is_check is_dap is_lsp) [] ≡ []
+    → is_some (option_map (λ s. rows_at s words) (picked is_run is_debug is_list is_check is_dap is_lsp)) ≡ true
+    → IsSome (option_and_then subcommand_planned (option_map (λ s. rows_at s words) (picked is_run is_debug is_list is_check is_dap is_lsp)))
+entered_given true is_debug is_list is_check is_dap is_lsp words e there = run_given words e
+entered_given false true is_list is_check is_dap is_lsp words e there = debug_given words e
+entered_given false false true is_check is_dap is_lsp words e there = list_given words e
+entered_given false false false true is_dap is_lsp words e there = check_given words e
+entered_given false false false false true is_lsp words e there = refl
+entered_given false false false false false true words e there = refl
+entered_given false false false false false false words e there = absurd (true≢false (sym there))
 
 not_missing : (b : Bool) → (not b && true) ≡ false → b ≡ true
 not_missing true e = refl
@@ -139,7 +140,7 @@ stop_given : (stop : Option (Text × List Text)) → entered_fault tool stop ≡
 stop_given None e there = absurd (true≢false (sym there))
 stop_given (Some p) e there =
     entered_given (answers_to p.0 (codes "run", [])) (answers_to p.0 (codes "debug", [])) (answers_to p.0 (codes "list", []))
-    (answers_to p.0 (codes "check", [])) (answers_to p.0 (codes "dap", [])) p.1 e there
+    (answers_to p.0 (codes "check", [])) (answers_to p.0 (codes "dap", [])) (answers_to p.0 (codes "lsp", [])) p.1 e there
 
 -- what is required has a value in words that have no fault
 pub line_planned : (words : List Text) → fault_of mixrev words ≡ [] → IsSome (option_and_then subcommand_planned (subcommand_of mixrev words))

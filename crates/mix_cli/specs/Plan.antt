@@ -43,6 +43,7 @@ pub data Planned : Type 0 where
   debugs : Text → Option Text → Option Text → Bool → Planned
   runs : Asked → Planned
   adapts : Planned
+  speaks : Planned
 
 abbrev pub planned_of : Plan → Planned
 planned_of plan.Bundle = bundle
@@ -65,6 +66,7 @@ planned_of (plan.Run run) = runs (record {
   part = option_map string_bytes run.part;
 })
 planned_of plan.Dap = adapts
+planned_of plan.Lsp = speaks
 
 -- the number that a text writes in decimal digits, where it is below 2^64
 abbrev pub number_of : Text → Option ℕ
@@ -159,7 +161,8 @@ subcommand_planned found =
     if bytes_eq found.0 (codes "debug") then debug_planned found.1 else
     if bytes_eq found.0 (codes "list") then list_planned found.1 else
     if bytes_eq found.0 (codes "check") then check_planned found.1 else
-    if bytes_eq found.0 (codes "dap") then Some adapts else None
+    if bytes_eq found.0 (codes "dap") then Some adapts else
+    if bytes_eq found.0 (codes "lsp") then Some speaks else None
 
 -- whether so many words mean a bundle: none stands after the program's name, and nobody types at a terminal
 abbrev pub means_bundle : Bool → ℕ → Bool

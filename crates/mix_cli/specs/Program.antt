@@ -7,6 +7,7 @@ use Rattle.clap.specs.declared.builder.action.ArgAction.TheVariants.{Append, Set
 use Rattle.clap.specs.declared.builder.value_parser.ValueParser.TheVariants.{Unsigned}
 use Rattle.mix_cli.specs.declared.program.Argument.{Argument}
 use Rattle.mix_cli.specs.declared.program.Kind.{Kind}
+use Rattle.mix_cli.specs.declared.program.Subcommand.{Subcommand}
 use Rattle.mix_cli.specs.declared.program.Kind.TheVariants.{File, Flag, Free, Needed, Number, Numbers, Part, Several}
 
 -- how many steps a run may be allowed: a step takes 1u at least, and the clock goes to 10^18
@@ -28,7 +29,7 @@ rule_by (name, Part) = option_named name
 rule_by (name, Number from to) = record (option_named name) { parser = Some (Unsigned from to) }
 rule_by (name, Numbers from to) = record (option_named name) { action = Some Append; parser = Some (Unsigned from to) }
 
--- `list SOURCE`, `check` with one SOURCE or several, `debug SOURCE SCRIPT`, of which SCRIPT may be left out, `run SOURCE` and `dap`
+-- `list SOURCE`, `check` with one SOURCE or several, `debug SOURCE SCRIPT`, of which SCRIPT may be left out, `run SOURCE`, `dap` and `lsp`
 abbrev pub commands : List (Text × List (Text × Kind))
 commands = (
   codes "run",
@@ -40,6 +41,7 @@ commands = (
     ∷ (codes "list", (codes "SOURCE", Needed) ∷ [])
     ∷ (codes "check", (codes "SOURCE", Several) ∷ (codes "json", Flag) ∷ [])
     ∷ (codes "dap", [])
+    ∷ (codes "lsp", [])
     ∷ []
 
 -- a subcommand that is read by some rules, and that shows its help where it is given no word or not
@@ -75,3 +77,7 @@ argument_of argument = (argument.name.now, argument.kind)
 
 abbrev pub rules_of : List Argument → List Rule
 rules_of = map (λ argument. rule_by (argument_of argument))
+
+-- the name and the arguments of a command in the table
+abbrev pub command_named : Subcommand → Text × List (Text × Kind)
+command_named row = (row.name.now, map argument_of row.arguments.now)

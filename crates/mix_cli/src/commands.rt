@@ -1,9 +1,10 @@
-//! The commands as one table: their arguments, and what help says. Parser and help are made of it,
-//! and the completions of the shells of help. The manual page is made of docs/FORMATS.md.
+//! The commands as one table, of which parser and help are made, and of help the completions.
 
 use crate::program::{Argument, Kind, Subcommand};
 
-pub(crate) const RUN: Subcommand<'static> = Subcommand {
+pub(crate) const COMMANDS: [Subcommand<'static>; 6] = [RUN, DEBUG, LIST, CHECK, DAP, LSP];
+
+const RUN: Subcommand<'static> = Subcommand {
     name: "run",
     about: "Runs a program to its halt and writes what it prints",
     more: "\
@@ -32,7 +33,7 @@ Example:
     arguments: &RUN_ARGUMENTS,
 };
 
-pub(crate) const DEBUG: Subcommand<'static> = Subcommand {
+const DEBUG: Subcommand<'static> = Subcommand {
     name: "debug",
     about: "Executes commands on the program of a source, forwards and backwards",
     more: "\
@@ -57,7 +58,7 @@ runs the program up to its halt and shows the registers.",
     arguments: &DEBUG_ARGUMENTS,
 };
 
-pub(crate) const LIST: Subcommand<'static> = Subcommand {
+const LIST: Subcommand<'static> = Subcommand {
     name: "list",
     about: "Writes the listing of a source",
     more: "\
@@ -70,7 +71,7 @@ Example:
     arguments: &[SOURCE],
 };
 
-pub(crate) const CHECK: Subcommand<'static> = Subcommand {
+const CHECK: Subcommand<'static> = Subcommand {
     name: "check",
     about: "Reports all faults of sources",
     more: "\
@@ -83,13 +84,23 @@ Example:
     arguments: &CHECK_ARGUMENTS,
 };
 
-pub(crate) const DAP: Subcommand<'static> = Subcommand {
+const DAP: Subcommand<'static> = Subcommand {
     name: "dap",
     about: "Is the debug adapter of an editor",
     more: "\
 It speaks the Debug Adapter Protocol on standard input and output, for the
 editor that starts it: breakpoints in the source, steps forth and back,
 registers, cells and units.",
+    arguments: &[],
+};
+
+const LSP: Subcommand<'static> = Subcommand {
+    name: "lsp",
+    about: "Is the language server of an editor",
+    more: "\
+It speaks the Language Server Protocol on standard input and output, for the
+editor that starts it: faults and warnings as one writes, where a name is
+defined and used, and a new name for it.",
     arguments: &[],
 };
 

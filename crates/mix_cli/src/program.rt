@@ -1,11 +1,11 @@
 //! The words that the program takes, as clap reads them: the table of the commands, row by row.
 
-ghost use Rattle.std.specs.Prelude.{◌≡◌, IfOk, false, not, take, true};
+ghost use Rattle.std.specs.Prelude.{◌≡◌, IfOk, false, map, not, true};
 ghost use Rattle.clap.specs.Walk.{is_empty};
 ghost use Rattle.clap.specs.Words.{app_of, rule_of, with_subcommand};
-ghost use Rattle.mix_cli.specs.Program.{app_with, argument_of, bare_app, commands, mixrev, rule_by, rules_of, with_commands};
+ghost use Rattle.mix_cli.specs.Program.{app_with, argument_of, bare_app, command_named, commands, mixrev, rule_by, rules_of};
 
-use crate::commands::{ABOUT, CHECK, DAP, DEBUG, LIST, LONG_VERSION, MORE, RUN, VERSION};
+use crate::commands::{ABOUT, COMMANDS, LONG_VERSION, MORE, VERSION};
 use clap::builder::ValueParser;
 use clap::{Arg, ArgAction, Command};
 use std::alloc::{AllocError, Global};
@@ -101,24 +101,20 @@ fn with_one<'a>(command: Command<'a>, more: Command<'a>) -> Result<Command<'a>, 
     command.subcommand(more)
 }
 
-// With the subcommands that go to work on a source.
-fn with_sources<'a>(alloc: Global) -> Result<Command<'a>, AllocError>
-    ensures app { IfOk result (λ c. app_of c ≡ with_commands bare_app (take 2 commands)) }
+// The commands, in the order in which help lists them.
+fn rows() -> &'static [Subcommand<'static>]
+    ensures { map command_named result.now ≡ commands }
 {
-    let run = command_of(alloc, &RUN)?;
-    let debug = command_of(alloc, &DEBUG)?;
-    let command = with_one(bare(alloc), run)?;
-    with_one(command, debug)
+    &COMMANDS
 }
 
 /// The definitions by which clap reads the words.
 pub(crate) fn program<'a>(alloc: Global) -> Result<Command<'a>, AllocError>
     ensures app { IfOk result (λ c. app_of c ≡ mixrev) }
 {
-    let list = command_of(alloc, &LIST)?;
-    let command = with_one(with_sources(alloc)?, list)?;
-    let check = command_of(alloc, &CHECK)?;
-    let command = with_one(command, check)?;
-    let dap = command_of(alloc, &DAP)?;
-    with_one(command, dap)
+    let mut command = bare(alloc);
+    for row in rows() {
+        command = with_one(command, command_of(alloc, row)?)?;
+    }
+    Ok(command)
 }

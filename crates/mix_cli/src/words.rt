@@ -78,8 +78,10 @@ fn subcommand(alloc: Global, name: &str, words: &ArgMatches<'_>) -> Result<Plan,
         list_plan(alloc, words)
     } else if name == "check" {
         check_plan(alloc, words)
-    } else {
+    } else if name == "dap" {
         Ok(Plan::Dap)
+    } else {
+        Ok(Plan::Lsp)
     }
 }
 
@@ -120,7 +122,7 @@ fn means_bundle(words: usize, terminal: bool) -> bool
 /// The plan of a command line. The words are as `env::args` gives them, the first the program's
 /// name: none after it is a bundle, `list SOURCE` a listing, `check SOURCE..` a check, with `--json`
 /// in JSON, `debug SOURCE SCRIPT` a session, with a deck by `--devices FILE`, `debug SOURCE` a talk,
-/// `run SOURCE` a run, and `dap` the debug adapter. Where standard input is a terminal no bundle is
+/// `run SOURCE` a run, `dap` the debug adapter, and `lsp` the language server. Where standard input is a terminal no bundle is
 /// meant, and help is shown.
 ///
 /// It fails with `Line` where the words are none of these or ask for help or the version, with

@@ -8,7 +8,7 @@ use Rattle.mix_run.specs.declared.check.Reports.{Reports}
 use Rattle.mix_run.specs.declared.fault.ToolFault.{ToolFault}
 use Rattle.mix_tool.specs.Ending.{IsAmong, IsFileOf, Seen}
 use Rattle.mix_run.specs.Opening.{Asks, Files, Missing, Opens, asked_of, missing_of, named, opened_text}
-use Rattle.mix_tool.specs.Plan.{DoneAfter, FileNames, hears_client, in_order, named_of, names_of}
+use Rattle.mix_tool.specs.Plan.{DoneAfter, FileNames, adapts, hears_client, in_order, named_of, names_of, speaks}
 use Rattle.mix_tool.proofs.OpeningLemmas.{named-first, named-later, opens-end, opens-then}
 
 -- some of the names are left; those before them were opened, and their sources reported
@@ -122,6 +122,25 @@ client-unnamed (plan.Check sources json) hears = refl
 client-unnamed (plan.Debug session) hears = absurd cc
 client-unnamed (plan.Run run) hears = absurd cc
 client-unnamed plan.Dap hears = refl
+client-unnamed plan.Lsp hears = refl
+
+pub adapter-hears : (p : Plan) → adapts p ≡ true → hears_client p ≡ true
+adapter-hears plan.Bundle e = absurd cc
+adapter-hears (plan.List source) e = absurd cc
+adapter-hears (plan.Check sources json) e = absurd cc
+adapter-hears (plan.Debug session) e = absurd cc
+adapter-hears (plan.Run run) e = absurd cc
+adapter-hears plan.Dap e = refl
+adapter-hears plan.Lsp e = absurd cc
+
+pub server-hears : (p : Plan) → speaks p ≡ true → hears_client p ≡ true
+server-hears plan.Bundle e = absurd cc
+server-hears (plan.List source) e = absurd cc
+server-hears (plan.Check sources json) e = absurd cc
+server-hears (plan.Debug session) e = absurd cc
+server-hears (plan.Run run) e = absurd cc
+server-hears plan.Dap e = absurd cc
+server-hears plan.Lsp e = refl
 
 -- a plan with lines for the typewriter names a file
 pub typewriter-named : (names : FileNames) → named names.typewriter ≢ [] → in_order names ≢ []

@@ -111,3 +111,4 @@ saves-none (plan.Check sources json) given status old new e same = tt
 saves-none (plan.Debug session) given status old new e same = tt
 saves-none (plan.Run run) given status old new e same = rw e (inl same)
 saves-none plan.Dap given status old new e same = tt
+saves-none plan.Lsp given status old new e same = tt

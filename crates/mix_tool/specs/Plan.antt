@@ -61,6 +61,7 @@ names_of (plan.Run run) =
       script = None;
     }
 names_of plan.Dap = record { source = None; deck = None; cards = None; typewriter = None; script = None }
+names_of plan.Lsp = record { source = None; deck = None; cards = None; typewriter = None; script = None }
 
 -- in the order in which they are opened
 abbrev pub in_order : FileNames → List (List ℕ)
@@ -74,6 +75,7 @@ sources_of (plan.Check sources json) = map string_bytes sources.items
 sources_of (plan.Debug session) = []
 sources_of (plan.Run run) = []
 sources_of plan.Dap = []
+sources_of plan.Lsp = []
 
 -- all files of a plan, in the order in which they are opened
 abbrev pub files_of : Plan → List (List ℕ)
@@ -222,6 +224,7 @@ RunsOn all (plan.Check sources json) given talker status before after =
 RunsOn all (plan.Debug session) given talker status before after = DebugsOn all session given talker status before after
 RunsOn all (plan.Run run) given talker status before after = PrintRuns (run_output run given) (saved_names run) status before.out after.out
 RunsOn all plan.Dap given talker status before after = status ≤ 2
+RunsOn all plan.Lsp given talker status before after = status ≤ 2
 
 -- the first file that can't be opened is told and why, and the status is 2; if there is none, the run is made
 abbrev pub DoneAfter : Option Missing → Type 0 → ℕ → Seen → Seen → Type 0
@@ -243,8 +246,9 @@ reads_input (plan.Check sources json) = false
 reads_input (plan.Debug session) = is_talk session.script
 reads_input (plan.Run run) = false
 reads_input plan.Dap = false
+reads_input plan.Lsp = false
 
--- whether a plan hears a client: the debug adapter does
+-- whether a plan hears a client: the debug adapter and the language server do
 abbrev pub hears_client : Plan → Bool
 hears_client plan.Bundle = false
 hears_client (plan.List source) = false
@@ -252,6 +256,16 @@ hears_client (plan.Check sources json) = false
 hears_client (plan.Debug session) = false
 hears_client (plan.Run run) = false
 hears_client plan.Dap = true
+hears_client plan.Lsp = true
+
+-- whether its client is one of the debug adapter, or of the language server
+abbrev pub adapts : Plan → Bool
+adapts plan.Dap = true
+adapts other = false
+
+abbrev pub speaks : Plan → Bool
+speaks plan.Lsp = true
+speaks other = false
 
 -- whether nothing is told on the error output but a fault of the tool: of a talk and of a run other things are
 abbrev pub is_quiet : Plan → Bool
@@ -261,6 +275,7 @@ is_quiet (plan.Check sources json) = true
 is_quiet (plan.Debug session) = not (is_talk session.script)
 is_quiet (plan.Run run) = false
 is_quiet plan.Dap = true
+is_quiet plan.Lsp = true
 
 -- the files that a run creates: for what its units hold, and for its map; no other plan is a run
 abbrev pub creates_of : Plan → Option (List (List ℕ))
@@ -270,6 +285,7 @@ creates_of (plan.Check sources json) = None
 creates_of (plan.Debug session) = None
 creates_of (plan.Run run) = Some (saved_names run)
 creates_of plan.Dap = None
+creates_of plan.Lsp = None
 
 -- what a run on its texts saves
 abbrev pub SavesOn : Plan → Given → ℕ → Option (List Saved) → Option (List Saved) → Type 0

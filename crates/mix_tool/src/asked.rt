@@ -12,7 +12,7 @@ pub(crate) fn names_in(plan: &Plan) -> Names<'_>
     ensures { names_in result ≡ names_of plan.now }
 {
     match plan {
-        Plan::Bundle | Plan::Check { .. } | Plan::Dap => Names {
+        Plan::Bundle | Plan::Check { .. } | Plan::Dap | Plan::Lsp => Names {
             source: None,
             deck: None,
             cards: None,

@@ -5,9 +5,10 @@ ghost use Rattle.dap_stream.specs.declared.broken.Broken.{Broken};
 ghost use Rattle.dap_stream.specs.declared.broken.Broken.TheVariants as broken;
 ghost use Rattle.mix_dap.specs.Dialogue.{DialogueAs, TellsBroken};
 ghost use Rattle.mix_stream.specs.Stream.{CountsFailure};
+ghost use Rattle.mix_lsp.specs.Served.{ServedAs};
 ghost use Rattle.mix_run.specs.Opening.{Asks, Files, asked_of, missing_of};
 ghost use Rattle.mix_tool.specs.Ending.{Creates};
-ghost use Rattle.mix_tool.specs.Plan.{AreFresh, Given, HoldTexts, DoneAfter, IsDone, RunsOn, SavesOn, creates_of, files_of, given_of, hears_client, in_order, is_quiet, names_of, reads_input, seen, sources_of};
+ghost use Rattle.mix_tool.specs.Plan.{AreFresh, Given, HoldTexts, DoneAfter, IsDone, RunsOn, SavesOn, creates_of, files_of, given_of, adapts, hears_client, in_order, is_quiet, names_of, reads_input, seen, sources_of, speaks};
 
 use crate::asked::names_in;
 use crate::check::check_files;
@@ -44,11 +45,19 @@ fn run_on<O: Opener + Library, C: In, R: In, W: Out, E: Out>(
     ensures saved { (given : Given) → HoldTexts O.Reader.rest texts given → SavesOn plan.now given result (O.saved files.old) (O.saved files.new) }
     ensures input { reads_input plan.now ≡ false → streams.new.input ≡ streams.old.input }
     ensures client { hears_client plan.now ≡ false → client.new ≡ client.old }
-    ensures served { hears_client plan.now ≡ true → result ≢ 2
+    ensures served { adapts plan.now ≡ true → result ≢ 2
         → (result ≡ 0) × DialogueAs (Ok tt) (C.rest client.old) (C.rest client.new) (W.told streams.old.out) (W.told streams.new.out)
         × (C.failed client.new ≡ C.failed client.old) }
-    ensures broken { hears_client plan.now ≡ true → result ≡ 2
+    ensures broken { adapts plan.now ≡ true → result ≡ 2
         → (why : Broken) × DialogueAs (Err why) (C.rest client.old) (C.rest client.new) (W.told streams.old.out) (W.told streams.new.out)
+        × CountsFailure (why ≡ broken.Read) (C.failed client.old) (C.failed client.new)
+        × CountsFailure (why ≡ broken.Write) (W.failed streams.old.out) (W.failed streams.new.out)
+        × (E.failed streams.new.errors ≡ E.failed streams.old.errors → TellsBroken why (E.told streams.old.errors) (E.told streams.new.errors)) }
+    ensures spoken { speaks plan.now ≡ true → result ≢ 2
+        → ServedAs (Ok result) (C.rest client.old) (C.rest client.new) (W.told streams.old.out) (W.told streams.new.out)
+        × (C.failed client.new ≡ C.failed client.old) }
+    ensures speechless { speaks plan.now ≡ true → result ≡ 2
+        → (why : Broken) × ServedAs (Err why) (C.rest client.old) (C.rest client.new) (W.told streams.old.out) (W.told streams.new.out)
         × CountsFailure (why ≡ broken.Read) (C.failed client.old) (C.failed client.new)
         × CountsFailure (why ≡ broken.Write) (W.failed streams.old.out) (W.failed streams.new.out)
         × (E.failed streams.new.errors ≡ E.failed streams.old.errors → TellsBroken why (E.told streams.old.errors) (E.told streams.new.errors)) }
@@ -76,11 +85,15 @@ fn run_on<O: Opener + Library, C: In, R: In, W: Out, E: Out>(
             let (out, errors) = (&mut streams.out, &mut streams.errors);
             serve_from(files, alloc, client, out, errors)
         }
+        Plan::Lsp => {
+            let (out, errors) = (&mut streams.out, &mut streams.errors);
+            mix_lsp::serve(alloc, client, out, errors)
+        }
     }
 }
 
-/// Does what a plan asks for: a bundle or a talk from the input, a listing, a check, a run or a session of files, or what a client of the debug adapter asks
-/// for. All go to the output. The files of a plan are opened before any is read, in the order source, deck, cards, typewriter or source, deck, script; without a deck all
+/// Does what a plan asks for: a bundle or a talk from the input, a listing, a check, a run or a session of files, or what a client of the debug adapter or the
+/// language server asks for. All go to the output. The files of a plan are opened before any is read, in the order source, deck, cards, typewriter or source, deck, script; without a deck all
 /// units are empty, but a run takes that of its bundle. Each source of a check is read before the next is opened, and nothing is written before all were read.
 ///
 /// The status is that of the run. It is 2 where the tool itself fails; then that fault stands on the error output, as
@@ -119,15 +132,25 @@ pub fn run_plan<O: Opener + Library, C: In, R: In, W: Out, E: Out>(
     // Of a plan whose texts are all files the input is not read.
     ensures input { reads_input plan.now ≡ false → streams.new.input ≡ streams.old.input }
 
-    // A client is heard by the debug adapter alone.
+    // A client is heard by the debug adapter and the language server alone.
     ensures client { hears_client plan.now ≡ false → client.new ≡ client.old }
 
     // It is served to the end of a dialogue, status 0; or status 2, and a line tells what broke the dialogue off.
-    ensures served { hears_client plan.now ≡ true → result ≢ 2
+    ensures served { adapts plan.now ≡ true → result ≢ 2
         → (result ≡ 0) × DialogueAs (Ok tt) (C.rest client.old) (C.rest client.new) (W.told streams.old.out) (W.told streams.new.out)
         × (C.failed client.new ≡ C.failed client.old) }
-    ensures broken { hears_client plan.now ≡ true → result ≡ 2
+    ensures broken { adapts plan.now ≡ true → result ≡ 2
         → (why : Broken) × DialogueAs (Err why) (C.rest client.old) (C.rest client.new) (W.told streams.old.out) (W.told streams.new.out)
+        × CountsFailure (why ≡ broken.Read) (C.failed client.old) (C.failed client.new)
+        × CountsFailure (why ≡ broken.Write) (W.failed streams.old.out) (W.failed streams.new.out)
+        × (E.failed streams.new.errors ≡ E.failed streams.old.errors → TellsBroken why (E.told streams.old.errors) (E.told streams.new.errors)) }
+
+    // A client of the language server in the same way; its `exit` may ask for status 1.
+    ensures spoken { speaks plan.now ≡ true → result ≢ 2
+        → ServedAs (Ok result) (C.rest client.old) (C.rest client.new) (W.told streams.old.out) (W.told streams.new.out)
+        × (C.failed client.new ≡ C.failed client.old) }
+    ensures speechless { speaks plan.now ≡ true → result ≡ 2
+        → (why : Broken) × ServedAs (Err why) (C.rest client.old) (C.rest client.new) (W.told streams.old.out) (W.told streams.new.out)
         × CountsFailure (why ≡ broken.Read) (C.failed client.old) (C.failed client.new)
         × CountsFailure (why ≡ broken.Write) (W.failed streams.old.out) (W.failed streams.new.out)
         × (E.failed streams.new.errors ≡ E.failed streams.old.errors → TellsBroken why (E.told streams.old.errors) (E.told streams.new.errors)) }

@@ -48,3 +48,9 @@ returns-in-Dap-clause-served g c hears = c.serve_from.ensures.done
 
 pub returns-in-Dap-clause-broken : goal.returns-in-Dap-clause-broken
 returns-in-Dap-clause-broken g c hears = c.serve_from.ensures.broken
+
+pub returns-in-Lsp-clause-spoken : goal.returns-in-Lsp-clause-spoken
+returns-in-Lsp-clause-spoken g c hears = c.serve.ensures.served
+
+pub returns-in-Lsp-clause-speechless : goal.returns-in-Lsp-clause-speechless
+returns-in-Lsp-clause-speechless g c hears = c.serve.ensures.broken

@@ -1,0 +1,6 @@
+mod HearLemmas
+mod MessageLemmas
+mod PlaceLemmas
+mod ResponseLemmas
+mod SendLemmas
+mod ServedLemmas

@@ -1,0 +1,14 @@
+use Rattle.std.proofs.Common.{◌≡◌, ◌++◌, length}
+use Rattle.std.specs.Prelude.{map}
+use Rattle.serde_json.specs.View.{view}
+use Rattle.mix_lsp.specs.Mentioned.{symbol_shown}
+use Rattle.mix_lsp.proofs.mention.symbols_shown.Given as goal
+
+abbrev pub invariant-loop-rest : goal.invariant-loop-rest
+invariant-loop-rest l = record {
+  shown : map view l.list.items ++ map (symbol_shown l.uri l.finder) l.rest ≡ map (symbol_shown l.uri l.fn.finder) l.mentions;
+  finder : l.finder ≡ l.fn.finder;
+}
+
+abbrev pub decreases-loop-rest : goal.decreases-loop-rest
+decreases-loop-rest l = length l.rest

@@ -1,0 +1,12 @@
+use Rattle.std.proofs.Common.{◌≡◌, ◌≤◌, length}
+use Rattle.mix_lsp.specs.Place.{after_units}
+use Rattle.mix_lsp.proofs.place.after_units.Given as goal
+
+abbrev pub invariant-loop-rest : goal.invariant-loop-rest
+invariant-loop-rest l = record {
+  rest : after_units l.encoding l.left l.rest ≡ after_units l.encoding l.count l.text;
+  within : length l.rest ≤ length l.text;
+}
+
+abbrev pub decreases-loop-rest : goal.decreases-loop-rest
+decreases-loop-rest l = length l.rest

@@ -1,0 +1,14 @@
+pub mod Document
+pub mod Encoding
+pub mod Finder
+pub mod Heard
+pub mod Kind
+pub mod Look
+pub mod Mentioned
+pub mod Message
+pub mod Place
+pub mod Published
+pub mod Range
+pub mod Reaction
+pub mod Response
+pub mod Served

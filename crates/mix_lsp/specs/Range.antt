@@ -1,0 +1,18 @@
+-- Places and ranges as JSON, of texts as the client counts them.
+use Rattle.std.specs.Prelude.{ℕ, List, codes}
+use Rattle.serde_json.specs.Data.{Data, no_members, number, object, put, unsigned}
+use Rattle.mixal_text.specs.declared.misread.Span.{Span}
+use Rattle.mix_lsp.specs.Finder.{Sought}
+use Rattle.mix_lsp.specs.Place.{place_of}
+use Rattle.mix_lsp.specs.declared.place.Place.{Place}
+
+abbrev pub place_shown : Place → Data
+place_shown at =
+    object (put (codes "character") (number (unsigned at.character)) (put (codes "line") (number (unsigned at.line)) no_members))
+
+abbrev pub range_shown : Place → Place → Data
+range_shown from to = object (put (codes "end") (place_shown to) (put (codes "start") (place_shown from) no_members))
+
+-- some bytes of a line of a text, which is counted from 0
+abbrev pub range_of : Sought → ℕ → Span → Data
+range_of s line at = range_shown (place_of s.encoding s.text line at.from) (place_of s.encoding s.text line at.to)

@@ -1,0 +1,29 @@
+//! A language server for MIXAL: messages of the Language Server Protocol in, responses and
+//! notifications out.
+#![tactic(auto)]
+
+mod abilities;
+mod document;
+mod encoding;
+mod fault;
+mod finder;
+mod hear;
+mod kind;
+mod law;
+mod look;
+mod mention;
+mod mentioned;
+mod message;
+mod place;
+mod published;
+mod ranges;
+mod renaming;
+mod replies;
+mod server;
+mod spot;
+mod stream;
+
+pub use encoding::Encoding;
+pub use law::response_law;
+pub use server::{Answer, Phase, Server};
+pub use stream::serve;

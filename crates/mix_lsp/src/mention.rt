@@ -1,0 +1,176 @@
+//! Mentions as they are shown.
+
+ghost use Rattle.std.specs.Prelude.{◌≡◌, ◌-◌, IfOk, map, string_bytes};
+ghost use Rattle.serde_json.specs.View.{view};
+ghost use Rattle.mix_lsp.specs.Mentioned.{edit, highlight, highlight_kind, located, mention_range, mention_shown, mentions_shown, name_span, name_text, shown_by, symbol_shown};
+ghost use Rattle.mix_lsp.specs.Range.{range_of};
+
+use crate::finder::Finder;
+use crate::ranges::range_of;
+use dap_message::Fields;
+use mix_refused::Memory;
+use mixal_asm::{Mention, Name, Role};
+use mixal_text::Span;
+use serde_json::Value;
+use std::alloc::{AllocError, Global};
+
+/// How a mention is shown: with the name of its text, by what is done there, or as a text in its
+/// place.
+#[derive(Clone, Copy)]
+pub(crate) enum Show<'a> {
+    Location(&'a str),
+    Highlight,
+    Edit(&'a str),
+}
+
+/// All of some mentions, shown so.
+pub(crate) fn mentions_shown(
+    alloc: Global,
+    how: Show<'_>,
+    finder: &mut Finder<'_>,
+    mentions: &[Mention],
+) -> Result<Vec<Value>, Memory>
+    ensures { IfOk result (λ list. map view list.items ≡ mentions_shown (shown_by how.entry) finder.old mentions.now) }
+{
+    let mut list = Vec::new(alloc);
+    let mut rest = mentions;
+    while let [mention, more @ ..] = rest {
+        list.push(mention_shown(alloc, how, finder, mention)?)?;
+        rest = more;
+    }
+    Ok(list)
+}
+
+fn mention_shown(
+    alloc: Global,
+    how: Show<'_>,
+    finder: &mut Finder<'_>,
+    mention: &Mention,
+) -> Result<Value, Memory>
+    ensures shown { IfOk result (λ v. view v ≡ mention_shown (shown_by how.entry) finder.old mention.now) }
+    ensures same { finder.new ≡ finder.old }
+{
+    match how {
+        Show::Location(uri) => located(alloc, uri, finder, mention),
+        Show::Highlight => highlighted(alloc, finder, mention),
+        Show::Edit(new) => edited(alloc, new, finder, mention),
+    }
+}
+
+fn highlighted(alloc: Global, finder: &mut Finder<'_>, mention: &Mention) -> Result<Value, Memory>
+    ensures shown { IfOk result (λ v. view v ≡ mention_shown highlight finder.old mention.now) }
+    ensures same { finder.new ≡ finder.old }
+{
+    let mut shown = Fields::new(alloc);
+    shown.put("range", mention_range(alloc, finder, mention, mention.at)?)?;
+    shown.number("kind", highlight_kind(mention.role))?;
+    Ok(shown.done())
+}
+
+fn edited(
+    alloc: Global,
+    new: &str,
+    finder: &mut Finder<'_>,
+    mention: &Mention,
+) -> Result<Value, Memory>
+    ensures shown { IfOk result (λ v. view v ≡ mention_shown (edit new.now) finder.old mention.now) }
+    ensures same { finder.new ≡ finder.old }
+{
+    let at = name_span(&mention.name, mention.at);
+    let mut shown = Fields::new(alloc);
+    shown.put("range", mention_range(alloc, finder, mention, at)?)?;
+    shown.text("newText", new)?;
+    Ok(shown.done())
+}
+
+pub(crate) fn mention_range(
+    alloc: Global,
+    finder: &mut Finder<'_>,
+    mention: &Mention,
+    at: Span,
+) -> Result<Value, Memory>
+    ensures shown { IfOk result (λ v. view v ≡ range_of finder.old (mention.now.line - 1) at) }
+    ensures same { finder.new ≡ finder.old }
+{
+    range_of(alloc, finder, mention.line.saturating_sub(1), at)
+}
+
+fn located(
+    alloc: Global,
+    uri: &str,
+    finder: &mut Finder<'_>,
+    mention: &Mention,
+) -> Result<Value, Memory>
+    ensures shown { IfOk result (λ v. view v ≡ located uri.now (mention_range finder.old mention.now)) }
+    ensures same { finder.new ≡ finder.old }
+{
+    let mut shown = Fields::new(alloc);
+    shown.text("uri", uri)?;
+    shown.put("range", mention_range(alloc, finder, mention, mention.at)?)?;
+    Ok(shown.done())
+}
+
+/// Names that a text defines.
+pub(crate) fn symbols_shown(
+    alloc: Global,
+    uri: &str,
+    finder: &mut Finder<'_>,
+    mentions: &[Mention],
+) -> Result<Vec<Value>, Memory>
+    ensures { IfOk result (λ list. map view list.items ≡ map (symbol_shown uri.now finder.old) mentions.now) }
+{
+    let mut list = Vec::new(alloc);
+    let mut rest = mentions;
+    while let [mention, more @ ..] = rest {
+        list.push(symbol_shown(alloc, uri, finder, mention)?)?;
+        rest = more;
+    }
+    Ok(list)
+}
+
+fn symbol_shown(
+    alloc: Global,
+    uri: &str,
+    finder: &mut Finder<'_>,
+    mention: &Mention,
+) -> Result<Value, Memory>
+    ensures shown { IfOk result (λ v. view v ≡ symbol_shown uri.now finder.old mention.now) }
+    ensures same { finder.new ≡ finder.old }
+{
+    let mut shown = Fields::new(alloc);
+    shown.text("name", name_text(alloc, &mention.name)?.as_str())?;
+    shown.number("kind", 13)?;
+    shown.put("location", located(alloc, uri, finder, mention)?)?;
+    Ok(shown.done())
+}
+
+fn name_text(alloc: Global, name: &Name) -> Result<String, AllocError>
+    ensures { IfOk result (λ t. string_bytes t ≡ name_text name.now) }
+{
+    match name {
+        Name::Symbol(symbol) => String::from_utf8_lossy(alloc, symbol.name()),
+        Name::Local(digit, _) => format!(in alloc; "{digit}H"),
+    }
+}
+
+fn highlight_kind(role: Role) -> u64
+    ensures { result ≡ highlight_kind role }
+{
+    match role {
+        Role::Definition => 3,
+        Role::Use => 2,
+    }
+}
+
+// Of dH, dB and dF only the digit is changed.
+fn name_span(name: &Name, at: Span) -> Span
+    ensures { result ≡ name_span name.now at }
+{
+    match name {
+        Name::Symbol(_) => at,
+        Name::Local(..) => Span {
+            from: at.from,
+            to: at.to.saturating_sub(1),
+        },
+    }
+}

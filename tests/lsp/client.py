@@ -1,0 +1,97 @@
+"""A client of the language server: messages in frames, and texts that are counted as the protocol does."""
+import json
+import re
+import subprocess
+
+ENDS = re.compile("\r\n|\n|\r")
+
+
+class Client:
+    """Speaks with `PROGRAM lsp`; `encoding` is utf-8, utf-16 or utf-32."""
+
+    def __init__(self, command, encoding=None):
+        self.process = subprocess.Popen(command, stdin=subprocess.PIPE, stdout=subprocess.PIPE)
+        self.asked = 0
+        self.encoding = encoding or "utf-16"
+        general = {"general": {"positionEncodings": [encoding]}} if encoding else {}
+        self.abilities = self.ask("initialize", {"processId": None, "rootUri": None, "capabilities": general})
+        self.tell("initialized", {})
+
+    def send(self, message):
+        body = json.dumps(message).encode()
+        self.process.stdin.write(b"Content-Length: %d\r\n\r\n%s" % (len(body), body))
+        self.process.stdin.flush()
+
+    def hear(self):
+        length = None
+        while (line := self.process.stdout.readline()) not in (b"\r\n", b""):
+            name, value = line.split(b":")
+            if name.lower() == b"content-length":
+                length = int(value)
+        return json.loads(self.process.stdout.read(length)) if length is not None else None
+
+    def tell(self, method, params):
+        self.send({"jsonrpc": "2.0", "method": method, "params": params})
+
+    def ask(self, method, params):
+        """The result of a request, or its error."""
+        self.asked += 1
+        self.send({"jsonrpc": "2.0", "id": self.asked, "method": method, "params": params})
+        answer = self.hear()
+        assert answer["id"] == self.asked, answer
+        return answer["result"] if "result" in answer else answer["error"]
+
+    def open(self, uri, text, version=1):
+        self.tell("textDocument/didOpen",
+                  {"textDocument": {"uri": uri, "languageId": "mixal", "version": version, "text": text}})
+        return self.hear()["params"]
+
+    def change(self, uri, version, changes):
+        self.tell("textDocument/didChange", {"textDocument": {"uri": uri, "version": version}, "contentChanges": changes})
+        return self.hear()["params"]
+
+    def at(self, method, uri, position, **more):
+        return self.ask(method, {"textDocument": {"uri": uri}, "position": position, **more})
+
+    def end(self):
+        """Shuts the server down: its status."""
+        self.ask("shutdown", None)
+        self.tell("exit", None)
+        self.process.stdin.close()
+        return self.process.wait(20)
+
+
+def units(text, encoding):
+    """How many units of an encoding a text has."""
+    if encoding == "utf-8":
+        return len(text.encode())
+    return len(text.encode("utf-16-le")) // 2 if encoding == "utf-16" else len(text)
+
+
+def place_of(text, at, encoding):
+    """The place of a character of a text. It does not stand between a carriage return and its line feed."""
+    ends = [end.end() for end in ENDS.finditer(text) if end.end() <= at]
+    return {"line": len(ends), "character": units(text[ends[-1] if ends else 0:at], encoding)}
+
+
+def check(program, text):
+    """What `mixrev check --json` says of a text."""
+    run = subprocess.run([program, "check", "--json", "-"], input=text.encode(), stdout=subprocess.PIPE)
+    return [json.loads(line) for line in run.stdout.splitlines()]
+
+
+def wanted(program, text, encoding):
+    """The diagnostics that the server has to tell of a text: those of the check."""
+    starts = [0] + [end.end() for end in re.finditer("\n", text)]
+    found = []
+    for fault in check(program, text):
+        line = fault["line"] - 1
+        start = starts[line] if line < len(starts) else len(text)
+        if start == len(text) and line:
+            first = last = {"line": len(ENDS.split(text)) - (text.endswith(("\n", "\r")) or not text), "character": 0}
+        else:
+            first = place_of(text, start + fault.get("column", 1) - 1, encoding)
+            last = place_of(text, start + fault.get("endColumn", fault.get("column", 1)) - 1, encoding)
+        found.append({"range": {"start": first, "end": last}, "severity": 1 if fault["severity"] == "error" else 2,
+                      "code": fault["code"], "source": "mixrev", "message": fault["text"]})
+    return found

@@ -1,0 +1,108 @@
+#!/usr/bin/env python3
+"""What the server answers, message by message: tests/lsp/messages.py PROGRAM. The last line counts."""
+import json
+import os
+import subprocess
+import sys
+
+sys.path.insert(0, os.path.dirname(os.path.abspath(__file__)))
+import client  # noqa: E402
+
+program = sys.argv[1]
+passed = failed = 0
+
+
+def row(name, found, want):
+    global passed, failed
+    if found == want:
+        passed += 1
+    else:
+        failed += 1
+        print(f"FAILED {name}: {found}, and {want} was wanted")
+
+
+def frame(body):
+    body = body if isinstance(body, bytes) else json.dumps(body).encode()
+    return b"Content-Length: %d\r\n\r\n%s" % (len(body), body)
+
+
+def said(*frames):
+    """The messages that answer some frames, the status, and what stands on the error output."""
+    run = subprocess.run([program, "lsp"], input=b"".join(frames), stdout=subprocess.PIPE, stderr=subprocess.PIPE)
+    rest, found = run.stdout, []
+    while rest:
+        head, rest = rest.split(b"\r\n\r\n", 1)
+        length = int(head.split(b":")[1])
+        found.append(json.loads(rest[:length]))
+        rest = rest[length:]
+    return found, run.returncode, run.stderr.decode()
+
+
+def request(id_, method, params=None):
+    return frame({"jsonrpc": "2.0", "id": id_, "method": method, "params": params})
+
+
+def notice(method, params=None):
+    return frame({"jsonrpc": "2.0", "method": method, "params": params})
+
+
+def codes(*frames):
+    found, status, errors = said(*frames)
+    return [(one.get("id"), one["error"]["code"] if "error" in one else "ok") for one in found], status, errors
+
+
+START = request(1, "initialize", {"capabilities": {}})
+row("nothing", codes(), ([], 0, ""))
+row("a request too early", codes(request("a", "shutdown")), ([("a", -32002)], 0, ""))
+row("exit at once", codes(notice("exit")), ([], 1, ""))
+row("a whole life", codes(START, notice("initialized"), request(2, "shutdown"), notice("exit")), ([(1, "ok"), (2, "ok")], 0, ""))
+row("initialize twice", codes(START, START), ([(1, "ok"), (1, -32600)], 0, ""))
+row("exit without shutdown", codes(START, notice("exit")), ([(1, "ok")], 1, ""))
+row("nothing after exit", codes(notice("exit"), START), ([], 1, ""))
+row("a request after shutdown", codes(START, request(2, "shutdown"), request(3, "shutdown")), ([(1, "ok"), (2, "ok"), (3, -32600)], 0, ""))
+row("no such method", codes(START, request(2, "mix/no")), ([(1, "ok"), (2, -32601)], 0, ""))
+row("a notification that is not known", codes(START, notice("$/setTrace")), ([(1, "ok")], 0, ""))
+row("no JSON", codes(frame(b"{")), ([(None, -32700)], 0, ""))
+row("no UTF-8", codes(frame(b'"\xff"')), ([(None, -32700)], 0, ""))
+row("no request", codes(frame(b"[]"), frame(b'{"id":7}')), ([(None, -32600), (7, -32600)], 0, ""))
+row("an answer to nothing", codes(frame({"jsonrpc": "2.0", "id": 1, "result": None})), ([], 0, ""))
+row("a header without a length", codes(b"Content-Type: x\r\n\r\n", START), ([(None, -32700), (1, "ok")], 0, ""))
+row("a frame that is cut", codes(START, b"Content-Length: 5\r\n\r\nabc"), ([(1, "ok")], 2, "mixrev: T7 input cut\n"))
+row("a frame that is too long", codes(b"Content-Length: 134217729\r\n\r\n"), ([], 2, "mixrev: T6 input too long\n"))
+row("bad parameters", codes(START, request(2, "textDocument/definition", {})), ([(1, "ok"), (2, -32602)], 0, ""))
+
+for encoding in ("utf-8", "utf-16", "utf-32"):
+    server = client.Client([program, "lsp"], encoding)
+    row("the encoding", server.abilities["capabilities"]["positionEncoding"], encoding)
+    uri = "file:///t.mixal"
+    server.open(uri, "* é😀\r\n2H   LDA  X\rX    CON  2F\n2H   JMP  2B\n     END  2B\n")
+    count = client.units
+    text = "2H   JMP  2B"
+    found = server.at("textDocument/references", uri, {"line": 3, "character": 11}, context={"includeDeclaration": True})
+    row("2B and its 2H", [one["range"]["start"] for one in found], [{"line": 1, "character": 0}, {"line": 3, "character": 10}])
+    told = server.change(uri, 2, [{"range": {"start": {"line": 0, "character": 2}, "end": {"line": 0, "character": count("* é😀", encoding)}}, "text": "ok"}])
+    row("the text after a change", told["diagnostics"], client.wanted(program, "* ok\r\n2H   LDA  X\rX    CON  2F\n2H   JMP  2B\n     END  2B\n", encoding))
+    row("its end", server.end(), 0)
+
+server = client.Client([program, "lsp"])
+uri = "file:///r.mixal"
+server.open(uri, "X    EQU  5\n2H   LDA  X\n     JMP  2B\n2H   STA  Y\n     JMP  2B\nY    CON  X\n     END  2B\n")
+renamed = server.at("textDocument/rename", uri, {"line": 0, "character": 0}, newName="NEW")
+row("each mention of X", sorted((e["range"]["start"]["line"], e["range"]["start"]["character"], e["newText"]) for e in renamed["changes"][uri]),
+    [(0, 0, "NEW"), (1, 10, "NEW"), (5, 10, "NEW")])
+renamed = server.at("textDocument/rename", uri, {"line": 1, "character": 0}, newName="7H")
+row("the first 2H alone", sorted((e["range"]["start"]["line"], e["range"]["start"]["character"], e["newText"]) for e in renamed["changes"][uri]),
+    [(1, 0, "7"), (2, 10, "7")])
+row("a name that is taken", server.at("textDocument/rename", uri, {"line": 0, "character": 0}, newName="Y")["code"], -32602)
+row("no name", server.at("textDocument/rename", uri, {"line": 0, "character": 0}, newName="2H")["code"], -32602)
+row("where no name stands", server.at("textDocument/rename", uri, {"line": 0, "character": 7}, newName="Z"), None)
+row("the bytes of a name", server.at("textDocument/prepareRename", uri, {"line": 1, "character": 11}),
+    {"start": {"line": 1, "character": 10}, "end": {"line": 1, "character": 11}})
+row("where a name is written and read", [one["kind"] for one in server.at("textDocument/documentHighlight", uri, {"line": 0, "character": 0})], [3, 2, 2])
+symbols = server.ask("textDocument/documentSymbol", {"textDocument": {"uri": uri}})
+row("the names that it defines", [one["name"] for one in symbols], ["X", "2H", "2H", "Y"])
+row("closed", server.tell("textDocument/didClose", {"textDocument": {"uri": uri}}) or server.hear()["params"], {"uri": uri, "diagnostics": []})
+row("a text that is not open", server.at("textDocument/definition", uri, {"line": 0, "character": 0})["code"], -32602)
+row("its end", server.end(), 0)
+print(f"{passed} passed, {failed} failed")
+sys.exit(failed > 0)

@@ -1,0 +1,73 @@
+-- Neovim's own client drives the server: nvim --headless -u NONE -i NONE -l is not in 0.7, so it is run by `-S`. SERVER has the program and its words. The
+-- last line counts.
+local passed, failed = 0, 0
+local function row(name, found, wanted)
+  if vim.deep_equal(found, wanted) then
+    passed = passed + 1
+  else
+    failed = failed + 1
+    io.stdout:write(("FAILED Neovim: %s: %s, and %s was wanted\n"):format(name, vim.inspect(found), vim.inspect(wanted)))
+  end
+end
+
+local here = vim.fn.fnamemodify(vim.fn.resolve(vim.fn.expand("<sfile>:p")), ":h")
+package.path = here .. "/../../editors/nvim/?.lua;" .. package.path
+local mixrev = require("mixrev_lsp")
+mixrev.cmd = vim.split(vim.env.SERVER, " ")
+
+local function await(test)
+  return vim.wait(20000, test, 10)
+end
+
+local function diagnostics()
+  local found = {}
+  for _, one in ipairs(vim.diagnostic.get(0)) do
+    table.insert(found, { one.lnum, one.col, one.end_col, one.code, one.severity })
+  end
+  table.sort(found, function(a, b)
+    return a[1] < b[1] or (a[1] == b[1] and a[2] < b[2])
+  end)
+  return found
+end
+
+local function ask(method, more)
+  local params = vim.tbl_extend("force", vim.lsp.util.make_position_params(), more or {})
+  local answers = vim.lsp.buf_request_sync(0, method, params, 20000)
+  for _, answer in pairs(answers or {}) do
+    return answer.result or answer.error
+  end
+end
+
+local function lines_of(list)
+  local found = {}
+  for _, one in ipairs(list) do
+    table.insert(found, { one.range.start.line, one.range.start.character })
+  end
+  return found
+end
+
+vim.cmd("edit " .. vim.fn.tempname() .. ".mixal")
+vim.api.nvim_buf_set_lines(0, 0, -1, false, { "START LDA  X", "2H   ADDD Y       é", "     JMP  2B", "X    CON  5", "     END  START" })
+vim.bo.filetype = "mixal"
+row("a fault at its columns", await(function()
+  return #vim.diagnostic.get(0) > 0
+end) and diagnostics(), { { 1, 5, 9, "A2", vim.diagnostic.severity.ERROR } })
+vim.api.nvim_buf_set_text(0, 1, 5, 1, 9, { "ADD " })
+row("a warning after it is mended", await(function()
+  local found = vim.diagnostic.get(0)
+  return #found == 1 and found[1].severity == vim.diagnostic.severity.WARN
+end) and diagnostics(), { { 1, 10, 11, "undefined-symbol", vim.diagnostic.severity.WARN } })
+
+vim.api.nvim_win_set_cursor(0, { 1, 11 })
+row("the definition of X", lines_of(ask("textDocument/definition")), { { 3, 0 } })
+row("all that mentions X", lines_of(ask("textDocument/references", { context = { includeDeclaration = true } })), { { 0, 11 }, { 3, 0 } })
+vim.api.nvim_win_set_cursor(0, { 3, 10 })
+row("the definition of 2B", lines_of(ask("textDocument/definition")), { { 1, 0 } })
+vim.api.nvim_win_set_cursor(0, { 1, 11 })
+vim.lsp.buf.rename("TOTAL")
+row("a new name", await(function()
+  return vim.api.nvim_buf_get_lines(0, 3, 4, false)[1] == "TOTAL    CON  5"
+end) and vim.api.nvim_buf_get_lines(0, 0, 1, false), { "START LDA  TOTAL" })
+
+io.stdout:write(("%d passed, %d failed\n"):format(passed, failed))
+vim.cmd(failed == 0 and "qall!" or "cquit!")
