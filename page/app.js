@@ -65,8 +65,8 @@ export class App {
   showTexts({ found, refusal, program, view, texts }) {
     const { store, listing } = this;
     listing.setProgram(program);
-    showFound([...found, ...(program ? missing(listing, program, view) : [])], listing);
-    store.refusal = toldRefusal(refusal, found, texts, listing);
+    const faults = showFound([...found, ...(program ? missing(program, view) : [])], listing);
+    store.refusal = toldRefusal(refusal, faults, texts, listing);
     $("main").classList.toggle("stale", Boolean(refusal)); // what is seen is that of an older program
     if (refusal) this.time.hide();
     else store.warning = showSymbols(program, found, this);
@@ -106,8 +106,8 @@ export class App {
     else this.tell(isEngine ? `Not done: ${fault.message}. ${rest}` : `The page itself has a fault: ${fault}`, true);
   }
 
-  async copy(text, name) {
-    const isDone = await copied(text);
+  copy(text, name) {
+    const isDone = copied(text);
     this.tell(isDone ? `${name} is copied.` : "This browser does not let the page copy.", !isDone);
   }
 
@@ -148,7 +148,7 @@ export class App {
   // The first lines of the script; if one fails, they are still to be done.
   async actScript(lines) {
     const found = await this.store.session.act(lines);
-    this.talk.setScript(this.talk.lines.slice(lines.length));
+    this.talk.lines = this.talk.lines.slice(lines.length);
     return this.did(found);
   }
 
@@ -195,7 +195,7 @@ export class App {
       for (const line of new Set(breaks)) listing.toggle(line);
       listing.shut(shown.includes("no-words"));
       $("map-box").open = shown.includes("map");
-      this.talk.setScript([...done, ...left]);
+      this.talk.lines = [...done, ...left];
       this.talk.show([]);
       this.isOpening = true;
       await store.begin().finally(() => Object.assign(this, { isOpening: false }));

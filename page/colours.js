@@ -2,84 +2,69 @@
 
 const OTHERS = "comment|entity|support|string|constant|punctuation|invalid";
 const KINDS = new RegExp(`^(${OTHERS}|keyword\\.(control|operator|other)|variable(\\.language)?)\\b`);
+const regexOf = (pattern) => new RegExp(pattern.replace("(?i)", ""), pattern.includes("(?i)") ? "dgi" : "dg");
 
-export class Grammar {
-  constructor({ patterns, repository }) {
-    this.patterns = patterns;
-    this.repository = repository;
-    this.made = new Map(); // the patterns as those of JavaScript
-    this.lists = new Map(); // of each list of rules the flat one
+function matchFrom(regex, text, at) {
+  regex.lastIndex = at;
+  return regex.exec(text);
+}
+
+// The match that begins first, of the rule that stands first.
+function firstMatch(rules, text, at) {
+  let best = null;
+  for (const rule of rules) {
+    const found = matchFrom(rule.regex, text, at);
+    if (found && (!best || found.index < best.found.index)) best = { found, rule };
   }
+  return best;
+}
 
-  // The rules of a list, with those that it includes in their places.
-  flat(patterns) {
-    const inside = (rule) => {
-      if (rule.include) return this.flat([this.repository[rule.include.slice(1)]]);
-      return rule.match || rule.begin ? [rule] : this.flat(rule.patterns);
-    };
-    if (!this.lists.has(patterns)) this.lists.set(patterns, patterns.flatMap(inside));
-    return this.lists.get(patterns);
+// Names the letters of a match and of its groups; the innermost name stands.
+function take({ found, rule: { name, groups } }, text, names) {
+  if (name) names.fill(name, found.index, found.index + found[0].length);
+  for (const [number, group] of groups) {
+    const [first, last] = found.indices[number] || [0, 0];
+    if (first === last) continue;
+    if (group.name) names.fill(group.name, first, last);
+    paint(group.rules, text.slice(0, last), first, names, null);
   }
+}
 
-  // The first match of a pattern from a place on, in JavaScript's signs.
-  find(pattern, text, at) {
-    const flags = pattern.includes("(?i)") ? "dgi" : "dg";
-    if (!this.made.has(pattern)) this.made.set(pattern, new RegExp(pattern.replace("(?i)", ""), flags));
-    const regex = this.made.get(pattern);
-    regex.lastIndex = at;
-    return regex.exec(text);
-  }
-
-  // The match that begins first, of the rule that stands first.
-  first(text, at, patterns) {
-    let best = null;
-    for (const rule of this.flat(patterns)) {
-      const found = this.find(rule.match || rule.begin, text, at);
-      if (found && (!best || found.index < best.found.index)) best = { found, rule };
+// Names the letters from a place on; the rule that is open behind them.
+function paint(rules, text, at, names, open) {
+  for (;;) {
+    const best = firstMatch(open ? open.rules : rules, text, at);
+    const end = open && matchFrom(open.end, text, at);
+    const found = end && (!best || end.index <= best.found.index) ? end : best?.found;
+    if (!found) return open;
+    if (found === end) {
+      names.fill("", end.index);
+      open = null;
+    } else {
+      take(best, text, names);
+      if (best.rule.end) open = best.rule;
+      else if (found[0] === "") return open;
     }
-    return best;
+    at = found.index + found[0].length;
   }
+}
 
-  // Names the letters of a match and of its groups; the innermost name stands.
-  take(line, { found, rule }, names) {
-    const name = (first, last, given) => given && names.fill(given, first, last);
-    name(found.index, found.index + found[0].length, rule.name);
-    for (const [number, group] of Object.entries(rule.captures || rule.beginCaptures || {})) {
-      const [first, last] = found.indices[number] || [0, 0];
-      if (first === last) continue;
-      name(first, last, group.name);
-      if (group.patterns) this.inside(line.slice(0, last), first, group.patterns, names);
-    }
-  }
-
-  inside(text, at, patterns, names) {
-    while (at < text.length) {
-      const best = this.first(text, at, patterns);
-      if (!best || best.found[0] === "") return;
-      this.take(text, best, names);
-      at = best.found.index + best.found[0].length;
-    }
-  }
-
-  // The name of each letter of a line, and the rule that is open behind it.
-  line(line, open) {
-    const names = new Array(line.length).fill((open && open.contentName) || "");
-    for (let at = 0; ; ) {
-      const best = this.first(line, at, open ? open.patterns || [] : this.patterns);
-      const end = open && this.find(open.end, line, at);
-      if (end && (!best || end.index <= best.found.index)) {
-        names.fill("", end.index);
-        open = null;
-        at = end.index + end[0].length;
-        continue;
-      }
-      if (!best) return { names, open };
-      this.take(line, best, names);
-      if (best.rule.begin) open = best.rule;
-      else if (best.found[0] === "") return { names, open };
-      at = best.found.index + best.found[0].length;
-    }
-  }
+// Gives of a line the name of each letter, and the rule that is open behind it.
+export function grammarOf({ patterns, repository }) {
+  // What is included stands in its place, and the patterns are those of JavaScript.
+  const rulesOf = (given = []) => given.flatMap((rule) => {
+    if (rule.include) return rulesOf([repository[rule.include.slice(1)]]);
+    if (!rule.match && !rule.begin) return rulesOf(rule.patterns);
+    const captures = Object.entries(rule.captures || rule.beginCaptures || {});
+    const groups = captures.map(([number, group]) => [number, { name: group.name, rules: rulesOf(group.patterns) }]);
+    const [regex, end] = [rule.match || rule.begin, rule.end].map((pattern) => pattern && regexOf(pattern));
+    return [{ name: rule.name, inside: rule.contentName, rules: rulesOf(rule.patterns), regex, end, groups }];
+  });
+  const rules = rulesOf(patterns);
+  return (line, open) => {
+    const names = new Array(line.length).fill(open?.inside || "");
+    return { names, open: paint(rules, line, 0, names, open) };
+  };
 }
 
 export const kindOf = (name) => (KINDS.exec(name) || ["", ""])[1].replace(".", "-");

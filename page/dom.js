@@ -68,21 +68,16 @@ export function saved(text, type, name) {
   setTimeout(() => URL.revokeObjectURL(link.href), 60000);
 }
 
-export async function copied(text) {
-  try {
-    await navigator.clipboard.writeText(text);
-    return true;
-  } catch {
-    const focused = /** @type {any} */ (document.activeElement);
-    const box = make("textarea", { class: "unseen" });
-    box.value = text;
-    (document.querySelector("dialog[open]") || document.body).append(box);
-    box.select();
-    const isDone = document.execCommand("copy");
-    box.remove();
-    focused.focus();
-    return isDone;
-  }
+// By the command of all browsers, since not each page may use the clipboard that newer ones have.
+export function copied(text) {
+  const give = (event) => {
+    event.clipboardData.setData("text/plain", text);
+    event.preventDefault();
+  };
+  document.addEventListener("copy", give);
+  const isDone = document.execCommand("copy");
+  document.removeEventListener("copy", give);
+  return isDone;
 }
 
 // In the next frame, since to alter a size in the same one is an error.

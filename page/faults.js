@@ -3,58 +3,55 @@
 import { $, counted, make, put } from "./dom.js";
 import { CHARACTERS, namesOfAll } from "./operations.js";
 
-const isError = ({ severity }) => severity === "error";
+const NO_CHARACTER = 404; // the number of K4
 
+// Gives the faults.
 export function showFound(found, listing) {
   const all = found.map((each) => {
-    const [isFault, remedy] = [isError(each), remedyOf(each, listing.lineText(each.line))];
-    return { ...each, isFault, text: `${isFault ? `${each.code} ` : ""}${each.text}`, remedy };
+    const [isFault, remedy] = [each.severity === "error", remedyOf(each, listing.lineText(each.line))];
+    return { ...each, isFault, remedy, text: isFault ? `${each.code} ${each.text}` : each.text };
   });
   listing.setFound(all);
-  const go = ({ target }) => listing.source.goTo(Number(target.closest("li").dataset.line));
   const rows = all.map(({ line, isFault, text, remedy }, at) => {
     const told = `Line ${line}: ${text}${remedy && `. ${remedy}`}`;
-    const given = { id: at === 0 && "wrong-text", class: isFault ? "wrong" : "warned", "data-line": String(line) };
-    return make("li", given, make("button", { type: "button", click: go }, told));
+    const given = { id: at === 0 && "wrong-text", class: isFault ? "wrong" : "warned" };
+    return make("li", given, make("button", { type: "button", click: () => listing.source.goTo(line) }, told));
   });
   $("fault-rows").replaceChildren(...rows);
+  return all.filter(({ isFault }) => isFault);
 }
 
 // Of a source all that is said of the first line with a fault.
-export function toldRefusal(refusal, found, texts, listing) {
+export function toldRefusal(refusal, [first, ...more], texts, listing) {
   put($("deck-fault"), "");
   if (!refusal) return "";
-  const { text, line } = refusal.variables;
-  const number = Number(line);
+  const { id, format, variables: { text, line } } = refusal;
   if (text === "source") {
-    const [first, ...more] = found.filter(isError);
-    const remedy = remedyOf(first, listing.lineText(number));
-    listing.source.reveal(number);
+    listing.source.reveal(first.line);
     const rest = more.length > 0 && counted(more.length, "more fault");
-    return [`Line ${line}: ${listing.said.get(number)}`, remedy, rest].filter(Boolean).join(". ");
+    return [`Line ${line}: ${listing.said.get(first.line)}`, first.remedy, rest].filter(Boolean).join(". ");
   }
-  const what = refusal.format.split(/line \d+: /).pop();
   const [place, all] = text === "cards" ? ["Card", texts.cards] : ["Deck, line", texts.deck];
-  const row = all.split("\n")[number - 1] || "";
-  const at = what.startsWith("K4") ? [...row.toUpperCase()].findIndex((letter) => !CHARACTERS.includes(letter)) : -1;
+  const row = all.split("\n")[line - 1] || "";
+  const at = id === NO_CHARACTER ? [...row.toUpperCase()].findIndex((letter) => !CHARACTERS.includes(letter)) : -1;
   const letter = at < 0 ? "" : `: “${[...row][at]}” at column ${at + 1}`;
-  const told = `${place} ${line}: ${what}${letter}`;
+  const told = `${place} ${line}: ${format.split(/line \d+: /).pop()}${letter}`;
   put($("deck-fault"), told);
   $("given").open = true;
   return told;
 }
 
-// Warnings of a program that is accepted, beside those of the engine.
-export function missing(listing, { rows }, { wordIn }) {
-  const line = listing.text.split("\n").findIndex((text) => /^[^*\s]*[ \t]+END(\s|$)/i.test(text)) + 1;
+// A warning of an accepted program, beside those of the engine: at the last line with a word.
+export function missing({ rows }, { wordIn }) {
+  const line = Math.max(0, ...rows.map((row) => row.line || 0));
   const halts = rows.some(({ cell, instruction }) => instruction && wordIn(cell).instruction?.operation === "HLT");
   const noHalt = { line, text: "there is no HLT, so a run goes on into whatever stands behind the program" };
-  return halts || rows.length === 0 ? [] : [noHalt];
+  return halts || line === 0 ? [] : [noHalt];
 }
 
 const withoutOne = (word) => [...word].map((_, at) => word.slice(0, at) + word.slice(at + 1));
 
-// The operation that differs by a letter more or less, by another one, or by two that are exchanged.
+// The operation that differs by a letter more or less, by another one, or by two exchanged ones.
 function nearTo(word) {
   const [given, names] = [word.toUpperCase(), namesOfAll()];
   const parts = withoutOne(given);

@@ -81,7 +81,7 @@ export class Keep {
     const isOwn = this.lesson && !other && sharedLines(text, sourceOf(this.lesson.bundle)) === 0;
     if (other || isOwn) {
       this.setLesson(other || null);
-      if (!this.app.isOpening) talk.setScript(other ? openedOf(other.bundle, true).left : []);
+      if (!this.app.isOpening) talk.lines = other ? openedOf(other.bundle, true).left : [];
     }
     this.isOther = Boolean(this.lesson) && !this.isOf(this.lesson, text);
     put($("lessons").options[0], this.isOther ? this.title : "your own program");
@@ -209,8 +209,8 @@ export class Keep {
     else this.app.copy(`${this.heading}\n${momentOf(view, cells, listing.lineOf)}`, "The moment, as a text,");
   }
 
-  async copy(id) {
-    const isDone = await copied($(id).value);
+  copy(id) {
+    const isDone = copied($(id).value);
     $(id).select();
     put($("link-note"), isDone ? "Copied." : "The text is marked: copy it by Ctrl C.");
   }

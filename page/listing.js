@@ -198,7 +198,8 @@ export class Listing {
     this.marks = found.filter(({ column }) => column).map(({ line, column, endColumn, isFault }) => {
       const letters = [...this.lineText(line)]; // some are two of those that the editor counts
       const place = (at) => ({ line: line - 1, ch: letters.slice(0, at - 1).join("").length });
-      return cm.markText(place(column), place(endColumn), { className: isFault ? "fault-text" : "warned-text" });
+      const first = column === endColumn ? Math.max(1, column - 1) : column; // the letter before what is missing
+      return cm.markText(place(first), place(endColumn), { className: isFault ? "fault-text" : "warned-text" });
     });
     this.bad = new Set(found.filter(({ isFault }) => isFault).map(({ line }) => line));
     this.said = new Map();

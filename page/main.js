@@ -1,7 +1,7 @@
 // The beginning: what the page needs is in it, in blocks that `assemble` has put there.
 
 import { App } from "./app.js";
-import { Grammar } from "./colours.js";
+import { grammarOf } from "./colours.js";
 import { $, make } from "./dom.js";
 import { IN_FRAME, Keep } from "./keep.js";
 import { Machine } from "./machine.js";
@@ -16,7 +16,7 @@ async function begin() {
   const [worker, lessons, grammar, operations, characters, library] = await Promise.all(texts);
   takeTables(operations, characters);
   document.head.append(make("script", {}, library)); // the policy of the page names it by its sum
-  const app = new App(new Machine(worker, module), new Grammar(JSON.parse(grammar)));
+  const app = new App(new Machine(worker, module), grammarOf(JSON.parse(grammar)));
   const told = (reason) => setTimeout(() => app.tell(`The page itself has a fault: ${reason}`, true));
   window.addEventListener("unhandledrejection", ({ reason }) => told(reason));
   window.addEventListener("error", ({ message }) => told(message));

@@ -217,7 +217,7 @@ export class Session {
     return new Map(cells.map((cell, index) => [cell, found[index].writes.length]));
   }
 
-  // The changes around this moment that wrote a part, and whether there may be more before or behind
+  // The changes around this moment that wrote a part, and whether more may stand before or behind
   // them; the last one that is done; the first one that is ahead.
   async writesOf(part) {
     const { done, total } = this;

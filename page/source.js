@@ -4,18 +4,15 @@ import { kindOf } from "./colours.js";
 import { $, all, furnished, on } from "./dom.js";
 import { explained, namesOfAll } from "./operations.js";
 
-const LIMITS = { lines: 20000, bytes: 1048576 }; // of a source
-const PASTED = 100; // letters; what is typed at once is less
+const MOST_LETTERS = 1048576; // the engine takes no more bytes, and a browser draws a longer line for too long
 const FIELD_COLUMNS = [0, 8, 13, 26]; // where label, operation, address and remark begin
 const TAB = 8; // columns
 const SHOWN_AROUND = 25; // lines beside those in view that are drawn too
 
-export function tooLarge(text) {
-  const lines = text.split("\n").length - (text.endsWith("\n") ? 1 : 0);
-  const bytes = text.length * 3 < LIMITS.bytes ? 0 : new TextEncoder().encode(text).length;
-  const [name, count] = Object.entries({ lines, bytes }).find(([each, found]) => found > LIMITS[each]) || ["", 0];
-  if (name === "") return "";
-  return `it has ${count.toLocaleString("en")} ${name}, and a source has at most ${LIMITS[name].toLocaleString("en")}`;
+// Why a text is not put into the editor. What the engine does not take is seen there.
+export function tooLarge({ length }) {
+  const [found, most] = [length, MOST_LETTERS].map((number) => number.toLocaleString("en"));
+  return length > MOST_LETTERS ? `it has ${found} letters, and a source has at most ${most} bytes` : "";
 }
 
 const isRemark = (text) => text.startsWith("*");
@@ -31,7 +28,7 @@ function modeOf(grammar) {
   const begin = (text, state) => {
     const column = operationAt(text) ?? state.column;
     const isBlank = text !== "" && text.trim() === "";
-    Object.assign(state, grammar.line(text, state.open), { column, isBlank, indented: isRemark(text) ? 0 : column });
+    Object.assign(state, grammar(text, state.open), { column, isBlank, indented: isRemark(text) ? 0 : column });
   };
   return () => ({
     startState: () => ({ open: null, names: [], column: FIELD_COLUMNS[1], indented: FIELD_COLUMNS[1] }),
@@ -110,7 +107,7 @@ export class Source {
       if (event.key !== "Shift") leaves = event.key === "Escape";
     });
     cm.on("beforeChange", (_, change) => {
-      const reason = change.origin === "setValue" ? "" : this.tooMuch(change);
+      const reason = tooLarge(change.text.join("\n"));
       if (!reason) return;
       change.cancel();
       refused(reason);
@@ -135,17 +132,6 @@ export class Source {
     const isFirst = this.cm.historySize().undo === 0 && this.text === "";
     this.cm.setValue(text);
     if (isFirst) this.cm.clearHistory();
-  }
-
-  tooMuch({ from, to, text }) {
-    const { cm } = this;
-    const last = cm.lastLine(); // it is no line if it is empty
-    const isEmpty = to.line < last && cm.getLine(last) === "";
-    const lines = last + text.length - (to.line - from.line) - (isEmpty ? 1 : 0);
-    const isTyped = text.length < PASTED && text.every(({ length }) => length < PASTED);
-    if (isTyped && lines <= LIMITS.lines) return "";
-    const end = { line: cm.lineCount(), ch: 0 };
-    return tooLarge(cm.getRange({ line: 0, ch: 0 }, from) + text.join("\n") + cm.getRange(to, end));
   }
 
   get caretLine() { return this.cm.getCursor().line + 1; }

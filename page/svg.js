@@ -146,10 +146,11 @@ export function mapOf({ title, text, rows, width, marks, total, done }) {
 // What is before the first of the writes, or behind the last, is drawn unless `isCut` says that
 // there are more.
 export function valuesOf({ title, text, writes, isCut, total, done }) {
-  const { most, least, y } = scaled(writes.flatMap(({ before, after }) => [before, after]), 6, 70);
+  const numbers = writes.map(({ before, after }) => [Number(before.number), Number(after.number)]);
+  const { most, least, y } = scaled(numbers.flat(), 6, 70);
   const x = (number) => 4 + (number / Math.max(1, total)) * 480;
-  const line = writes.map(({ number, after }) => `H ${Math.round(x(number))} V ${Math.round(y(after))}`);
-  const begin = `M ${isCut[0] ? Math.round(x(writes[0].number)) : 4} ${Math.round(y(writes[0].before))}`;
+  const line = writes.map(({ number }, at) => `H ${Math.round(x(number))} V ${Math.round(y(numbers[at][1]))}`);
+  const begin = `M ${isCut[0] ? Math.round(x(writes[0].number)) : 4} ${Math.round(y(numbers[0][0]))}`;
   const d = [begin, ...line, ...(isCut[1] ? [] : ["H 484"])].join(" ");
   const told = (value, down) => label(488, y(value) + down, String(value), "soft", { "text-anchor": "start" });
   const shapes = [

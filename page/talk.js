@@ -1,12 +1,12 @@
 // The commands with their replies, and the script that came with a program.
 
-import { $, make, on, put } from "./dom.js";
+import { $, between, make, on, put } from "./dom.js";
 
 const LETTERS_SHOWN = 200000; // letters of a reply that are shown
+const ROWS_SHOWN = 10; // of a script
 
 export class Talk {
   constructor(/** @type {App} */ app) {
-    this.lines = []; // the commands of the script that are still to be done
     this.shown = [];
     this.typed = []; // what was typed, for the arrow keys
     this.at = 0;
@@ -21,6 +21,7 @@ export class Talk {
       app.given(command);
     });
     on("command", "keydown", (event) => this.recall(event));
+    on("script-lines", "input", () => Object.assign(app, { isEdited: true }));
     app.store.on("view", () => this.show(app.store.session.log));
     for (const [id, count] of [["script-next", 1], ["script-all", Infinity]]) {
       on(id, "click", () => app.store.enqueue(() => app.actScript(this.first(count))));
@@ -31,7 +32,7 @@ export class Talk {
     const step = { ArrowUp: -1, ArrowDown: 1 }[event.key];
     if (!step || this.typed.length === 0) return;
     event.preventDefault();
-    this.at = Math.max(0, Math.min(this.typed.length, this.at + step));
+    this.at = between(0, this.at + step, this.typed.length);
     $("command").value = this.typed[this.at] || "";
   }
 
@@ -42,16 +43,19 @@ export class Talk {
 
   // The first lines of the script with so many commands; comments and blank lines are none.
   first(count) {
+    const { lines } = this;
     let end = 0;
-    for (let left = count; end < this.lines.length && left > 0; end += 1) {
-      if (this.lines[end].trim() !== "" && !this.lines[end].startsWith("*")) left -= 1;
+    for (let left = count; end < lines.length && left > 0; end += 1) {
+      if (lines[end].trim() !== "" && !lines[end].startsWith("*")) left -= 1;
     }
-    return this.lines.slice(0, end);
+    return lines.slice(0, end);
   }
 
-  setScript(lines) {
-    this.lines = lines;
-    $("script-lines").replaceChildren(...lines.map((line) => make("li", {}, line || " ")));
+  // The commands of the script that are still to be done, which a person may alter.
+  get lines() { return $("script-lines").value === "" ? [] : $("script-lines").value.split("\n"); }
+
+  set lines(lines) {
+    Object.assign($("script-lines"), { value: lines.join("\n"), rows: between(1, lines.length, ROWS_SHOWN) });
   }
 
   // Only what was typed is read out from here; the status tells the rest.

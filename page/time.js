@@ -101,7 +101,7 @@ export class Time {
   }
 }
 
-// The commands of a button, one after another, each perhaps with a change that conflicts at its end.
+// The commands of a button, one by one, each perhaps with a change that conflicts at its end.
 // The engine says where one of the breakpoints at `cells` is met, or one of `filters`, and what is
 // kept are the steps. `over` is the cell behind the next instruction, `out` the one in rJ.
 export async function* commandsOf(name, session, points) {

@@ -94,15 +94,9 @@ export class Who {
     const after = `${isCut[1] ? "the next " : ""}${counted(writes.length - 1 - here, "change")} after it`;
     const more = isCut.includes(true) && `There are more: these are ${before}, and ${after}.`;
     put($("who-many"), isList ? more || `All ${counted(writes.length, "change")} that wrote it.` : "");
-    $("who-values").replaceChildren();
-    if (isList && writes[0].before.number !== undefined) this.draw(name, writes, isCut, { done, total });
-  }
-
-  draw(name, writes, isCut, { done, total }) {
-    const numberIn = ({ number }) => Number(number);
-    const numbers = writes.map((write) => ({ ...write, before: numberIn(write.before), after: numberIn(write.after) }));
+    const isDrawn = isList && writes[0].before.number !== undefined;
     const told = { title: `${name} over ${counted(total, "change")}`, text: "The list below has each value." };
-    $("who-values").append(valuesOf({ ...told, writes: numbers, isCut, total, done }));
+    $("who-values").replaceChildren(...(isDrawn ? [valuesOf({ ...told, writes, isCut, total, done })] : []));
   }
 
   told(change, write) {
