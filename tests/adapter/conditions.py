@@ -53,6 +53,21 @@ RUNS = [
     # the toggle and the indicator, which this program leaves as they are
     ([lines((6, "over"))], ons(END)), ([put(2, "over", "on"), lines((6, "over"))], ons(*SPOTS, END)), ([lines((6, "cmp"))], ons(END)),
     ([put(2, "cmp", "L"), lines((6, "cmp"))], ons(*SPOTS, END)), ([put(2, "cmp", "G"), lines((6, "cmp"))], ons(*SPOTS, END)),
+    # comparisons, in each form, at 3, 2, 1 and 0, 15, 15; of both sides, of constants; -0 is 0
+    ([lines((6, "rI1 = 2"))], ons(SPOTS[1], END)), ([lines((6, "I1==2"))], ons(SPOTS[1], END)), ([lines((6, "2 = I1"))], ons(SPOTS[1], END)),
+    ([lines((6, "I1 != 2"))], ons(SPOTS[0], SPOTS[2], END)), ([lines((6, "I1<>2"))], ons(SPOTS[0], SPOTS[2], END)),
+    ([lines((6, "I1 < 2"))], ons(SPOTS[2], END)), ([lines((6, "I1 <= 2"))], ons(*SPOTS[1:], END)),
+    ([lines((6, "I1>2"))], ons(SPOTS[0], END)), ([lines((6, "I1>=2"))], ons(*SPOTS[:2], END)), ([lines((6, "rJ > rI1"))], ons(*SPOTS[1:], END)),
+    ([lines((6, "rJ=LOOP+3"))], ons(*SPOTS[1:], END)), ([lines((6, "loc == LOOP"))], ons(*SPOTS, END)), ([lines((6, "1 < -1"))], ons(END)),
+    ([lines((6, "-2 < -1"))], ons(*SPOTS, END)), ([lines((6, "-1 < 0"))], ons(*SPOTS, END)), ([lines((6, "0 > -1"))], ons(*SPOTS, END)),
+    ([put(1, "X", "-0"), lines((6, "rX = 0"))], ons(*SPOTS, END)), ([put(1, "X", "-0"), lines((6, "rX >= 0"))], ons(*SPOTS, END)),
+    ([put(1, "X", "-5"), lines((6, "rX < -4"))], ons(*SPOTS, END)), ([put(1, "X", "-5"), lines((6, "rX > -4"))], ons(END)),
+    ([put(2, "over", "on"), lines((6, "over = 1"))], ons(*SPOTS, END)), ([put(2, "cmp", "L"), lines((6, "cmp = -1"))], ons(*SPOTS, END)),
+    ([put(2, "cmp", "G"), lines((6, "cmp <= 0"))], ons(END)), ([lines((6, "cell LOOP = cell LOOP"))], ons(*SPOTS, END)), ([lines((6, "clock > 9"))], ons(SPOTS[2], END)),
+    # with a hit count, and at an instruction
+    ([lines((6, "I1 <= 2", "2"))], ons(SPOTS[2], END)), ([at_12(condition="I1 = 1")], ons(("instruction breakpoint", 8), END)),
+    # what is no comparison stops nowhere
+    *[([lines((6, text))], ons(END)) for text in ("I1 =", "= 2", "I1 = NOWHERE", "NOWHERE = 2", "I1 === 2", "I1 = 2 = 2", "I1 =< 2", "I1 => 2", "I1 ! 2", "I1 < > 2", "<", "1 < 2 < 3")],
     # a blank one is none; one that is worth nothing stops nowhere
     ([lines((6, ""))], ons(*SPOTS, END)), ([lines((6, "  "))], ons(*SPOTS, END)), ([lines((6, "NOWHERE"))], ons(END)), ([lines((6, "unit 16"))], ons(END)),
     # backwards
@@ -86,10 +101,10 @@ RUNS = [
 ]
 
 # What is told of a breakpoint of line 6 and of one in cell 12: whether it stands, or why not.
-GOOD_TEXTS = [{}, {"condition": "rA"}, {"condition": "cell *+1"}, {"condition": " "}, {"condition": "-0"}, {"hitCondition": "1"}, {"hitCondition": "999999999999999999"},
+GOOD_TEXTS = [{}, {"condition": "rA"}, {"condition": "cell *+1"}, {"condition": " "}, {"condition": "-0"}, {"condition": "rA > 3"}, {"condition": "cell *+1<>rJ"}, {"hitCondition": "1"}, {"hitCondition": "999999999999999999"},
               {"hitCondition": ""}, {"condition": "over", "hitCondition": "007"}]
 BAD_TEXTS = [({"condition": "NOWHERE"}, "no such condition"), ({"condition": "unit 16"}, "no such condition"), ({"condition": "cell 4000"}, "no such condition"),
-             ({"condition": "rA > 3"}, "no such condition"), ({"condition": "rB", "hitCondition": "0"}, "no such condition"), ({"hitCondition": "0"}, "no such hit count"),
+             ({"condition": "rA > "}, "no such condition"), ({"condition": "3 < unit 16"}, "no such condition"), ({"condition": "rB", "hitCondition": "0"}, "no such condition"), ({"hitCondition": "0"}, "no such hit count"),
              ({"hitCondition": "000"}, "no such hit count"), ({"hitCondition": "-1"}, "no such hit count"), ({"hitCondition": ">=3"}, "no such hit count"),
              ({"hitCondition": "3 "}, "no such hit count"), ({"hitCondition": "1000000000000000000"}, "no such hit count"), ({"condition": "1", "hitCondition": "x"}, "no such hit count")]
 

@@ -8,6 +8,7 @@ import os
 import re
 import subprocess
 import sys
+import tempfile
 
 sys.dont_write_bytecode = True
 HERE = os.path.dirname(os.path.abspath(__file__))
@@ -81,9 +82,12 @@ SENT = ['{"command":"next","request_seq":7,"seq":%d,"success":true,"type":"respo
         '"seq":%d,"success":false,"type":"response"}',
         '{"body":{"category":"stdout","output":"HI\\n"},"event":"output","seq":%d,"type":"event"}']
 
+# What lines of the console are tried on, with a symbol that has a register's name.
+TYPED = " ENTA 5\nX STA 100\n HLT\n END 0\n"
+
 # A reply with a letter of two bytes, which the length of its frame counts.
 LETTER = " NOP 0 \u00e9!\n END 0\n"
-REPLIED = '{"body":{"result":"         0           0  0000      1   NOP 0 \u00e9!\\n         0           0  total\\n","variablesReference":0},' \
+REPLIED = '{"body":{"line":"show counts","result":"         0           0  0000      1   NOP 0 \u00e9!\\n         0           0  total\\n","variablesReference":0},' \
     '"command":"evaluate","request_seq":3,"seq":%d,"success":true,"type":"response"}'
 
 
@@ -231,17 +235,61 @@ def wrong(command, count):
             count.row(f"an offset {number}", any(cell in text for text in found), found)
 
 
+def where(command, count, part, opening):
+    """The rows of a part, each after those before it: what each is told, and where it leads."""
+    rows = [*rows_of(part)]
+    requests = [row[:2] for row in rows]
+    found = answers(command, [*opening, DONE, *requests])
+    left = states(command, [*opening, DONE], requests)
+    for seq, ((name, given, wanted), state) in enumerate(zip(rows, left, strict=True), len(opening) + 2):
+        loc, done, told_part = wanted.split(" ", 2)
+        count.row(f"{seq} {name} {given}", any(told_part in message for message in found.get(seq, [])), found.get(seq))
+        count.same(f"{seq} {name} {given}: where", f"{state['location']} {state['done']}", f"{loc} {done}")
+    return found
+
+
 def conflicts(command, count):
     """Runs that stop at a step that conflicts, both ways, where that is asked for."""
-    rows = [*rows_of("conflicts")]
-    requests = [row[:2] for row in rows]
-    found = answers(command, [("initialize", {}), launch(LINE, devicesText=DELAY), DONE, *requests])
+    found = where(command, count, "conflicts", [("initialize", {}), launch(LINE, devicesText=DELAY)])
     count.row(FILTER, FILTER in found[1][0], found[1])
-    left = states(command, [launch(LINE, devicesText=DELAY), DONE], requests)
-    for seq, ((name, given, wanted), state) in enumerate(zip(rows, left, strict=True), 4):
-        loc, done, part = wanted.split(" ", 2)
-        count.row(f"{seq} {name} {given}", any(part in message for message in found.get(seq, [])), found.get(seq))
-        count.same(f"{seq} {name} {given}: where", f"{state['location']} {state['done']}", f"{loc} {done}")
+
+
+def console(command, count):
+    where(command, count, "console", [launch(TYPED)])
+
+
+def hovers(command, count):
+    """A hover over an operation says what docs/operations.tsv says of it; a watch, and any other name, does not."""
+    with open(os.path.join(HERE, os.pardir, os.pardir, "docs", "operations.tsv")) as file:
+        rows = [line.rstrip("\n").split("\t") for line in file][1:]
+    wanted = {}
+    for name, *_, sentence in rows:
+        sentence = re.sub(r"{([VMF])}", r"\1", sentence).replace("{cell}", "cell M").replace("{line}", "M")
+        for short, register in (("A", "rA"), ("X", "rX"), *((str(n), f"rI{n}") for n in range(1, 7))) if "r" in name else (("", ""),):
+            wanted[name.replace("r", short)] = sentence.replace("{r}", register)
+    asked = [("evaluate", {"expression": f" {name} ", "context": "hover"}) for name in wanted]
+    found = [json.loads(text) for text in texts(command, told(launch(SOURCE), DONE, *asked))[0]]
+    same = [message["body"].get("result") for message in found if message.get("command") == "evaluate"]
+    count.same("hovers over operations", dict(zip(wanted, same, strict=True)), wanted)
+    for given in ({"expression": "LDA", "context": "watch"}, {"expression": "LDA"}, {"expression": "FADD", "context": "hover"}, {"expression": "LDA 5", "context": "hover"}):
+        found = texts(command, told(launch(SOURCE), DONE, ("evaluate", given)))[0]
+        count.row(f"{given}", '"id":202' in found[-1], found)
+    found = texts(command, told(launch("LDA EQU 5\n END 0\n"), DONE, asked[[*wanted].index("LDA")]))[0]
+    count.row("a symbol comes before an operation", '"result":"+ 00 00 00 00 05 = 5"' in found[-1], found)
+
+
+def reports(command, count):
+    """A launch tells the report that `mixrev check` writes, after its answer and before all else, and nothing of a source without a fault or a warning."""
+    for source in CHECKED:
+        with tempfile.TemporaryDirectory() as folder:
+            with open(os.path.join(folder, "a.mixal"), "w", encoding="utf-8") as file:
+                file.write(source)
+            ran = subprocess.run([command[0], "check", "a.mixal"], cwd=folder, capture_output=True, text=True)
+        wanted = [("launch", ran.returncode == 0)] + [("stderr", ran.stdout)] * (ran.stdout != "") + [("initialized",)] * (ran.returncode == 0)
+        found = [json.loads(text) for text in texts(command, told(("launch", {"program": "a.mixal", "sourceText": source})))[0]]
+        same = [(it["command"], it["success"]) if it["type"] == "response" else (it["body"]["category"], it["body"]["output"]) if it["event"] == "output" else (it["event"],)
+                for it in found]
+        count.same(f"{source!r} is launched", same, wanted)
 
 
 def checks(command, count):
@@ -256,4 +304,4 @@ def checks(command, count):
 
 
 if __name__ == "__main__":
-    sys.exit(run(ends, frames, messages, leads, steps, ahead, views, locations, wrong, conflicts, checks))
+    sys.exit(run(ends, frames, messages, leads, steps, ahead, views, locations, wrong, conflicts, console, hovers, reports, checks))

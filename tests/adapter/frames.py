@@ -91,12 +91,12 @@ class Untold(Exception):
     """A request that the commands of a script have no words for."""
 
 
-def commands(requests, accepted):
+def commands(requests, responses):
     """The commands of a script that do what the accepted requests do, where there are no breakpoints. A step over what was taken back does the same
     as a new step."""
     stops = True
-    for message, was_accepted in zip(requests, accepted):
-        if not was_accepted:
+    for message, response in zip(requests, responses):
+        if not response["success"]:
             continue
         command, given = message["command"], message.get("arguments")
         given = given if isinstance(given, dict) else {}
@@ -119,8 +119,11 @@ def commands(requests, accepted):
             where = "" if given["variablesReference"] < 1000 else "cell "
             yield f"set {where}{given['name']} {given['value']}"
         elif command == "evaluate" and given.get("context") == "repl":
-            if not given["expression"].split()[:1] or given["expression"].split()[0].lower() in ("forth", "goto"):
+            line = response["body"].get("line")  # there is none of what only asks
+            if line is None:
+                continue
+            if not line.split()[:1] or line.split()[0].lower() in ("forth", "goto"):
                 raise Untold
-            yield given["expression"]
+            yield line
         elif command in ("writeMemory", "stepOut"):
             raise Untold

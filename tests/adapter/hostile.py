@@ -103,11 +103,10 @@ def said(command, text):
 def state(requests, responses):
     """The state at the end, against that of the model."""
     ends = [response for response in responses if response["request_seq"] in (9001, 9002)]
-    accepted = [response["success"] for response in responses]
     if len(ends) != 2 or not all(response["success"] for response in ends):
         return "", False
     try:
-        script = "".join(f"{line}\n" for line in commands(requests, accepted))
+        script = "".join(f"{line}\n" for line in commands(requests, responses))
     except Untold:
         return "", False
     with open(SOURCE, "rb") as file:

@@ -74,7 +74,7 @@ def dialogues(runner, count):
     looks = [("configurationDone", {}), ("mix/program", {}), ("mix/units", {}), ("evaluate", {"expression": "show unit 15", "context": "repl"})]
     due = [{"rows": [{"cell": k, "instruction": True, "line": 10487 + k} for k in (0, 1)], "start": 0, "symbols": []},
            [["D" * 80] * 1000 if unit == 16 else ["L" * 70] * 1000 if unit > 16 else 1000 for unit in (*range(17), 19, 20)],
-           {"result": "unit 15 place 0 blocks 1000 output 0\n" + shown_block(15).decode() * 1000, "variablesReference": 0}]
+           {"line": "show unit 15", "result": "unit 15 place 0 blocks 1000 output 0\n" + shown_block(15).decode() * 1000, "variablesReference": 0}]
     views = [("mix/counts", {}), ("mix/path", {"columns": 500}), ("mix/writes", {"part": "A", "count": 1000}), ("mix/change", {"number": 10999999})]
     long = [*[("continue", {})] * 11, *views, *[("reverseContinue", {})] * 11, ("evaluate", {"expression": "show changes", "context": "repl"}), *[("threads", {})] * 70000]
     for name, begin, more in (("a frame", [given], []), ("files", [("initialize", {}), files], long)):

@@ -10,9 +10,6 @@ SHOWN = """return [...document.querySelectorAll('#bars [data-cell]')].map(g => [
 ARROWS = "return [...document.querySelectorAll('#bars [data-arrow]')].map(g => [g.dataset.arrow, g.querySelector('text').getAttribute('x')])"
 PLACES = "return [...document.querySelectorAll('#bars [data-cell] .soft')].map(t => [t.textContent, t.getAttribute('x')])"
 SAID = "return ['title', 'desc'].map(name => document.querySelector(`#bars svg ${name}`).textContent)"
-COPIED = "navigator.clipboard.writeText = (text) => { window.copiedText = text; return Promise.resolve(); }"
-REFUSED = """navigator.clipboard.writeText = () => Promise.reject(new Error('refused'));
-    document.execCommand = (name) => { window.copiedText = [name, document.activeElement.value]; return true; }"""
 SAVED = """const { createObjectURL } = URL; URL.createObjectURL = (blob) => { blob.text().then((text) => { window.savedText = text; }); return createObjectURL.call(URL, blob); };
     const { click } = HTMLAnchorElement.prototype; HTMLAnchorElement.prototype.click = function () { window.savedName = this.download; click.call(this); };"""
 CALLS = """window.calls = 0; const post = Worker.prototype.postMessage;
@@ -147,10 +144,7 @@ def strip(page, native, count):
     count.same("strip: as one command", [command for command, _ in page.log()], ["run 1000000", f"goto {moments[20]}"])
     saved = page.save()
     count.row("strip: kept in the file", b"\n* bars: KEY+1 KEY+N number strip\n" in saved, saved[-300:])
-    page.script(COPIED)
-    page.click("bars-copy")
-    page.wait(lambda: page.script("return Boolean(window.copiedText)"))
-    root = tree.fromstring(page.script("return window.copiedText"))
+    root = tree.fromstring(page.copied("bars-copy"))
     pictures = root.findall("{http://www.w3.org/2000/svg}svg")
     heights = [float(picture.get("height")) for picture in pictures]
     count.same("strip: in the file below the bars", [float(picture.get("y")) for picture in pictures], [0, heights[0]])
@@ -226,15 +220,11 @@ def bars_kept(page, native, count):
     page.click("run")
     page.choose("bars-by", "field")
     page.put("bars-field", "4:5")
-    page.script(COPIED)
-    page.click("bars-copy")
-    page.wait(lambda: page.script("return Boolean(window.copiedText)"))
-    copied = page.script("return window.copiedText")
+    copied = page.copied("bars-copy")
     count.same("bars: copied, told", page.told(), "The picture, as SVG, is copied.")
-    page.script("window.copiedText = null; " + REFUSED)
+    page.script("document.execCommand = () => false")
     page.click("bars-copy")
-    page.wait(lambda: page.script("return Boolean(window.copiedText)"))
-    count.same("bars: copied by a browser that refuses the first way", page.script("return window.copiedText"), ["copy", copied])
+    count.same("bars: a browser that does not copy", page.told(), "This browser does not let the page copy.")
     page.script(SAVED)
     page.click("bars-save")
     page.wait(lambda: page.script("return Boolean(window.savedText)"))

@@ -24,6 +24,7 @@ PASTE = EDITOR + """const [text, old] = [arguments[0], cm.getValue()]; const lea
 let [head, tail] = [0, 0]; while (head < least && text[head] === old[head]) head += 1;
 while (tail < least - head && text[text.length - 1 - tail] === old[old.length - 1 - tail]) tail += 1;
 cm.focus(); cm.replaceRange(text.slice(head, text.length - tail), cm.posFromIndex(head), cm.posFromIndex(old.length - tail), 'paste');"""
+COPIED = """window.copiedText = null; window.addEventListener('copy', ({ clipboardData }) => { window.copiedText = clipboardData.getData('text/plain'); }, { once: true })"""
 EXAMPLES = sorted(path.stem for path in (pathlib.Path(__file__).resolve().parents[2] / "examples").glob("*.mixal"))
 PUT = """const e = document.getElementById(arguments[0]); e.focus(); e.value = arguments[1]; e.dispatchEvent(new Event('input', {bubbles: true}));"""
 
@@ -121,6 +122,18 @@ class Page:
     def click(self, name):
         self.one(name).click()
         self.idle()
+
+    def new(self):
+        """Begins a program of one's own."""
+        self.click("new")
+        self.leave()
+        self.idle()
+
+    def copied(self, button):
+        """What a button copies; nothing where it copies nothing."""
+        self.script(COPIED)
+        self.click(button)
+        return self.script("return window.copiedText")
 
     def tap(self, found):
         """Clicks on an element, which is brought to the middle of the window."""

@@ -1,6 +1,7 @@
 """What the page does not take, and what it asks before: texts over the limits, scripts of others, and leaving a program."""
 import base64
 import re
+import time
 import zlib
 
 from repairs import commands
@@ -14,20 +15,21 @@ def link_of(page, bundle):
 
 
 def too_large(page, native, count):
-    """What is over the limits of a source is refused before a row is made of it."""
-    limits = {"lines": (b" NOP\n" * 200_000, "200,000 lines"), "bytes": (b"*" * 1_100_000, "1,100,000 bytes"), "a bomb": (b" NOP\n" * 12_000_000, "more than 4,194,304 bytes")}
+    """What a browser shows too slowly is not put into the editor; what a source may not have is told by the engine, at its line."""
+    limits = {"letters": (b"*" * 1_100_000, "1,100,000 letters"), "a bomb": (b" NOP\n" * 12_000_000, "more than 4,194,304 bytes")}
     for name, (bundle, said) in limits.items():
         page.go(link_of(page, bundle))
-        count.row(f"too large: a link of {name}", said in page.told(), page.told())
-        count.row(f"too large: a link of {name} makes no row", len(page.all("#listing .line")) < 30)
+        count.row(f"too large: a link of {name}, of which no row is made", said in page.told() and len(page.all("#listing .line")) < 30, page.told())
     page.lesson(0)
     good = page.value("text")
-    page.put("text", " NOP\n" * 30_000)
-    count.row("too large: pasted", "30,000 lines" in page.told() and page.value("text") == good, page.told())
-    page.open_file(b" NOP\n" * 30_000)
-    count.row("too large: a file", "30,000 lines" in page.told() and page.value("text") == good, page.told())
-    page.go(link_of(page, b" NOP\n" * 19_999 + b" END 0\n"))
-    count.same("too large: 20,000 lines are not", page.value("text").count("\n"), 20_000)
+    for name, put in (("pasted", page.put), ("a file", lambda _, text: page.open_file(text.encode()))):
+        put("text", "+" * 1_100_000)
+        count.row(f"too large: {name}", "1,100,000 letters" in page.told() and page.value("text") == good, page.told())
+    for lines, said in ((20_000, "Line 20001: A16 source too long: at most 20000 lines and 1048576 bytes."), (19_999, "At the start.")):
+        begun = time.monotonic()
+        page.go(link_of(page, b"*\n" * lines + b" END 0\n"))
+        count.same(f"too large: a link of {lines} lines before END", (page.value("text").count("\n"), page.told()), (lines + 1, said))
+        count.row(f"too large: a link of {lines} lines before END is soon there", time.monotonic() - begun < 10, time.monotonic() - begun)
 
 
 def policy(page, native, count):

@@ -19,9 +19,7 @@ TINTS = """return ['#listing .CodeMirror-code > div:nth-child(4) .times', '#cell
 
 def heat(page, native, count):
     """On request: lines by what was executed so far, cells by all changes, both as texts too."""
-    page.click("new")
-    page.leave()
-    page.idle()
+    page.new()
     page.put("text", SOURCE)
     page.choose("cells-which", "range")
     page.put("cells-from", "100")

@@ -132,7 +132,7 @@ def compare(page, native, count, name):
     if not page.one("step").is_enabled():
         return
     count.same(f"{name}: natively the same", page.replies(), wanted)
-    count.same(f"{name}: what is left of the script", kept(saved), [line.get_attribute("textContent") for line in page.all("#script-lines li")])
+    count.same(f"{name}: what is left of the script", kept(saved), page.value("script-lines").splitlines())
 
 
 def use(page, native, count, end, seed):

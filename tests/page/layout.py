@@ -26,7 +26,7 @@ return Number(last.firstChild.textContent) === document.querySelector('#listing 
 LAST = (
     ("program", "listing", "#listing .line"), ("program", "cards", "#deck"), ("machine", "bars", "#bars svg"), ("machine", "strip", "#strip svg"), ("machine", "map", "#map svg"),
     ("output", "paper", "#papers .paper > div"), ("output", "units", "#unit-list .card, #unit-list p"), ("machine", "registers", "#register-rows tr"), ("machine", "flags", "#flags > div"),
-    ("machine", "memory", "#cell-rows tr"), ("lesson", "notes", "#notes-text > *"), ("talk", "commands", "#log pre"), ("talk", "script", "#script-lines li"), ("talk", "begin anew", "#anew"), ("machine", "symbols", "#symbol-rows tr"),
+    ("machine", "memory", "#cell-rows tr"), ("lesson", "notes", "#notes-text > *"), ("talk", "commands", "#log pre"), ("talk", "script", "#script-lines"), ("talk", "begin anew", "#anew"), ("machine", "symbols", "#symbol-rows tr"),
 )
 OPEN = "for (const box of document.querySelectorAll('details')) if (box.id !== 'answer') box.open = true"
 SHUT = "for (const box of document.querySelectorAll('#shelf details, .more details')) box.open = false"

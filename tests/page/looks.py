@@ -50,7 +50,7 @@ def narrow(page, native, count):
     for name in ("help", "share"):
         page.click(name)
         page.wait(lambda: page.all("dialog[open]"))  # the link is packed first
-        count.same(f"320 pixels: {name}", page.script("const d = document.querySelector('dialog[open]'); return [d.scrollWidth <= d.clientWidth, d.getBoundingClientRect().right <= innerWidth]"), [True, True])
+        count.same(f"320 pixels: {name}", page.script("const d = document.querySelector('dialog[open]'); return [d.scrollWidth <= d.clientWidth, d.getBoundingClientRect().right <= innerWidth, [...d.querySelectorAll('.check input')].every((box) => box.offsetWidth < 20)]"), [True] * 3)
         page.press(Keys.ESCAPE)
     page.tab("machine")
     page.tap(page.all("#register-rows td")[0])
@@ -220,7 +220,7 @@ def memory(page, native, count):
         count.same(f"{name}: the text", page.value("text"), source)
         count.same(f"{name}: the breakpoint", page.all("#listing .line button")[1].get_attribute("aria-pressed"), "true")
         count.same(f"{name}: the commands", page.log(), [("step 1", "ran 1 to 0001 clock 1: limit\n")])
-        count.same(f"{name}: the script", len(page.all("#script-lines li")), 100)
+        count.same(f"{name}: the script", len(page.value("script-lines").splitlines()), 100)
 
     page.one("script-all").click()
     end = time.monotonic() + 60

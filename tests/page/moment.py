@@ -1,5 +1,4 @@
 """A moment as a text, to copy: for a program whose registers, flags and cells follow from the rules of the book."""
-from bars import COPIED
 from selenium.webdriver.common.by import By
 
 SOURCE = """ ORIG 100
@@ -16,18 +15,9 @@ def row(name, word, number, characters):
     return f"{name:4} {word:16} {number:>11}  “{characters}”"
 
 
-def copied(page):
-    page.script("window.copiedText = null; " + COPIED)
-    page.click("moment-copy")
-    page.wait(lambda: page.script("return Boolean(window.copiedText)") or page.told().endswith("Nothing was copied."))
-    return page.script("return window.copiedText")
-
-
 def moment(page, native, count):
     """With the cells of the list and of the bars, each once; not while the text is refused."""
-    page.click("new")
-    page.leave()
-    page.idle()
+    page.new()
     page.put("text", SOURCE)
     page.choose("cells-which", "range")
     page.put("cells-from", "105")
@@ -38,19 +28,19 @@ def moment(page, native, count):
     registers += [row(name, "+ 00 00", 0, "  ") for name in ("rI3", "rI4", "rI5", "rI6", "rJ")]
     flags = "overflow off, comparison equal, location 0104 (line 6), clock 6 u"
     cells = [row("0105", "+ 00 00 00 00 12", 12, "    K"), row("0106", "+ 00 00 00 00 00", 0, " " * 5)]
-    found = copied(page).split("\n")
+    found = page.copied("moment-copy").split("\n")
     count.same("moment: what it is of", found[0][:-len("2000-01-01")], "A program, change 4 of 4, ")
     count.same("moment: registers, flags and cells", found[1:], [*registers, flags, *cells, ""])
     count.same("moment: told", page.told(), "The moment, as a text, is copied.")
     page.click("back")
-    count.same("moment: another one", copied(page).split("\n")[10], "overflow off, comparison equal, location 0103 (line 5), clock 4 u")
+    count.same("moment: another one", page.copied("moment-copy").split("\n")[10], "overflow off, comparison equal, location 0103 (line 5), clock 4 u")
     page.press_button(page.driver.find_element(By.CSS_SELECTOR, "#bars-box summary"))
     page.put("bars-from", "104")
     page.put("bars-to", "105")
     page.wait(lambda: len(page.all("#bars [data-cell]")) == 2)
-    count.same("moment: the cells of the bars too", [line[:4] for line in copied(page).split("\n")[11:-1]], ["0104", "0105", "0106"])
+    count.same("moment: the cells of the bars too", [line[:4] for line in page.copied("moment-copy").split("\n")[11:-1]], ["0104", "0105", "0106"])
     page.put("text", " JUMP 0\n")
-    count.same("moment: not of a text that is refused", (copied(page), page.told()[-20:]), (None, " Nothing was copied."))
+    count.same("moment: not of a text that is refused", (page.copied("moment-copy"), page.told()[-20:]), (None, " Nothing was copied."))
 
 
 MOMENT = (moment,)

@@ -1,7 +1,7 @@
 // The modules of the page that need no page: node tests/page/pure.mjs [SEED]. The last line counts.
 import { readFileSync } from "node:fs";
 import { bundleOf, cardsApart, openedOf, scriptOf, withCards } from "../../page/bundle.js";
-import { Grammar } from "../../page/colours.js";
+import { grammarOf } from "../../page/colours.js";
 import { CARD, CHARACTERS, OPERATIONS, PSEUDO, explained, filled, takeTables } from "../../page/operations.js";
 import { upTo } from "../../page/range.js";
 import { Path } from "../../page/path.js";
@@ -40,13 +40,13 @@ const COLOURS = {
   L: "entity.name.label", O: "support.function.operation", P: "keyword.control.directive", N: "constant.numeric", S: "variable.other", h: "variable.language.location",
   o: "keyword.operator", p: "punctuation", '"': "string", r: "comment", m: "keyword.control.marker", u: "keyword.other.unit", c: "keyword.other.command", "!": "invalid", " ": "",
 };
-const grammar = new Grammar(JSON.parse(read("editors/vscode/syntaxes/mixal.tmLanguage.json")));
+const grammar = grammarOf(JSON.parse(read("editors/vscode/syntaxes/mixal.tmLanguage.json")));
 for (const group of read("editors/samples.txt").split("\n\n")) {
   const rows = group.split("\n").filter((line) => line.startsWith("|")).map((line) => line.slice(1));
   let open = null;
   for (let at = 0; at + 1 < rows.length; at += 2) {
     const [line, wanted] = [rows[at], rows[at + 1].padEnd(rows[at].length)];
-    const { names, open: after } = grammar.line(line, open);
+    const { names, open: after } = grammar(line, open);
     open = after;
     const isRight = (name, sign) => (sign === " " ? /^(meta|$)/.test(name) : name.startsWith(COLOURS[sign]));
     const wrong = [...line].filter((letter, column) => !" \t".includes(letter) && !isRight(names[column], wanted[column]));
@@ -103,7 +103,7 @@ for (let round = 0; round < 200; round += 1) {
 }
 row("cards in the place of those of a deck", withCards("%UNIT 16 delay 5\nA\nB\n%UNIT 18\n", "C"), "%UNIT 16 delay 5\nC\n%UNIT 18\n");
 if (packs) row("a link that holds too much", await bundleIn(await fragmentOf("x".repeat(4194305))).catch(({ message }) => message), "it holds more than 4,194,304 bytes");
-for (const [text, isLarge] of [["\n".repeat(20000), false], ["\n".repeat(20001), true], ["x".repeat(1048576), false], ["é".repeat(524289), true]]) row(`a source of ${text.length} letters`, tooLarge(text) !== "", isLarge);
+row("a source of too many letters", ["x".repeat(1048576), "x".repeat(1048577)].map(tooLarge), ["", "it has 1,048,577 letters, and a source has at most 1,048,576 bytes"]);
 
 // A person's words are kept, and done again, as the line that the engine tells; what asks is shown.
 const LINES = { "goto 0": "goto 0", "b 5": "break 5", "show regs": "show regs", "p A": undefined };
@@ -135,7 +135,7 @@ const heights = within(barsOf({ title: "", text: "", bars, arrows: [] }), "rect"
 row("bars: of 8 to -2 in 90 points, a dashed one for what was, a hollow one for what will be", heights, [36, 18, 72, 0, 54]);
 const strip = within(stripOf({ title: "", cells: [1], columns: [5, 5, -10, 0].map((value, moment) => ({ moment, values: [value] })), done: 1 }), "rect");
 row("strip: a box for each run of a value, and the moment", strip.map(({ x, width, "fill-opacity": dark }) => [x, width, dark]), [[0, 48, "0.5"], [48, 24, "1"], [24, 24, undefined]]);
-const writes = [{ number: 50, before: 0, after: 7 }, { number: 100, before: 7, after: 14 }];
+const writes = [[50, 0, 7], [100, 7, 14]].map(([number, before, after]) => ({ number, before: { number: before }, after: { number: after } }));
 const curve = (isCut) => within(valuesOf({ title: "", text: "", writes, isCut, total: 100, done: 0 }), "path")[0].d;
 row("values: from the start to the end, or what is known", [curve([false, false]), curve([true, true])], ["M 4 76 H 244 V 41 H 484 V 6 H 484", "M 244 76 H 244 V 41 H 484 V 6"]);
 

@@ -60,6 +60,21 @@ def calls(page, native, count):
     natively("calls", page, native, count)
 
 
+WORDS = (("n", "step"), ("b 3", "break 3"), ("c", "run 1000000"), ("rs", "back 1"), ("where", "show code"), ("p A", None), ("p 5", "show value 5"))
+
+
+def words(page, native, count):
+    """A person's words, as at the prompt: shown and kept is the line of a script that they stand for; what only asks is kept nowhere."""
+    page.lesson(0)
+    for typed, _ in WORDS:
+        page.say(typed)
+    count.same("words: what is shown", commands(page), [line or typed for typed, line in WORDS])
+    replies, saved = "".join(reply for (_, line), (_, reply) in zip(WORDS, page.log()) if line), page.save().decode()
+    count.same("words: what is kept", saved.split("%SCRIPT\n")[1].split("* Kept")[0].splitlines(), [line for _, line in WORDS if line])
+    count.same("words: natively", native.bundle(saved), replies)
+    count.row("words: each is answered", all(reply and not reply.startswith("?") for _, reply in page.log()), page.log())
+
+
 def left(page, native, count):
     """The line that was just done is marked too, with a bow to the next one where a jump lies between."""
     page.lesson(0)
@@ -93,7 +108,7 @@ def kept_apart(page, native, count):
     for _ in range(3):
         page.click("script-next")
     page.press_button(page.all("#listing .line button")[9])
-    state, log, left = page.state(), page.log(), page.text("script-lines")
+    state, log, left = page.state(), page.log(), page.value("script-lines")
     page.script("const { click } = HTMLAnchorElement.prototype; HTMLAnchorElement.prototype.click = function () { window.named = this.download; click.call(this); }")
     saved = page.save()
     count.same("kept: the name of the file", page.script("return window.named"), f"{EXAMPLES[8].stem}.mixal")
@@ -103,7 +118,7 @@ def kept_apart(page, native, count):
     page.lesson(0)
     page.open_file(saved)
     count.same("kept: opened, the moment", (page.state(), page.log()), (state, log))
-    count.same("kept: opened, what is left", page.text("script-lines"), left)
+    count.same("kept: opened, what is left", page.value("script-lines"), left)
     count.same("kept: opened, the breakpoint", page.all("#listing .line button")[9].get_attribute("aria-pressed"), "true")
     count.same("kept: opened, the lesson", page.chosen(), EXAMPLES[8].stem)
     page.click("script-all")
@@ -192,9 +207,7 @@ def focus(page, native, count):
     page.script("const n = document.querySelector('#register-rows .number'); getSelection().selectAllChildren(n); n.click(); getSelection().removeAllRanges()")
     page.idle()
     count.same("focus: a number that is marked, to be copied, asks nothing", page.one("who").is_displayed(), False)
-    page.click("new")
-    page.leave()
-    page.idle()
+    page.new()
     count.same("focus: a new program is to be typed", page.script(ACTIVE), "text")
 
 
@@ -275,4 +288,4 @@ def sizes(page, native, count):
         count.same(f"sizes: {width} x {height}", page.script("const noticed = window.noticed; window.noticed = []; return noticed"), [])
 
 
-REPAIRS = (halts, calls, left, kept_apart, own_faults, chosen_meanwhile, edit_undone, focus, setting, refused_text, ranges, sizes)
+REPAIRS = (halts, calls, words, left, kept_apart, own_faults, chosen_meanwhile, edit_undone, focus, setting, refused_text, ranges, sizes)

@@ -3,6 +3,7 @@
 import json
 import re
 
+REFUSED = re.compile(rb"^\? C\d .*$", re.M)
 FAULT = re.compile(r"^ran .*: fault M\d+ ", re.M)  # a reply that tells of a step at fault, which no other line of a reply looks like
 
 
@@ -46,9 +47,22 @@ def told(message):
     return error["id"], error["format"]
 
 
+def lines_done(sent, lines):
+    """The lines of a script that were done for these lines of a console: others where a script does not take one and a person's words do, and none of
+    what only asks."""
+    answers = {message["request_seq"]: message for message in messages(sent) if message["type"] == "response"}
+    found = [answer["body"].get("line") if answer.get("success") else line for line, answer in ((line, answers.get(seq, {})) for seq, line in enumerate(lines, 4))]
+    return [line for line in found if line is not None]
+
+
+def unread(output):
+    """An output in which no refusal says why: a console refuses a person's words."""
+    return REFUSED.sub(b"?", output)
+
+
 def as_script(sent, lines):
-    """Standard output, standard error and the status that a script of these lines would have, by the answers of a talk that gave each of them after
-    the opening."""
+    """Standard output, standard error and the status that a script of so many lines would have, by the answers of a talk that gave each of them after
+    the opening, but for why a line is refused."""
     answers = {message["request_seq"]: message for message in messages(sent) if message["type"] == "response"}
     launched = answers[2]
     if not launched["success"]:
@@ -58,6 +72,8 @@ def as_script(sent, lines):
         return b"", b"mixrev: " + text.encode() + b"\n", 2
     output, status = [], 0
     for seq in range(4, 4 + lines):
+        if answers[seq]["success"] and "line" not in answers[seq]["body"]:
+            continue
         if answers[seq]["success"]:
             output.append(answers[seq]["body"]["result"])
             status = 3 if FAULT.search(output[-1]) else status
@@ -65,7 +81,7 @@ def as_script(sent, lines):
             number, text = told(answers[seq])
             if not 200 < number < 300:
                 raise ValueError(text)
-            output.append("? %s\n" % text)
+            output.append("?\n")
             status = 3
     return "".join(output).encode(), b"", status
 

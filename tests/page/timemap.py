@@ -2,7 +2,6 @@
 import time
 import xml.etree.ElementTree as tree
 
-from bars import COPIED
 from kept import SENT
 from selenium.webdriver.common.by import By
 from selenium.webdriver.common.keys import Keys
@@ -37,9 +36,7 @@ SAID = "return ['title', 'desc'].map(name => document.querySelector(`#map svg ${
 
 
 def begin(page):
-    page.click("new")
-    page.leave()
-    page.idle()
+    page.new()
     page.put("text", SOURCE)
 
 
@@ -69,10 +66,7 @@ def time_map(page, native, count):
     page.idle()
     count.same("map: a click goes there", (page.value("moment"), page.script(PRESENT)), ("5", 5))
     count.same("map: the same after the way back", (page.script(TICKS), page.script(NAMES)), (PRINTED, ["3", "4", "5", "6", "7", "unit 18"]))
-    page.script(COPIED)
-    page.click("map-copy")
-    page.wait(lambda: page.script("return Boolean(window.copiedText)"))
-    root = tree.fromstring(page.script("return window.copiedText"))
+    root = tree.fromstring(page.copied("map-copy"))
     texts = [element.text for element in root.iter("{http://www.w3.org/2000/svg}text")]
     count.same("map: as a file", texts, ["3", "4", "5", "6", "7", "unit 18"])
     page.lesson(0)

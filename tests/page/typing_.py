@@ -98,7 +98,7 @@ def undo(page, native, count):
     second = page.value("text")
     page.caret(1)
     page.press("* X", Keys.ENTER)
-    page.put("text", " NOP\n" * 20_010)
+    page.put("text", " NOP\n" * 220_000)
     count.row("undo: too much is refused", page.value("text") == f"* X\n{second}" and "was not taken" in page.told(), page.told())
     count.same("undo: the cursor stays", page.script(EDITOR + "const { line, ch } = cm.getCursor(); return [line, ch]"), [1, 0])
     for key, wanted, said in (("z", first, "the lesson before"), ("y", f"* X\n{second}", "and again")):

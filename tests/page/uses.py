@@ -20,7 +20,7 @@ def kept(saved, what="still to do"):
 def natively(name, page, native, count):
     """What is saved gives natively the replies that the page has shown; what is still to be done of a lesson's script is kept in it as remarks."""
     saved = page.save().decode()
-    left = [line.get_attribute("textContent") for line in page.all("#script-lines li")]
+    left = page.value("script-lines").splitlines()
     count.same(f"{name}: the script that is left", kept(saved), left)
     count.same(f"{name}, natively", native.bundle(saved), page.replies())
 
@@ -54,6 +54,10 @@ def examples(page, native, count):
         done = f"%SCRIPT\nrun 1000000\nback all\nforth 1\n{more}show all\n* Kept by the page, and no commands:\n* lesson: {path.stem}\n{BARS.get(path.stem, '')}"
         count.same(f"{path.name}: saved, and run natively", native.bundle(saved), page.replies())
         count.row(f"{path.name}: saved with what was done", saved.decode().endswith(done), saved[-200:])
+    page.lesson(0)
+    page.put("script-lines", page.value("script-lines").replace("back 2", "back 3"))
+    page.click("script-all")
+    count.same("a script that was altered", page.replies(), native.bundle(FIRST.replace("\nback 2\n", "\nback 3\n")))
 
 
 def lessons(page, native, count, which):
@@ -220,7 +224,7 @@ def share(page, native, count):
     count.same("share: the moment", page.state(), state)
     count.same("share: the breakpoint", page.all("#listing .line button")[9].get_attribute("aria-pressed"), "true")
     count.same("share: the bundle", page.save(), saved)
-    count.row("share: the script that was not done", page.one("script").is_displayed() and page.text("script-lines").startswith("break PUT"), page.text("script-lines"))
+    count.row("share: the script that was not done", page.one("script").is_displayed() and page.value("script-lines").startswith("break PUT"), page.value("script-lines"))
     count.row("share: the lesson and its notes", page.chosen() == EXAMPLES[8].stem and page.one("notes-text").is_displayed())
     page.click("script-all")
     natively("share: done to the end", page, native, count)

@@ -406,6 +406,9 @@ A word that this subcommand does not take.
   $ mixrev dap a | grep error:
   stderr: error: unexpected argument 'a' found
   [2]
+  $ mixrev lsp a | grep error:
+  stderr: error: unexpected argument 'a' found
+  [2]
 
 A mistake before help.
   $ mixrev --jump --help | grep error:
@@ -465,6 +468,8 @@ Help.
     mixrev run primes.mixal --unit 18
   $ mixrev dap --help | grep Usage
   Usage: mixrev dap
+  $ mixrev lsp --help | grep Usage
+  Usage: mixrev lsp
   $ mixrev debug --help | grep Usage
   Usage: mixrev debug [OPTIONS] <SOURCE> [SCRIPT]
   $ mixrev debug -h | grep -e --devices

@@ -13,6 +13,7 @@ what both say with docs/FORMATS.md.
     list   Writes the listing of a source
     check  Reports all faults of sources
     dap    Is the debug adapter of an editor
+    lsp    Is the language server of an editor
   
   Options:
     -h, --help     Print help
@@ -165,7 +166,18 @@ what both say with docs/FORMATS.md.
   It speaks the Debug Adapter Protocol on standard input and output, for the
   editor that starts it: breakpoints in the source, steps forth and back,
   registers, cells and units.
-  $ for command in '' run debug list check dap; do mixrev $command --help; done | grep -E '.{81}'
+  $ mixrev lsp --help
+  Is the language server of an editor
+  
+  Usage: mixrev lsp
+  
+  Options:
+    -h, --help  Print help
+  
+  It speaks the Language Server Protocol on standard input and output, for the
+  editor that starts it: faults and warnings as one writes, where a name is
+  defined and used, and a new name for it.
+  $ for command in '' run debug list check dap lsp; do mixrev $command --help; done | grep -E '.{81}'
   [1]
 
 A session whose input is a terminal; the echo and the prompts are left out.

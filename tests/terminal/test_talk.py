@@ -18,7 +18,7 @@ def test_in_turn(talk):
     for line, reply in (
             ("step 4", f"ran 4 to 0004 clock 14: halt\n{HALTED}{AFTER}"), ("back 2", f"back 2 to 0002 clock 2\n{THIRD}"),
             ("", f"back 2 to 0000 clock 0\n{FIRST}"), ("forth 2", f"forth 2 to 0002 clock 2\n{ADDED}{THIRD}"),
-            ("trace", f"{STORED}ran 1 to 0003 clock 4: limit\n{FOURTH}"), ("r", f"ran 1 to 0004 clock 14: halt\n{HALTED}{AFTER}"),
+            ("trace", f"{STORED}ran 1 to 0003 clock 4: limit\n{FOURTH}"), ("r", f"ran 1 to 0004 clock 14: halt\ntook 10u\n{HALTED}{AFTER}"),
             ("back all", f"back 4 to 0000 clock 0\n{FIRST}"), ("jumps", "? C1 no such command\nhelp lists the commands\n"),
             ("back x", "? C2 bad argument\nback takes a number, all, break or until COND\n"), ("show clock", "clock 0\n"), ("set loc 3999", "ok\n"),
             ("step", f"ran 1 to 4000 clock 1: limit\n{LAST}"), ("step", "ran 0 to 4000 clock 1: fault M15 no cell at the location\n")):
@@ -113,6 +113,24 @@ def test_symbols_first(talk, folder):
                         ("back until rX", "? C6")):
         assert reply in terminal.said(line)
     assert terminal.end() == 3
+
+
+def test_stopped(talk, folder):
+    """What has stopped a run, with symbol and line, and how much time it took, unless it began at 0; breakpoints with their lines, and symbols in decimal."""
+    (folder / "x.mixal").write_text("X CON 7\nGO LDA X\n INCA 1\nPUT STA X\n LDX 0\n HLT\nBIG EQU 4000-1\n END GO\n")
+    terminal = talk("x.mixal")
+    put = "0003  + 00 00 00 05 24  STA 0                  4  PUT STA X\n"
+    halt = "0005  + 00 00 00 02 05  HLT                    6   HLT\n"
+    for line, reply in (("b PUT", "ok\n"), ("run", "ran 2 to 0003 clock 3: break\nstopped by a breakpoint at 0003 PUT, line 4\n"),
+                        ("run 9 until rX or cell X", "ran 1 to 0004 clock 5: until\nstopped by cell X at 0004, line 5; took 2u\n"), ("n", f"ran 1 to 0005 clock 7: limit\n"),
+                        ("c", "ran 1 to 0006 clock 17: halt\ntook 10u\n"), ("back all", "back 6"), ("until loc PUT", f"until\nstopped by loc PUT at 0003 PUT, line 4\n{put}"),
+                        ("b 0", "ok\n"), ("b PUT", "ok\n"), ("show breaks", "breaks 0000 0003\n0000 X, line 1: X CON 7\n0003 PUT, line 4: PUT STA X\n"),
+                        ("u rX", f"until\nstopped by X at 0005, line 6; took 4u\n{halt}")):
+        seen = terminal.said(line)
+        assert reply in seen and ("took" in seen) == ("took" in reply)
+    shown = terminal.said("show symbols")
+    assert shown.startswith("symbols 4\n") and all(f"{number:11}  {name}\n" in shown for name, number in (("X", 0), ("GO", 1), ("PUT", 3), ("BIG", 3999)))
+    assert terminal.end() == 0
 
 
 def test_newcomer(talk):
