@@ -7,6 +7,9 @@ import re
 # closures; its own word, and an end of that name; the trait that it is of, or ''.
 Function = collections.namedtuple("Function", "file first last name word end of_trait")
 
+# What a method of these does, callers see in its body and not by a clause, so a change of one may
+# show in other functions.
+SEEN_THROUGH = {"Debug", "Display", "Drop", "From", "Hash", "Iterator", "PartialEq", "PartialOrd"}
 WORDS = r"(?:pub(?:\([a-z ]+\))? )?(?:const )?(?:unsafe )?(?:extern \"C\" )?"
 FUNCTION = re.compile(rf"( *){WORDS}fn (\w+)")
 BLOCK = re.compile(rf"{WORDS}(impl|trait)\b(.*)")

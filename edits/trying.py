@@ -6,7 +6,7 @@ import signal
 import subprocess
 import time
 
-from functions import changed_by, is_of
+from functions import SEEN_THROUGH, changed_by, is_of
 from mistakes import Unfit, put_in
 
 ABOUT = re.compile(r"fn (\S+): (.*)")
@@ -14,9 +14,6 @@ AT = re.compile(r"(?:note: )?(?:\./)?((?:src|specs|proofs)/\S+?):(\d+):\d+: (.*)
 SEVERAL = re.compile(r"several functions are named `(.*?)`: help: write one of (.*)")
 # What the prover says where a proof names what an edit took away: nothing of the contract.
 NAMES = re.compile(r"has no field|is not in scope|has no `|was not admitted")
-# What a method of these does, callers see in its body and not by a clause, so a change of one may
-# show in other functions.
-SEEN_THROUGH = {"Debug", "Display", "Drop", "From", "Hash", "Iterator", "PartialEq", "PartialOrd"}
 REFUSED = "refused"
 
 
