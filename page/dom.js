@@ -46,6 +46,12 @@ export function stepOf(key, page) {
   return { ArrowUp: -1, ArrowDown: 1, PageUp: -page, PageDown: page, Home: -Infinity, End: Infinity }[key];
 }
 
+// How dark each of some numbers is.
+export function heats(numbers) {
+  const most = Math.log(1 + Math.max(1, ...numbers));
+  return (number) => (Math.log(1 + number) / most).toFixed(2);
+}
+
 export const between = (least, number, most) => Math.max(least, Math.min(most, number));
 
 export function walks(id, page) {

@@ -141,7 +141,8 @@ export class Memory {
 // Gives the warnings of symbols that are not defined.
 export function showSymbols({ symbols }, found, { listing, memory }) {
   const warnings = found.filter(({ code }) => code === "undefined-symbol");
-  const missing = new Set(warnings.map((each) => listing.textOf(each).toUpperCase()));
+  const textOf = ({ line, column, endColumn }) => [...listing.lineText(line)].slice(column - 1, endColumn - 1).join("");
+  const missing = new Set(warnings.map((each) => textOf(each).toUpperCase()));
   const row = ({ name, value, number }) => {
     const label = `${name}: show the cells from there on`;
     const button = make("button", { type: "button", "aria-label": label, click: () => memory.showFrom(name) }, name);
