@@ -3,13 +3,12 @@
 import { Bars } from "./bars.js";
 import { cardsApart, openedOf, scriptOf, withCards } from "./bundle.js";
 import { Compare } from "./compare.js";
-import { $, on, put } from "./dom.js";
+import { $, all, choose, on, onResize, put } from "./dom.js";
 import { showFound, toldRefusal } from "./faults.js";
 import { Listing } from "./listing.js";
 import { Broken, STOPPED } from "./machine.js";
 import { Memory, showRegisters, showSymbols } from "./memory.js";
 import { Heat, TimeMap } from "./pictures.js";
-import { choose, place } from "./place.js";
 import { toldOf } from "./sentence.js";
 import { WHOLE } from "./session.js";
 import { Store } from "./store.js";
@@ -17,6 +16,8 @@ import { Talk } from "./talk.js";
 import { Time } from "./time.js";
 import { Papers, Units } from "./units.js";
 import { Who } from "./who.js";
+
+const WIDEST = window.matchMedia("(min-width: 100rem) and (min-height: 34rem)"); // it has a third column
 
 export class App {
   isOpening = false; // a program, whose script stays as it came
@@ -69,7 +70,16 @@ export class App {
       await store.enqueue(() => who.open(part));
       this.map.watch(part);
     });
-    place();
+    for (const tab of all("#tabs button")) tab.addEventListener("click", () => choose(tab.dataset.tab));
+    WIDEST.addEventListener("change", () => this.place());
+    this.place();
+    onResize($("time"), () => document.documentElement.style.setProperty("--bar", `${$("time").offsetHeight}px`));
+  }
+
+  // Pictures stand below the listing or in a column of their own.
+  place() {
+    if (WIDEST.matches) $("talk").before($("picture"));
+    else $("shelf").append($("picture"));
   }
 
   get texts() { return { source: this.listing.text, deck: $("deck").value, cards: $("cards").value }; }

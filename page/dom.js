@@ -27,6 +27,12 @@ export function mark(element, name, value) {
 
 export const isPressed = (id) => $(id).getAttribute("aria-pressed") === "true";
 
+// Shows a part of the page, where the window is too narrow for all.
+export function choose(name) {
+  $("main").dataset.tab = name;
+  for (const tab of all("#tabs button")) mark(tab, "aria-pressed", tab.dataset.tab === name);
+}
+
 // How far an event is from the left of an element, as a part of its width.
 export function partOf(element, { clientX }) {
   const { left, width } = element.getBoundingClientRect();

@@ -70,32 +70,24 @@ export function momentOf(/** @type {View} */ { state, wordIn }, shown, lineOf) {
 
 // The cells around M, which the next step uses; those that are not zero; or a range.
 export class Memory {
+  middle = 0; // the cell around which cells are shown
+  wanted = null; // the cell that is in view
+  shownCells = [];
+
   constructor(/** @type {Store} */ store) {
     this.store = store;
-    this.middle = 0; // the cell around which cells are shown
-    this.shownCells = [];
-    this.wanted = null; // the cell that is in view
-    this.range = new CellRange(store, "cells", () => this.which === "range", () => this.show());
-    on("cells-which", "change", () => this.chosen());
+    this.range = new CellRange(store, "cells", () => this.show());
+    on("cells-which", "change", () => this.show());
     store.on("view", () => this.show());
-    store.on("program", () => this.range.ask());
     onResize($("cells-box"), () => this.reveal());
     store.on("forget", () => Object.assign(this, { middle: -1 }));
     walks("cell-rows", 10);
     walks("register-rows", 9);
   }
 
-  get which() { return $("cells-which").value; }
-
-  chosen() {
-    this.range.ask();
-    this.show();
-  }
-
   showFrom(name) {
     $("cells-which").value = "range";
-    this.range.ends = [name, `${name}+19`];
-    this.chosen();
+    this.range.choose([name, `${name}+19`]);
   }
 
   show() {
@@ -108,7 +100,7 @@ export class Memory {
     this.middle = met ?? used ?? first ?? this.middle;
     const near = upTo(Math.max(0, this.middle - 8), this.middle + 16);
     const filled = view.state.cells.map(({ cell }) => cell);
-    const all = { near, filled, range: this.range.cells }[this.which];
+    const all = { near, filled, range: this.range.cells }[$("cells-which").value];
     const shown = all.slice(0, CELLS_SHOWN);
     this.shownCells = shown;
     const fresh = (cell) => wordRow(`cell ${cell}`, fourDigits(cell), { "data-cell": String(cell) });

@@ -1,7 +1,6 @@
 // Buttons, keys and the slider: ways through the changes, and the commands that they are.
 
-import { $, all, on, put } from "./dom.js";
-import { choose } from "./place.js";
+import { $, all, choose, on, put } from "./dom.js";
 import { STEPS } from "./sentence.js";
 
 const CONTROLS = all("#time [data-needs]"); // each is of use where there is what it needs

@@ -159,29 +159,45 @@ def shown(page, count):
     count.row("shown: the line at the location is marked", f"location\n{marked}" in state[1] or f"location {marked}" in state[1].replace("\n", " "), state[1])
 
 
+SIZES = ((1280, 800), (1920, 1080), (390, 844))
+FAULTY = "X    EQU  1\n     JUMP 0\nX    EQU  2\nENTA 10\n     LDA  Y\n     HALT\n     INCA 0, 1\n     END  0\n"
+MOST_BYTES = 250_000  # of docs/page.png
+
+
+def first(page, count):
+    page.lesson(0)
+    for _ in range(3):
+        page.click("step")
+
+
+def primes(page, count):
+    page.lesson(4)
+    page.click("run")
+
+
+def faulty(page, count):
+    page.put("text", FAULTY)
+
+
 def pictures(open_page, count):
-    """The pictures, to be looked at: wide and narrow, light and dark, and as printed."""
+    """The pictures, to be looked at: a lesson at three of its steps, one that prints, a sort, and a faulty source, in three windows, light and dark, and as
+    printed. `tests/page/picture` makes docs/page.png of one."""
     OUT.mkdir(exist_ok=True)
-    for width, height in ((1280, 1000), (320, 700)):
-        for dark in (False, True):
-            with open_page(width=width, height=height, dark=dark) as page:
-                shade = "dark" if dark else "light"
-                page.lesson(4)
-                page.click("run")
-                page.say("back until cell 2009")
-                page.shot(OUT / f"primes-{width}-{shade}.png")
-                page.lesson(8)
-                page.tab("talk")
-                page.click("script-next")
-                page.click("script-next")
-                page.tab("program")
-                page.shot(OUT / f"bill-{width}-{shade}.png", whole=True)
-                ink, ground = page.script("const s = getComputedStyle(document.documentElement); return [s.color, s.backgroundColor]")
-                light = [sum(int(part) for part in colour.split("(")[1].split(")")[0].split(",")[:3]) for colour in (ink, ground)]
-                count.row(f"pictures: {width} {shade}", (light[0] > light[1]) == dark, (ink, ground))
-    with open_page(width=1280, height=800) as page:
-        shown(page, count)
-        page.shot(OUT / "page.png")  # that of docs/PAGE.md
+    for dark in (False, True):
+        with open_page(width=1280, height=800, dark=dark) as page:
+            shade = "dark" if dark else "light"
+            for name, make in (("first", first), ("primes", primes), ("sort", shown), ("faulty", faulty)):
+                page.size(*SIZES[0])
+                make(page, count)
+                for width, height in SIZES:
+                    page.size(width, height)
+                    page.tab("program")
+                    page.script("scrollTo(0, 0); return new Promise((done) => requestAnimationFrame(() => requestAnimationFrame(done)))")
+                    page.shot(OUT / f"{name}-{width}-{shade}.png")
+            ink, ground = page.script("const s = getComputedStyle(document.documentElement); return [s.color, s.backgroundColor]")
+            light = [sum(int(part) for part in colour.split("(")[1].split(")")[0].split(",")[:3]) for colour in (ink, ground)]
+            count.row(f"pictures: {shade}", (light[0] > light[1]) == dark, (ink, ground))
+    count.row("pictures: that of docs/PAGE.md is small", (OUT / "sort-1280-light.png").stat().st_size <= MOST_BYTES)
     with open_page(width=720) as page:
         page.command("Emulation.setEmulatedMedia", media="print")
         page.script("window.dispatchEvent(new Event('beforeprint'))")
