@@ -12,12 +12,20 @@ const whole = (text) => (text === "" || text.endsWith("\n") ? text : `${text}\n`
 const linesIn = (text) => linesOf(whole(text)).slice(0, -1); // without what is behind the last end of a line
 const textOfLines = (lines) => lines.map((line) => `${line}\n`).join("");
 
+// The parts by their markers, for an engine that does not tell them.
+function markedIn(lines) {
+  const after = (marker) => (lines.includes(marker) ? lines.indexOf(marker) : lines.length);
+  const [script, deck] = [after("%SCRIPT"), Math.min(after("%DEVICES"), after("%SCRIPT"))];
+  const ends = { source: [1, deck], deck: [deck + 2, script], script: [script + 2, lines.length] };
+  return Object.entries(ends).map(([part, [from, until]]) => ({ part, from, until }));
+}
+
 // The parts of a text by their lines, as the engine tells them.
-export function partsOf(text, told = [{ part: "source", from: 1, until: Infinity }]) {
+export function partsOf(text, told) {
   const lines = linesOf(text);
   const [source, deck, script] = ["source", "deck", "script"].map((name) => {
-    const { from, until } = told.find(({ part }) => part === name) || { from: 1, until: 0 };
-    return lines.slice(from - 1, until).join("\n") + (until > 0 && until < lines.length ? "\n" : "");
+    const { from, until } = (told || markedIn(lines)).find(({ part }) => part === name) || { from: 1, until: 0 };
+    return lines.slice(from - 1, until).join("\n") + (from <= until && until < lines.length ? "\n" : "");
   });
   return { source, deck, script };
 }

@@ -171,7 +171,7 @@ export class Session {
   // The numbers of W-values; NaN for one that has none.
   async values(expressions) {
     const bodies = await this.bodies(expressions.map((expression) => ["evaluate", { expression, context: "watch" }]));
-    return bodies.map(({ number }) => Number(number ?? NaN));
+    return bodies.map(({ number, result = "" }) => Number(number ?? result.split(" = ")[1] ?? NaN));
   }
 
   async cellsAt(moments, cells, field) {

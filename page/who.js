@@ -2,7 +2,7 @@
 
 import { $, counted, fourDigits, make, on, put } from "./dom.js";
 import { refusalOf } from "./machine.js";
-import { flagsOf } from "./memory.js";
+import { heldIn } from "./memory.js";
 import { CHARACTERS } from "./operations.js";
 import { COMPARED, isCommand, nameOf } from "./sentence.js";
 import { valuesOf } from "./svg.js";
@@ -24,12 +24,9 @@ function valueOf(typed) {
 const FLAGS = { true: "on", false: "off", ...COMPARED };
 const worthOf = (value) => value.number ?? FLAGS[value] ?? String(value);
 
-function heldBy(part, { state, wordIn }) {
-  const flag = flagsOf(state).find((each) => each.part === part);
-  if (flag) return flag.text;
-  const register = state.registers.find(({ name }) => name === part);
-  const { word, number, characters } = register || wordIn(Number(part.slice(5)));
-  return `${word} = ${number} = “${characters}”`;
+function heldBy(part, view) {
+  const { word, said } = heldIn(view, [Number(part.slice(5))]).find((each) => each.part === part);
+  return said ?? `${word.word} = ${word.number} = “${word.characters}”`;
 }
 
 const ALLOWED = {

@@ -104,7 +104,7 @@ for (let round = 0; round < 200; round += 1) {
   const parts = { source, deck, script: scriptOf({ done, ...kept }) };
   const bundle = bundleOf(parts);
   row("a bundle by its lines", [partsOf(bundle, toldOf(parts)), partsOf(bundle.replaceAll("\n", "\r\n"), toldOf(parts))], [parts, parts]);
-  row("a bundle of which no lines are told", partsOf(bundle), { source: bundle, deck: "", script: "" });
+  row("a bundle of which no lines are told", partsOf(bundle), parts);
   const { shown, ...opened } = openedOf(parts, false);
   row("a bundle", opened, { source, deck, breaks: kept.breaks, bars: kept.bars, lesson: kept.lesson, done, left: kept.left });
   row("a bundle: what is shown", shown.join(" "), kept.shown);
