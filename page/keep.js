@@ -114,7 +114,9 @@ export class Keep {
 
   // A bundle that was saved or shared; the reason why it is not opened.
   async openBundle(bundle) {
-    const opened = openedOf(await this.app.store.cut(bundle), false);
+    const { store } = this.app;
+    store.drop();
+    const opened = openedOf(await store.cut(bundle), false);
     const reason = tooLarge(opened.source);
     if (!reason) await this.put(this.lessons.find(({ name }) => name === opened.lesson) || null, opened);
     return reason;

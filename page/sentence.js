@@ -128,7 +128,7 @@ export function toldOf(/** @type {Shown} */ { answer, before, view, listing }) {
   if (refusal) return { last, did: `Refused: ${refusal}${help}.`, next, isFault: true };
   const rows = printed(before, view);
   const conflict = view.conflict ? `Conflict: ${view.conflict.text}. ` : "";
-  if (state.halted) return { last, did: conflict + haltedAt(state, was) + rows, next: "Back goes back." };
+  if (state.halted) return { last, did: conflict + haltedAt(state, was) + rows, next: "Back takes the HLT back." };
   const begin = listing.breakCells.includes(state.location) ? `Breakpoint at ${at}. ` : "";
   return { last, did: conflict + begin + wayOf(before, was, state, last, rows), next };
 }
