@@ -161,6 +161,10 @@ def chosen_meanwhile(page, native, count):
     page.leave()
     page.idle()
     count.same("chosen: during a run", [page.value("text"), page.text("total"), page.log()], [FIRST.split("%SCRIPT")[0], "0", []])
+    page.put("text", ENDLESS)
+    page.one("run").click()
+    page.open_file(FIRST.encode())
+    count.same("chosen: a file during a run", (page.value("text"), page.replies()), (FIRST.split("%SCRIPT")[0], native.bundle(FIRST)))
 
 
 def edit_undone(page, native, count):
