@@ -119,7 +119,7 @@ def each_found(page, native, count):
     page.put("text", "LDI1 3\n HLT\n END 0\n")
     count.row("found: an operation at the first column, misspelt", "LDI1 is read as a label: perhaps LD1 behind a blank is meant" in page.text("wrong-text"), page.text("wrong-text"))
     page.put("text", " LDA 5,\n LDX 7(1:3 a remark\n HLT\n END 0\n")
-    count.same("found: the letter before what is missing is marked", [mark.text for mark in page.all(".fault-text")], [",", "3"])
+    count.same("found: the letter before what is missing is marked", page.script("return [...document.querySelectorAll('.fault-text')].map((mark) => mark.textContent)"), [",", "3"])
     warnings = {" NOP\n NOP\n END 0\n": "Line 2: there is no HLT", " HLT\n END 0\n INCA 1\n": "Line 3: this stands behind END and is not read"}
     for text, said in warnings.items():
         page.put("text", text)
