@@ -10,7 +10,8 @@ export function showFound(/** @type {Found[]} */ found, listing) {
   const labelled = new Set(found.filter(({ code }) => code === "operation-as-label").map(({ line }) => line));
   const all = found.map(({ severity, code, text, remedy, ...each }) => {
     const isFault = severity === "error";
-    return { ...each, isFault, text: isFault ? `${code} ${text}` : text, remedy: labelled.has(each.line) ? "" : remedy };
+    const told = isFault ? `${code} ${text}` : text;
+    return { ...each, isFault, text: told, remedy: labelled.has(each.line) ? "" : remedy };
   });
   listing.setFound(all);
   const rows = all.map(({ line, isFault, text, remedy }, at) => {
