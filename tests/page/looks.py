@@ -185,7 +185,7 @@ def pictures(open_page, count):
                 for width, height in SIZES:
                     page.size(width, height)
                     page.tab("program")
-                    page.script("scrollTo(0, 0); return new Promise((done) => requestAnimationFrame(() => requestAnimationFrame(done)))")
+                    page.script("return new Promise((done) => requestAnimationFrame(() => requestAnimationFrame(done)))")
                     page.shot(OUT / f"{name}-{width}-{shade}.png")
                 page.size(*SIZES[0])
             ink, ground = page.script("const s = getComputedStyle(document.documentElement); return [s.color, s.backgroundColor]")
