@@ -5,11 +5,13 @@ import { CHARACTERS } from "./operations.js";
 
 const NO_CHARACTER = 404; // the number of K4
 
-// Gives the faults.
-export function showFound(found, listing) {
-  const all = found.map((/** @type {Found} */ each) => {
-    const isFault = each.severity === "error";
-    return { ...each, isFault, text: isFault ? `${each.code} ${each.text}` : each.text };
+// Gives the faults. The warning that a label is an operation is remedy enough for its line.
+export function showFound(/** @type {Found[]} */ found, listing) {
+  const labelled = new Set(found.filter(({ code }) => code === "operation-as-label").map(({ line }) => line));
+  const all = found.map(({ severity, code, text, remedy, ...each }) => {
+    const isFault = severity === "error";
+    const told = isFault ? `${code} ${text}` : text;
+    return { ...each, isFault, text: told, remedy: labelled.has(each.line) ? "" : remedy };
   });
   listing.setFound(all);
   const rows = all.map(({ line, isFault, text, remedy }, at) => {
@@ -22,7 +24,7 @@ export function showFound(found, listing) {
 }
 
 // Of a source all that is said of the first line with a fault.
-export function toldRefusal(refusal, [first, ...more], texts, listing) {
+export function toldRefusal(refusal, /** @type {any[]} */ [first, ...more], texts, listing) {
   put($("deck-fault"), "");
   if (!refusal) return "";
   const { id, format, variables: { text, line, reason = format } } = refusal;

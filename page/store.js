@@ -32,7 +32,7 @@ export class Store extends EventTarget {
 
   // Calls `work` whenever something is new:
   // - "texts": others; with what was found in them, the refusal or the program, and the first view
-  // - "program": it is accepted; "forget": another program was opened; "bundle": a text that may be one
+  // - "program": it is accepted; "forget": another one was opened; "bundle": a text that may be one
   // - "view": a moment is seen, with the answer that led to it and the view before
   // - "tell": something; "busy", "slow": whether it is; "failed": what went wrong
   on(what, work) { this.addEventListener(what, (/** @type {any} */ { detail }) => work(...detail)); }

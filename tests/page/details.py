@@ -1,4 +1,4 @@
-"""What is small, and was once wrong: the order of the tab key, what a search finds, buttons side by side, room for the source, what the help names."""
+"""What is small, and was once wrong: the order of the tab key, what a search finds, buttons."""
 from selenium.webdriver.common.keys import Keys
 
 ORDER = """const parts = ['source', 'given-part', 'picture', 'output', 'notes', 'registers', 'memory', 'talk', 'units', 'symbols'].map((id) => document.getElementById(id)).filter((e) => e.offsetHeight > 0);

@@ -163,7 +163,7 @@ MOST_BYTES = 250_000  # of docs/page.png
 
 
 def made(page, count):
-    """A lesson at one of its steps, one that prints, a sort, and a faulty source, one after the other."""
+    """A lesson at one of its steps, one that prints, a sort, and a faulty source."""
     for name, lesson, buttons in (("first", 0, ["step"] * 3), ("primes", 4, ["run"])):
         page.lesson(lesson)
         for button in buttons:
@@ -176,7 +176,7 @@ def made(page, count):
 
 
 def pictures(open_page, count):
-    """The pictures, to be looked at, in three windows, light and dark, and as printed. `tests/page/picture` makes docs/page.png of one."""
+    """The pictures, to be looked at, in three windows, light and dark, and as printed."""
     OUT.mkdir(exist_ok=True)
     for dark in (False, True):
         with open_page(width=1280, height=800, dark=dark) as page:
@@ -185,7 +185,7 @@ def pictures(open_page, count):
                 for width, height in SIZES:
                     page.size(width, height)
                     page.tab("program")
-                    page.script("scrollTo(0, 0); return new Promise((done) => requestAnimationFrame(() => requestAnimationFrame(done)))")
+                    page.script("return new Promise((done) => requestAnimationFrame(() => requestAnimationFrame(done)))")
                     page.shot(OUT / f"{name}-{width}-{shade}.png")
                 page.size(*SIZES[0])
             ink, ground = page.script("const s = getComputedStyle(document.documentElement); return [s.color, s.backgroundColor]")

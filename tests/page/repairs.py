@@ -263,6 +263,8 @@ def refused_text(page, native, count):
     for text, cause in causes.items():
         page.put("text", text)
         count.same(f"refused: {text.splitlines()[0]}: its cause is told once", page.told().lower().count(cause.lower()), 1)
+    page.put("text", "ENT1 10\n END 0\n")
+    count.row("refused: an operation as a label has no other remedy", "perhaps" not in page.told(), page.told())
     page.put("text", " J1P LOP\n HLT\n END 0\n")
     wrong = page.script("return [...document.querySelectorAll('#symbol-rows .wrong')].map((row) => [row.firstChild.textContent, row.lastChild.textContent])")
     count.same("refused: an undefined symbol, in the list of symbols", wrong, [["LOP", "not defined"]])

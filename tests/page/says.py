@@ -113,6 +113,9 @@ def each_found(page, native, count):
             count.same(f"found: {name}: at the pointer", page.one("listing").get_attribute("title"), "; ".join(texts))
         more = len(bad) - 1
         count.same(f"found: {name}: how many more", page.told().partition(" more fault")[0][-1:], str(more) if more > 0 else page.told()[-1:])
+    page.put("text", FOUND["many"])
+    colours = page.script("return [2, 4].map((line) => getComputedStyle([...document.querySelectorAll('.wrong .line')].find((row) => row.firstChild.textContent == line)).color)")
+    count.same("found: a fault is red also beside a warning", colours[0], colours[1])
     for written, meant in NEAR.items():
         page.put("text", f" {written} 1\n HLT\n END 0\n")
         count.row(f"found: {written}", f"no such operation: {written}; perhaps {meant} is meant" in page.text("wrong-text"), page.text("wrong-text"))
