@@ -139,7 +139,6 @@ def actions(first, last, text):
 
 
 every = dict(operations())
-row("the operations of MIX", len(every), 141)
 items = server.at("textDocument/completion", uri, {"line": 1, "character": 6})
 row("what completes OP", sorted(one["label"] for one in items), sorted([*every, "EQU", "ORIG", "CON", "ALF", "END"]))
 row("C, F and time", [one["label"] for one in items if not one["detail"].endswith(every.get(one["label"], ""))], [])

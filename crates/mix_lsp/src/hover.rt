@@ -141,9 +141,7 @@ fn word_said(alloc: Global, word: Word) -> Result<String, Memory>
 fn definition_in<'m>(mentions: &'m [Mention], name: &Name) -> Option<&'m Mention>
     ensures { option_map (λ m. m.now) result ≡ definition_in mentions.now name.now }
 {
-    mentions
-        .iter()
-        .find(|mention| defines_name(name, mention))
+    mentions.iter().find(|mention| defines_name(name, mention))
 }
 
 fn defines_name(name: &Name, mention: &Mention) -> bool
