@@ -127,9 +127,12 @@ class Client {
     this.tell("textDocument/didClose", { textDocument: { uri: document.uri.toString() } });
   }
 
+  of(method, document, more) {
+    return this.ask(`textDocument/${method}`, { textDocument: { uri: document.uri.toString() }, ...more });
+  }
+
   at(method, document, where, more) {
-    const params = { textDocument: { uri: document.uri.toString() }, position: place(where), ...more };
-    return this.ask(`textDocument/${method}`, params);
+    return this.of(method, document, { position: place(where), ...more });
   }
 
   // What the server can do is offered.
@@ -155,8 +158,28 @@ class Client {
     });
     offer("documentSymbolProvider", "registerDocumentSymbolProvider", {
       provideDocumentSymbols: async (document) => {
-        const list = await this.ask("textDocument/documentSymbol", { textDocument: { uri: document.uri.toString() } });
+        const list = await this.of("documentSymbol", document);
         return list.map((one) => new vscode.SymbolInformation(one.name, one.kind - 1, "", location(one.location)));
+      },
+    });
+    offer("hoverProvider", "registerHoverProvider", {
+      provideHover: async (document, at) => {
+        const found = await this.at("hover", document, at);
+        return found && new vscode.Hover(new vscode.MarkdownString().appendText(found.contents.value));
+      },
+    });
+    offer("completionProvider", "registerCompletionItemProvider", {
+      provideCompletionItems: async (document, at) =>
+        (await this.at("completion", document, at)).map((one) => Object.assign(new vscode.CompletionItem(one.label, one.kind - 1), { detail: one.detail })),
+    });
+    offer("foldingRangeProvider", "registerFoldingRangeProvider", {
+      provideFoldingRanges: async (document) =>
+        (await this.of("foldingRange", document)).map((one) => new vscode.FoldingRange(one.startLine, one.endLine, vscode.FoldingRangeKind.Comment)),
+    });
+    offer("codeActionProvider", "registerCodeActionsProvider", {
+      provideCodeActions: async (document, chosen) => {
+        const list = await this.of("codeAction", document, { range: range(chosen), context: { diagnostics: [] } });
+        return list.map((one) => Object.assign(new vscode.CodeAction(one.title, vscode.CodeActionKind.QuickFix), { edit: workspaceEdit(one.edit) }));
       },
     });
   }

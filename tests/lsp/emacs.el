@@ -64,6 +64,10 @@
   (row "all that mentions X" (starts (ask :textDocument/references :context '(:includeDeclaration t))) '((0 11) (2 0)))
   (eglot-rename "TOTAL")
   (row "a new name" (buffer-string) "START LDA  TOTAL\n     ADD Y\nTOTAL    CON  5\n     END  START\n")
+  (goto-char (+ (point-min) 6))
+  (row "a hover" (plist-get (plist-get (ask :textDocument/hover) :contents) :value) "LDA: rA becomes V (C = 8, F = 5, 2u)")
+  (goto-char (+ (point-min) 11))
+  (row "what completes ADDRESS" (mapcar (lambda (one) (plist-get one :label)) (ask :textDocument/completion)) '("START" "TOTAL"))
   (set-buffer-modified-p nil)
   (eglot-shutdown (eglot-current-server)))
 

@@ -101,6 +101,67 @@ row("the bytes of a name", server.at("textDocument/prepareRename", uri, {"line":
 row("where a name is written and read", [one["kind"] for one in server.at("textDocument/documentHighlight", uri, {"line": 0, "character": 0})], [3, 2, 2])
 symbols = server.ask("textDocument/documentSymbol", {"textDocument": {"uri": uri}})
 row("the names that it defines", [one["name"] for one in symbols], ["X", "2H", "2H", "Y"])
+
+
+def operations():
+    """The name of each operation, and how what is said of it ends: its C, its F and its time, by docs/operations.tsv."""
+    with open(os.path.join(os.path.dirname(os.path.abspath(__file__)), "../../docs/operations.tsv"), encoding="utf-8") as file:
+        for name, code, field, time in [line.split("\t")[:4] for line in file][1:]:
+            time = time.replace("1+2F", str(1 + 2 * int(field)))
+            for offset, letter in enumerate("A123456X" if "r" in name else "r"):
+                yield name.replace("r", letter), f"(C = {int(code) + offset}, F = {field}, {time}u)"
+
+
+def labels(line, character):
+    return [one["label"] for one in server.at("textDocument/completion", uri, {"line": line, "character": character})]
+
+
+def said(line, character):
+    found = server.at("textDocument/hover", uri, {"line": line, "character": character})
+    return found and found["contents"]["value"]
+
+
+def mended(text, found):
+    """A text after the only edit of an action."""
+    (edit,) = found["edit"]["changes"][uri]
+    start, end = (byte_at(text, edit["range"][side]) for side in ("start", "end"))
+    return text[:start] + edit["newText"] + text[end:]
+
+
+def byte_at(text, place):
+    return sum(len(line) for line in text.splitlines(True)[:place["line"]]) + place["character"]
+
+
+def actions(first, last, text):
+    server.change(uri, 9, [{"text": text}])
+    return server.ask("textDocument/codeAction", {"textDocument": {"uri": uri}, "context": {"diagnostics": []}, "range": {
+        "start": {"line": first, "character": 0}, "end": {"line": last, "character": 0}}})
+
+
+every = dict(operations())
+items = server.at("textDocument/completion", uri, {"line": 1, "character": 6})
+row("what completes OP", sorted(one["label"] for one in items), sorted([*every, "EQU", "ORIG", "CON", "ALF", "END"]))
+row("C, F and time", [one["label"] for one in items if not one["detail"].endswith(every.get(one["label"], ""))], [])
+row("what completes LOC", labels(1, 1), [])
+row("what completes ADDRESS", labels(1, 10), ["X", "Y"])
+row("a hover over OP", said(1, 5), "LDA: rA becomes V (C = 8, F = 5, 2u)")
+row("a hover over a pseudo-operation", said(0, 6), "EQU: the symbol in LOC gets the value of ADDRESS")
+row("a hover over a symbol", said(1, 10), "+ 00 00 00 00 05 = 5\nline 1: X    EQU  5")
+row("a hover over 2B", said(4, 11), "line 4: 2H   STA  Y")
+row("a hover over nothing", said(0, 10), None)
+text = "X    EQU  1\nADD  Y\n     ALF     HELLO\n     ALF     HELLO WORLD\n     END\n"
+row("what mends other lines", actions(0, 0, text), [])
+(blank,) = actions(1, 1, text)
+row("a blank before an operation", mended(text, blank), text.replace("ADD", " ADD"))
+(quoted,) = actions(2, 2, text)
+row("quotation marks", mended(text, quoted), text.replace("    HELLO\n", ' "HELLO"\n'))
+row("two words", actions(3, 3, text), [])
+row("what mends all", [one["title"] for one in actions(0, 4, text)], [blank["title"], quoted["title"]])
+server.change(uri, 10, [{"text": "X    EQU  1 one\n     ALF  HE\n* LDA\n"}])
+row("what completes a remark", labels(0, 15) + labels(1, 12) + labels(2, 5), [])
+server.change(uri, 11, [{"text": "* a\n* b\n     NOP\n* c\n     NOP\n* d\n*\n* e"}])
+row("folds", [(one["startLine"], one["endLine"], one["kind"]) for one in server.ask("textDocument/foldingRange", {"textDocument": {"uri": uri}})],
+    [(0, 1, "comment"), (5, 7, "comment")])
 row("closed", server.tell("textDocument/didClose", {"textDocument": {"uri": uri}}) or server.hear()["params"], {"uri": uri, "diagnostics": []})
 row("a text that is not open", server.at("textDocument/definition", uri, {"line": 0, "character": 0})["code"], -32602)
 row("its end", server.end(), 0)

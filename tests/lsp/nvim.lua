@@ -69,5 +69,24 @@ row("a new name", await(function()
   return vim.api.nvim_buf_get_lines(0, 3, 4, false)[1] == "TOTAL    CON  5"
 end) and vim.api.nvim_buf_get_lines(0, 0, 1, false), { "START LDA  TOTAL" })
 
+vim.api.nvim_win_set_cursor(0, { 1, 6 })
+row("a hover", ask("textDocument/hover").contents.value, "LDA: rA becomes V (C = 8, F = 5, 2u)")
+vim.api.nvim_win_set_cursor(0, { 1, 11 })
+row("what completes ADDRESS", vim.tbl_map(function(one)
+  return one.label
+end, ask("textDocument/completion")), { "START", "TOTAL" })
+vim.api.nvim_buf_set_lines(0, 2, 3, false, { "JMP  2B" })
+row("a warning that can be mended", await(function()
+  for _, one in ipairs(diagnostics()) do
+    if one[4] == "operation-as-label" then
+      return true
+    end
+  end
+end), true)
+vim.api.nvim_win_set_cursor(0, { 3, 0 })
+local actions = ask("textDocument/codeAction", vim.tbl_extend("force", vim.lsp.util.make_range_params(), { context = { diagnostics = {} } }))
+vim.lsp.util.apply_workspace_edit(actions[1].edit, "utf-16")
+row("a line that is mended", vim.api.nvim_buf_get_lines(0, 2, 3, false), { " JMP  2B" })
+
 io.stdout:write(("%d passed, %d failed\n"):format(passed, failed))
 vim.cmd(failed == 0 and "qall!" or "cquit!")

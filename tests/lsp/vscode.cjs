@@ -68,6 +68,17 @@ const vscode = {
   TextEdit: class extends Kept {},
   DocumentHighlight: class extends Kept {},
   SymbolInformation: class extends Kept {},
+  Hover: class extends Kept {},
+  MarkdownString: class {
+    appendText(text) {
+      return text;
+    }
+  },
+  CompletionItem: class extends Kept {},
+  FoldingRange: class extends Kept {},
+  FoldingRangeKind: { Comment: 1 },
+  CodeAction: class extends Kept {},
+  CodeActionKind: { QuickFix: "quickfix" },
   WorkspaceEdit: class {
     constructor() {
       this.texts = [];
@@ -122,6 +133,17 @@ const document = { languageId: "mixal", version: 1, uri: { toString: () => "file
   const edits = await renaming.provideRenameEdits(document, at(2, 0), "TOTAL");
   row("a new name", edits.texts[0][1].map((one) => one.parts[1]), ["TOTAL", "TOTAL"]);
   row("no name", await renaming.prepareRename(document, at(1, 6)).catch((error) => error.message), "no name stands here");
+  const hover = await providers.registerHoverProvider.provideHover(document, at(0, 7));
+  row("a hover", hover.parts, ["LDA: rA becomes V (C = 8, F = 5, 2u)"]);
+  const items = await providers.registerCompletionItemProvider.provideCompletionItems(document, at(0, 11));
+  row("what completes ADDRESS", items.map((one) => one.parts[0]), ["START", "X"]);
+  const other = news();
+  heard.change({ document: { ...document, version: 3 }, contentChanges: [{ range: new Range(at(1, 0), at(1, 9)), text: "* one\n* two\nADD  Y" }] });
+  await other;
+  const folds = await providers.registerFoldingRangeProvider.provideFoldingRanges(document);
+  row("remarks", folds.map((one) => one.parts), [[1, 2, 1]]);
+  const actions = await providers.registerCodeActionsProvider.provideCodeActions(document, new Range(at(3, 0), at(3, 1)));
+  row("what mends a line", actions.map((one) => one.edit.texts[0][1][0].parts[1]), [" "]);
   const third = news();
   heard.close(document);
   await third;

@@ -14,7 +14,7 @@ use Rattle.dap_stream.specs.Heard.{Hears}
 use Rattle.dap_stream.specs.Sent.{SendsAll, frames_of}
 use Rattle.dap_stream.specs.Serving.{Phase, going}
 use Rattle.dap_stream.specs.Talk.{Talks}
-use Rattle.dap_stream.proofs.SendLemmas.{frames-append, texts-append}
+use Rattle.dap_stream.proofs.SendLemmas.{frames-append, sends-one, texts-append}
 use Rattle.dap_stream.proofs.Talking.{talks-none, talks-then}
 use Rattle.mix_stream.specs.Stream.{AppendsFront}
 
@@ -66,7 +66,7 @@ front-step f values i value told mid now below is first one =
     let there = subst (λ ms. SendsFront ms told now) (sym next) front in
     subst (λ ms. SendsFront ms told now) (sym split) (front-more (map f (take (i + 1) values)) (map f (drop (i + 1) values)) told now there)
 
-pub ruleset fronts = (front-none, front-one)
+pub ruleset fronts = (front-none, front-one, sends-one)
 
 -- ---- one exchange
 

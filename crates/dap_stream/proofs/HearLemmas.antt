@@ -1,75 +1,38 @@
 -- What is heard of the bytes that were read is heard of all bytes.
-use Rattle.std.proofs.Common.{◌≡◌, ℕ, Bool, true, false, cond, Option, None, Some, Result, Ok, Err, List, [], ◌∷◌, ◌++◌, refl, sym, ap, subst, ◌∙◌, append_assoc, append-nil}
-use Rattle.std.specs.Prelude.{is_some, IsUtf8}
-use Rattle.std.specs.Str.{is_utf8}
+use Rattle.std.proofs.Common.{◌≡◌, ℕ, Option, None, Some, Result, Ok, Err, List, [], ◌∷◌, ◌++◌, refl, sym, ap, subst, ◌∙◌, append_assoc, append-nil}
 use Rattle.std.specs.Io.KnownBytes.{Consumes, IsAtEnd, Keeps, prepend_known}
 use Rattle.std.proofs.KnownBytes.{Keeps-refl, Keeps-trans}
-use Rattle.std.proofs.lemmas.Str.{IsUtf8-from_is_utf8, is_utf8-from_IsUtf8}
-use Rattle.serde_json.specs.Data.{Data}
-use Rattle.serde_json.specs.Read.{read}
-use Rattle.serde_json.specs.View.{view}
-use Rattle.mix_refused.specs.declared.refused.Refused.TheVariants as refused
 use Rattle.dap_frame.specs.Frame.{First, whole, without_length, partial, too_long, first_frame}
 use Rattle.dap_frame.specs.Longer.{Longer}
 use Rattle.dap_frame.proofs.Growing.{longer}
-use Rattle.dap_message.specs.Members.{request_seq}
-use Rattle.dap_message.specs.Reads.{ReadsAs, Says}
-use Rattle.dap_message.specs.declared.request.MessageFault.{MessageFault}
-use Rattle.dap_message.specs.declared.request.MessageFault.TheVariants.{NotJson, NotRequest}
-use Rattle.dap_message.specs.declared.request.Request.{Request}
-use Rattle.dap_stream.specs.Asked.{Frame, IsRequest, frame_in, frame_with, message_in}
-use Rattle.dap_stream.specs.Heard.{BeginsWith, Hears}
-use Rattle.dap_stream.specs.Hearing.{HearsAs, IsOver, IsNotOver, OnlyBegins}
 use Rattle.dap_stream.specs.declared.broken.Broken.{Broken}
 use Rattle.dap_stream.specs.declared.broken.Broken.TheVariants as broken
+use Rattle.dap_stream.specs.Asked.{Body}
+use Rattle.dap_stream.specs.Heard.{BeginsWith, HearsBodies}
+use Rattle.dap_stream.specs.Hearing.{HearsAs, IsOver, IsNotOver, OnlyBegins}
 use Rattle.dap_stream.specs.declared.hear.Heard.{Heard}
 use Rattle.dap_stream.specs.declared.hear.Heard.TheVariants as heard
 
--- ---- a body
-
-says : (body : List ℕ) (message : Data) → Says body message → message_in body ≡ Some message
-says body message is = rw (is_utf8-from_IsUtf8 body is.0) is.1
-
--- what is read as a request is the request that the body is
-pub body-request : (body : List ℕ) (request : Request) → Says body (view request.message) × (request_seq (view request.message) ≡ Some request.seq)
-    → (message : Data) × IsRequest request message × (Ok message ≡ frame_in body)
-body-request body request is =
-    let message = view request.message in
-    let there : frame_with (Some message) ≡ Ok message = ap (λ (s : Option ℕ). cond (is_some s) (Ok message) (Err (Some NotRequest))) is.1 in
-    (message, (refl, is.1), sym (ap frame_with (says body message is.0) ∙ there))
-
-not-json : (body : List ℕ) (b : Bool) → is_utf8 body ≡ b → (IsUtf8 body → read body ≡ None) → cond b (read body) None ≡ None
-not-json body true is none = none (IsUtf8-from_is_utf8 body is)
-not-json body false is none = refl
-
-pub body-fault : (body : List ℕ) (fault : MessageFault) → ReadsAs body (Err (refused.Fault fault)) → Err (Some fault) ≡ frame_in body
-body-fault body NotJson is = sym (ap frame_with (not-json body (is_utf8 body) refl is))
-body-fault body NotRequest is =
-    let there : frame_with (Some is.0) ≡ Err (Some NotRequest) = ap (λ (s : Option ℕ). cond (is_some s) (Ok is.0) (Err (Some NotRequest))) is.2 in
-    sym (ap frame_with (says body is.0 is.1) ∙ there)
-
-pub ruleset bodies = (body-request, body-fault)
-
 -- ---- the bytes that were read, and those that follow
 
-known-first : (text rest more : List ℕ) (frame : Frame) (next : First) → next ≡ first_frame (text ++ more) → BeginsWith next frame (rest ++ more)
-    → Hears (Some (text ++ more)) (frame ∷ []) (Some (rest ++ more))
-known-first text rest more frame next e is = (rest ++ more, subst (λ n. BeginsWith n frame (rest ++ more)) e is, refl)
+known-first : (text rest more : List ℕ) (frame : Body) (next : First) → next ≡ first_frame (text ++ more) → BeginsWith (λ b. b) next frame (rest ++ more)
+    → HearsBodies (Some (text ++ more)) (frame ∷ []) (Some (rest ++ more))
+known-first text rest more frame next e is = (rest ++ more, subst (λ n. BeginsWith (λ b. b) n frame (rest ++ more)) e is, refl)
 
 -- a whole frame is heard
-pub hears-body : (text body rest : List ℕ) (frame : Frame) → first_frame text ≡ whole body rest → frame ≡ frame_in body
-    → (more : Option (List ℕ)) → Hears (prepend_known text more) (frame ∷ []) (prepend_known rest more)
+pub hears-body : (text body rest : List ℕ) (frame : Body) → first_frame text ≡ whole body rest → frame ≡ Some body
+    → (more : Option (List ℕ)) → HearsBodies (prepend_known text more) (frame ∷ []) (prepend_known rest more)
 hears-body text body rest frame is same None = tt
 hears-body text body rest frame is same (Some more) =
     let next = subst (λ f. Longer f more (first_frame (text ++ more))) is (longer text more) in
     known-first text rest more frame (whole body (rest ++ more)) (sym next) (same, refl)
 
 pub hears-no_length : (text rest : List ℕ) → first_frame text ≡ without_length rest
-    → (more : Option (List ℕ)) → Hears (prepend_known text more) (Err None ∷ []) (prepend_known rest more)
+    → (more : Option (List ℕ)) → HearsBodies (prepend_known text more) (None ∷ []) (prepend_known rest more)
 hears-no_length text rest is None = tt
 hears-no_length text rest is (Some more) =
     let next = subst (λ f. Longer f more (first_frame (text ++ more))) is (longer text more) in
-    known-first text rest more (Err None) (without_length (rest ++ more)) (sym next) (refl, refl)
+    known-first text rest more None (without_length (rest ++ more)) (sym next) (refl, refl)
 
 pub hears-too_long : (text : List ℕ) → first_frame text ≡ too_long → (more : Option (List ℕ)) → OnlyBegins too_long (prepend_known text more)
 hears-too_long text is None = tt
@@ -83,11 +46,11 @@ read-keeps bytes part None new is = tt
 read-keeps bytes part (Some all) None is = absurd is
 read-keeps bytes part (Some all) (Some left) is = append_assoc bytes part left ∙ ap (λ l. bytes ++ l) (sym is)
 
-hears-kept : (a b c : Option (List ℕ)) (frames : List Frame) → Keeps a b → Hears b frames c → Hears a frames c
+hears-kept : (a b c : Option (List ℕ)) (frames : List Body) → Keeps a b → HearsBodies b frames c → HearsBodies a frames c
 hears-kept None b c frames same is = tt
 hears-kept (Some text) None c frames same is = absurd same
 hears-kept (Some text) (Some same_text) None frames same is = is
-hears-kept (Some text) (Some same_text) (Some left) frames same is = subst (λ t. Hears (Some t) frames (Some left)) same is
+hears-kept (Some text) (Some same_text) (Some left) frames same is = subst (λ t. HearsBodies (Some t) frames (Some left)) same is
 
 only-kept : (first : First) (a b : Option (List ℕ)) → Keeps a b → OnlyBegins first b → OnlyBegins first a
 only-kept first None b same is = tt
@@ -106,8 +69,7 @@ not_over-kept (Some text) (Some same_text) same is = λ e. is (same ∙ e)
 
 -- what is heard after a read is heard before it
 pub heard-kept : (result : Result Heard Broken) (a b c : Option (List ℕ)) → Keeps a b → HearsAs result b c → HearsAs result a c
-heard-kept (Ok (heard.Request request)) a b c same is = (is.0, is.1, hears-kept a b c _ same is.2)
-heard-kept (Ok (heard.Unclear fault)) a b c same is = hears-kept a b c _ same is
+heard-kept (Ok (heard.Frame body)) a b c same is = hears-kept a b c _ same is
 heard-kept (Ok heard.End) a b c same is = (over-kept a b same is.0, hears-kept a b c _ same is.1)
 heard-kept (Err broken.Cut) a b c same is = (only-kept partial a b same is.0, not_over-kept a b same is.1)
 heard-kept (Err broken.TooLong) a b c same is = only-kept too_long a b same is

@@ -1,5 +1,6 @@
+mod BodyLemmas
 pub mod BrokenLemmas
 mod HearLemmas
-mod SendLemmas
+pub mod SendLemmas
 mod ServingLemmas
 pub mod Talking

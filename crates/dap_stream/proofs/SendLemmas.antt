@@ -6,7 +6,8 @@ use Rattle.std.proofs.lemmas.List.{map-append, take_more}
 use Rattle.std.proofs.KnownBytes.{Appends-nil, Appends-trans}
 use Rattle.serde_json.specs.Data.{Data}
 use Rattle.dap_frame.specs.Frame.{frame_of}
-use Rattle.dap_stream.specs.Sent.{AreTextsOf, Sends, SendsAll, frames_of}
+use Rattle.dap_message.specs.Message.{IsTextOf}
+use Rattle.dap_stream.specs.Sent.{AreTextsOf, SendsAll, frames_of}
 
 pub sends-none : (told : Option (List ℕ)) → SendsAll [] told told
 sends-none told = ([], tt, Appends-nil told)
@@ -26,18 +27,18 @@ pub sends-then : (ms ns : List Data) (old mid new : Option (List ℕ)) → Sends
 sends-then ms ns old mid new p q =
     (p.0 ++ q.0, texts-append p.0 q.0 ms ns p.1 q.1, subst (Appends old new) (sym (frames-append p.0 q.0)) (Appends-trans old mid new _ _ p.2 q.2))
 
--- messages, and then one more
-pub sends-next : (ms : List Data) (message : Data) (old mid new : Option (List ℕ)) → SendsAll ms old mid → Sends message mid new
-    → SendsAll (ms ++ message ∷ []) old new
-sends-next ms message old mid new p q =
-    sends-then ms (message ∷ []) old mid new p (q.0 ∷ [], (q.1, tt), subst (Appends mid new) (sym (append-nil (frame_of q.0))) q.2)
+-- a text of one
+pub sends-one : (message : Data) (text : List ℕ) (told now : Option (List ℕ)) → IsTextOf text message → Appends told now (frame_of text)
+    → SendsAll (message ∷ []) told now
+sends-one message text told now is sent = (text ∷ [], (is, tt), subst (Appends told now) (sym (append-nil (frame_of text))) sent)
 
+-- messages, and then one more
 pub sends-step : {V : Type 0} (f : V → Data) (values : List V) (i : ℕ) (value : V) (old mid new : Option (List ℕ)) → i < length values
-    → value ≡ get_or values i value → SendsAll (map f (take i values)) old mid → Sends (f value) mid new → SendsAll (map f (take (i + 1) values)) old new
+    → value ≡ get_or values i value → SendsAll (map f (take i values)) old mid → SendsAll (f value ∷ []) mid new → SendsAll (map f (take (i + 1) values)) old new
 sends-step f values i value old mid new below is p q =
     let one = take_more values i value below in
     let split : map f (take (i + 1) values) ≡ map f (take i values) ++ f value ∷ [] =
     ap (map f) one ∙ map-append f (take i values) (get_or values i value ∷ []) ∙ ap (λ v. map f (take i values) ++ f v ∷ []) (sym is) in
-    subst (λ ms. SendsAll ms old new) (sym split) (sends-next (map f (take i values)) (f value) old mid new p q)
+    subst (λ ms. SendsAll ms old new) (sym split) (sends-then (map f (take i values)) (f value ∷ []) old mid new p q)
 
 pub ruleset nothing = (sends-none)

@@ -2,27 +2,28 @@
 use Rattle.std.proofs.Common.{◌≡◌, ℕ, ◌+◌, Option, None, Some, List, [], ◌∷◌, ◌++◌, length, refl, sym, ap, subst, ◌∙◌, append_assoc, append-nil}
 use Rattle.std.proofs.lemmas.List.{length-append}
 use Rattle.serde_json.specs.Data.{Data}
-use Rattle.dap_stream.specs.Asked.{Frame}
-use Rattle.dap_stream.specs.Heard.{Hears, Holds}
+use Rattle.dap_stream.specs.Asked.{Body, Frame, asked_by}
+use Rattle.dap_stream.specs.Heard.{Hears, HearsOf, Holds}
 use Rattle.dap_stream.specs.Sent.{SendsAll}
 use Rattle.dap_stream.specs.Talk.{Exchange, Leads, Talks, Trades, frames, messages}
 use Rattle.dap_stream.proofs.SendLemmas.{sends-none, sends-then}
 
 -- ---- what was heard
 
-holds-then : (text mid left : List ℕ) (xs ys : List Frame) → Holds text xs mid → Holds mid ys left → Holds text (xs ++ ys) left
-holds-then text mid left [] ys p q = subst (λ t. Holds t ys left) p q
-holds-then text mid left (x ∷ xs) ys p q = (p.0, p.1, holds-then p.0 mid left xs ys p.2 q)
+module _ {F : Type 0} (of : Body → F) where
+  holds-then : (text mid left : List ℕ) (xs ys : List F) → Holds of text xs mid → Holds of mid ys left → Holds of text (xs ++ ys) left
+  holds-then text mid left [] ys p q = subst (λ t. Holds of t ys left) p q
+  holds-then text mid left (x ∷ xs) ys p q = (p.0, p.1, holds-then p.0 mid left xs ys p.2 q)
 
-hears-then : (a b c : Option (List ℕ)) (xs ys : List Frame) → Hears a xs b → Hears b ys c → Hears a (xs ++ ys) c
-hears-then None b c xs ys p q = tt
-hears-then (Some text) None c xs ys p q = absurd p
-hears-then (Some text) (Some mid) None xs ys p q = absurd q
-hears-then (Some text) (Some mid) (Some left) xs ys p q = holds-then text mid left xs ys p q
+  pub hears-then : (a b c : Option (List ℕ)) (xs ys : List F) → HearsOf of a xs b → HearsOf of b ys c → HearsOf of a (xs ++ ys) c
+  hears-then None b c xs ys p q = tt
+  hears-then (Some text) None c xs ys p q = absurd p
+  hears-then (Some text) (Some mid) None xs ys p q = absurd q
+  hears-then (Some text) (Some mid) (Some left) xs ys p q = holds-then text mid left xs ys p q
 
-hears-none : (a : Option (List ℕ)) → Hears a [] a
-hears-none None = tt
-hears-none (Some text) = refl
+  pub hears-none : (a : Option (List ℕ)) → HearsOf of a [] a
+  hears-none None = tt
+  hears-none (Some text) = refl
 
 -- ---- parts of a talk
 
@@ -44,7 +45,7 @@ pub talks-none : {S : Type 0} (step : S → Frame → List Data → S → Type 0
 talks-none step s old told = record {
   exchanges = [];
   counts = refl;
-  hears = hears-none old;
+  hears = hears-none asked_by old;
   sends = sends-none told;
   leads = refl;
 }
@@ -66,7 +67,7 @@ pub talks-then : {S : Type 0} (step : S → Frame → List Data → S → Type 0
 talks-then step s m t first then a b c told mid now p q = record {
   exchanges = p.exchanges ++ q.exchanges;
   counts = length-append p.exchanges q.exchanges ∙ ap (λ n. n + length q.exchanges) p.counts ∙ ap (λ n. first + n) q.counts;
-  hears = subst (λ fs. Hears a fs c) (sym (frames-append p.exchanges q.exchanges)) (hears-then a b c (frames p.exchanges) (frames q.exchanges) p.hears q.hears);
+  hears = subst (λ fs. Hears a fs c) (sym (frames-append p.exchanges q.exchanges)) (hears-then asked_by a b c (frames p.exchanges) (frames q.exchanges) p.hears q.hears);
   sends = subst (λ ms. SendsAll ms told now) (sym (messages-append p.exchanges q.exchanges))
       (sends-then (messages p.exchanges) (messages q.exchanges) told mid now p.sends q.sends);
   leads = leads-then step s m t p.exchanges q.exchanges p.leads q.leads;

@@ -25,6 +25,14 @@ frame_with (Some message) = if is_some (request_seq message) then Ok message els
 abbrev pub frame_in : List ℕ → Frame
 frame_in body = frame_with (message_in body)
 
+-- the body of a frame, or none where its header gives no length
+abbrev pub Body : Type 0
+Body = Option (List ℕ)
+
+abbrev pub asked_by : Body → Frame
+asked_by None = Err None
+asked_by (Some body) = frame_in body
+
 -- the request that a message is, as the program has it: with its number
 abbrev pub IsRequest : Request → Data → Type 0
 IsRequest request message = (view request.message ≡ message) × (request_seq message ≡ Some request.seq)

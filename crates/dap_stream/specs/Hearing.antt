@@ -1,10 +1,8 @@
 -- What is heard of bytes that are still to be heard.
-use Rattle.std.specs.Prelude.{◌≡◌, ◌≢◌, ℕ, List, [], ◌∷◌, Option, None, Some, Result, Ok, Err}
+use Rattle.std.specs.Prelude.{◌≡◌, ◌≢◌, ℕ, List, [], ◌∷◌, Option, None, Some, option_map, Result, Ok, Err}
 use Rattle.std.specs.Io.KnownBytes.{Keeps, prepend_known}
-use Rattle.serde_json.specs.Data.{Data}
 use Rattle.dap_frame.specs.Frame.{First, partial, too_long, first_frame}
-use Rattle.dap_stream.specs.Asked.{IsRequest, frame_in}
-use Rattle.dap_stream.specs.Heard.{Hears}
+use Rattle.dap_stream.specs.Heard.{HearsBodies}
 use Rattle.dap_stream.specs.declared.broken.Broken.{Broken}
 use Rattle.dap_stream.specs.declared.broken.Broken.TheVariants as broken
 use Rattle.dap_stream.specs.declared.hear.Ear.{Ear}
@@ -33,23 +31,16 @@ abbrev pub IsNotOver : Option (List ℕ) → Type 0
 IsNotOver None = Unit {0}
 IsNotOver (Some text) = text ≢ []
 
--- A frame is taken off the bytes, a request or none; or it is the end of them. What breaks it off is a frame that the end cuts, one that is too long, a
--- read that fails, or memory; after these two all bytes are still to be heard.
+-- A frame is taken off the bytes, or it is the end of them. What breaks it off is a frame that the end cuts, one that is too long, a read that fails, or
+-- memory; after these two all bytes are still to be heard.
 abbrev pub HearsAs : Result Heard Broken → Option (List ℕ) → Option (List ℕ) → Type 0
-HearsAs (Ok (heard.Request request)) old new = (message : Data) × IsRequest request message × Hears old (Ok message ∷ []) new
-HearsAs (Ok (heard.Unclear fault)) old new = Hears old (Err fault ∷ []) new
-HearsAs (Ok heard.End) old new = IsOver old × Hears old [] new
+HearsAs (Ok (heard.Frame body)) old new = HearsBodies old (option_map (λ b. b.items) body ∷ []) new
+HearsAs (Ok heard.End) old new = IsOver old × HearsBodies old [] new
 HearsAs (Err broken.Cut) old new = OnlyBegins partial old × IsNotOver old
 HearsAs (Err broken.TooLong) old new = OnlyBegins too_long old
 HearsAs (Err broken.Read) old new = Keeps old new
 HearsAs (Err broken.Memory) old new = Keeps old new
 HearsAs (Err broken.Write) old new = ⊥
-
--- what is heard of a body
-abbrev pub BodyAs : Heard → List ℕ → Type 0
-BodyAs (heard.Request request) body = (message : Data) × IsRequest request message × (Ok message ≡ frame_in body)
-BodyAs (heard.Unclear fault) body = Err fault ≡ frame_in body
-BodyAs heard.End body = ⊥
 
 -- what is heard of the bytes that were read, whatever follows them
 abbrev pub FirstAs : Result (Option Heard) Broken → List ℕ → List ℕ → Type 0

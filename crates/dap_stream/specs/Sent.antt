@@ -5,10 +5,6 @@ use Rattle.serde_json.specs.Data.{Data}
 use Rattle.dap_frame.specs.Frame.{frame_of}
 use Rattle.dap_message.specs.Message.{IsTextOf}
 
--- a text of the message, in its frame
-abbrev pub Sends : Data → Option (List ℕ) → Option (List ℕ) → Type 0
-Sends message old new = (text : List ℕ) × IsTextOf text message × Appends old new (frame_of text)
-
 -- texts of messages, one of each, in their order
 abbrev pub AreTextsOf : List (List ℕ) → List Data → Type 0
 AreTextsOf [] [] = Unit {0}

@@ -1,25 +1,21 @@
-//! Requests, heard one by one from what a client sends.
+//! Frames, heard one by one from what a client sends.
 
-ghost use Rattle.std.specs.Prelude.{◌≡◌, ◌≢◌, ◌<◌, ◌+◌, ◌-◌, ◌^◌, List, ℕ, Option, [], None, Some, Err, IfOk, length};
-ghost use Rattle.dap_frame.specs.Frame.{first_frame, max_body, max_header, partial};
-ghost use Rattle.dap_stream.specs.Hearing.{BodyAs, FirstAs, HearsAs, kept, unheard};
+ghost use Rattle.std.specs.Prelude.{◌≡◌, ◌≢◌, ◌<◌, ◌-◌, ◌^◌, [], Some, Err};
+ghost use Rattle.dap_frame.specs.Frame.{first_frame, partial};
+ghost use Rattle.dap_stream.specs.Hearing.{FirstAs, HearsAs, kept, unheard};
 ghost use Rattle.dap_stream.specs.declared.broken.Broken.TheVariants as broken;
 ghost use Rattle.mix_stream.specs.Stream.{CountsFailure};
 
 use crate::broken::Broken;
 use dap_frame::{MAX_BODY, MAX_HEADER, Next, next_frame};
-use dap_message::{MessageFault, Request};
-use mix_refused::{Memory, Refused};
 use mix_stream::{CHUNK, In};
 use std::alloc::Global;
 
 /// What was heard.
 #[derive(Drop)]
 pub enum Heard {
-    /// A request.
-    Request(Request),
-    /// A frame that is no request: why its body is none, or none where its header gives no length of a body.
-    Unclear(Option<MessageFault>),
+    /// The body of a frame, or none where its header gives no length.
+    Frame(Option<Vec<u8>>),
     /// The end, where a frame ends.
     End,
 }
@@ -95,26 +91,14 @@ impl Ear {
             Next::NoLength(rest) => {
                 let rest = Vec::from_slice(self.alloc, rest)?;
                 self.bytes = rest;
-                Ok(Some(Heard::Unclear(None)))
+                Ok(Some(Heard::Frame(None)))
             }
             Next::Body(body, rest) => {
-                let heard = request_of(self.alloc, body)?;
+                let body = Vec::from_slice(self.alloc, body)?;
                 let rest = Vec::from_slice(self.alloc, rest)?;
                 self.bytes = rest;
-                Ok(Some(heard))
+                Ok(Some(Heard::Frame(Some(body))))
             }
         }
-    }
-}
-
-// The request that a body is.
-#[tactic(auto, using(crate::proofs::HearLemmas::bodies))]
-fn request_of(alloc: Global, body: &[u8]) -> Result<Heard, Memory>
-    ensures { IfOk result (λ heard. BodyAs heard body.now) }
-{
-    match Request::read(alloc, body) {
-        Ok(request) => Ok(Heard::Request(request)),
-        Err(Refused::Fault(fault)) => Ok(Heard::Unclear(Some(fault))),
-        Err(Refused::Memory) => Err(Memory),
     }
 }

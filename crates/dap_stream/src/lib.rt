@@ -1,4 +1,4 @@
-//! A debug adapter over a stream: requests that are heard frame by frame, and messages that are sent, each in its frame.
+//! A client over a stream: frames that are heard one by one, requests that are answered, and messages that are sent, each in its frame.
 #![tactic(auto)]
 
 mod broken;
@@ -9,6 +9,6 @@ mod talk;
 
 pub use broken::Broken;
 pub use hear::{Ear, Heard};
-pub use sending::send;
+pub use sending::{send, send_one};
 pub use serves::{Serves, Turn};
 pub use talk::Talk;

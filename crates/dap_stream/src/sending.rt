@@ -6,7 +6,7 @@ ghost use Rattle.mix_stream.specs.Stream.{CountsFailure};
 ghost use Rattle.dap_message.specs.Message.{waits};
 ghost use Rattle.dap_stream.specs.Broken.{IsMemoryOrWrite};
 ghost use Rattle.dap_stream.specs.BrokenOff.{SendsFront};
-ghost use Rattle.dap_stream.specs.Sent.{Sends, SendsAll};
+ghost use Rattle.dap_stream.specs.Sent.{SendsAll};
 ghost use Rattle.dap_stream.specs.declared.broken.Broken.TheVariants as broken;
 
 use crate::broken::Broken;
@@ -45,11 +45,11 @@ fn send_all<W: Out>(alloc: Global, messages: &[Value], out: &mut W) -> Result<()
     Ok(())
 }
 
-// A message is sent as its text, in a frame.
+/// Sends a message: its text, in a frame. Where memory is refused or the write fails, a beginning of it may be sent.
 #[tactic(auto, using(crate::proofs::BrokenLemmas::fronts))]
-fn send_one<W: Out>(alloc: Global, message: &Value, out: &mut W) -> Result<(), Broken>
+pub fn send_one<W: Out>(alloc: Global, message: &Value, out: &mut W) -> Result<(), Broken>
     requires { W.failed out.old < 2 ^ 64 - 1 }
-    ensures sent { OnOk result (Sends (view message.now) (W.told out.old) (W.told out.new)) }
+    ensures sent { OnOk result (SendsAll (view message.now ∷ []) (W.told out.old) (W.told out.new)) }
     ensures begun { OnErr result (SendsFront (view message.now ∷ []) (W.told out.old) (W.told out.new)) }
     ensures failed { CountsFailure (result ≡ Err broken.Write) (W.failed out.old) (W.failed out.new) }
     ensures only { IfErr result IsMemoryOrWrite }

@@ -1,11 +1,12 @@
 //! A talk with a client: frame by frame it is heard, and what answers it is sent.
 
-ghost use Rattle.std.specs.Prelude.{◌≡◌, ◌<◌, ◌-◌, ◌^◌, [], Ok, Err, OnOk};
+ghost use Rattle.std.specs.Prelude.{◌≡◌, ◌<◌, ◌-◌, ◌^◌, [], Ok, Err, IfOk, OnOk, option_map};
 ghost use Rattle.mix_stream.specs.Stream.{CountsFailure};
 ghost use Rattle.dap_message.specs.Message.{next_seq, waits};
 ghost use Rattle.dap_frame.specs.Frame.{first_frame, partial};
+ghost use Rattle.dap_stream.specs.Asked.{asked_by, frame_in};
 ghost use Rattle.dap_stream.specs.Hearing.{kept, unheard};
-ghost use Rattle.dap_stream.specs.Serving.{unclear_text, unclear_told};
+ghost use Rattle.dap_stream.specs.Serving.{Takes, unclear_text, unclear_told};
 ghost use Rattle.dap_stream.specs.Talked.{TakenAs, TalkedAs, TurnAs};
 ghost use Rattle.dap_stream.specs.declared.broken.Broken.TheVariants as broken;
 ghost use Rattle.dap_stream.specs.declared.serves.Turn.TheVariants as turn;
@@ -14,8 +15,8 @@ use crate::broken::Broken;
 use crate::hear::{Ear, Heard};
 use crate::sending::send;
 use crate::serves::{Serves, Turn};
-use dap_message::{MessageFault, Outbox};
-use mix_refused::Memory;
+use dap_message::{MessageFault, Outbox, Request};
+use mix_refused::{Memory, Refused};
 use mix_stream::{In, Out};
 use std::alloc::Global;
 
@@ -112,25 +113,59 @@ impl Talk {
     {
         match self.ear.hear(input)? {
             Heard::End => Ok(None),
-            Heard::Unclear(fault) => {
-                tell_unclear(&mut self.outbox, fault)?;
-                Ok(Some(Turn::On))
-            }
-            Heard::Request(request) => {
-                let turn = served.serve(&request, &mut self.outbox)?;
+            Heard::Frame(body) => {
+                let turn = answer(self.alloc, served, &body, &mut self.outbox)?;
                 Ok(Some(turn))
             }
         }
     }
 }
 
-// A frame that is no request is told as that.
-fn tell_unclear(outbox: &mut Outbox, fault: Option<MessageFault>) -> Result<(), Memory>
+// What answers a frame waits to be sent.
+fn answer<S: Serves>(
+    alloc: Global,
+    served: &mut S,
+    body: &Option<Vec<u8>>,
+    outbox: &mut Outbox,
+) -> Result<Turn, Memory>
     requires { waits outbox.old ≡ [] }
+    ensures { IfOk result (λ turn. Takes S.serves (served.old, outbox.old.seq) (asked_by (option_map (λ b. b.items) body.now)) (waits outbox.new) turn (served.new, outbox.new.seq)) }
+{
+    match body {
+        Some(body) => answer_body(alloc, served, body.as_slice(), outbox),
+        None => unclear(outbox, None),
+    }
+}
+
+#[tactic(auto, using(crate::proofs::BodyLemmas::bodies))]
+fn answer_body<S: Serves>(
+    alloc: Global,
+    served: &mut S,
+    body: &[u8],
+    outbox: &mut Outbox,
+) -> Result<Turn, Memory>
+    requires { waits outbox.old ≡ [] }
+    ensures { IfOk result (λ turn. Takes S.serves (served.old, outbox.old.seq) (frame_in body.now) (waits outbox.new) turn (served.new, outbox.new.seq)) }
+{
+    match Request::read(alloc, body) {
+        Ok(request) => {
+            let turn = served.serve(&request, outbox)?;
+            Ok(turn)
+        }
+        Err(Refused::Fault(fault)) => unclear(outbox, Some(fault)),
+        Err(Refused::Memory) => Err(Memory),
+    }
+}
+
+// A frame that is no request is told as that.
+fn unclear(outbox: &mut Outbox, fault: Option<MessageFault>) -> Result<Turn, Memory>
+    requires { waits outbox.old ≡ [] }
+    ensures turn { IfOk result (λ next. next ≡ turn.On) }
     ensures told { OnOk result (waits outbox.new ≡ unclear_told outbox.old.seq fault) }
     ensures seq { OnOk result (outbox.new.seq ≡ next_seq outbox.old.seq) }
 {
-    outbox.output("important", unclear_text(fault))
+    outbox.output("important", unclear_text(fault))?;
+    Ok(Turn::On)
 }
 
 fn unclear_text(fault: Option<MessageFault>) -> &'static str

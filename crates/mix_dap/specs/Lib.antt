@@ -18,7 +18,6 @@ pub mod Disassembly
 pub mod Entries
 pub mod Events
 pub mod Fault
-pub mod Hover
 pub mod Kind
 pub mod Launch
 pub mod Launched

@@ -6,6 +6,7 @@ use Rattle.mix_word.specs.Text.{word_text, location_text}
 use Rattle.mix_word.specs.Instruction.{number_text}
 use Rattle.mix_word.specs.declared.operation.Operation.{Operation}
 use Rattle.mix_word.specs.declared.register.Reg.{Reg}
+use Rattle.mix_said.specs.Sentence.{sentence}
 use Rattle.mix_machine.specs.World.{WorldState, register_of, cell_of}
 use Rattle.mix_machine.specs.declared.part.Part.{Part}
 use Rattle.mix_machine.specs.declared.part.Part.TheVariants as part
@@ -17,7 +18,6 @@ use Rattle.mix_session.specs.Timeline.{world_of}
 use Rattle.dap_message.specs.Request.{text_of, number_of}
 use Rattle.dap_message.specs.declared.request.Request.{Request}
 use Rattle.mix_dap.specs.Deed.{hovered, worth_of}
-use Rattle.mix_dap.specs.Hover.{sentence}
 use Rattle.mix_dap.specs.Layout.{in_four_digits}
 use Rattle.mix_dap.specs.Scope.{scope_of, part_of}
 use Rattle.mix_dap.specs.declared.deed.Worth.{Worth}

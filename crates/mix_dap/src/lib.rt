@@ -12,7 +12,6 @@ mod dialogue;
 mod disassembly;
 mod event;
 mod fault;
-mod hover;
 mod kind;
 mod launch;
 mod layout;

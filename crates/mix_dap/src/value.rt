@@ -5,11 +5,11 @@ ghost use Rattle.mix_session.specs.Differences.{held_text};
 ghost use Rattle.mix_dap.specs.Value.{cell_name, word_value, register_value, row_characters, part_value, value_of_part, variable_named, variable_asked, value_asked, worth_text, text_of_worth, evaluated, expression_asked, sentence_of, worth_asked};
 
 use crate::deed::{Worth, hovered, worth_of};
-use crate::hover::sentence;
 use crate::scope::{part_of, scope_of};
 use dap_message::Request;
 use mix_machine::{Part, Place, Reg, Word, World};
 use mix_refused::Memory;
+use mix_said::sentence;
 use mix_session::{Altered, Characters, Held, Session};
 use mix_word::{Number, Operation};
 use std::alloc::Global;

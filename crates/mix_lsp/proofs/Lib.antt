@@ -1,6 +1,5 @@
-mod HearLemmas
+mod ItemLemmas
 mod MessageLemmas
 mod PlaceLemmas
 mod ResponseLemmas
-mod SendLemmas
 mod ServedLemmas

@@ -3,45 +3,34 @@ use Rattle.std.proofs.Common.{inl, inr, ◌≡◌, ◌+◌, ℕ, Option, None, S
 use Rattle.std.specs.Prelude.{option_to_list}
 use Rattle.std.specs.Io.KnownBytes.{prepend_known}
 use Rattle.serde_json.specs.Data.{Data}
+use Rattle.dap_stream.specs.Asked.{Body}
+use Rattle.dap_stream.specs.Heard.{HearsBodies}
+use Rattle.dap_stream.specs.Hearing.{HearsAs}
 use Rattle.dap_stream.specs.Sent.{SendsAll}
 use Rattle.dap_stream.specs.declared.broken.Broken.{Broken}
 use Rattle.dap_stream.specs.declared.broken.Broken.TheVariants as broken
-use Rattle.mix_lsp.specs.Heard.{Frame, Hears, HearsAs, Holds}
+use Rattle.dap_stream.proofs.SendLemmas.{sends-none, sends-then}
+use Rattle.dap_stream.proofs.Talking.{hears-none, hears-then}
 use Rattle.mix_lsp.specs.Reaction.{State, new_state, reaction_to}
 use Rattle.mix_lsp.specs.Served.{AnswersAs, BreaksOff, Ends, GoOn, LastAs, Served, ServedAs, Talks, TurnAs, after, answers}
-use Rattle.mix_lsp.proofs.SendLemmas.{sends-none, sends-then}
 
-holds-then : (text mid left : List ℕ) (xs ys : List Frame) → Holds text xs mid → Holds mid ys left → Holds text (xs ++ ys) left
-holds-then text mid left [] ys p q = subst (λ t. Holds t ys left) p q
-holds-then text mid left (x ∷ xs) ys p q = (p.0, p.1, holds-then p.0 mid left xs ys p.2 q)
-
-hears-then : (a b c : Option (List ℕ)) (xs ys : List Frame) → Hears a xs b → Hears b ys c → Hears a (xs ++ ys) c
-hears-then None b c xs ys p q = tt
-hears-then (Some text) None c xs ys p q = absurd p
-hears-then (Some text) (Some mid) None xs ys p q = absurd q
-hears-then (Some text) (Some mid) (Some left) xs ys p q = holds-then text mid left xs ys p q
-
-hears-none : (a : Option (List ℕ)) → Hears a [] a
-hears-none None = tt
-hears-none (Some text) = refl
-
-answers-append : (s : State) (xs ys : List Frame) → answers s (xs ++ ys) ≡ answers s xs ++ answers (after s xs) ys
+answers-append : (s : State) (xs ys : List Body) → answers s (xs ++ ys) ≡ answers s xs ++ answers (after s xs) ys
 answers-append s [] ys = refl
 answers-append s (x ∷ xs) ys =
     let told = option_to_list (reaction_to x s).told in let next = (reaction_to x s).state in
     ap (λ l. told ++ l) (answers-append next xs ys) ∙ sym (append_assoc told (answers next xs) (answers (after next xs) ys))
 
-after-append : (s : State) (xs ys : List Frame) → after s (xs ++ ys) ≡ after (after s xs) ys
+after-append : (s : State) (xs ys : List Body) → after s (xs ++ ys) ≡ after (after s xs) ys
 after-append s [] ys = refl
 after-append s (x ∷ xs) ys = after-append (reaction_to x s).state xs ys
 
-goes-append : (s : State) (xs ys : List Frame) → GoOn s xs → GoOn (after s xs) ys → GoOn s (xs ++ ys)
+goes-append : (s : State) (xs ys : List Body) → GoOn s xs → GoOn (after s xs) ys → GoOn s (xs ++ ys)
 goes-append s [] ys p q = q
 goes-append s (x ∷ xs) ys p q = (p.0, goes-append (reaction_to x s).state xs ys p.1 q)
 
 -- nothing is heard and nothing is sent
 pub talks-none : (s : State) (old told : Option (List ℕ)) → Talks s s old old told told
-talks-none s old told = record { frames = []; hears = hears-none old; go_on = tt; reached = refl; sends = sends-none told }
+talks-none s old told = record { frames = []; hears = hears-none (λ b. b) old; go_on = tt; reached = refl; sends = sends-none told }
 
 pub talks-zero : (s : State) (old told : Option (List ℕ)) → (talks : Talks s s old old told told) × (length talks.frames ≡ 0)
 unfolding talks-none
@@ -51,7 +40,7 @@ talks-zero s old told = (talks-none s old told, refl)
 pub talks-then : (s m t : State) (a b c told mid now : Option (List ℕ)) → Talks s m a b told mid → Talks m t b c mid now → Talks s t a c told now
 talks-then s m t a b c told mid now p q = record {
   frames = p.frames ++ q.frames;
-  hears = hears-then a b c p.frames q.frames p.hears q.hears;
+  hears = hears-then (λ b. b) a b c p.frames q.frames p.hears q.hears;
   go_on = goes-append s p.frames q.frames p.go_on (subst (λ v. GoOn v q.frames) (sym p.reached) q.go_on);
   reached = after-append s p.frames q.frames ∙ ap (λ v. after v q.frames) p.reached ∙ q.reached;
   sends = subst (λ ms. SendsAll ms told now) (sym (answers-append s p.frames q.frames ∙ ap (λ v. answers s p.frames ++ answers v q.frames) p.reached))
@@ -59,7 +48,7 @@ talks-then s m t a b c told mid now p q = record {
 }
 
 -- one frame
-talks-one : (s t : State) (frame : Frame) (old new told now : Option (List ℕ)) → Hears old (frame ∷ []) new → AnswersAs (Ok None) frame s t told now
+talks-one : (s t : State) (frame : Body) (old new told now : Option (List ℕ)) → HearsBodies old (frame ∷ []) new → AnswersAs (Ok None) frame s t told now
     → Talks s t old new told now
 talks-one s t frame old new told now hears is = record {
   frames = frame ∷ [];
@@ -70,7 +59,7 @@ talks-one s t frame old new told now hears is = record {
 }
 
 -- a frame is heard, and answered so
-pub turned : (result : Result (Option ℕ) Broken) (s t : State) (frame : Frame) (old new told now : Option (List ℕ)) → Hears old (frame ∷ []) new
+pub turned : (result : Result (Option ℕ) Broken) (s t : State) (frame : Body) (old new told now : Option (List ℕ)) → HearsBodies old (frame ∷ []) new
     → AnswersAs result frame s t told now → TurnAs result s t old new told now
 unfolding talks-one
 turned (Ok None) s t frame old new told now hears is = (talks-one s t frame old new told now hears is, refl)

@@ -39,17 +39,25 @@ place_in d = place_with (option_and_then natural_in (member_of (codes "line") d)
 abbrev pub place_member : List ℕ → Data → Option Place
 place_member name d = option_and_then place_in (member_of name d)
 
-abbrev pub within : Encoding → List ℕ → Option Place → Option Place → List ℕ → List ℕ
-within e text None to new = text
-within e text (Some from) None new = text
-within e text (Some from) (Some to) new = edited e text from to new
+-- a range, by the places between which it stands
+abbrev pub range_with : Option Place → Option Place → Option (Place × Place)
+range_with None to = None
+range_with (Some from) None = None
+range_with (Some from) (Some to) = Some (from, to)
+
+abbrev pub range_in : Data → Option (Place × Place)
+range_in d = range_with (place_member (codes "start") d) (place_member (codes "end") d)
+
+abbrev pub within : Encoding → List ℕ → Option (Place × Place) → List ℕ → List ℕ
+within e text None new = text
+within e text (Some range) new = edited e text range.0 range.1 new
 
 -- a change with a range replaces what is in it, one without a range replaces all. One that says
 -- neither changes nothing
 abbrev pub changed_by : Encoding → List ℕ → Option Data → Option (List ℕ) → List ℕ
 changed_by e text range None = text
 changed_by e text None (Some new) = new
-changed_by e text (Some range) (Some new) = within e text (place_member (codes "start") range) (place_member (codes "end") range) new
+changed_by e text (Some range) (Some new) = within e text (range_in range) new
 
 abbrev pub changed : Encoding → List ℕ → Data → List ℕ
 changed e text change = changed_by e text (member_of (codes "range") change) (text_member (codes "text") change)

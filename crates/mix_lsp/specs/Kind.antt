@@ -18,7 +18,11 @@ methods =
     (codes "textDocument/documentHighlight", kind.Look look.Highlight) ∷
     (codes "textDocument/prepareRename", kind.Look look.Prepare) ∷
     (codes "textDocument/rename", kind.Look look.Rename) ∷
-    (codes "textDocument/documentSymbol", kind.Look look.Symbols) ∷ []
+    (codes "textDocument/hover", kind.Look look.Hover) ∷
+    (codes "textDocument/completion", kind.Look look.Completion) ∷
+    (codes "textDocument/documentSymbol", kind.Look look.Symbols) ∷
+    (codes "textDocument/foldingRange", kind.Look look.Folds) ∷
+    (codes "textDocument/codeAction", kind.Look look.Actions) ∷ []
 
 -- what a name names among some rows, letter for letter
 abbrev pub kind_among : List ℕ → List (List ℕ × Kind) → Option Kind

@@ -1,11 +1,15 @@
+pub mod Actions
+pub mod Completion
 pub mod Document
 pub mod Encoding
 pub mod Finder
-pub mod Heard
+pub mod Folds
+pub mod Hover
 pub mod Kind
 pub mod Look
 pub mod Mentioned
 pub mod Message
+pub mod Mnemonic
 pub mod Place
 pub mod Published
 pub mod Range

@@ -1,17 +1,21 @@
 -- What is shown of an open text.
-use Rattle.std.specs.Prelude.{ℕ, Bool, true, List, codes, map, Option, None, Some, option_and_then, option_map}
+use Rattle.std.specs.Prelude.{ℕ, Bool, true, List, codes, Option, None, Some, option_and_then, option_map}
 use Rattle.std.specs.Option.{unwrap_or}
-use Rattle.serde_json.specs.Data.{Data, array, no_members, null, object, put}
+use Rattle.serde_json.specs.Data.{Data, null}
 use Rattle.serde_json.specs.Find.{as_bool}
-use Rattle.serde_json.specs.View.{items_of}
 use Rattle.dap_message.specs.Request.{member_of}
 use Rattle.mixal_asm.specs.Mentions.{mentions_of}
 use Rattle.mixal_asm.specs.declared.mentioned.Mention.{Mention}
 use Rattle.mixal_asm.specs.declared.mentioned.Name.{Name}
-use Rattle.mix_lsp.specs.Document.{place_in}
+use Rattle.mix_lsp.specs.Actions.{actions_between}
+use Rattle.mix_lsp.specs.Completion.{completed}
+use Rattle.mix_lsp.specs.Document.{place_in, range_in}
 use Rattle.mix_lsp.specs.Finder.{Sought}
-use Rattle.mix_lsp.specs.Mentioned.{Shown, alike_at, defining, edit, highlight, location, mention_at, mention_range, mentions_shown, new_text, spot_of, symbol_shown, used}
+use Rattle.mix_lsp.specs.Folds.{folds_shown}
+use Rattle.mix_lsp.specs.Hover.{hover_shown, said_at}
+use Rattle.mix_lsp.specs.Mentioned.{alike_at, defined, defining, edit, highlight, location, mention_at, mention_range, mentions_shown, new_text, spot_of, used}
 use Rattle.mix_lsp.specs.Message.{param, text_param}
+use Rattle.mix_lsp.specs.Range.{list_of, workspace_edit}
 use Rattle.mix_lsp.specs.declared.kind.Look.{Look}
 use Rattle.mix_lsp.specs.declared.kind.Look.TheVariants as look
 use Rattle.mix_lsp.specs.declared.look.Open.{Open}
@@ -30,9 +34,6 @@ flag_in m = option_and_then as_bool (option_and_then (member_of (codes "includeD
 
 abbrev pub with_definitions : Data → Bool
 with_definitions m = unwrap_or (flag_in m) true
-
-abbrev pub list_of : List Data → Data
-list_of list = array (items_of list)
 
 abbrev pub alike_in : Sought → Place → List Mention
 alike_in s at = alike_at (mentions_of s.text) (spot_of s at)
@@ -53,8 +54,7 @@ prepared s at = range_or_null s (mention_at (mentions_of s.text) (spot_of s at))
 -- ---- a new name for all mentions of one
 
 abbrev pub edits_shown : List ℕ → Sought → Place → List ℕ → Data
-edits_shown uri s at new =
-    object (put (codes "changes") (object (put uri (list_of (mentions_shown (edit new) s (alike_in s at))) no_members)) no_members)
+edits_shown uri s at new = workspace_edit uri (mentions_shown (edit new) s (alike_in s at))
 
 abbrev pub renamed_to : List ℕ → Sought → Place → Name → Option (List ℕ) → Option Data
 renamed_to uri s at name None = None
@@ -77,17 +77,24 @@ shown_at look.References uri s m at = Some (references_shown uri s at (with_defi
 shown_at look.Highlight uri s m at = Some (list_of (mentions_shown highlight s (alike_in s at)))
 shown_at look.Prepare uri s m at = Some (prepared s at)
 shown_at look.Rename uri s m at = renamed uri s at (name_at s at) (text_param (codes "newName") m)
-shown_at look.Symbols uri s m at = None
+shown_at look.Hover uri s m at = Some (hover_shown (said_at s at))
+shown_at look.Completion uri s m at = Some (list_of (completed s at))
+shown_at other uri s m at = None
 
 -- the names that it defines
 abbrev pub symbols_shown : List ℕ → Sought → Data
-symbols_shown uri s = list_of (map (symbol_shown uri s) (defining (mentions_of s.text)))
+symbols_shown uri s = list_of (mentions_shown (defined uri) s (defining (mentions_of s.text)))
+
+abbrev pub range_asked : Data → Option (Place × Place)
+range_asked m = option_and_then range_in (param (codes "range") m)
+
+abbrev pub actions_asked : List ℕ → Sought → Option (Place × Place) → Option Data
+actions_asked uri s None = None
+actions_asked uri s (Some range) = Some (list_of (actions_between uri s range.0 range.1))
 
 -- what is shown of a text, or nothing where the parameters are not what they have to be
 abbrev pub shown : Look → List ℕ → Sought → Data → Option Data
 shown look.Symbols uri s m = Some (symbols_shown uri s)
-shown look.Definition uri s m = option_and_then (shown_at look.Definition uri s m) (position_of m)
-shown look.References uri s m = option_and_then (shown_at look.References uri s m) (position_of m)
-shown look.Highlight uri s m = option_and_then (shown_at look.Highlight uri s m) (position_of m)
-shown look.Prepare uri s m = option_and_then (shown_at look.Prepare uri s m) (position_of m)
-shown look.Rename uri s m = option_and_then (shown_at look.Rename uri s m) (position_of m)
+shown look.Folds uri s m = Some (list_of (folds_shown s))
+shown look.Actions uri s m = actions_asked uri s (range_asked m)
+shown other uri s m = option_and_then (shown_at other uri s m) (position_of m)

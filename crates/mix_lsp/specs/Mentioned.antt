@@ -113,6 +113,10 @@ new_text ms (Local d n) new = free_digit ms (local_of new)
 
 -- ---- how mentions are shown
 
+abbrev pub name_text : Name → List ℕ
+name_text (Symbol symbol) = utf8_lossy symbol
+name_text (Local d n) = decimal d ++ codes "H"
+
 abbrev pub mention_range : Sought → Mention → Data
 mention_range s m = range_of s (m.line - 1) m.at
 
@@ -121,20 +125,28 @@ abbrev pub highlight_kind : Role → ℕ
 highlight_kind Definition = 3
 highlight_kind Use = 2
 
--- how a mention is shown: with the name of its text, by what is done there, or as a text in its
--- place
+-- how a mention is shown: with the name of its text, by what is done there, as a text in its
+-- place, as a symbol of a text, or as what completes a word
 pub data Shown : Type 0 where
   location : List ℕ → Shown
   highlight : Shown
   edit : List ℕ → Shown
+  defined : List ℕ → Shown
+  item : Shown
 
 abbrev pub shown_by : Show → Shown
 shown_by (show.Location uri) = location uri.now
 shown_by show.Highlight = highlight
 shown_by (show.Edit new) = edit new.now
+shown_by (show.Symbol uri) = defined uri.now
+shown_by show.Item = item
 
 abbrev pub located : List ℕ → Data → Data
 located uri range = object (put (codes "range") range (put (codes "uri") (string uri) no_members))
+
+-- a constant, by the numbers of the protocol
+abbrev pub item_shown : Name → Data
+item_shown name = object (put (codes "kind") (number (unsigned 21)) (put (codes "label") (string (name_text name)) no_members))
 
 abbrev pub mention_shown : Shown → Sought → Mention → Data
 mention_shown (location uri) s m = located uri (mention_range s m)
@@ -142,18 +154,10 @@ mention_shown highlight s m =
     object (put (codes "kind") (number (unsigned (highlight_kind m.role))) (put (codes "range") (mention_range s m) no_members))
 mention_shown (edit new) s m =
     object (put (codes "newText") (string new) (put (codes "range") (range_of s (m.line - 1) (name_span m.name m.at)) no_members))
+mention_shown (defined uri) s m =
+    object (put (codes "location") (located uri (mention_range s m)) (put (codes "kind") (number (unsigned 13))
+    (put (codes "name") (string (name_text m.name)) no_members)))
+mention_shown item s m = item_shown m.name
 
 abbrev pub mentions_shown : Shown → Sought → List Mention → List Data
 mentions_shown how s ms = map (mention_shown how s) ms
-
--- ---- the names that a text defines
-
-abbrev pub name_text : Name → List ℕ
-name_text (Symbol symbol) = utf8_lossy symbol
-name_text (Local d n) = decimal d ++ codes "H"
-
--- a variable, by the numbers of the protocol
-abbrev pub symbol_shown : List ℕ → Sought → Mention → Data
-symbol_shown uri s m =
-    object (put (codes "location") (located uri (mention_range s m)) (put (codes "kind") (number (unsigned 13))
-    (put (codes "name") (string (name_text m.name)) no_members)))

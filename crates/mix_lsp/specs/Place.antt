@@ -73,6 +73,10 @@ abbrev pub first_line : List (List ℕ) → List ℕ
 first_line [] = []
 first_line (line ∷ rest) = line
 
+-- a line of a text, counted from 0
+abbrev pub line_at : List ℕ → ℕ → List ℕ
+line_at text n = first_line (drop n (lines text))
+
 -- the place behind some bytes of a line, by the line of the protocol with which it begins
 abbrev pub place_after : Encoding → ℕ → List ℕ → Place
 place_after e before bytes = record { line = before + returns_in bytes; character = column_from e 0 bytes }

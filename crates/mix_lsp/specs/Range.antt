@@ -1,6 +1,7 @@
 -- Places and ranges as JSON, of texts as the client counts them.
 use Rattle.std.specs.Prelude.{ℕ, List, codes}
-use Rattle.serde_json.specs.Data.{Data, no_members, number, object, put, unsigned}
+use Rattle.serde_json.specs.Data.{Data, array, no_members, number, object, put, unsigned}
+use Rattle.serde_json.specs.View.{items_of}
 use Rattle.mixal_text.specs.declared.misread.Span.{Span}
 use Rattle.mix_lsp.specs.Finder.{Sought}
 use Rattle.mix_lsp.specs.Place.{place_of}
@@ -16,3 +17,10 @@ range_shown from to = object (put (codes "end") (place_shown to) (put (codes "st
 -- some bytes of a line of a text, which is counted from 0
 abbrev pub range_of : Sought → ℕ → Span → Data
 range_of s line at = range_shown (place_of s.encoding s.text line at.from) (place_of s.encoding s.text line at.to)
+
+abbrev pub list_of : List Data → Data
+list_of list = array (items_of list)
+
+-- edits of the text of a name
+abbrev pub workspace_edit : List ℕ → List Data → Data
+workspace_edit uri edits = object (put (codes "changes") (object (put uri (list_of edits) no_members)) no_members)

@@ -90,7 +90,8 @@ rename_shown = object (put (codes "prepareProvider") (boolean true) no_members)
 -- what else is answered, by the names of the protocol
 abbrev pub providers : List (List ℕ)
 providers =
-    codes "definitionProvider" ∷ codes "referencesProvider" ∷ codes "documentHighlightProvider" ∷ codes "documentSymbolProvider" ∷ []
+    codes "definitionProvider" ∷ codes "referencesProvider" ∷ codes "documentHighlightProvider" ∷ codes "documentSymbolProvider" ∷
+    codes "hoverProvider" ∷ codes "foldingRangeProvider" ∷ codes "codeActionProvider" ∷ []
 
 abbrev pub put_providers : List (List ℕ) → Members → Members
 put_providers [] members = members
@@ -98,8 +99,8 @@ put_providers (name ∷ names) members = put_providers names (put name (boolean 
 
 abbrev pub capabilities : Encoding → Data
 capabilities e =
-    object (put_providers providers (put (codes "renameProvider") rename_shown (put (codes "textDocumentSync") sync_shown
-    (put (codes "positionEncoding") (string (encoding_name e)) no_members))))
+    object (put_providers providers (put (codes "completionProvider") (object no_members) (put (codes "renameProvider") rename_shown
+    (put (codes "textDocumentSync") sync_shown (put (codes "positionEncoding") (string (encoding_name e)) no_members)))))
 
 abbrev pub named : Data
 named = object (put (codes "name") (string (codes "mixrev")) no_members)

@@ -2,8 +2,7 @@
 use Rattle.std.specs.Prelude.{◌≡◌, ℕ, List, [], ◌∷◌, ◌++◌, codes, Bool, true, false, Option, None, Some, option_and_then, option_to_list}
 use Rattle.serde_json.specs.Data.{Data, null}
 use Rattle.serde_json.specs.Find.{get}
-use Rattle.dap_stream.specs.Asked.{message_in}
-use Rattle.mix_lsp.specs.Heard.{Frame}
+use Rattle.dap_stream.specs.Asked.{Body, message_in}
 use Rattle.mix_lsp.specs.Message.{id_of, is_answer, method_of}
 use Rattle.mix_lsp.specs.Reaction.{State, id_or_null}
 use Rattle.mix_lsp.specs.Served.{answers}
@@ -19,7 +18,7 @@ abbrev pub id_asked : Option Data → Option Data
 id_asked None = Some null
 id_asked (Some m) = id_asked_by (method_of m) (id_of m) (is_answer m)
 
-abbrev pub ids_asked : List Frame → List Data
+abbrev pub ids_asked : List Body → List Data
 ids_asked [] = []
 ids_asked (frame ∷ frames) = option_to_list (id_asked (option_and_then message_in frame)) ++ ids_asked frames
 
@@ -29,4 +28,4 @@ ids_sent [] = []
 ids_sent (message ∷ messages) = option_to_list (get (codes "id") message) ++ ids_sent messages
 
 abbrev pub EachIsAnswered : Type 0
-EachIsAnswered = (s : State) (frames : List Frame) → ids_sent (answers s frames) ≡ ids_asked frames
+EachIsAnswered = (s : State) (frames : List Body) → ids_sent (answers s frames) ≡ ids_asked frames

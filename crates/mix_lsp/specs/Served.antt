@@ -8,17 +8,19 @@ use Rattle.dap_stream.specs.BrokenOff.{SendsFront}
 use Rattle.dap_stream.specs.Sent.{SendsAll}
 use Rattle.dap_stream.specs.declared.broken.Broken.{Broken}
 use Rattle.dap_stream.specs.declared.broken.Broken.TheVariants as broken
-use Rattle.mix_lsp.specs.Heard.{Frame, Hears, HearsAs}
+use Rattle.dap_stream.specs.Asked.{Body}
+use Rattle.dap_stream.specs.Heard.{HearsBodies}
+use Rattle.dap_stream.specs.Hearing.{HearsAs}
 use Rattle.mix_lsp.specs.Reaction.{State, new_state, reaction_to}
-use Rattle.mix_lsp.specs.declared.hear.Heard.TheVariants as heard
+use Rattle.dap_stream.specs.declared.hear.Heard.TheVariants as heard
 
 -- what is told for frames, each after those before it
-abbrev pub answers : State → List Frame → List Data
+abbrev pub answers : State → List Body → List Data
 answers s [] = []
 answers s (frame ∷ frames) = option_to_list (reaction_to frame s).told ++ answers (reaction_to frame s).state frames
 
 -- what the server holds after them
-abbrev pub after : State → List Frame → State
+abbrev pub after : State → List Body → State
 after s [] = s
 after s (frame ∷ frames) = after (reaction_to frame s).state frames
 
@@ -28,38 +30,38 @@ abbrev pub exit_status : Bool → ℕ
 exit_status true = 0
 exit_status false = 1
 
-abbrev pub end_after : Frame → State → Option ℕ
+abbrev pub end_after : Body → State → Option ℕ
 end_after frame s = option_map exit_status (reaction_to frame s).end
 
 -- none of them ends it
-abbrev pub GoOn : State → List Frame → Type 0
+abbrev pub GoOn : State → List Body → Type 0
 GoOn s [] = Unit {0}
 GoOn s (frame ∷ frames) = (end_after frame s ≡ None) × GoOn (reaction_to frame s).state frames
 
 -- Frames were heard, none of which ends the server, and a text of each answer was sent, in its
 -- frame and in its turn, and nothing else.
 pub record Talks (s t : State) (old new told now : Option (List ℕ)) : Type 0 where
-  pub frames : List Frame
-  pub hears : Hears old frames new
+  pub frames : List Body
+  pub hears : HearsBodies old frames new
   pub go_on : GoOn s frames
   pub reached : after s frames ≡ t
   pub sends : SendsAll (answers s frames) told now
 
 -- one frame more, which ends it with this status
 pub record Ends (t : State) (status : ℕ) (old new told now : Option (List ℕ)) : Type 0 where
-  pub frame : Frame
-  pub hears : Hears old (frame ∷ []) new
+  pub frame : Body
+  pub hears : HearsBodies old (frame ∷ []) new
   pub ends : end_after frame t ≡ Some status
   pub sends : SendsAll (option_to_list (reaction_to frame t).told) told now
 
 -- one frame more, of whose answer a beginning was sent, or nothing
 pub record BreaksOff (t : State) (old new told now : Option (List ℕ)) : Type 0 where
-  pub frame : Frame
-  pub hears : Hears old (frame ∷ []) new
+  pub frame : Body
+  pub hears : HearsBodies old (frame ∷ []) new
   pub sends : (told ≡ now) ⊎ SendsFront (option_to_list (reaction_to frame t).told) told now
 
 -- how a frame was answered: all is done and sent, or a beginning of the answer was sent, or nothing
-abbrev pub AnswersAs : Result (Option ℕ) Broken → Frame → State → State → Option (List ℕ) → Option (List ℕ) → Type 0
+abbrev pub AnswersAs : Result (Option ℕ) Broken → Body → State → State → Option (List ℕ) → Option (List ℕ) → Type 0
 AnswersAs (Ok end) frame s t told now =
     (end_after frame s ≡ end) × ((reaction_to frame s).state ≡ t) × SendsAll (option_to_list (reaction_to frame s).told) told now
 AnswersAs (Err why) frame s t told now = (told ≡ now) ⊎ SendsFront (option_to_list (reaction_to frame s).told) told now

@@ -78,15 +78,19 @@ fn capabilities(alloc: Global, encoding: Encoding) -> Result<Value, Memory>
     body.text("positionEncoding", encoding.name())?;
     body.put("textDocumentSync", sync_shown(alloc)?)?;
     body.put("renameProvider", rename_shown(alloc)?)?;
+    body.put("completionProvider", Fields::new(alloc).done())?;
     put_providers(&mut body, &PROVIDERS)?;
     Ok(body.done())
 }
 
-const PROVIDERS: [&str; 4] = [
+const PROVIDERS: [&str; 7] = [
     "definitionProvider",
     "referencesProvider",
     "documentHighlightProvider",
     "documentSymbolProvider",
+    "hoverProvider",
+    "foldingRangeProvider",
+    "codeActionProvider",
 ];
 
 fn put_providers(body: &mut Fields, names: &[&str]) -> Result<(), Memory>

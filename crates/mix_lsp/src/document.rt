@@ -3,7 +3,7 @@
 ghost use Rattle.std.specs.Prelude.{◌≡◌, IfOk, OnOk, option_map, string_bytes};
 ghost use Rattle.std.specs.Str.{bytes_eq};
 ghost use Rattle.serde_json.specs.View.{items_view, view};
-ghost use Rattle.mix_lsp.specs.Document.{changed, changed_all, changed_by, place_in, place_member, text_among, with_text, within, without};
+ghost use Rattle.mix_lsp.specs.Document.{changed, changed_all, changed_by, place_in, place_member, range_in, text_among, with_text, within, without};
 
 use crate::encoding::Encoding;
 use crate::message::text_member;
@@ -87,8 +87,14 @@ pub(crate) fn place_in(value: &Value) -> Option<Place>
     Some(Place { line, character })
 }
 
-/// A place that is a member of an object.
-pub(crate) fn place_member(value: &Value, name: &str) -> Option<Place>
+/// A range, by its two places.
+pub(crate) fn range_in(value: &Value) -> Option<(Place, Place)>
+    ensures { result ≡ range_in (view value.now) }
+{
+    Some((place_member(value, "start")?, place_member(value, "end")?))
+}
+
+fn place_member(value: &Value, name: &str) -> Option<Place>
     ensures { result ≡ place_member name.now (view value.now) }
 {
     place_in(member_of(value, name)?)
@@ -126,13 +132,10 @@ fn changed(
     let Some(range) = member_of(change, "range") else {
         return copied(alloc, new.as_bytes());
     };
-    let Some(from) = place_member(range, "start") else {
-        return copied(alloc, text);
-    };
-    let Some(to) = place_member(range, "end") else {
-        return copied(alloc, text);
-    };
-    edited(alloc, encoding, text, from, to, new)
+    match range_in(range) {
+        Some((from, to)) => edited(alloc, encoding, text, from, to, new),
+        None => copied(alloc, text),
+    }
 }
 
 /// The same bytes once more.

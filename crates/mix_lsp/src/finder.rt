@@ -2,7 +2,7 @@
 
 ghost use Rattle.std.specs.Prelude.{◌≡◌, ◌≤◌, ◌<◌, ◌+◌, ◌∷◌, ◌^◌, length, drop, take};
 ghost use Rattle.mix_lines.specs.Lines.{lines};
-ghost use Rattle.mix_lsp.specs.Place.{column_from, first_line, lines_in, place_after, place_of, returns_in};
+ghost use Rattle.mix_lsp.specs.Place.{column_from, first_line, line_at, lines_in, place_after, place_of, returns_in};
 
 use crate::encoding::Encoding;
 use crate::place::Place;
@@ -56,7 +56,7 @@ impl<'t> Finder<'t> {
             self.line = 0;
             self.rest = self.text;
         }
-        let (number, rest) = pass(self.line, self.rest, line - self.passed);
+        let (number, rest) = pass(self.line, self.rest, u64::from(line - self.passed));
         self.passed = line;
         self.line = number;
         self.rest = rest;
@@ -64,8 +64,16 @@ impl<'t> Finder<'t> {
     }
 }
 
+/// A line, counted from 0; one that there is not is empty.
+pub(crate) fn line_at(text: &[u8], line: u64) -> &[u8]
+    requires { line < 2 ^ 63 }
+    ensures { result.now ≡ line_at text.now line }
+{
+    first_line(pass(0, text, line).1)
+}
+
 // What follows so many lines of a text, and the number of lines of the protocol after them.
-fn pass(before: u64, text: &[u8], count: u32) -> (u64, &[u8])
+fn pass(before: u64, text: &[u8], count: u64) -> (u64, &[u8])
     requires { before + length text.now + count < 2 ^ 64 }
     ensures left { lines result.1.now ≡ drop count (lines text.now) }
     ensures counts { result.0 + lines_in (lines result.1.now) ≡ before + lines_in (lines text.now) }
@@ -108,8 +116,8 @@ fn first_line(text: &[u8]) -> &[u8]
     }
 }
 
-// The first bytes of a line, so many of them.
-fn before(line: &[u8], count: usize) -> &[u8]
+/// The first bytes of a line, so many of them.
+pub(crate) fn before(line: &[u8], count: usize) -> &[u8]
     ensures is { result.now ≡ take count line.now }
     ensures bound { length result.now ≤ length line.now }
 {

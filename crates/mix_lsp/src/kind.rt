@@ -21,7 +21,8 @@ pub(crate) enum Kind {
 }
 
 /// What is looked at: of the name at a place its definitions, its mentions as a list or to be
-/// marked, its bytes, and a new name for it; or all names that a text defines.
+/// marked, its bytes, and a new name for it; what is said of what stands at a place, and what
+/// completes it; or of a text all names that it defines, its remarks, and what mends its lines.
 #[derive(Clone, Copy)]
 pub(crate) enum Look {
     Definition,
@@ -29,7 +30,11 @@ pub(crate) enum Look {
     Highlight,
     Prepare,
     Rename,
+    Hover,
+    Completion,
     Symbols,
+    Folds,
+    Actions,
 }
 
 /// The methods that there are, by their names in the protocol.
@@ -49,7 +54,11 @@ fn methods() -> &'static [(&'static str, Kind)]
         ("textDocument/documentHighlight", Kind::Look(Look::Highlight)),
         ("textDocument/prepareRename", Kind::Look(Look::Prepare)),
         ("textDocument/rename", Kind::Look(Look::Rename)),
+        ("textDocument/hover", Kind::Look(Look::Hover)),
+        ("textDocument/completion", Kind::Look(Look::Completion)),
         ("textDocument/documentSymbol", Kind::Look(Look::Symbols)),
+        ("textDocument/foldingRange", Kind::Look(Look::Folds)),
+        ("textDocument/codeAction", Kind::Look(Look::Actions)),
     ]
 }
 

@@ -3,17 +3,21 @@
 #![tactic(auto)]
 
 mod abilities;
+mod actions;
+mod completion;
 mod document;
 mod encoding;
 mod fault;
 mod finder;
-mod hear;
+mod folds;
+mod hover;
 mod kind;
 mod law;
 mod look;
 mod mention;
 mod mentioned;
 mod message;
+mod mnemonic;
 mod place;
 mod published;
 mod ranges;

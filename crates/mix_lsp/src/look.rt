@@ -1,16 +1,18 @@
 //! What is shown of an open text.
 
-ghost use Rattle.std.specs.Prelude.{◌≡◌, IfOk, option_map};
+ghost use Rattle.std.specs.Prelude.{◌≡◌, IfOk, codes, option_map};
 ghost use Rattle.mixal_asm.specs.Mentions.{mentions_of};
+ghost use Rattle.serde_json.specs.Data.{no_members, object, put};
 ghost use Rattle.serde_json.specs.View.{view};
-ghost use Rattle.mix_lsp.specs.Look.{alike_in, definitions_shown, edits_shown, flag_in, list_of, name_at, position_of, prepared, references_shown, renamed, renamed_to, shown, shown_at, sought, symbols_shown, with_definitions};
+ghost use Rattle.mix_lsp.specs.Look.{alike_in, definitions_shown, edits_shown, flag_in, name_at, position_of, prepared, range_asked, references_shown, renamed, renamed_to, shown, shown_at, sought, symbols_shown, with_definitions};
 ghost use Rattle.mix_lsp.specs.Mentioned.{mentions_shown, shown_by};
+ghost use Rattle.mix_lsp.specs.Range.{list_of};
 
-use crate::document::place_in;
+use crate::document::{place_in, range_in};
 use crate::encoding::Encoding;
 use crate::finder::Finder;
 use crate::kind::Look;
-use crate::mention::{Show, mention_range, mentions_shown, symbols_shown};
+use crate::mention::{Show, mention_range, mentions_shown};
 use crate::mentioned::{alike_at, mention_at, name_at, retain_definitions, retain_used};
 use crate::message::{param, text_param};
 use crate::place::Place;
@@ -38,11 +40,15 @@ impl<'t> Open<'t> {
     {
         match look {
             Look::Symbols => Ok(Some(self.symbols()?)),
-            Look::Definition | Look::References | Look::Highlight | Look::Prepare | Look::Rename =>
-                match position_of(message) {
-                    Some(at) => self.shown_at(look, message, at),
-                    None => Ok(None),
-                },
+            Look::Folds => Ok(Some(self.folds()?)),
+            Look::Actions => match range_asked(message) {
+                Some((from, to)) => Ok(Some(self.actions(from, to)?)),
+                None => Ok(None),
+            },
+            _ => match position_of(message) {
+                Some(at) => self.shown_at(look, message, at),
+                None => Ok(None),
+            },
         }
     }
 
@@ -55,11 +61,13 @@ impl<'t> Open<'t> {
             Look::Highlight => Ok(Some(self.listed(Show::Highlight, self.alike(at)?)?)),
             Look::Prepare => Ok(Some(self.range_or_null(at)?)),
             Look::Rename => self.renamed(at, text_param(message, "newName")),
-            Look::Symbols => Ok(None),
+            Look::Hover => Ok(Some(self.hover(at)?)),
+            Look::Completion => Ok(Some(self.completion(at)?)),
+            Look::Symbols | Look::Folds | Look::Actions => Ok(None),
         }
     }
 
-    fn finder(&self) -> Finder<'t>
+    pub(crate) fn finder(&self) -> Finder<'t>
         ensures { result ≡ sought self.now }
     {
         Finder::of(self.encoding, self.text)
@@ -72,7 +80,7 @@ impl<'t> Open<'t> {
         Ok(alike_at(mentions, spot_of(self.encoding, self.text, at)))
     }
 
-    fn listed(&self, how: Show<'_>, mentions: Vec<Mention>) -> Result<Value, Memory>
+    pub(crate) fn listed(&self, how: Show<'_>, mentions: Vec<Mention>) -> Result<Value, Memory>
         ensures { IfOk result (λ v. view v ≡ list_of (mentions_shown (shown_by how.entry) (sought self.now) mentions.items)) }
     {
         let mut finder = self.finder();
@@ -141,7 +149,13 @@ impl<'t> Open<'t> {
     fn edits(&self, at: Place, new: &str) -> Result<Value, Memory>
         ensures { IfOk result (λ v. view v ≡ edits_shown self.now.uri.now (sought self.now) at new.now) }
     {
-        let edits = self.listed(Show::Edit(new), self.alike(at)?)?;
+        self.workspace_edit(self.listed(Show::Edit(new), self.alike(at)?)?)
+    }
+
+    /// Edits of the text.
+    pub(crate) fn workspace_edit(&self, edits: Value) -> Result<Value, Memory>
+        ensures { IfOk result (λ v. view v ≡ object (put (codes "changes") (object (put self.now.uri.now (view edits) no_members)) no_members)) }
+    {
         let mut texts = Fields::new(self.alloc);
         texts.put(self.uri, edits)?;
         let mut body = Fields::new(self.alloc);
@@ -155,9 +169,14 @@ impl<'t> Open<'t> {
     {
         let mut mentions = mentions_of(self.alloc, self.text)?;
         retain_definitions(&mut mentions);
-        let mut finder = self.finder();
-        Ok(Value::Array(symbols_shown(self.alloc, self.uri, &mut finder, &mentions)?))
+        self.listed(Show::Symbol(self.uri), mentions)
     }
+}
+
+fn range_asked(message: &Value) -> Option<(Place, Place)>
+    ensures { result ≡ range_asked (view message.now) }
+{
+    range_in(param(message, "range")?)
 }
 
 fn position_of(message: &Value) -> Option<Place>

@@ -2,7 +2,7 @@
 
 ghost use Rattle.std.specs.Prelude.{◌≡◌, ◌-◌, IfOk, map, string_bytes};
 ghost use Rattle.serde_json.specs.View.{view};
-ghost use Rattle.mix_lsp.specs.Mentioned.{edit, highlight, highlight_kind, located, mention_range, mention_shown, mentions_shown, name_span, name_text, shown_by, symbol_shown};
+ghost use Rattle.mix_lsp.specs.Mentioned.{defined, edit, highlight, highlight_kind, item_shown, located, mention_range, mention_shown, mentions_shown, name_span, name_text, shown_by};
 ghost use Rattle.mix_lsp.specs.Range.{range_of};
 
 use crate::finder::Finder;
@@ -14,13 +14,15 @@ use mixal_text::Span;
 use serde_json::Value;
 use std::alloc::{AllocError, Global};
 
-/// How a mention is shown: with the name of its text, by what is done there, or as a text in its
-/// place.
+/// How a mention is shown: with the name of its text, by what is done there, as a text in its
+/// place, as a symbol of a text, or as what completes a word.
 #[derive(Clone, Copy)]
 pub(crate) enum Show<'a> {
     Location(&'a str),
     Highlight,
     Edit(&'a str),
+    Symbol(&'a str),
+    Item,
 }
 
 /// All of some mentions, shown so.
@@ -54,6 +56,8 @@ fn mention_shown(
         Show::Location(uri) => located(alloc, uri, finder, mention),
         Show::Highlight => highlighted(alloc, finder, mention),
         Show::Edit(new) => edited(alloc, new, finder, mention),
+        Show::Symbol(uri) => symbol_shown(alloc, uri, finder, mention),
+        Show::Item => item_shown(alloc, &mention.name),
     }
 }
 
@@ -110,37 +114,28 @@ fn located(
     Ok(shown.done())
 }
 
-/// Names that a text defines.
-pub(crate) fn symbols_shown(
-    alloc: Global,
-    uri: &str,
-    finder: &mut Finder<'_>,
-    mentions: &[Mention],
-) -> Result<Vec<Value>, Memory>
-    ensures { IfOk result (λ list. map view list.items ≡ map (symbol_shown uri.now finder.old) mentions.now) }
-{
-    let mut list = Vec::new(alloc);
-    let mut rest = mentions;
-    while let [mention, more @ ..] = rest {
-        list.push(symbol_shown(alloc, uri, finder, mention)?)?;
-        rest = more;
-    }
-    Ok(list)
-}
-
 fn symbol_shown(
     alloc: Global,
     uri: &str,
     finder: &mut Finder<'_>,
     mention: &Mention,
 ) -> Result<Value, Memory>
-    ensures shown { IfOk result (λ v. view v ≡ symbol_shown uri.now finder.old mention.now) }
+    ensures shown { IfOk result (λ v. view v ≡ mention_shown (defined uri.now) finder.old mention.now) }
     ensures same { finder.new ≡ finder.old }
 {
     let mut shown = Fields::new(alloc);
     shown.text("name", name_text(alloc, &mention.name)?.as_str())?;
     shown.number("kind", 13)?;
     shown.put("location", located(alloc, uri, finder, mention)?)?;
+    Ok(shown.done())
+}
+
+fn item_shown(alloc: Global, name: &Name) -> Result<Value, Memory>
+    ensures { IfOk result (λ v. view v ≡ item_shown name.now) }
+{
+    let mut shown = Fields::new(alloc);
+    shown.text("label", name_text(alloc, name)?.as_str())?;
+    shown.number("kind", 21)?;
     Ok(shown.done())
 }
 

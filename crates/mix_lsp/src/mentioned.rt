@@ -54,7 +54,7 @@ fn retain_alike(list: &mut Vec<Mention>, name: &Name)
     list.retain(|mention| is_name(name, &mention.name));
 }
 
-fn is_name(name: &Name, other: &Name) -> bool
+pub(crate) fn is_name(name: &Name, other: &Name) -> bool
     ensures { result ≡ is_name name.now other.now }
 {
     match (name, other) {
@@ -86,7 +86,7 @@ fn retain_uses(list: &mut Vec<Mention>)
     list.retain(|mention| !defines(mention.role));
 }
 
-fn defines(role: Role) -> bool
+pub(crate) fn defines(role: Role) -> bool
     ensures { result ≡ defines role }
 {
     matches!(role, Role::Definition)

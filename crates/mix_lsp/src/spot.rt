@@ -1,6 +1,6 @@
 //! The byte at a place of a text, by the lines of MIXAL.
 
-ghost use Rattle.std.specs.Prelude.{◌≡◌, ◌-◌, length, take};
+ghost use Rattle.std.specs.Prelude.{◌≡◌, ◌<◌, ◌-◌, ◌^◌, length, take};
 ghost use Rattle.mix_lsp.specs.Finder.{Sought};
 ghost use Rattle.mix_lsp.specs.Mentioned.{bytes_from, spot_after, spot_of};
 
@@ -16,14 +16,16 @@ pub(crate) struct Spot {
 
 /// The byte at a place: a line feed alone ends a line here.
 pub(crate) fn spot_of(encoding: Encoding, text: &[u8], at: Place) -> Spot
-    ensures { result ≡ spot_of (record { encoding = encoding; text = text.now }) at }
+    ensures is { result ≡ spot_of (record { encoding = encoding; text = text.now }) at }
+    ensures bound { result.line < 2 ^ 63 }
 {
     let rest = rest_at(encoding, text, at);
     spot_after(&text[..text.len() - rest.len()])
 }
 
 fn spot_after(front: &[u8]) -> Spot
-    ensures { result ≡ spot_after front.now }
+    ensures is { result ≡ spot_after front.now }
+    ensures bound { result.line < 2 ^ 63 }
 {
     let line = front.iter().filter(|byte| **byte == b'\n').count() as u64;
     let byte = bytes_behind(front);

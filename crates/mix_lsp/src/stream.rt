@@ -1,6 +1,6 @@
 //! The server over a stream: frames are heard and answered until the client is done.
 
-ghost use Rattle.std.specs.Prelude.{◌≡◌, ◌≢◌, ◌≤◌, ◌<◌, ◌-◌, ◌^◌, ◌∷◌, [], Ok, Err, IfErr, IfOk, IfSome, OnErr, OnOk, option_map, option_to_list};
+ghost use Rattle.std.specs.Prelude.{◌≡◌, ◌≢◌, ◌≤◌, ◌<◌, ◌-◌, ◌^◌, Ok, Err, IfErr, IfOk, IfSome, OnErr, OnOk, option_map, option_to_list};
 ghost use Rattle.serde_json.specs.View.{view};
 ghost use Rattle.dap_stream.specs.Broken.{IsMemoryOrWrite};
 ghost use Rattle.dap_stream.specs.BrokenOff.{SendsFront};
@@ -8,14 +8,12 @@ ghost use Rattle.dap_stream.specs.Sent.{SendsAll};
 ghost use Rattle.dap_stream.specs.declared.broken.Broken.{Broken};
 ghost use Rattle.dap_stream.specs.declared.broken.Broken.TheVariants as broken;
 ghost use Rattle.mix_stream.specs.Stream.{CountsFailure};
-ghost use Rattle.mix_lsp.specs.Heard.{unheard};
+ghost use Rattle.dap_stream.specs.Hearing.{unheard};
 ghost use Rattle.mix_lsp.specs.Reaction.{state_of};
 ghost use Rattle.mix_lsp.specs.Served.{AnswersAs, Served, exit_status, ServedAs, TellsBroken, TurnAs};
 
-use crate::hear::{Ear, Heard};
 use crate::server::Server;
-use dap_frame::frame;
-use dap_stream::Broken;
+use dap_stream::{Broken, Ear, Heard, send_one};
 use mix_stream::{In, Out, write_all};
 use serde_json::Value;
 use std::alloc::{AllocError, Global};
@@ -139,7 +137,7 @@ fn slice_of(body: &Option<Vec<u8>>) -> Option<&[u8]>
 }
 
 // A message, if there is one, is sent as its text, in a frame.
-#[tactic(auto, using(crate::proofs::SendLemmas::fronts))]
+#[tactic(auto, using(dap_stream::proofs::SendLemmas::nothing))]
 fn send<W: Out>(alloc: Global, message: &Option<Value>, out: &mut W) -> Result<(), Broken>
     requires { W.failed out.old < 2 ^ 64 - 1 }
     ensures sent { OnOk result (SendsAll (option_to_list (option_map view message.now)) (W.told out.old) (W.told out.new)) }
@@ -151,20 +149,6 @@ fn send<W: Out>(alloc: Global, message: &Option<Value>, out: &mut W) -> Result<(
         Some(message) => send_one(alloc, message, out),
         None => Ok(()),
     }
-}
-
-#[tactic(auto, using(crate::proofs::SendLemmas::fronts))]
-fn send_one<W: Out>(alloc: Global, message: &Value, out: &mut W) -> Result<(), Broken>
-    requires { W.failed out.old < 2 ^ 64 - 1 }
-    ensures sent { OnOk result (SendsAll (view message.now ∷ []) (W.told out.old) (W.told out.new)) }
-    ensures begun { OnErr result (SendsFront (view message.now ∷ []) (W.told out.old) (W.told out.new)) }
-    ensures failed { CountsFailure (result ≡ Err broken.Write) (W.failed out.old) (W.failed out.new) }
-    ensures only { IfErr result IsMemoryOrWrite }
-{
-    let text = message.to_string(alloc)?;
-    let framed = frame(alloc, text.as_str())?;
-    write_all(out, framed.as_bytes())?;
-    Ok(())
 }
 
 // The line that says what broke it off; where memory is refused for it, the one that says so.

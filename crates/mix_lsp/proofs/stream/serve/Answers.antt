@@ -1,6 +1,6 @@
 -- From the first byte on.
 use Rattle.std.proofs.Common.{Ok}
-use Rattle.mix_lsp.specs.Heard.{kept}
+use Rattle.dap_stream.specs.Hearing.{kept}
 use Rattle.mix_lsp.specs.Reaction.{state_of}
 use Rattle.mix_lsp.proofs.ServedLemmas.{served-from}
 use Rattle.mix_lsp.proofs.stream.serve.Goals as goal

@@ -1,6 +1,6 @@
 -- So many frames were heard and answered.
 use Rattle.std.proofs.Common.{◌≡◌, ◌-◌, ◌^◌, length}
-use Rattle.mix_lsp.specs.Heard.{unheard}
+use Rattle.dap_stream.specs.Hearing.{unheard}
 use Rattle.mix_lsp.specs.Reaction.{state_of}
 use Rattle.mix_lsp.specs.Served.{Talks}
 use Rattle.mix_lsp.proofs.stream.talk.Given as goal

@@ -1,4 +1,4 @@
--- What a hover over the name of an operation shows: what the operation does. M is its address, F its field, and V that field of the cell M.
+-- What an operation does (1.3.1). M is its address, F its field, and V that field of the cell M.
 use Rattle.std.specs.Prelude.{ℕ, List, [], ◌++◌, codes}
 use Rattle.mix_word.specs.Register.{name_of_register, reg_of}
 use Rattle.mix_word.specs.declared.operation.Condition.{Condition}

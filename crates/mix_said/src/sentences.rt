@@ -1,7 +1,7 @@
-//! What a hover over the name of an operation shows: what the operation does (1.3.1).
+//! What an operation does, as a sentence (1.3.1).
 
 ghost use Rattle.std.specs.Prelude.{◌≡◌, [], IfOk, codes, string_bytes};
-ghost use Rattle.mix_dap.specs.Hover.{about, condition_said, jump_said, sentence, shift_said};
+ghost use Rattle.mix_said.specs.Sentence.{about, condition_said, jump_said, sentence, shift_said};
 
 use mix_refused::Memory;
 use mix_word::{Condition, DataReg, JumpKind, Operation, ShiftKind};
@@ -73,9 +73,9 @@ fn text(alloc: Global, text: &str) -> Result<String, Memory>
     Ok(String::from_str(alloc, text)?)
 }
 
-/// What an operation does.
-#[tactic(auto, unfolding(crate::specs::Hover::sentence))]
-pub(crate) fn sentence(alloc: Global, operation: Operation) -> Result<String, Memory>
+/// What an operation does (1.3.1), as `rA becomes rA + V`: M is its address, F its field, and V that field of the cell M.
+#[tactic(auto, unfolding(crate::specs::Sentence::sentence))]
+pub fn sentence(alloc: Global, operation: Operation) -> Result<String, Memory>
     ensures { IfOk result (λ s. string_bytes s ≡ sentence operation) }
 {
     match operation {
