@@ -1,0 +1,9 @@
+mod CutLemmas
+mod PartLemmas
+mod ReadLemmas
+mod PlacedLemmas
+mod OperandLemmas
+mod RestLemmas
+mod LineLemmas
+mod EndLemmas
+mod SourceLemmas

@@ -1,0 +1,21 @@
+-- What no layout alters: what a line says, and what is written in it.
+use Rattle.std.specs.Prelude.{◌≡◌, ℕ, List, [], ◌∷◌, filter}
+use Rattle.mixal_text.specs.Line.{line_of}
+use Rattle.mixal_text.specs.Words.{is_nonblank}
+
+-- the bytes of a line that are no blanks, in their order
+abbrev pub written : List ℕ → List ℕ
+written text = filter is_nonblank text
+
+-- two lines that the assembler reads as the same LOC, OP and ADDRESS, the same word of ALF, the same remark or the same fault, and
+-- that have the same bytes but for blanks
+pub record Alike (first second : List ℕ) : Type 0 where
+  pub reads : line_of second ≡ line_of first
+  pub writes : written second ≡ written first
+
+-- as many lines, each like the one in its place
+abbrev pub AllAlike : List (List ℕ) → List (List ℕ) → Type 0
+AllAlike [] [] = Unit {0}
+AllAlike [] (second ∷ more) = ⊥
+AllAlike (first ∷ rest) [] = ⊥
+AllAlike (first ∷ rest) (second ∷ more) = Alike first second × AllAlike rest more
