@@ -159,6 +159,10 @@ class Client {
         return list.map((one) => new vscode.SymbolInformation(one.name, one.kind - 1, "", location(one.location)));
       },
     });
+    offer("documentFormattingProvider", "registerDocumentFormattingEditProvider", {
+      provideDocumentFormattingEdits: async (document, options) =>
+        (await this.ask("textDocument/formatting", { textDocument: { uri: document.uri.toString() }, options })).map(edit),
+    });
   }
 
   async stop() {

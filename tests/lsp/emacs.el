@@ -64,6 +64,8 @@
   (row "all that mentions X" (starts (ask :textDocument/references :context '(:includeDeclaration t))) '((0 11) (2 0)))
   (eglot-rename "TOTAL")
   (row "a new name" (buffer-string) "START LDA  TOTAL\n     ADD Y\nTOTAL    CON  5\n     END  START\n")
+  (eglot-format-buffer)
+  (row "in columns" (buffer-string) "START   LDA  TOTAL\n        ADD  Y\nTOTAL   CON  5\n        END  START\n")
   (set-buffer-modified-p nil)
   (eglot-shutdown (eglot-current-server)))
 

@@ -1,3 +1,4 @@
+mod FormatLemmas
 mod HearLemmas
 mod MessageLemmas
 mod PlaceLemmas

@@ -18,7 +18,8 @@ methods =
     (codes "textDocument/documentHighlight", kind.Look look.Highlight) ∷
     (codes "textDocument/prepareRename", kind.Look look.Prepare) ∷
     (codes "textDocument/rename", kind.Look look.Rename) ∷
-    (codes "textDocument/documentSymbol", kind.Look look.Symbols) ∷ []
+    (codes "textDocument/documentSymbol", kind.Look look.Symbols) ∷
+    (codes "textDocument/formatting", kind.Look look.Format) ∷ []
 
 -- what a name names among some rows, letter for letter
 abbrev pub kind_among : List ℕ → List (List ℕ × Kind) → Option Kind

@@ -1,6 +1,7 @@
 pub mod Document
 pub mod Encoding
 pub mod Finder
+pub mod Formatted
 pub mod Heard
 pub mod Kind
 pub mod Look

@@ -10,6 +10,7 @@ use Rattle.mixal_asm.specs.declared.mentioned.Mention.{Mention}
 use Rattle.mixal_asm.specs.declared.mentioned.Name.{Name}
 use Rattle.mix_lsp.specs.Document.{place_in}
 use Rattle.mix_lsp.specs.Finder.{Sought}
+use Rattle.mix_lsp.specs.Formatted.{formatted_shown}
 use Rattle.mix_lsp.specs.Mentioned.{Shown, alike_at, defining, edit, highlight, location, mention_at, mention_range, mentions_shown, new_text, spot_of, symbol_shown, used}
 use Rattle.mix_lsp.specs.Message.{param, text_param}
 use Rattle.mix_lsp.specs.declared.kind.Look.{Look}
@@ -78,6 +79,7 @@ shown_at look.Highlight uri s m at = Some (list_of (mentions_shown highlight s (
 shown_at look.Prepare uri s m at = Some (prepared s at)
 shown_at look.Rename uri s m at = renamed uri s at (name_at s at) (text_param (codes "newName") m)
 shown_at look.Symbols uri s m at = None
+shown_at look.Format uri s m at = None
 
 -- the names that it defines
 abbrev pub symbols_shown : List ℕ → Sought → Data
@@ -86,6 +88,7 @@ symbols_shown uri s = list_of (map (symbol_shown uri s) (defining (mentions_of s
 -- what is shown of a text, or nothing where the parameters are not what they have to be
 abbrev pub shown : Look → List ℕ → Sought → Data → Option Data
 shown look.Symbols uri s m = Some (symbols_shown uri s)
+shown look.Format uri s m = Some (list_of (formatted_shown s))
 shown look.Definition uri s m = option_and_then (shown_at look.Definition uri s m) (position_of m)
 shown look.References uri s m = option_and_then (shown_at look.References uri s m) (position_of m)
 shown look.Highlight uri s m = option_and_then (shown_at look.Highlight uri s m) (position_of m)

@@ -90,7 +90,8 @@ rename_shown = object (put (codes "prepareProvider") (boolean true) no_members)
 -- what else is answered, by the names of the protocol
 abbrev pub providers : List (List ℕ)
 providers =
-    codes "definitionProvider" ∷ codes "referencesProvider" ∷ codes "documentHighlightProvider" ∷ codes "documentSymbolProvider" ∷ []
+    codes "definitionProvider" ∷ codes "referencesProvider" ∷ codes "documentHighlightProvider" ∷ codes "documentSymbolProvider" ∷
+    codes "documentFormattingProvider" ∷ []
 
 abbrev pub put_providers : List (List ℕ) → Members → Members
 put_providers [] members = members

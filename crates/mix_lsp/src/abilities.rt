@@ -82,11 +82,12 @@ fn capabilities(alloc: Global, encoding: Encoding) -> Result<Value, Memory>
     Ok(body.done())
 }
 
-const PROVIDERS: [&str; 4] = [
+const PROVIDERS: [&str; 5] = [
     "definitionProvider",
     "referencesProvider",
     "documentHighlightProvider",
     "documentSymbolProvider",
+    "documentFormattingProvider",
 ];
 
 fn put_providers(body: &mut Fields, names: &[&str]) -> Result<(), Memory>

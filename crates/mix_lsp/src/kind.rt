@@ -21,7 +21,8 @@ pub(crate) enum Kind {
 }
 
 /// What is looked at: of the name at a place its definitions, its mentions as a list or to be
-/// marked, its bytes, and a new name for it; or all names that a text defines.
+/// marked, its bytes, and a new name for it; or all names that a text defines,
+/// or what puts it in columns.
 #[derive(Clone, Copy)]
 pub(crate) enum Look {
     Definition,
@@ -30,6 +31,7 @@ pub(crate) enum Look {
     Prepare,
     Rename,
     Symbols,
+    Format,
 }
 
 /// The methods that there are, by their names in the protocol.
@@ -50,6 +52,7 @@ fn methods() -> &'static [(&'static str, Kind)]
         ("textDocument/prepareRename", Kind::Look(Look::Prepare)),
         ("textDocument/rename", Kind::Look(Look::Rename)),
         ("textDocument/documentSymbol", Kind::Look(Look::Symbols)),
+        ("textDocument/formatting", Kind::Look(Look::Format)),
     ]
 }
 

@@ -7,6 +7,7 @@ mod document;
 mod encoding;
 mod fault;
 mod finder;
+mod formatted;
 mod hear;
 mod kind;
 mod law;

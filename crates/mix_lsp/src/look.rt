@@ -9,6 +9,7 @@ ghost use Rattle.mix_lsp.specs.Mentioned.{mentions_shown, shown_by};
 use crate::document::place_in;
 use crate::encoding::Encoding;
 use crate::finder::Finder;
+use crate::formatted::formatted_shown;
 use crate::kind::Look;
 use crate::mention::{Show, mention_range, mentions_shown, symbols_shown};
 use crate::mentioned::{alike_at, mention_at, name_at, retain_definitions, retain_used};
@@ -38,6 +39,11 @@ impl<'t> Open<'t> {
     {
         match look {
             Look::Symbols => Ok(Some(self.symbols()?)),
+            Look::Format => Ok(Some(Value::Array(formatted_shown(
+                self.alloc,
+                self.encoding,
+                self.text,
+            )?))),
             Look::Definition | Look::References | Look::Highlight | Look::Prepare | Look::Rename =>
                 match position_of(message) {
                     Some(at) => self.shown_at(look, message, at),
@@ -55,7 +61,7 @@ impl<'t> Open<'t> {
             Look::Highlight => Ok(Some(self.listed(Show::Highlight, self.alike(at)?)?)),
             Look::Prepare => Ok(Some(self.range_or_null(at)?)),
             Look::Rename => self.renamed(at, text_param(message, "newName")),
-            Look::Symbols => Ok(None),
+            Look::Symbols | Look::Format => Ok(None),
         }
     }
 
