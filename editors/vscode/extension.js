@@ -182,6 +182,10 @@ class Client {
         return list.map((one) => Object.assign(new vscode.CodeAction(one.title, vscode.CodeActionKind.QuickFix), { edit: workspaceEdit(one.edit) }));
       },
     });
+    offer("documentFormattingProvider", "registerDocumentFormattingEditProvider", {
+      provideDocumentFormattingEdits: async (document, options) =>
+        (await this.ask("textDocument/formatting", { textDocument: { uri: document.uri.toString() }, options })).map(edit),
+    });
   }
 
   async stop() {

@@ -68,6 +68,8 @@
   (row "a hover" (plist-get (plist-get (ask :textDocument/hover) :contents) :value) "LDA: rA becomes V (C = 8, F = 5, 2u)")
   (goto-char (+ (point-min) 11))
   (row "what completes ADDRESS" (mapcar (lambda (one) (plist-get one :label)) (ask :textDocument/completion)) '("START" "TOTAL"))
+  (eglot-format-buffer)
+  (row "in columns" (buffer-string) "START   LDA  TOTAL\n        ADD  Y\nTOTAL   CON  5\n        END  START\n")
   (set-buffer-modified-p nil)
   (eglot-shutdown (eglot-current-server)))
 

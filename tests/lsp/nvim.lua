@@ -87,6 +87,16 @@ vim.api.nvim_win_set_cursor(0, { 3, 0 })
 local actions = ask("textDocument/codeAction", vim.tbl_extend("force", vim.lsp.util.make_range_params(), { context = { diagnostics = {} } }))
 vim.lsp.util.apply_workspace_edit(actions[1].edit, "utf-16")
 row("a line that is mended", vim.api.nvim_buf_get_lines(0, 2, 3, false), { " JMP  2B" })
+-- LOC at column 1, OP at 9, ADDRESS at 14, a remark at 27; what reads as characters of ALF, comments and what follows END stay
+vim.api.nvim_buf_set_lines(0, 0, -1, false, {
+  "  * no comment", "* LDA X", "2H LDA  X\t é  ", "VERYLONG ADD X(0:5),2 it is long", " ALF  AB", '\tALF "AB CD" x', "X CON 5", " HLT and stop", " END X", " LDA X",
+})
+local server = vim.lsp.get_active_clients({ bufnr = 0 })[1]
+local edits = ask("textDocument/formatting", { options = { tabSize = 8, insertSpaces = true } })
+vim.lsp.util.apply_text_edits(edits, vim.api.nvim_get_current_buf(), server.offset_encoding)
+row("in columns", vim.api.nvim_buf_get_lines(0, 0, -1, false), {
+  "  * no comment", "* LDA X", "2H      LDA  X            é", "VERYLONG ADD  X(0:5),2    it is long", "        ALF  AB", '        ALF  "AB CD"      x', "X       CON  5", "        HLT               and stop", "        END  X", " LDA X",
+})
 
 io.stdout:write(("%d passed, %d failed\n"):format(passed, failed))
 vim.cmd(failed == 0 and "qall!" or "cquit!")

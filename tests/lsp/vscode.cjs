@@ -132,6 +132,14 @@ const document = { languageId: "mixal", version: 1, uri: { toString: () => "file
   row("what is renamed", await renaming.prepareRename(document, at(2, 0)), { start: { line: 2, character: 0 }, end: { line: 2, character: 1 } });
   const edits = await renaming.provideRenameEdits(document, at(2, 0), "TOTAL");
   row("a new name", edits.texts[0][1].map((one) => one.parts[1]), ["TOTAL", "TOTAL"]);
+  const layout = await providers.registerDocumentFormattingEditProvider.provideDocumentFormattingEdits(document, {});
+  const whole = (line, length) => ({ start: { line, character: 0 }, end: { line, character: length } });
+  row("in columns", layout.map((one) => one.parts), [
+    [whole(0, 12), "START   LDA  X"],
+    [whole(1, 10), "        ADD  Y"],
+    [whole(2, 11), "X       CON  5"],
+    [whole(3, 15), "        END  START"],
+  ]);
   row("no name", await renaming.prepareRename(document, at(1, 6)).catch((error) => error.message), "no name stands here");
   const hover = await providers.registerHoverProvider.provideHover(document, at(0, 7));
   row("a hover", hover.parts, ["LDA: rA becomes V (C = 8, F = 5, 2u)"]);

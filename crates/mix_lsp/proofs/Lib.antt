@@ -1,3 +1,4 @@
+mod FormatLemmas
 mod ItemLemmas
 mod MessageLemmas
 mod PlaceLemmas

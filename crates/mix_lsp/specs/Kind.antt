@@ -22,7 +22,8 @@ methods =
     (codes "textDocument/completion", kind.Look look.Completion) ∷
     (codes "textDocument/documentSymbol", kind.Look look.Symbols) ∷
     (codes "textDocument/foldingRange", kind.Look look.Folds) ∷
-    (codes "textDocument/codeAction", kind.Look look.Actions) ∷ []
+    (codes "textDocument/codeAction", kind.Look look.Actions) ∷
+    (codes "textDocument/formatting", kind.Look look.Format) ∷ []
 
 -- what a name names among some rows, letter for letter
 abbrev pub kind_among : List ℕ → List (List ℕ × Kind) → Option Kind

@@ -4,6 +4,7 @@ pub mod Document
 pub mod Encoding
 pub mod Finder
 pub mod Folds
+pub mod Formatted
 pub mod Hover
 pub mod Kind
 pub mod Look

@@ -12,6 +12,7 @@ use Rattle.mix_lsp.specs.Completion.{completed}
 use Rattle.mix_lsp.specs.Document.{place_in, range_in}
 use Rattle.mix_lsp.specs.Finder.{Sought}
 use Rattle.mix_lsp.specs.Folds.{folds_shown}
+use Rattle.mix_lsp.specs.Formatted.{formatted_shown}
 use Rattle.mix_lsp.specs.Hover.{hover_shown, said_at}
 use Rattle.mix_lsp.specs.Mentioned.{alike_at, defined, defining, edit, highlight, location, mention_at, mention_range, mentions_shown, new_text, spot_of, used}
 use Rattle.mix_lsp.specs.Message.{param, text_param}
@@ -97,4 +98,5 @@ abbrev pub shown : Look → List ℕ → Sought → Data → Option Data
 shown look.Symbols uri s m = Some (symbols_shown uri s)
 shown look.Folds uri s m = Some (list_of (folds_shown s))
 shown look.Actions uri s m = actions_asked uri s (range_asked m)
+shown look.Format uri s m = Some (list_of (formatted_shown s))
 shown other uri s m = option_and_then (shown_at other uri s m) (position_of m)

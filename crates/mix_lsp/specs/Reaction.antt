@@ -91,7 +91,8 @@ rename_shown = object (put (codes "prepareProvider") (boolean true) no_members)
 abbrev pub providers : List (List ℕ)
 providers =
     codes "definitionProvider" ∷ codes "referencesProvider" ∷ codes "documentHighlightProvider" ∷ codes "documentSymbolProvider" ∷
-    codes "hoverProvider" ∷ codes "foldingRangeProvider" ∷ codes "codeActionProvider" ∷ []
+    codes "hoverProvider" ∷ codes "foldingRangeProvider" ∷ codes "codeActionProvider" ∷
+    codes "documentFormattingProvider" ∷ []
 
 abbrev pub put_providers : List (List ℕ) → Members → Members
 put_providers [] members = members

@@ -83,7 +83,7 @@ fn capabilities(alloc: Global, encoding: Encoding) -> Result<Value, Memory>
     Ok(body.done())
 }
 
-const PROVIDERS: [&str; 7] = [
+const PROVIDERS: [&str; 8] = [
     "definitionProvider",
     "referencesProvider",
     "documentHighlightProvider",
@@ -91,6 +91,7 @@ const PROVIDERS: [&str; 7] = [
     "hoverProvider",
     "foldingRangeProvider",
     "codeActionProvider",
+    "documentFormattingProvider",
 ];
 
 fn put_providers(body: &mut Fields, names: &[&str]) -> Result<(), Memory>

@@ -22,7 +22,8 @@ pub(crate) enum Kind {
 
 /// What is looked at: of the name at a place its definitions, its mentions as a list or to be
 /// marked, its bytes, and a new name for it; what is said of what stands at a place, and what
-/// completes it; or of a text all names that it defines, its remarks, and what mends its lines.
+/// completes it; or of a text all names that it defines, its remarks, what mends its
+/// lines, and what puts it in columns.
 #[derive(Clone, Copy)]
 pub(crate) enum Look {
     Definition,
@@ -35,6 +36,7 @@ pub(crate) enum Look {
     Symbols,
     Folds,
     Actions,
+    Format,
 }
 
 /// The methods that there are, by their names in the protocol.
@@ -59,6 +61,7 @@ fn methods() -> &'static [(&'static str, Kind)]
         ("textDocument/documentSymbol", Kind::Look(Look::Symbols)),
         ("textDocument/foldingRange", Kind::Look(Look::Folds)),
         ("textDocument/codeAction", Kind::Look(Look::Actions)),
+        ("textDocument/formatting", Kind::Look(Look::Format)),
     ]
 }
 

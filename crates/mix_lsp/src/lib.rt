@@ -10,6 +10,7 @@ mod encoding;
 mod fault;
 mod finder;
 mod folds;
+mod formatted;
 mod hover;
 mod kind;
 mod law;

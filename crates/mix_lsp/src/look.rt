@@ -11,6 +11,7 @@ ghost use Rattle.mix_lsp.specs.Range.{list_of};
 use crate::document::{place_in, range_in};
 use crate::encoding::Encoding;
 use crate::finder::Finder;
+use crate::formatted::formatted_shown;
 use crate::kind::Look;
 use crate::mention::{Show, mention_range, mentions_shown};
 use crate::mentioned::{alike_at, mention_at, name_at, retain_definitions, retain_used};
@@ -45,6 +46,11 @@ impl<'t> Open<'t> {
                 Some((from, to)) => Ok(Some(self.actions(from, to)?)),
                 None => Ok(None),
             },
+            Look::Format => Ok(Some(Value::Array(formatted_shown(
+                self.alloc,
+                self.encoding,
+                self.text,
+            )?))),
             _ => match position_of(message) {
                 Some(at) => self.shown_at(look, message, at),
                 None => Ok(None),
@@ -63,7 +69,7 @@ impl<'t> Open<'t> {
             Look::Rename => self.renamed(at, text_param(message, "newName")),
             Look::Hover => Ok(Some(self.hover(at)?)),
             Look::Completion => Ok(Some(self.completion(at)?)),
-            Look::Symbols | Look::Folds | Look::Actions => Ok(None),
+            Look::Symbols | Look::Folds | Look::Actions | Look::Format => Ok(None),
         }
     }
 
