@@ -2,7 +2,6 @@
 use Rattle.std.proofs.Common.{◌≡◌, ◌≤◌, ◌<◌, ◌-◌, drop, ◌==◌, ℕ, zero, suc, Bool, true, false, cond, List, [], ◌∷◌, length, length-take, map, take, refl, sym, ap, ◌∙◌, arith, eqb-true}
 use Rattle.std.proofs.Math.Seq.{drop-nil}
 use Rattle.mix_lines.specs.Lines.{is_line_feed, lines, lines-nil, strip_line_feed, text_of_line, whole_lines}
-use Rattle.std.specs.Str.Lines.{strip_carriage_return}
 use Rattle.std.specs.Prelude.{slice_index}
 use Rattle.mix_lsp.specs.Place.{after_end, after_ends, first_line}
 

@@ -3,12 +3,12 @@ use Rattle.std.proofs.Common.{◌≡◌, ℕ, ℤ, Bool, true, false, Option, No
 use Rattle.std.specs.Prelude.{option_and_then, option_to_list}
 use Rattle.serde_json.specs.Data.{Data, Items}
 use Rattle.serde_json.specs.Find.{get}
-use Rattle.dap_stream.specs.Asked.{Body, message_in}
+use Rattle.dap_stream.specs.Asked.{message_in}
 use Rattle.mix_lsp.specs.Document.{text_among}
 use Rattle.mix_lsp.specs.Kind.{kind_named}
 use Rattle.mix_lsp.specs.Message.{changes_of, id_of, is_answer, method_of, text_of, uri_of, version_of}
 use Rattle.mix_lsp.specs.Reaction.{State, answered, asked, asked_first, asked_ready, by_method, changed_document, changed_text, closed, looked, nameless, noted, noted_else, noted_in, noted_ready, opened, reaction, reaction_to}
-use Rattle.mix_lsp.specs.Response.{EachIsAnswered, id_asked, id_asked_by, ids_asked, ids_sent}
+use Rattle.mix_lsp.specs.Response.{EachIsAnswered, id_asked, id_asked_by, ids_sent}
 use Rattle.mix_lsp.specs.Served.{answers}
 use Rattle.mix_lsp.specs.declared.kind.Kind.{Kind}
 use Rattle.mix_lsp.specs.declared.kind.Kind.TheVariants as kind

@@ -2,17 +2,15 @@
 use Rattle.std.proofs.Common.{inl, inr, ◌≡◌, ◌+◌, ℕ, Option, None, Some, Result, Ok, Err, List, [], ◌∷◌, ◌++◌, length, refl, sym, ap, subst, ◌∙◌, append_assoc, append-nil, length-append}
 use Rattle.std.specs.Prelude.{option_to_list}
 use Rattle.std.specs.Io.KnownBytes.{prepend_known}
-use Rattle.serde_json.specs.Data.{Data}
 use Rattle.dap_stream.specs.Asked.{Body}
 use Rattle.dap_stream.specs.Heard.{HearsBodies}
 use Rattle.dap_stream.specs.Hearing.{HearsAs}
 use Rattle.dap_stream.specs.Sent.{SendsAll}
 use Rattle.dap_stream.specs.declared.broken.Broken.{Broken}
-use Rattle.dap_stream.specs.declared.broken.Broken.TheVariants as broken
 use Rattle.dap_stream.proofs.SendLemmas.{sends-none, sends-then}
 use Rattle.dap_stream.proofs.Talking.{hears-none, hears-then}
 use Rattle.mix_lsp.specs.Reaction.{State, new_state, reaction_to}
-use Rattle.mix_lsp.specs.Served.{AnswersAs, BreaksOff, Ends, GoOn, LastAs, Served, ServedAs, Talks, TurnAs, after, answers}
+use Rattle.mix_lsp.specs.Served.{AnswersAs, GoOn, LastAs, Served, ServedAs, Talks, TurnAs, after, answers}
 
 answers-append : (s : State) (xs ys : List Body) → answers s (xs ++ ys) ≡ answers s xs ++ answers (after s xs) ys
 answers-append s [] ys = refl

@@ -1,5 +1,5 @@
 -- What completes the word that is being written, by what stands left of it in its line.
-use Rattle.std.specs.Prelude.{ℕ, suc, zero, ◌-◌, ◌/◌, ◌%◌, ◌==◌, ◌&&◌, not, Bool, true, false, List, [], ◌∷◌, ◌++◌, codes, filter, length, map, take, Option, None, Some, if◌then◌else◌}
+use Rattle.std.specs.Prelude.{ℕ, suc, zero, ◌-◌, ◌/◌, ◌%◌, ◌==◌, ◌&&◌, not, Bool, true, false, List, [], ◌∷◌, ◌++◌, codes, filter, length, take, Option, None, Some, if◌then◌else◌}
 use Rattle.serde_json.specs.Data.{Data, no_members, number, object, put, string, unsigned}
 use Rattle.mix_lines.specs.Lines.{is_comment}
 use Rattle.mix_word.specs.Operation.{normal_f_of}

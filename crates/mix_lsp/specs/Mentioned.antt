@@ -11,7 +11,6 @@ use Rattle.mixal_text.specs.declared.local.Direction.{Direction}
 use Rattle.mixal_text.specs.declared.local.Direction.TheVariants.{Here, Backward, Forward}
 use Rattle.mixal_text.specs.declared.local.Local.{Local as LocalSymbol}
 use Rattle.mixal_text.specs.declared.misread.Span.{Span}
-use Rattle.mixal_asm.specs.Mentions.{mentions_of}
 use Rattle.mixal_asm.specs.declared.mentioned.Mention.{Mention}
 use Rattle.mixal_asm.specs.declared.mentioned.Name.{Name}
 use Rattle.mixal_asm.specs.declared.mentioned.Name.TheVariants.{Symbol, Local}

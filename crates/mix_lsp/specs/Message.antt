@@ -1,6 +1,6 @@
 -- What a message of a client says, and the messages that are sent to it.
-use Rattle.std.specs.Prelude.{ℕ, ℤ, negsuc, List, codes, Bool, ◌||◌, is_some, Option, None, Some, option_and_then, option_map, unwrap_or, if◌then◌else◌}
-use Rattle.serde_json.specs.Data.{Data, Items, Members, no_items, no_members, null, number, object, put, string}
+use Rattle.std.specs.Prelude.{ℕ, ℤ, negsuc, List, codes, Bool, ◌||◌, is_some, Option, option_and_then}
+use Rattle.serde_json.specs.Data.{Data, Items, Members, no_members, number, object, put, string}
 use Rattle.serde_json.specs.Find.{as_array, as_str, get}
 use Rattle.serde_json.specs.Find.{of_integer}
 use Rattle.dap_message.specs.Request.{member_of}

@@ -1,6 +1,5 @@
 -- What there is to say of a text, as the client is told it.
-use Rattle.std.specs.Prelude.{ℕ, ℤ, ◌-◌, List, [], codes, map, Option, None, Some}
-use Rattle.std.specs.Option.{unwrap_or}
+use Rattle.std.specs.Prelude.{ℕ, ℤ, ◌-◌, List, codes, map, Option, None, Some}
 use Rattle.serde_json.specs.Data.{Data, Members, array, no_members, number, object, put, string, unsigned}
 use Rattle.serde_json.specs.Find.{of_integer}
 use Rattle.serde_json.specs.View.{items_of}

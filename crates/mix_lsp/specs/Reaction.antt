@@ -1,5 +1,5 @@
 -- What a message does: one row for each kind.
-use Rattle.std.specs.Prelude.{◌≡◌, ℕ, ℤ, List, [], ◌∷◌, codes, Bool, true, false, Option, None, Some, option_and_then, option_map, if◌then◌else◌}
+use Rattle.std.specs.Prelude.{◌≡◌, ℕ, ℤ, List, [], ◌∷◌, codes, Bool, true, false, Option, None, Some, option_and_then, option_map}
 use Rattle.serde_json.specs.Data.{Data, Items, Members, boolean, no_items, item, no_members, null, number, object, put, string, unsigned}
 use Rattle.serde_json.specs.Find.{as_array, as_str}
 use Rattle.serde_json.specs.View.{view}
@@ -12,7 +12,7 @@ use Rattle.mix_lsp.specs.Look.{shown}
 use Rattle.mix_lsp.specs.Message.{changes_of, id_of, is_answer, method_of, param, refusal, reply, text_of, uri_of, version_of}
 use Rattle.mix_lsp.specs.Published.{published, published_list}
 use Rattle.mix_lsp.specs.declared.encoding.Encoding.{Encoding}
-use Rattle.mix_lsp.specs.declared.encoding.Encoding.TheVariants.{Utf8, Utf16, Utf32}
+use Rattle.mix_lsp.specs.declared.encoding.Encoding.TheVariants.{Utf16}
 use Rattle.mix_lsp.specs.declared.fault.Fault.{Fault}
 use Rattle.mix_lsp.specs.declared.fault.Fault.TheVariants as fault
 use Rattle.mix_lsp.specs.declared.kind.Kind.{Kind}

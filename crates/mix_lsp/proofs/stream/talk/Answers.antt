@@ -1,7 +1,6 @@
 -- One turn more, or the last one.
-use Rattle.std.proofs.Common.{inl, inr, Ok, length, refl, subst, sym, ◌∙◌, ap, arith}
+use Rattle.std.proofs.Common.{inl, inr, Ok, refl, subst, ◌∙◌, arith}
 use Rattle.std.proofs.lemmas.Result.{err_from_is_err_and}
-use Rattle.std.proofs.lemmas.List.{length-append}
 use Rattle.dap_stream.specs.Hearing.{unheard}
 use Rattle.mix_lsp.specs.Reaction.{state_of}
 use Rattle.mix_lsp.specs.Served.{TurnAs}
