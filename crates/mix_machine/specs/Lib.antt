@@ -15,6 +15,7 @@ pub mod Registers
 pub mod Transfers
 pub mod UnitAction
 pub mod View
+pub mod Watch
 pub mod World
 pub mod Write
 pub mod law

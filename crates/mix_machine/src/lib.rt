@@ -23,6 +23,7 @@ mod transfer;
 mod transfers;
 mod undo;
 mod units;
+mod watch;
 mod world;
 mod write;
 
@@ -38,4 +39,5 @@ pub use transfers::{Conflict, Direction, Pending, Transfers, transfer_law};
 pub use units::{
     DeckFault, DeckKind, MAX_DECK_BYTES, Row, Unit, UnitKind, UnitNo, Units, are_same_words,
 };
+pub use watch::{Seen, Watch};
 pub use world::World;

@@ -10,7 +10,7 @@ use crate::fault::MixFault;
 use crate::old::{Change, Old};
 use crate::pack::Anchor;
 use crate::world::World;
-use undo_core::{Kept, Refused, Undo};
+use undo_core::{Kept, Refused, Stop, Undo};
 
 impl Undo for World {
     type Change = Change;
@@ -59,16 +59,18 @@ impl Undo for World {
         matches!(change, Change::Step) && self.next_is_plain()
     }
 
-    /// Does a change, and a step again as long as the next needs no look at the machine first, so many times at most.
+    /// Does a change, and a step again as long as the next needs no look at the machine first and
+    /// none stops them, so many times at most.
     #[inline(always)]
-    fn apply_many(
+    fn apply_until<T: Stop<World>>(
         &mut self,
         change: &Change,
         most: usize,
+        stop: &T,
         kept: &mut Kept<Old>,
     ) -> (usize, Result<(), Refused<MixFault>>) {
         if matches!(change, Change::Step) {
-            self.steps(most, kept)
+            self.steps(most, stop, kept)
         } else {
             match self.apply(change, kept) {
                 Ok(()) => (1, Ok(())),

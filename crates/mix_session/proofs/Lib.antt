@@ -6,6 +6,7 @@ mod ConditionLemmas
 mod ConflictLemmas
 mod GoingLemmas
 mod KnownLemmas
+mod MarkLemmas
 mod MoveLemmas
 mod NamedLemmas
 mod PathLemmas
@@ -22,4 +23,5 @@ mod TallyLemmas
 mod TimelineLemmas
 mod UnitLemmas
 mod UntilLemmas
+mod WatchLemmas
 mod WritesLemmas

@@ -1,5 +1,6 @@
 -- Plain steps, over plain variables: they are new steps, and a free run goes on after each of them.
 use Rattle.std.proofs.Common.{◌≡◌, ◌<◌, ◌==◌, ◌∙◌, ◌++◌, ℕ, zero, suc, Bool, true, false, ◌&&◌, ◌||◌, not, List, [], ◌∷◌, replicate, get_or, Result, Err, None, Some, Ok, refl, ap, sym, subst, arith, append_assoc, nat_le, nat_lt}
+use Rattle.std.proofs.lemmas.Bool.{and_parts}
 use Rattle.std.proofs.lemmas.Bool.Decides.{nat_tests}
 use Rattle.std.proofs.lemmas.List.{append-nil}
 use Rattle.std.specs.Option.{option_and_then}
@@ -10,7 +11,7 @@ use Rattle.mix_refused.specs.declared.refused.Refused.{Refused}
 use Rattle.mix_refused.specs.declared.refused.Refused.TheVariants as refused
 use Rattle.undo_core.specs.History.{HoldsOfState}
 use Rattle.mix_machine.specs.declared.fault.MixFault.{MixFault}
-use Rattle.undo_core.specs.Repeat.{Repeats}
+use Rattle.undo_core.specs.Repeat.{Repeats, goes_unless}
 use Rattle.undo_core.specs.Replay.{replay}
 use Rattle.mix_machine.specs.World.{WorldState, IsWorld, has_break}
 use Rattle.mix_machine.specs.Decode.{instruction}
@@ -18,10 +19,10 @@ use Rattle.mix_machine.specs.Do.{does, kept_values, IsReal, is_step, is_halt_nex
 use Rattle.mix_machine.specs.declared.old.Change.{Change}
 use Rattle.mix_machine.specs.declared.old.Change.TheVariants.{Step}
 use Rattle.mix_machine.specs.declared.old.Old.{Old}
+use Rattle.mix_machine.specs.law.Steps.{steps_on}
 use Rattle.mix_machine.specs.declared.part.Mark.{Mark}
-use Rattle.mix_session.specs.Command.{end_of_move}
-use Rattle.mix_session.specs.Marks.{AreMarks}
-use Rattle.mix_session.specs.Plain.{IsFree, ArePlain}
+use Rattle.mix_session.specs.Marks.{end_by_marks}
+use Rattle.mix_session.specs.Plain.{ArePlain, IsLeft}
 use Rattle.mix_session.specs.Stops.{StopsState}
 use Rattle.mix_session.specs.Timeline.{Timeline, world_of, with_change, is_at_break}
 use Rattle.mix_session.specs.declared.command.stops.Way.TheVariants.{New}
@@ -46,15 +47,19 @@ replay-more s u w (d ∷ cs) c e given =
 abbrev pub IsRealStep : WorldState → Change → Type 0
 IsRealStep w c = IsWorld w × IsReal c
 
-abbrev pub goes_on : WorldState → Change → Bool
-goes_on w c = is_step c && is_plain_next w
+abbrev pub goes_on : (WorldState → Bool) → WorldState → Change → Bool
+goes_on ends = goes_unless ends (λ w c. is_step c && is_plain_next w)
+
+-- a step that goes on is plain, and no end is there
+pub on-plain : (ends : WorldState → Bool) (w : WorldState) → steps_on ends w ≡ true → (not (ends w) ≡ true) × (is_plain_next w ≡ true)
+on-plain ends w on = and_parts (not (ends w)) (is_plain_next w) on
 
 -- steps that are done again and again, the first of which is plain too
-pub plain-repeats : (n : ℕ) (t next : Timeline) (s u : WorldState) (os : List Old) → replay does t.first t.changes ≡ Some s → (0 < n → is_plain_next s ≡ true) →
-    Repeats IsRealStep does kept_values goes_on Step n s u os → next.first ≡ t.first → next.changes ≡ t.changes ++ replicate n Step →
-    (n ≡ 0 → next ≡ t) → (0 < n → next.ahead ≡ []) → ArePlain n t next
-plain-repeats zero t next s u os here plain done first changes none ahead = none refl
-plain-repeats (suc n) t next s u os here plain done first changes none ahead =
+pub plain-repeats : (ends : WorldState → Bool) (n : ℕ) (t next : Timeline) (s u : WorldState) (os : List Old) → replay does t.first t.changes ≡ Some s →
+    (0 < n → is_plain_next s ≡ true) → Repeats IsRealStep does kept_values (goes_on ends) Step n s u os → next.first ≡ t.first →
+    next.changes ≡ t.changes ++ replicate n Step → (n ≡ 0 → next ≡ t) → (0 < n → next.ahead ≡ []) → ArePlain ends n t next
+plain-repeats ends zero t next s u os here plain done first changes none ahead = none refl
+plain-repeats ends (suc n) t next s u os here plain done first changes none ahead =
     let v = done.1.0 in
     let led = with_change t Step in
     let there : replay does led.first led.changes ≡ Some v = replay-more t.first s v t.changes Step here done.1.1 in
@@ -65,18 +70,27 @@ plain-repeats (suc n) t next s u os here plain done first changes none ahead =
     let after : world_of led ≡ v = world_of-is led led v refl there in (
       rw before (plain (omega arith)),
       rw (before, after) done.1.1,
-      plain-repeats n led next v u done.1.3.0 there done.1.2 done.1.3.2 first more last (λ some. ahead (omega arith)),
+      (λ some. rw after (done.1.2 some)),
+      plain-repeats ends n led next v u done.1.3.0 there (λ some. (on-plain ends v (done.1.2 some)).1) done.1.3.2 first more last (λ some. ahead (omega arith)),
     )
 
--- where memory is out, the next step could be done
-pub plain-more : {A B : Type 0} (next : Timeline) (u : WorldState) (answer : Result A (Refused MixFault)) (said : Result B Memory) →
-    replay does next.first next.changes ≡ Some u → IfMemory answer (HoldsOfState does next (λ w. IsOk (does w Step))) →
-    OnErr said (answer ≡ Err refused.Memory) → OnErr said (IsOk (does (world_of next) Step))
-plain-more {A} {B} next u answer (Ok x) here last out = tt
-plain-more {A} {B} next u answer (Err e) here last out =
+-- where memory is out, the steps go on, and the next one could be done
+pub steps-left : {A B : Type 0} (ends : WorldState → Bool) (n most : ℕ) (next : Timeline) (u : WorldState) (answer : Result A (Refused MixFault)) (said : Result B Memory) →
+    replay does next.first next.changes ≡ Some u → OnErr answer (0 < n → HoldsOfState does next (λ w. goes_on ends w Step ≡ true)) →
+    IfMemory answer (HoldsOfState does next (λ w. IsOk (does w Step))) → OnErr said (answer ≡ Err refused.Memory) → OnErr said (nat_lt n most ≡ true) →
+    OnErr said (IsLeft ends n most next)
+steps-left {A} {B} ends n most next u answer (Ok x) here going last out fewer = tt
+steps-left {A} {B} ends n most next u answer (Err e) here going last out fewer =
+    let state = sym (world_of-is next next u refl here) in
     let could : HoldsOfState does next (λ w. IsOk (does w Step)) =
     subst (λ (a : Result A (Refused MixFault)). IfMemory a (HoldsOfState does next (λ w. IsOk (does w Step)))) out last in
-    subst (λ (w : WorldState). IsOk (does w Step)) (sym (world_of-is next next u refl here)) (could u here)
+    let on : 0 < n → HoldsOfState does next (λ w. goes_on ends w Step ≡ true) =
+    subst (λ (a : Result A (Refused MixFault)). OnErr a (0 < n → HoldsOfState does next (λ w. goes_on ends w Step ≡ true))) out going in
+    record {
+      fewer = grind (arith, nat_tests, fewer);
+      going = λ some. subst (λ (w : WorldState). steps_on ends w ≡ true) state (on some u here);
+      more = subst (λ (w : WorldState). IsOk (does w Step)) state (could u here);
+    }
 
 -- a plain step is no halt
 code-plain : (b five other two : Bool) → (b && not (five || other)) ≡ true → (b && five && two) ≡ false
@@ -98,24 +112,9 @@ no-break : (breaks : Bool) (w : WorldState) → (breaks ≡ true → (p : ℕ) �
 no-break breaks w none =
     break-none breaks (is_at_break w) (λ stops. break-none (nat_lt w.loc 4000) (has_break w w.loc) (λ below. none stops w.loc (grind (arith, nat_tests))))
 
--- nothing ends a free run by a plain step
-pub quiet-move : (conflicts : Bool) (stops : StopsState) (old now : WorldState) → is_halt_next old ≡ false → IsFree New stops now → end_of_move conflicts New stops old now ≡ None
-quiet-move conflicts stops old now halts free =
-    let at : (stops.breaks && is_at_break now) ≡ false = no-break stops.breaks now free.breaks in
-    rw (halts, free.watched, free.cells, free.location, at) refl
-
-pub marks-none : (conditions : List Condition) (marks : List Mark) (v w : WorldState) → conditions ≡ [] → AreMarks conditions marks v → AreMarks conditions marks w
-marks-none [] [] v w none are = tt
-marks-none [] (m ∷ marks) v w none are = are
-marks-none (c ∷ cs) marks v w none are = absurd (cc)
-
--- a free run stays free
-pub free-next : BreaksLaw → (stops : StopsState) (v w : WorldState) → IsFree New stops v → does v Step ≡ Ok w → IsFree New stops w
-free-next law stops v w free given =
-    record {
-      new = refl;
-      watched = free.watched;
-      cells = free.cells;
-      location = free.location;
-      breaks = λ set p below. ap (λ (breaks : List Bool). get_or breaks p false) (law v w given) ∙ free.breaks set p below;
-    }
+-- nothing ends a run at a state which stops nothing
+pub nothing-there : (stops : StopsState) (w : WorldState) → stops.watched ≡ [] → stops.cells ≡ [] → stops.location ≡ None →
+    (stops.breaks ≡ true → (p : ℕ) → p < 4000 → has_break w p ≡ false) → (marks : List Mark) → end_by_marks false false stops marks w ≡ None
+nothing-there stops w watched cells location breaks marks =
+    let at : (stops.breaks && is_at_break w) ≡ false = no-break stops.breaks w breaks in
+    rw (watched, cells, location, at) refl

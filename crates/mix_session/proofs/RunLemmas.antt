@@ -129,7 +129,7 @@ none_told told i (Alters part ∷ cs) (m ∷ ms) now marked none some =
 none_told told i (At place ∷ cs) (m ∷ ms) now marked none some =
     none_told told (i + 1) cs ms now (omega (arith, marked)) (found_none (is_met_from told m now (At place)) i (first_met told (i + 1) cs ms now) none) some
 
-met_none : (halts : Bool) (met : Option ℕ) (there : Option End) → (if halts then Some Halt else option_or (option_map Until met) there) ≡ None → met ≡ None
+pub met_none : (halts : Bool) (met : Option ℕ) (there : Option End) → (if halts then Some Halt else option_or (option_map Until met) there) ≡ None → met ≡ None
 met_none true met there none = absurd (cc)
 met_none false (Some index) there none = absurd (cc)
 met_none false None there none = refl

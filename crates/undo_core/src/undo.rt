@@ -2,16 +2,17 @@
 ghost use Rattle.std.specs.Prelude.{◌≡◌, ◌<◌, ◌≤◌, ◌-◌, ◌++◌, ◌⊎◌, Bool, List, Option, Result, Some, Ok, Err, true, false, IsOk, IsSome, IsTrue, OnOk, OnErr, length, take, drop, reverse};
 ghost use Rattle.mix_refused.specs.Refused.{IfFault, IfMemory};
 ghost use Rattle.undo_core.specs.Counts.{IsPart, newest_part};
-ghost use Rattle.undo_core.specs.Repeat.{Repeats};
+ghost use Rattle.undo_core.specs.Repeat.{Repeats, goes_unless};
 ghost use Rattle.undo_core.specs.Replay.{put_back};
 
 use crate::kept::Kept;
 use crate::pack::Pack;
+use crate::stop::{Never, Stop};
 use crate::values::Values;
 use mix_refused::Refused;
 
 /// A state, its changes, and the old values that take a change back.
-pub trait Undo: Drop {
+pub trait Undo: Sized + Drop {
     /// What a state is asked to do.
     type Change: Copy;
 
@@ -84,13 +85,32 @@ pub trait Undo: Drop {
         ensures fault { IfFault result.1 (λ f. gives self.new change.now ≡ Err f) }
         ensures last { IfMemory result.1 (IsOk (gives self.new change.now)) }
     {
+        self.apply_until(change, most, &Never, kept)
+    }
+
+    /// The same, where it also ends after the change that leads to a state that stops it.
+    fn apply_until<T: Stop<Self>>(
+        &mut self,
+        change: &Self::Change,
+        most: usize,
+        stop: &T,
+        kept: &mut Kept<Self::Old>,
+    ) -> (usize, Result<(), Refused<Self::Fault>>)
+        requires { 0 < most }
+        ensures within { result.0 ≤ most }
+        ensures done { (os : List Self.Old) × (kept.new.items ≡ kept.old.items ++ os) × Repeats is_real gives keeps (goes_unless (T.stops stop.now) goes) change.now result.0 self.old self.new os }
+        ensures all { OnOk result.1 ((0 < result.0) × ((result.0 ≡ most) ⊎ (goes_unless (T.stops stop.now) goes self.new change.now ≡ false))) }
+        ensures going { OnErr result.1 (0 < result.0 → goes_unless (T.stops stop.now) goes self.new change.now ≡ true) }
+        ensures fault { IfFault result.1 (λ f. gives self.new change.now ≡ Err f) }
+        ensures last { IfMemory result.1 (IsOk (gives self.new change.now)) }
+    {
         let mut done = 0;
         while done < most {
             match self.apply(change, kept) {
                 Ok(()) => done += 1,
                 Err(refused) => return (done, Err(refused)),
             }
-            if !self.goes(change) {
+            if stop.stops(self) || !self.goes(change) {
                 return (done, Ok(()));
             }
         }

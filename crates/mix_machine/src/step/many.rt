@@ -11,7 +11,7 @@ use crate::old::{Change, Old};
 use crate::step::told::{answer_of, told};
 use crate::world::World;
 use mix_word::{Place, Word};
-use undo_core::{Kept, Refused};
+use undo_core::{Kept, Never, Refused, Stop};
 
 impl World {
     /// Does a step, or reports its first fault; out of memory is the answer to none that has a fault.
@@ -19,21 +19,23 @@ impl World {
     pub(crate) fn step(&mut self, kept: &mut Kept<Old>) -> Result<(), Refused<MixFault>>
         ensures { Carried (plan_of self.old Change.Step) self.old self.new kept.old.items kept.new.items result }
     {
-        self.steps(1, kept).1
+        self.steps(1, &Never, kept).1
     }
 
-    /// Does a step, and the next one as long as that needs no look at the machine first, so many at most. It returns how many were done, and why not
-    /// one more, if that was tried and refused.
+    /// Does a step, and the next one as long as that needs no look at the machine first and none
+    /// stops them, so many at most. It returns how many were done, and why not one more, if that
+    /// was tried and refused.
     #[inline(always)]
-    pub(crate) fn steps(
+    pub(crate) fn steps<T: Stop<World>>(
         &mut self,
         most: usize,
+        stop: &T,
         kept: &mut Kept<Old>,
     ) -> (usize, Result<(), Refused<MixFault>>)
         requires { 0 < most }
-        ensures { Stepped most self.old self.new kept.old.items kept.new.items result.0 result.1 }
+        ensures { Stepped (T.stops stop.now) most self.old self.new kept.old.items kept.new.items result.0 result.1 }
     {
-        let (done, answer) = self.steps_told(most, kept);
+        let (done, answer) = self.steps_told(most, stop, kept);
         (done, answer_of(answer))
     }
 
@@ -41,26 +43,37 @@ impl World {
     // (one function, in which the operations that programs do most are inlined, each being called there alone. With them it is too long for the
     // compiler to inline it where steps are done: it would drop the attribute from one of the functions in it, and call that with more arguments)
     #[inline(never)]
-    fn steps_told(&mut self, most: usize, kept: &mut Kept<Old>) -> (usize, u8)
+    fn steps_told<T: Stop<World>>(
+        &mut self,
+        most: usize,
+        stop: &T,
+        kept: &mut Kept<Old>,
+    ) -> (usize, u8)
         requires { 0 < most }
-        ensures { Stepped most self.old self.new kept.old.items kept.new.items result.0 (answer_of result.1) }
+        ensures { Stepped (T.stops stop.now) most self.old self.new kept.old.items kept.new.items result.0 (answer_of result.1) }
     {
         match Place::of(self.loc) {
             None => (0, told(Err(Refused::Fault(MixFault::NoCellAtLocation)))),
             Some(place) => {
                 let word = self.cell(place);
-                self.steps_from(word, most, kept)
+                self.steps_from(word, most, stop, kept)
             }
         }
     }
 
     // The same from a cell on, which holds this word.
     #[inline(always)]
-    fn steps_from(&mut self, first: Word, most: usize, kept: &mut Kept<Old>) -> (usize, u8)
+    fn steps_from<T: Stop<World>>(
+        &mut self,
+        first: Word,
+        most: usize,
+        stop: &T,
+        kept: &mut Kept<Old>,
+    ) -> (usize, u8)
         requires some { 0 < most }
         requires cell { self.old.loc < 4000 }
         requires word { first ≡ cell_of self.old self.old.loc }
-        ensures { Stepped most self.old self.new kept.old.items kept.new.items result.0 (answer_of result.1) }
+        ensures { Stepped (T.stops stop.now) most self.old self.new kept.old.items kept.new.items result.0 (answer_of result.1) }
     {
         let mut word = first;
         let mut done = 0;
@@ -72,6 +85,9 @@ impl World {
                 return (done, answer);
             }
             done += 1;
+            if stop.stops(self) {
+                return (done, told(Ok(())));
+            }
             match self.plain_word() {
                 Some(next) => word = next,
                 None => return (done, told(Ok(()))),

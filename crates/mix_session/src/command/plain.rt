@@ -1,72 +1,152 @@
 //! Plain steps of a run, many at a time.
 
-ghost use Rattle.std.specs.Prelude.{◌≡◌, ◌≤◌, ◌<◌, Err, IsOk, IsTrue, OnOk, OnErr, true, false};
-ghost use Rattle.mix_machine.specs.Do.{does};
-ghost use Rattle.mix_machine.specs.declared.old.Change.TheVariants.{Step};
-ghost use Rattle.mix_session.specs.Plain.{IsFree, ArePlain};
-ghost use Rattle.mix_session.specs.Timeline.{world_of};
+ghost use Rattle.std.specs.Prelude.{◌≡◌, ◌≤◌, ◌<◌, Err, Some, IfOk, IfSome, IsTrue, None, OnOk, OnErr, true, false, length};
+ghost use Rattle.mix_session.specs.Plain.{AllowsMany, ArePlain, AreSteps, HasEnd, IsLeft, LeavesOff, ends_at, locations_of, watch_for};
 
-use crate::command::stops::{Stops, Way};
-use mix_machine::{Change, MixFault, World};
-use undo_core::{Journal, Memory, Refused};
+use crate::command::stops::{Stops, Way, end_of_move, is_free};
+use crate::condition::Condition;
+use crate::reply::End;
+use crate::timeline::world_of;
+use mix_machine::{Change, Mark, MixFault, Seen, Watch, World};
+use undo_core::{Journal, Memory, Never, Refused, Stop};
 
 // So many steps are done at a time, at most.
 const MOST_AT_ONCE: usize = 1 << 30;
 
-/// Whether a run needs no look at the machine after a plain step: it does new ones, and nothing stops it that such a step may come to.
+/// What plain steps that are done many at a time stop at.
+#[derive(Drop)]
+pub(crate) enum Many {
+    /// At nothing.
+    Freely,
+    /// At what is watched.
+    Until(Watch),
+}
+
+/// What the plain steps of a run stop at, where they may be done many at a time: of new ones, which
+/// wait for no conflict, and for one condition at most.
 #[inline(always)]
-pub(crate) fn is_free(way: Way, stops: &Stops<'_>, world: &World) -> bool
-    ensures { IsTrue result → IsFree way stops.now world.now }
+pub(crate) fn many_of(way: Way, stops: &Stops<'_>, marks: &[Mark], world: &World) -> Option<Many>
+    requires { length stops.now.watched ≡ length marks.now }
+    ensures { IfSome result (λ many. AllowsMany way stops.now marks.now world.now.breaks many) }
 {
     match way {
         Way::New => {}
-        Way::Again | Way::Back => return false,
+        Way::Again | Way::Back => return None,
     }
-    if !stops.watched.is_empty() || !stops.cells.is_empty() {
-        return false;
+    if is_free(stops, world) {
+        return Some(Many::Freely);
     }
-    match stops.location {
-        Some(_) => return false,
-        None => {}
+    match watch_of(stops, marks, world) {
+        Some(watch) => Some(Many::Until(watch)),
+        None => None,
     }
-    !stops.breaks || !world.has_breaks()
 }
 
-/// The plain steps that come next, so many at most, if the run is free: how many are done, and whether memory is out for one more. (A step that has a fault
-/// is left to the ordinary change after them, which says why.)
+// What the plain steps of another run stop at.
+fn watch_of(stops: &Stops<'_>, marks: &[Mark], world: &World) -> Option<Watch>
+    requires { length stops.now.watched ≡ length marks.now }
+    ensures is { IfSome result (λ watch. watch_for stops.now.watched marks.now (locations_of stops.now world.now) ≡ Some watch) }
+    ensures long { IfSome result (λ watch. length world.now.breaks ≡ 4000) }
+{
+    let mut watch = Watch::of(world, stops.breaks);
+    watch.add_all(stops.cells);
+    watch.add_location(stops.location);
+    if stops.watched.is_empty() {
+        return Some(watch);
+    }
+    if stops.watched.len() > 1 {
+        return None;
+    }
+    match stops.watched[0] {
+        Condition::Alters(part) => {
+            watch.see(Seen {
+                part,
+                mark: marks[0],
+            });
+            Some(watch)
+        }
+        Condition::At(place) => {
+            watch.add(place);
+            Some(watch)
+        }
+        Condition::Conflicts => None,
+    }
+}
+
+/// The plain steps that come next, so many at most, if the run may do them many at a time: how many
+/// are done, and why it ends there, if it does, by the marks before them, which are made those after
+/// them; or that memory is out for one more. (A step that has a fault is left to the ordinary change
+/// after them, which says why.)
 #[inline(always)]
 pub(crate) fn plain_steps(
     journal: &mut Journal<World>,
-    free: bool,
+    many: &Option<Many>,
+    stops: &Stops<'_>,
+    marks: &mut [Mark],
     most: usize,
-) -> (usize, Result<(), Memory>)
+) -> (usize, Result<Option<End>, Memory>)
+    requires { length stops.now.watched ≡ length marks.old }
     ensures within { result.0 ≤ most }
-    ensures free { 0 < result.0 → free ≡ true }
-    ensures plain { ArePlain result.0 journal.old journal.new }
-    ensures memory { OnErr result.1 (free ≡ true) }
-    ensures fewer { OnErr result.1 (result.0 < most) }
-    ensures more { OnErr result.1 (IsOk (does (world_of journal.new) Step)) }
+    ensures steps { AreSteps many.now result.0 journal.old journal.new }
+    ensures end { IfOk result.1 (λ end. HasEnd stops.now marks.old marks.new result.0 journal.new end) }
+    ensures left { OnErr result.1 (LeavesOff many.now result.0 most journal.new) }
 {
-    if free {
-        steps_at_once(journal, most)
-    } else {
-        (0, Ok(()))
+    match many {
+        None => (0, Ok(None)),
+        Some(many) => steps_of(journal, many, stops, marks, most),
     }
 }
 
-// The plain steps that come next, so many at most. (Apart, so that it stands once, and not in the loop of each run.)
-#[inline(never)]
-fn steps_at_once(journal: &mut Journal<World>, most: usize) -> (usize, Result<(), Memory>)
+// The same of a run that may.
+#[inline(always)]
+fn steps_of(
+    journal: &mut Journal<World>,
+    many: &Many,
+    stops: &Stops<'_>,
+    marks: &mut [Mark],
+    most: usize,
+) -> (usize, Result<Option<End>, Memory>)
+    requires { length stops.now.watched ≡ length marks.old }
     ensures within { result.0 ≤ most }
-    ensures plain { ArePlain result.0 journal.old journal.new }
-    ensures fewer { OnErr result.1 (result.0 < most) }
-    ensures more { OnErr result.1 (IsOk (does (world_of journal.new) Step)) }
+    ensures steps { ArePlain (ends_at many.now) result.0 journal.old journal.new }
+    ensures end { IfOk result.1 (λ end. HasEnd stops.now marks.old marks.new result.0 journal.new end) }
+    ensures left { OnErr result.1 (IsLeft (ends_at many.now) result.0 most journal.new) }
+{
+    match many {
+        Many::Freely => steps_until(journal, &Never, stops, marks, most),
+        Many::Until(watch) => steps_until(journal, watch, stops, marks, most),
+    }
+}
+
+// The same, where such steps end at some states. (Apart, so that it stands not in
+// the loop of each run.)
+#[inline(never)]
+fn steps_until<T: Stop<World>>(
+    journal: &mut Journal<World>,
+    stop: &T,
+    stops: &Stops<'_>,
+    marks: &mut [Mark],
+    most: usize,
+) -> (usize, Result<Option<End>, Memory>)
+    requires { length stops.now.watched ≡ length marks.old }
+    ensures within { result.0 ≤ most }
+    ensures plain { ArePlain (T.stops stop.now) result.0 journal.old journal.new }
+    ensures end { IfOk result.1 (λ end. HasEnd stops.now marks.old marks.new result.0 journal.new end) }
+    ensures left { OnErr result.1 (IsLeft (T.stops stop.now) result.0 most journal.new) }
 {
     if most == 0 || !journal.state().next_is_plain() {
-        return (0, Ok(()));
+        return (0, Ok(None));
     }
-    let (done, answer) = journal.go_many(Change::Step, most.min(MOST_AT_ONCE));
-    (done, unless_fault(answer, done < most))
+    let (done, answer) = journal.go_many(Change::Step, most.min(MOST_AT_ONCE), stop);
+    match unless_fault(answer, done < most) {
+        Err(Memory) => return (done, Err(Memory)),
+        Ok(()) => {}
+    }
+    if done == 0 {
+        return (0, Ok(None));
+    }
+    let end = end_of_move(false, false, stops, marks, world_of(journal));
+    (done, Ok(end))
 }
 
 // What steps come to, but for a fault, where more are left to be done.

@@ -9,7 +9,7 @@ ghost use Rattle.mix_session.specs.Marks.{AreMarks, HasMoved};
 ghost use Rattle.mix_session.specs.Known.{has_conflict, Knows};
 
 use crate::answer::Answer;
-use crate::command::plain::{is_free, plain_steps};
+use crate::command::plain::{many_of, plain_steps};
 use crate::command::stops::{Stops, Way, end_of_move, marks_at};
 use crate::condition::Condition;
 use crate::conditions::Conditions;
@@ -137,10 +137,18 @@ pub(crate) fn run_on(
 {
     mark_law();
     change_law();
-    let free = is_free(way, stops, journal.state());
-    let (mut done, begun) = plain_steps(journal, free, most);
-    begun?;
+    let many = many_of(way, stops, marks, journal.state());
+    let mut done = 0;
     while done < most {
+        let (plain, ended) = plain_steps(journal, &many, stops, marks, most - done);
+        done += plain;
+        match ended? {
+            Some(end) => return Ok((done, end)),
+            None => {}
+        }
+        if done == most {
+            return Ok((most, End::Limit));
+        }
         let conflicts = known.look_on(way, journal);
         // (last, so that the step needs not read its cell again)
         let halts = is_halt_done(way, journal.state());
@@ -153,9 +161,6 @@ pub(crate) fn run_on(
             Some(end) => return Ok((done + 1, end)),
             None => done += 1,
         }
-        let (plain, answer) = plain_steps(journal, free, most - done);
-        done += plain;
-        answer?;
     }
     Ok((most, End::Limit))
 }

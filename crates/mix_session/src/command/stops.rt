@@ -1,12 +1,13 @@
 //! What stops a run, and which way it goes.
 
-ghost use Rattle.std.specs.Prelude.{◌≡◌, ◌<◌, ◌==◌, IfErr, IfOk, Some, None, length, take, if◌then◌else◌};
+ghost use Rattle.std.specs.Prelude.{◌≡◌, ◌<◌, ◌==◌, IfErr, IfOk, IsTrue, Some, None, length, take, if◌then◌else◌};
 ghost use Rattle.std.specs.List.{list_any};
 ghost use Rattle.std.specs.Option.{option_or};
 ghost use Rattle.mix_session.specs.Timeline.{is_at_break};
 ghost use Rattle.mix_session.specs.Command.{end_there};
 ghost use Rattle.mix_session.specs.Stops.{is_at_stop, is_awaited};
 ghost use Rattle.mix_session.specs.Marks.{AreMarks, first_met, end_by_marks};
+ghost use Rattle.mix_session.specs.Plain.{IsFree};
 
 use crate::condition::Condition;
 use crate::conditions::Conditions;
@@ -46,6 +47,21 @@ impl<'a> Model for Stops<'a> {
     ghost Value = { StopsState };
 
     ghost view = { λ s. record { breaks = s.breaks; cells = s.cells.now; watched = s.watched.now; location = s.location } };
+}
+
+/// Whether nothing stops a run that a plain step may come to.
+#[inline(always)]
+pub(crate) fn is_free(stops: &Stops<'_>, world: &World) -> bool
+    ensures { IsTrue result → IsFree stops.now world.now }
+{
+    if !stops.watched.is_empty() || !stops.cells.is_empty() {
+        return false;
+    }
+    match stops.location {
+        Some(_) => return false,
+        None => {}
+    }
+    !stops.breaks || !world.has_breaks()
 }
 
 /// The marks of what is watched.

@@ -4,8 +4,8 @@ use Rattle.mix_machine.proofs.StepsLemmas.{none-there}
 use Rattle.mix_machine.proofs.world.World.steps_told.Goals as goal
 
 pub returns-in-None : goal.returns-in-None
-returns-in-None c =
+returns-in-None g c =
     let none : c.self.inside.loc < 4000 → ⊥ = λ low. (let no = c.in-None.ensures.valid.1 low in cc) in
     let most = c.self.invariant.loc in
     let past : c.self.inside.loc ≡ 4000 = omega (arith, none, most) in
-    none-there c.args.most c.args.self.now c.args.kept.now.items _ c.told.ensures c.requires (subst (λ (w : WorldState). w.loc ≡ 4000) c.self.view_is past)
+    none-there (g.T.Stop.stops c.args.stop.now) c.args.most c.args.self.now c.args.kept.now.items _ c.told.ensures c.requires (subst (λ (w : WorldState). w.loc ≡ 4000) c.self.view_is past)
