@@ -115,6 +115,21 @@ def by_files(program, place, count):
         count.same(command, shell('"$0" ' + command, program, source, [script, gone, memory]), wanted)
 
 
+def full_disk(program, place, count):
+    """A deck and a map on a disk that is full, and on one with room for a part of them: each is told, what was there stays, and nothing is left beside it."""
+    small = os.path.join(place, "small")
+    os.mkdir(small)
+    mounted = 'mount -t tmpfs -o size=16k none "$1" && cd "$1" || exit 9; printf "OLD\\n" >old; printf " ENTX 9\\n OUT 10(8)\\n HLT\\n END 0\\n" >f; head -c %d /dev/zero >fill; '
+    run = '"$0" run f --keep old --svg new </dev/null; echo $?; ls -A; cat old'
+    for filled, refused, there in ((8192, (b"old", b"new"), [b"f", b"fill", b"old"]), (4096, (b"old",), [b"f", b"fill", b"new", b"old"])):
+        command = mounted % filled + run
+        ran = subprocess.run(["unshare", "--mount", "--map-root-user", "/bin/bash", "-c", command, program, small], capture_output=True, timeout=SECONDS)
+        if ran.returncode == 9 or b"unshare" in ran.stderr:
+            return
+        told = b"".join(b"mixrev: T3 write failed: %s\n" % name for name in refused)
+        count.same("a disk with %d bytes of 16384 filled" % filled, (ran.stderr, ran.stdout.splitlines()), (told, [b"2", *there, b"OLD"]))
+
+
 READS = b" IN 100(16)\n END 0\n"
 STEPS = b" HLT\n END 0\n%SCRIPT\nstep\n"
 NO_END = b"line 1: A13 no END\n"
@@ -192,6 +207,7 @@ def rows(program, workers, quick=False):
         if takes_words(program):
             by_files(program, place, count)
             plans(program, place, count)
+            full_disk(program, place, count)
         if shutil.which("cc"):
             calls(program, place, count)
         for text in (b" END 0\n", TEXT) if os.path.exists("/dev/ptmx") else ():

@@ -111,6 +111,37 @@ A folder is no text, and what is closed cannot be read.
   stderr: mixrev: T2 read failed: -
   [2]
 
+A file that is opened, and whose first read fails: it is named, and of several the one that is read first. What is named before it has been read.
+
+  $ mixrev run a.mixal --devices /proc/self/mem --cards /proc/self/./mem --typewriter /proc/./self/mem </dev/null
+  stderr: mixrev: T2 read failed: /proc/self/mem
+  [2]
+  $ mixrev run a.mixal --typewriter /proc/self/mem --cards /proc/self/./mem </dev/null
+  stderr: mixrev: T2 read failed: /proc/self/./mem
+  [2]
+  $ printf '?\n' >refused
+  $ mixrev run a.mixal --typewriter /proc/self/mem --cards refused </dev/null
+  stderr: mixrev: T5 deck refused at line 1: K4 no MIX character
+  [2]
+  $ mixrev run a.mixal --typewriter /proc/self/mem --cards /dev/null </dev/null
+  stderr: mixrev: T2 read failed: /proc/self/mem
+  [2]
+  $ mixrev run /proc/self/mem --devices /proc/self/./mem </dev/null
+  stderr: mixrev: T2 read failed: /proc/self/mem
+  [2]
+  $ mixrev debug a.mixal /proc/self/mem --devices /proc/self/./mem </dev/null
+  stderr: mixrev: T2 read failed: /proc/self/./mem
+  [2]
+  $ mixrev debug a.mixal /proc/self/mem --devices /dev/null </dev/null
+  stderr: mixrev: T2 read failed: /proc/self/mem
+  [2]
+  $ mixrev debug a.mixal --devices /proc/self/mem </dev/null
+  stderr: mixrev: T2 read failed: /proc/self/mem
+  [2]
+  $ mixrev check a.mixal /proc/self/mem /proc/self/./mem </dev/null
+  stderr: mixrev: T2 read failed: /proc/self/mem
+  [2]
+
 Whoever reads the output may go: then nothing more is written, and nothing is told.
 
   $ cat >gone.py <<'END'

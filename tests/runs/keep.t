@@ -130,3 +130,62 @@ On standard output it comes after what is printed. If that is a file, nothing of
   PRINT
   $ mixrev run disk.mixal --keep - </dev/null
   $ cmp disk ./-
+
+Each file that is not saved is told, the deck first; the other one is saved all the same. Above them stands what is told of the run.
+
+  $ mixrev run disk.mixal --keep none/deck --svg none/map </dev/null
+  stderr: mixrev: T4 not opened: none/deck: No such file or directory
+  stderr: mixrev: T4 not opened: none/map: No such file or directory
+  [2]
+  $ mixrev run disk.mixal --keep none/deck --svg map </dev/null
+  stderr: mixrev: T4 not opened: none/deck: No such file or directory
+  [2]
+  $ sed -n '$p' map
+  </svg>
+  $ mixrev run disk.mixal --keep deck --svg /dev/full </dev/null
+  stderr: mixrev: T3 write failed: /dev/full
+  [2]
+  $ cmp disk deck
+  $ printf ' OUT 9(18)\n STZ 9\n JMP 2\n ORIG 9\n ALF "LINES"\n END 0\n%%DEVICES\n%%UNIT 18 delay 10\n' >line.mixal
+  $ mixrev run line.mixal --steps 2 --keep none/deck </dev/null
+  LINES
+  stderr: line.mixal:2: warning: at 0001 clock 1 cell 0009 is altered while unit 18 prints it until 11
+  stderr: line.mixal: warning: 1 step conflicts with a transfer under way
+  stderr: line.mixal:3: steps used up at 0002 clock 3
+  stderr: mixrev: T4 not opened: none/deck: No such file or directory
+  [2]
+  $ mixrev run line.mixal --strict --steps 9 --svg folder </dev/null
+  LINES
+  stderr: line.mixal:2: error: at 0001 clock 1 cell 0009 is altered while unit 18 prints it until 11
+  stderr: mixrev: T4 not opened: folder: Is a directory
+  [2]
+
+A file that no more can be written to holds what it held, and a new one is not there.
+
+  $ printf 'OLD\n' >old
+  $ (trap '' XFSZ; ulimit -f 1; mixrev run disk.mixal --keep old --svg none/map </dev/null)
+  stderr: mixrev: T3 write failed: old
+  stderr: mixrev: T4 not opened: none/map: No such file or directory
+  [2]
+  $ cat old
+  OLD
+  $ (trap '' XFSZ; ulimit -f 1; mixrev run disk.mixal --keep new </dev/null)
+  stderr: mixrev: T3 write failed: new
+  [2]
+  $ ls -a | grep -e new -e mixrev
+  [1]
+
+What is closed, or open for reading alone, is not written to; nothing is saved after a run whose output failed.
+
+  $ program=$(dirname "$(command -v mixrev)")/../program/mixrev
+  $ "$program" run halt.mixal --devices tape --keep /dev/stdout </dev/null 2>&1 >&-
+  mixrev: T3 write failed: /dev/stdout
+  [2]
+  $ "$program" run halt.mixal --devices tape --keep /dev/stdout 2>&1 </dev/null 1</dev/null
+  mixrev: T3 write failed: /dev/stdout
+  [2]
+  $ "$program" run print.mixal --devices tape --keep new </dev/null 2>&1 >&-
+  mixrev: T3 write failed
+  [2]
+  $ ls new 2>&1 | wc -l
+  1
