@@ -27,12 +27,6 @@ export function mark(element, name, value) {
 
 export const isPressed = (id) => $(id).getAttribute("aria-pressed") === "true";
 
-// Shows a part of the page, where the window is too narrow for all.
-export function choose(name) {
-  $("main").dataset.tab = name;
-  for (const tab of all("#tabs button")) mark(tab, "aria-pressed", tab.dataset.tab === name);
-}
-
 // How far an event is from the left of an element, as a part of its width.
 export function partOf(element, { clientX }) {
   const { left, width } = element.getBoundingClientRect();
@@ -50,12 +44,6 @@ export function keepStop(box, row = box) {
 
 export function stepOf(key, page) {
   return { ArrowUp: -1, ArrowDown: 1, PageUp: -page, PageDown: page, Home: -Infinity, End: Infinity }[key];
-}
-
-// How dark each of some numbers is.
-export function heats(numbers) {
-  const most = Math.log(1 + Math.max(1, ...numbers));
-  return (number) => (Math.log(1 + number) / most).toFixed(2);
 }
 
 export const between = (least, number, most) => Math.max(least, Math.min(most, number));

@@ -17,13 +17,8 @@ function openingOf({ deck, cards, source }) {
     ["initialize", { adapterID: "mixrev", clientID: "page", linesStartAt1: true }],
     ["launch", { program: "program.mixal", ...texts, stopOnEntry: true }],
     ["configurationDone", {}],
+    repl("goto 0"), // it does nothing, and shows whether the engine tells lines
   ];
-}
-
-// Where words only ask something, they stand for no line.
-function loggedOf(command, answer) {
-  const { line } = answer.success ? answer.body : { line: command };
-  return { command: line ?? command, reply: replyOf(answer), isSaid: line === undefined };
 }
 
 export class Session {
@@ -33,6 +28,7 @@ export class Session {
     this.texts = texts;
     this.shown = shown;
     this.launched = null; // the answer to the launch
+    this.tellsLines = false; // whether the engine says which line of a script a person's words stand for
     this.log = /** @type {Logged[]} */ ([]); // each command with its reply
     this.state = /** @type {Partial<State>} */ ({ done: 0, ahead: 0 }); // that after the last command
     this.at = 0; // so many changes are done in the engine
@@ -60,7 +56,7 @@ export class Session {
     const way = isLost ? [...openingOf(this.texts), ...this.lines.map(repl)] : [];
     if (at !== (isLost ? this.done : this.at)) way.push(repl(`goto ${at}`));
     const answers = await this.machine.ask(this, [...way, ...requests]);
-    if (isLost) this.launched = answers[1];
+    if (isLost) Object.assign(this, { launched: answers[1], tellsLines: answers[3].body?.line !== undefined });
     this.at = at;
     return answers.slice(way.length);
   }
@@ -71,7 +67,7 @@ export class Session {
     const answers = await this.ask([...commands.map(repl), all, ["mix/units", {}], ...blocks], at);
     const [state, units, ...found] = answers.slice(commands.length).map(({ body }) => body);
     this.at = state.done;
-    const logged = commands.map((command, index) => loggedOf(command, answers[index]));
+    const logged = commands.map((command, index) => this.loggedOf(command, answers[index]));
     if (commands.length > 0) this.noticed(logged, state);
     const held = blocks.flatMap(([, { unit, block }], index) => {
       const { units: one } = found[index];
@@ -84,6 +80,12 @@ export class Session {
       altered: new Set(state.altered), field, ...(await this.momentOf(state, field)),
     };
     return { answers, logged, view };
+  }
+
+  // Where words only ask something, they stand for no line.
+  loggedOf(command, answer) {
+    const line = answer.success && this.tellsLines ? answer.body.line : command;
+    return { command: line ?? command, reply: replyOf(answer), isSaid: line === undefined };
   }
 
   // The last change and the next step, with the numbers of whole words, and in a field; how often
@@ -160,18 +162,18 @@ export class Session {
     }
   }
 
-  // The first of the moments ahead at which a condition of `until` holds, if there is one.
+  // The first of the moments ahead at which a condition of `until` holds.
   async next(conditions) {
     const back = repl(`goto ${this.done}`);
-    const tries = conditions.flatMap((condition) => [repl(`forth until ${condition}`), WHERE, back]);
-    const moments = (await this.bodies(tries)).map(({ done }) => done).filter((done) => done > this.done);
+    const answers = await this.ask(conditions.flatMap((condition) => [repl(`forth until ${condition}`), WHERE, back]));
+    const moments = conditions.map((_, index) => answers[3 * index + 1].body.done).filter((done) => done > this.done);
     return moments.length > 0 ? Math.min(...moments) : undefined;
   }
 
-  // The numbers of W-values; NaN for one that has none.
+  // The numbers of W-values; NaN for one that is refused.
   async values(expressions) {
-    const bodies = await this.bodies(expressions.map((expression) => ["evaluate", { expression, context: "watch" }]));
-    return bodies.map(({ number, result = "" }) => Number(number ?? result.split(" = ")[1] ?? NaN));
+    const answers = await this.ask(expressions.map((expression) => ["evaluate", { expression, context: "watch" }]));
+    return answers.map(({ success, body }) => (success ? Number(body.result.split(" = ")[1]) : NaN));
   }
 
   async cellsAt(moments, cells, field) {
@@ -215,8 +217,8 @@ export class Session {
     return new Map(cells.map((cell, index) => [cell, found[index].writes.length]));
   }
 
-  // The changes around this moment that wrote a part, whether more may stand before or behind them,
-  // and then `many` in all; the last one that is done; the first one that is ahead.
+  // The changes around this moment that wrote a part, and whether more may stand before or behind
+  // them; the last one that is done; the first one that is ahead.
   async writesOf(part) {
     const { done, total } = this;
     const writesUpTo = async (ends) => {
@@ -228,12 +230,10 @@ export class Session {
     const reaches = (writes) => writes.length < MOST_WRITES || writes[0].number <= done + 1;
     const near = reaches(all) ? [] : await writesUpTo([done + MOST_WRITES, done + 32 * MOST_WRITES]);
     const ahead = [...near, all].filter(reaches).pop().filter(({ number }) => number > done);
-    const isCut = [before.length === MOST_WRITES, !reaches(all)];
-    const counts = isCut.includes(true) ? [["mix/writes", { part, count: 0, total: true }]] : [];
-    const lasts = before.slice(-1).map(({ number }) => ["mix/change", { number }]);
-    const bodies = await this.bodies([...counts, ...lasts], total);
-    const [many, last] = [counts.length > 0 && bodies[0].total, bodies[counts.length]];
+    const last = before[before.length - 1];
+    const [change] = await this.bodies(last ? [["mix/change", { number: last.number }]] : [], total);
     const next = ahead.length > 0 ? ahead[0].number : await this.next([part]);
-    return { writes: [...before, ...ahead], isCut, many, last, next };
+    const isCut = [before.length === MOST_WRITES, !reaches(all)];
+    return { writes: [...before, ...ahead], isCut, last: change, next };
   }
 }

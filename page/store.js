@@ -1,8 +1,7 @@
 // The texts, the session of what they say, and the moment that is seen. What is asked for is done
 // in its turn, and who has subscribed is told of what is new.
 
-import { partsOf } from "./bundle.js";
-import { copied, counted } from "./dom.js";
+import { counted } from "./dom.js";
 import { Session } from "./session.js";
 
 const PAUSE = 200; // milliseconds without a key before a text is assembled
@@ -10,40 +9,34 @@ const SESSIONS = 5; // sessions of other texts that can come back
 const SLOW = 400; // milliseconds before a stop is offered
 
 export class Store extends EventTarget {
-  session = /** @type {Session} */ (null); // none while the texts are refused
-  view = /** @type {View} */ (null);
-  refusal = ""; // why there is no session
-  warning = ""; // of a program that is accepted
-  isEdited = false; // since the program was opened or saved
-  kept = new Map(); // the last sessions of other texts in which something was done, by their texts
-  assembled = ""; // the texts of the session or of the refusal
-  timer = 0; // runs while a text is not assembled yet
-  last = /** @type {Promise<any>} */ (Promise.resolve()); // of what is to be done
-  left = 0; // so much still has to be done
-  generation = 0;
-
   // `read` gives the texts as they are now, and `shown` what a session has to look at too.
   constructor(machine, read, shown) {
     super();
     this.machine = machine;
     this.read = read;
     this.shown = shown;
+    this.session = /** @type {Session} */ (null); // none while the texts are refused
+    this.view = /** @type {View} */ (null);
+    this.refusal = ""; // why there is no session
+    this.warning = ""; // of a program that is accepted
+    this.kept = new Map(); // the last sessions of other texts in which something was done, by their texts
+    this.assembled = ""; // the texts of the session or of the refusal
+    this.timer = 0; // runs while a text is not assembled yet
+    this.last = /** @type {Promise<any>} */ (Promise.resolve()); // of what is to be done
+    this.left = 0; // so much still has to be done
+    this.generation = 0;
   }
 
   // Calls `work` whenever something is new:
   // - "texts": others; with what was found in them, the refusal or the program, and the first view
-  // - "program": it is accepted; "forget": another one was opened; "bundle": a text that may be one
+  // - "program": it is accepted; "forget": another program was opened
   // - "view": a moment is seen, with the answer that led to it and the view before
   // - "tell": something; "busy", "slow": whether it is; "failed": what went wrong
+  // - "slide": to a moment; "toggle", "edited"; "copy": a named text
   on(what, work) { this.addEventListener(what, (/** @type {any} */ { detail }) => work(...detail)); }
   emit(what, ...given) { this.dispatchEvent(new CustomEvent(what, { detail: given })); }
   tell(...said) { this.emit("tell", ...said); }
   get isBusy() { return this.left > 0 || this.timer !== 0; }
-
-  copy(text, name) {
-    const isDone = copied(text);
-    this.tell(isDone ? `${name} is copied.` : "This browser does not let the page copy.", !isDone);
-  }
 
   // What it gives, or nothing where it fails or was dropped.
   add(work) {
@@ -83,8 +76,7 @@ export class Store extends EventTarget {
     });
   }
 
-  edited() {
-    this.isEdited = true;
+  assembleSoon() {
     clearTimeout(this.timer);
     this.timer = setTimeout(() => {
       this.timer = 0;
@@ -96,7 +88,7 @@ export class Store extends EventTarget {
   // A session that was left for other texts comes back when its texts do.
   async assemble() {
     const texts = this.read();
-    const key = JSON.stringify(texts);
+    const key = JSON.stringify([texts.source, texts.deck, texts.cards]);
     if (key === this.assembled) return;
     const back = this.kept.get(key);
     const session = back || new Session(this.machine, texts, this.shown);
@@ -120,19 +112,6 @@ export class Store extends EventTarget {
     else if (this.warning) this.tell(this.warning);
   }
 
-  begin() {
-    this.kept.clear();
-    Object.assign(this, { session: null, assembled: "" });
-    return this.assemble();
-  }
-
-  // The parts of a text that may be a bundle.
-  async cut(text) {
-    const session = this.session ?? new Session(this.machine, { source: "", deck: "", cards: "" }, this.shown);
-    const told = await this.add(() => session.bodies([["mix/bundle", { text }]]));
-    return partsOf(text, told?.[0].parts);
-  }
-
   // `answer` is that to the command which led here from the moment of the view `before`.
   show(view, answer = null, before = null) {
     this.view = view;
@@ -146,14 +125,9 @@ export class Store extends EventTarget {
     });
   }
 
-  async did(found, before = this.view) {
-    const { answer, view } = await found;
-    this.isEdited = true;
-    this.show(view, answer, before);
+  begin() {
+    this.kept.clear();
+    Object.assign(this, { session: null, assembled: "" });
+    return this.assemble();
   }
-
-  // Does commands, at whose end a change that conflicts is `met`, if there is one.
-  act(commands, before, met) { return this.did(this.session.act(commands, { met }), before); }
-  go(command) { return this.enqueue(() => this.act([command])); }
-  slide(moment) { return this.enqueue(() => this.did(this.session.slide(moment))); }
 }

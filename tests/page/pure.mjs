@@ -1,6 +1,6 @@
 // The modules of the page that need no page: node tests/page/pure.mjs [SEED]. The last line counts.
 import { readFileSync } from "node:fs";
-import { bundleOf, cardsApart, openedOf, partsOf, scriptOf, withCards } from "../../page/bundle.js";
+import { bundleOf, cardsApart, openedOf, scriptOf, withCards } from "../../page/bundle.js";
 import { grammarOf } from "../../page/colours.js";
 import { CARD, CHARACTERS, OPERATIONS, PSEUDO, explained, filled, takeTables } from "../../page/operations.js";
 import { upTo } from "../../page/range.js";
@@ -86,29 +86,16 @@ row("cells of a range", [upTo(3, 5), upTo(3998, 5000), upTo(5, 4)], [[3, 4, 5], 
 // What is put together comes apart again: bundles, what the page keeps in them, cards, links.
 const lineOf = () => ["step 4", " LDA X", "", "* a remark", "%UNIT 19", "äöü", "X"][drawn(7)];
 const textOf = (lines) => lines.map((line) => `${line}\n`).join("");
-// The lines of the parts, each but the first behind a marker.
-function toldOf(parts) {
-  let before = 0;
-  return Object.entries(parts).flatMap(([part, text]) => {
-    if (text === "") return [];
-    const from = before + (part === "source" ? 1 : 2);
-    before = from + text.split("\n").length - 2;
-    return [{ part, from, until: before }];
-  });
-}
 for (let round = 0; round < 200; round += 1) {
   const [source, cards] = [textOf(some(5, lineOf)), textOf(some(3, () => ["5", "", "A CARD"][drawn(3)]))];
   const done = some(4, () => ["step 4", "", "* mine"][drawn(3)]);
   const kept = { left: some(2, () => "run 5"), breaks: some(3, () => 1 + drawn(99)), bars: ["", "KEY KEY+N number"][drawn(2)], shown: ["", "map no-words"][drawn(2)], lesson: ["", "05_a/b"][drawn(2)] };
   const deck = textOf(some(4, () => ["%UNIT 19 delay 10", "B", ""][drawn(3)]));
-  const parts = { source, deck, script: scriptOf({ done, ...kept }) };
-  const bundle = bundleOf(parts);
-  row("a bundle by its lines", [partsOf(bundle, toldOf(parts)), partsOf(bundle.replaceAll("\n", "\r\n"), toldOf(parts))], [parts, parts]);
-  row("a bundle of which no lines are told", partsOf(bundle), parts);
-  const { shown, ...opened } = openedOf(parts, false);
-  row("a bundle", opened, { source, deck, breaks: kept.breaks, bars: kept.bars, lesson: kept.lesson, done, left: kept.left });
+  const bundle = bundleOf({ source, deck, script: scriptOf({ done, ...kept }) });
+  const { shown, ...opened } = openedOf(bundle, false);
+  row("a bundle", opened, { source, deck, done, left: kept.left, breaks: kept.breaks, bars: kept.bars, lesson: kept.lesson });
   row("a bundle: what is shown", shown.join(" "), kept.shown);
-  row("a bundle that waits", openedOf(parts, true).left, [...done, ...kept.left]);
+  row("a bundle that waits", openedOf(bundle, true).left, [...done, ...kept.left]);
   const whole = withCards(deck, cards);
   row("cards apart from a deck", cardsApart(whole).cards, cards);
   row("cards in their deck again", withCards(cardsApart(whole).deck, cards), whole);
@@ -119,22 +106,25 @@ if (packs) row("a link that holds too much", await bundleIn(await fragmentOf("x"
 row("a source of too many letters", ["x".repeat(1048576), "x".repeat(1048577)].map(tooLarge), ["", "it has 1,048,577 letters, and a source has at most 1,048,576 bytes"]);
 
 // A person's words are kept, and done again, as the line that the engine tells; what asks is shown.
-const LINES = { "b 5": "break 5", "show regs": "show regs", "p A": undefined };
-const asked = [];
-const answerTo = ([, { expression }]) => {
-  if (expression) asked.push(expression);
-  const body = { done: 0, ahead: 0, halted: false, cells: [], altered: [], units: [], result: "said\n", line: LINES[expression] };
-  return { success: expression !== "zz", message: "C1 no such command", body };
-};
-const machine = { holder: null, ask: async (holder, requests) => Object.assign(machine, { holder }) && requests.map(answerTo) };
-const session = new Session(machine, {}, () => ({ blocks: [], field: 5 }));
-for (const typed of [...Object.keys(LINES), "zz"]) await session.act([typed]);
-row("console: what is shown", session.log.map(({ command }) => command), ["break 5", "show regs", "p A", "zz"]);
-row("console: what a file holds", session.lines, ["break 5", "show regs", "zz"]);
-machine.holder = null;
-asked.length = 0;
-await session.act(["show regs"]);
-row("console: what is done again", asked, session.lines);
+const LINES = { "goto 0": "goto 0", "b 5": "break 5", "show regs": "show regs", "p A": undefined };
+for (const tells of [true, false]) {
+  const asked = [];
+  const answerTo = ([, { expression }]) => {
+    if (expression) asked.push(expression);
+    const line = tells && LINES[expression] && { line: LINES[expression] };
+    const body = { done: 0, ahead: 0, halted: false, cells: [], altered: [], units: [], result: "said\n", ...line };
+    return { success: expression !== "zz", message: "C1 no such command", body };
+  };
+  const machine = { holder: null, ask: async (holder, requests) => Object.assign(machine, { holder }) && requests.map(answerTo) };
+  const session = new Session(machine, {}, () => ({ blocks: [], field: 5 }));
+  for (const typed of [...Object.keys(LINES).slice(1), "zz"]) await session.act([typed]);
+  row("console: what is shown", session.log.map(({ command }) => command), [tells ? "break 5" : "b 5", "show regs", "p A", "zz"]);
+  row("console: what a file holds", session.lines, tells ? ["break 5", "show regs", "zz"] : ["b 5", "show regs", "p A", "zz"]);
+  machine.holder = null;
+  asked.length = 0;
+  await session.act(["show regs"]);
+  row("console: what is done again", asked, ["goto 0", ...session.lines]);
+}
 
 // The pictures, with elements that hold what they are given.
 const element = (name) => ({ name, given: {}, inside: [], setAttribute(key, value) { this.given[key] = value; }, append(...more) { this.inside.push(...more); } });

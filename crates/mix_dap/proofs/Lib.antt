@@ -19,5 +19,4 @@ pub mod PointLemmas
 pub mod ReferenceLemmas
 pub mod ReactionLemmas
 pub mod WholeLemmas
-pub mod WritesLemmas
 pub mod WrittenLemmas

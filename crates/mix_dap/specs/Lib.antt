@@ -4,7 +4,6 @@ pub mod Arguments
 pub mod Asked
 pub mod Before
 pub mod Breakpoint
-pub mod Bundle
 pub mod Capabilities
 pub mod Change
 pub mod Check
@@ -16,11 +15,9 @@ pub mod Decoded
 pub mod Deed
 pub mod Dialogue
 pub mod Disassembly
-pub mod Ended
 pub mod Entries
 pub mod Events
 pub mod Fault
-pub mod Given
 pub mod Kind
 pub mod Launch
 pub mod Launched

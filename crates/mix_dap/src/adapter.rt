@@ -14,7 +14,6 @@ ghost use Rattle.mix_dap.specs.Replies.{answer_message};
 
 mod act;
 mod answer;
-mod bodies;
 mod console;
 mod ends;
 mod legs;
@@ -27,9 +26,8 @@ use crate::capabilities::Client;
 use crate::event::tell_event;
 use crate::fault::{Fault, refuse};
 use crate::kind::{Kind, kind_asked};
-use crate::launch::{Opening, Texts};
+use crate::launch::{Texts, session_of};
 use crate::list::nothing;
-use crate::loaded::session_of;
 use crate::points::Points;
 use crate::printed::Printed;
 use crate::report::tell_report;
@@ -77,7 +75,7 @@ pub struct Adapter {
     session: Session,
     name: String,
     client: Client,
-    opening: Opening,
+    stops: bool,
     points: Points,
     printed: Printed,
     fault: Option<MixFault>,
@@ -90,7 +88,7 @@ impl Drop for Adapter {
             session: _,
             name: _,
             client: _,
-            opening: _,
+            stops: _,
             points: _,
             printed: _,
             fault: _,
@@ -133,7 +131,7 @@ impl Adapter {
             session,
             name: texts.name,
             client: waiting.client(),
-            opening: texts.opening,
+            stops: texts.stops,
             points: Points::new(alloc),
             printed: Printed::none(),
             fault: None,

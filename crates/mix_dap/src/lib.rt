@@ -16,7 +16,6 @@ mod kind;
 mod launch;
 mod layout;
 mod list;
-mod loaded;
 mod look;
 mod memory;
 mod points;

@@ -7,7 +7,6 @@ use Rattle.mix_dap.specs.Answer.{line_body}
 use Rattle.mix_dap.specs.Events.{invalidated}
 use Rattle.mix_dap.specs.Output.{outputs}
 use Rattle.mix_dap.specs.Replies.{answer_message}
-use Rattle.mix_dap.specs.Stopped.{fault_in}
 use Rattle.mix_dap.proofs.EventLemmas.{answer-then, rows-then}
 use Rattle.mix_dap.proofs.adapter.Adapter.tell_command.Goals as goal
 
@@ -21,7 +20,7 @@ returns-clause-reacts c =
       search rules,
       refl,
       rw same
-          (answer-then (answer_message c.args.request.now (Ok (line_body (utf8_lossy c.args.line.now) (utf8_lossy c.as_slice.result.now) (fault_in c.args.answer))))
+          (answer-then (answer_message c.args.request.now (Ok (line_body (utf8_lossy c.args.line.now) (utf8_lossy c.as_slice.result.now))))
           (outputs c.args.self.now.printed (world_of c.args.self.now.session.timeline) ++ invalidated c.args.self.now.client) c.args.out.now c.tell_reply.new.out c.invalidated.new.out
           c.in_ok-tell_reply.ensures
           (rows-then c.args.self.now.printed (world_of c.args.self.now.session.timeline) c.world.result.now (invalidated c.args.self.now.client) c.tell_reply.new.out c.tell.new.out
