@@ -15,7 +15,6 @@ pub mod PrintOutput
 pub mod PrintSteps
 pub mod Reason
 pub mod Recall
-pub mod Refusal
 pub mod Reload
 pub mod Saves
 pub mod Sources

@@ -36,7 +36,6 @@ use crate::fault::ToolFault;
 use crate::print::options::PrintOptions;
 use crate::print::texts::units_with_texts;
 use crate::print::told::run_loaded;
-use crate::statuses::tell_refusal;
 pub use loaded::RanTo;
 use mix_refused::Refused;
 use mix_session::Refusal;
@@ -219,7 +218,7 @@ pub fn run_printed<S: In, D: In, C: In, T: In, W: Out, E: Out>(
     match assemble(alloc, parts.source) {
         Err(Refused::Memory) => Err(ToolFault::Memory),
         Err(Refused::Fault(fault)) => {
-            tell_refusal(alloc, name, parts.source, errors);
+            tell_report(alloc, name, parts.source, errors);
             Ok(PrintAnswer::Refused(fault))
         }
         Ok(program) => {

@@ -19,23 +19,10 @@ pub noted-both : (old : Option (List Saved)) (xs ys : List Saved) → noted (not
 noted-both old [] ys = refl
 noted-both old (x ∷ xs) ys = noted-both (noted_one old x) xs ys
 
--- of two files none is named, so neither is
-pub none-named : (a b : Option (List ℕ)) → named a ++ named b ≡ [] → (named a ≡ []) × (named b ≡ [])
-none-named None b e = (refl, e)
-none-named (Some name) b e = absurd cc
-
--- all are saved, or one is not
+-- all are saved
 pub ends-saved : (names : List (List ℕ)) (status : ℕ) → EndsWith names status status
 ends-saved [] status = refl
 ends-saved (name ∷ names) status = inl refl
-
-pub ends-unsaved : (names : List (List ℕ)) (saved : Bool) (status : ℕ) → (names ≡ [] → saved ≡ true) → saved ≡ false → EndsWith names status 2
-ends-unsaved [] true status unnamed e = absurd cc
-ends-unsaved [] false status unnamed e = absurd (true-not-false (unnamed refl))
-  where
-    true-not-false : false ≡ true → ⊥
-    true-not-false e = cc
-ends-unsaved (name ∷ names) saved status unnamed e = inr refl
 
 -- what holds after a run: this if it came to its end, and else that
 abbrev pub AfterEnd : Result PrintAnswer ToolFault → Type 0 → Type 0 → Type 0

@@ -1,11 +1,11 @@
 -- How the program ends: its status, and what stands on its error output.
-use Rattle.std.specs.Prelude.{◌≡◌, ◌⊎◌, ◌+◌, ℕ, zero, suc, Option, None, Some, List, [], ◌∷◌, ◌++◌, Result, Ok, Err, codes}
+use Rattle.std.specs.Prelude.{◌≡◌, ◌⊎◌, ◌+◌, ◌==◌, ℕ, zero, suc, Option, None, Some, List, [], ◌∷◌, ◌++◌, Result, Ok, Err, codes, if◌then◌else◌}
 use Rattle.std.specs.Io.KnownBytes.{Appends, Keeps}
 use Rattle.mix_stream.specs.Stream.{AppendsFront}
 use Rattle.mix_run.specs.Bundle.{OriginValue}
 use Rattle.mix_run.specs.Fault.{tool_fault_text}
 use Rattle.mix_run.specs.Output.{Meets, Outcome}
-use Rattle.mix_run.specs.PrintOutput.{PrintOutcome, Prints, kept_of}
+use Rattle.mix_run.specs.PrintOutput.{PrintOutcome, kept_of}
 use Rattle.mix_run.specs.Talk.{TalksWith}
 use Rattle.mix_run.specs.declared.print.PrintAnswer.{PrintAnswer}
 use Rattle.mix_run.specs.declared.print.PrintAnswer.TheVariants as answers
@@ -18,7 +18,7 @@ use Rattle.mix_machine.specs.units.Units.{UnitsState}
 use Rattle.mix_machine.specs.declared.units.deck_fault.DeckFault.{DeckFault}
 use Rattle.mix_run.specs.declared.fault.ToolFault.{ToolFault}
 use Rattle.mix_run.specs.declared.fault.ToolFault.TheVariants as faults
-use Rattle.mix_run.specs.Opening.{Asks, Files, Saved, noted}
+use Rattle.mix_run.specs.Opening.{Asks, Files, Saved, WhyUnsaved, noted}
 use Rattle.mix_run.specs.Reason.{reason_text}
 use Rattle.mix_run.specs.declared.reason.Reason.{Reason}
 
@@ -43,6 +43,11 @@ report fault file = codes "mixrev: " ++ (tool_fault_text fault ++ (file_text (fi
 abbrev pub IsAmong : List (List ℕ) → List ℕ → Type 0
 IsAmong [] name = ⊥
 IsAmong (first ∷ rest) name = (name ≡ first) ⊎ IsAmong rest name
+
+-- a file, if it is named and reads of it have failed, or else another one
+abbrev pub failed_or : Option (List ℕ) → ℕ → List ℕ → List ℕ
+failed_or None failures other = other
+failed_or (Some name) failures other = if failures == 0 then other else name
 
 -- one of the files that are read; none where no file is
 abbrev pub IsFileOf : List (List ℕ) → Option (List ℕ) → Type 0
@@ -80,13 +85,15 @@ abbrev pub TellsRun : Result ℕ ToolFault → Option (List ℕ) → Option (Lis
 TellsRun (Ok status) file old new failed_old failed_new = Keeps old new × (failed_new ≡ failed_old)
 TellsRun (Err fault) file old new failed_old failed_new = Tells (report fault file) old new failed_old failed_new
 
--- what is known of the streams of a run at one moment: what the input still has, what the output and the error output were told, and how many
--- writes on the error output have failed
+-- what is known at one moment: what the input still has, what the output and the error output
+-- were told, how many writes on the error output have failed, and why the last text that was not
+-- saved was not
 pub record Seen : Type 0 where
   pub input : Option (List ℕ)
   pub out : Option (List ℕ)
   pub errors : Option (List ℕ)
   pub failed : ℕ
+  pub refusal : Option WhyUnsaved
 
 -- a run with this outcome was made on some files: what it wrote and answered is the outcome, its status is answered, and its fault is told, of a read
 -- with one of these files
@@ -128,11 +135,6 @@ saved_after all (Err fault) = []
 abbrev pub EndsWith : List (List ℕ) → ℕ → ℕ → Type 0
 EndsWith [] status answered = answered ≡ status
 EndsWith (name ∷ names) status answered = (answered ≡ status) ⊎ (answered ≡ 2)
-
--- a run was made: what it printed and answered is the outcome, and its status is answered, where these files are created for it
-abbrev pub PrintRuns : PrintOutcome → List (List ℕ) → ℕ → Option (List ℕ) → Option (List ℕ) → Type 0
-PrintRuns outcome names status old new =
-    (run : Result PrintAnswer ToolFault) × Prints outcome run old new × EndsWith (saved_after names run) (status_of_print run) status
 
 -- what holds by the status of a run: this if the run has come to its end, and else that; 2 leaves open which
 abbrev pub ByEnd : ℕ → Type 0 → Type 0 → Type 0

@@ -24,7 +24,7 @@ pub(crate) fn debug_on<O: Opener, R: In, W: Out, E: Out>(
     requires out_count { W.failed streams.old.out < 2 ^ 64 - 1 }
     requires errors_count { E.failed streams.old.errors < 2 ^ 64 - 1 }
     ensures runs { (all : Files) (given : Given) → O.holds files.old ≡ Some all → HoldTexts O.Reader.rest texts given
-        → DebugsOn all plan.now given streams.old.talker result (seen R.rest W.told E.told E.failed streams.old) (seen R.rest W.told E.told E.failed streams.new) }
+        → DebugsOn all plan.now given streams.old.talker result (seen R.rest W.told E.told E.failed (O.refusal files.old) streams.old) (seen R.rest W.told E.told E.failed (O.refusal files.new) streams.new) }
     ensures input { is_talk plan.now.script ≡ false → streams.new.input ≡ streams.old.input }
     ensures unasked { O.asked files.new ≡ O.asked files.old }
     ensures range { result ≤ 3 }

@@ -15,13 +15,17 @@ returns-clause-done g c given holds =
     let prints = c.run_printed-outcome.ensures.output given.source given.deck given.cards given.typewriter
     (rw texts holds.source) (rw texts holds.deck) (rw texts holds.cards) (rw texts holds.typewriter) in (
       c.run_printed-outcome.result,
+      _,
+      _,
+      _,
       rw (c.options_of.ensures, c.as_bytes.ensures.value, c.part_of-part.ensures) at prints,
-      rw c.print_status-status.ensures at c.save_files.ensures.status,
+      c.print_status-status.ensures.told,
+      rw c.print_status-status.ensures.status at c.save_files.ensures.told,
     )
 
 pub returns-clause-created : goal.returns-clause-created
 returns-clause-created g c =
-    creates-run _ _ _ _ _ _ c.print_status-status.ensures c.save_files.ensures.status c.save_files.ensures.created
+    creates-run _ _ _ _ _ _ c.print_status-status.ensures.status c.save_files.ensures.status c.save_files.ensures.created
 
 pub returns-clause-saved : goal.returns-clause-saved
 returns-clause-saved g c given holds =
@@ -35,12 +39,12 @@ returns-clause-saved g c given holds =
     (λ o. Draws o part given.source given.deck given.cards given.typewriter) _ _ _ _ _ _ _ _
     c.options_of.ensures c.new-deck.ensures.items c.new-map.ensures.items (rw (c.as_bytes.ensures.value, c.part_of-part.ensures) at kept)
     (rw (c.as_bytes.ensures.value, c.part_of-part.ensures) at drawn)
-    c.print_status-status.ensures c.save_files.ensures.status c.save_files.ensures.saved
+    c.print_status-status.ensures.status c.save_files.ensures.status c.save_files.ensures.saved
 
 pub returns-clause-range : goal.returns-clause-range
-returns-clause-range g c = c.save_files.ensures.range (print_range _ _ c.print_status-status.ensures)
+returns-clause-range g c = c.save_files.ensures.range (print_range _ _ c.print_status-status.ensures.status)
 
-pub returns-clause-written : goal.returns-clause-written
-returns-clause-written g c well =
-    let same = (c.save_files.ensures.well well).0 in
-    c.run_printed-outcome.ensures.write.1 (λ failed. well (same ∙ c.print_status-status.ensures ∙ ap status_of_print failed))
+pub returns-clause-well : goal.returns-clause-well
+returns-clause-well g c well =
+    let same = c.save_files.ensures.well well in
+    (c.run_printed-outcome.ensures.write.1 (λ failed. well (same.0 ∙ c.print_status-status.ensures.status ∙ ap status_of_print failed)), same.1)
