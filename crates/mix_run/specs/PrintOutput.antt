@@ -12,8 +12,7 @@ use Rattle.mix_machine.specs.declared.units.deck_fault.DeckFault.{DeckFault}
 use Rattle.mix_run.specs.declared.fault.ToolFault.{ToolFault}
 use Rattle.mix_run.specs.declared.fault.ToolFault.TheVariants as faults
 use Rattle.mix_stream.specs.Stream.{AppendsFront}
-use Rattle.mix_run.specs.Bundle.{Cut, cut_of}
-use Rattle.mix_run.specs.Output.{max_bundle_bytes}
+pub use Rattle.mix_files.specs.Bundle.{parts_of}
 use Rattle.mix_run.specs.Counted.{counted_run}
 use Rattle.mix_run.specs.Keep.{kept_if}
 use Rattle.mix_run.specs.Print.{Run, counted, line_at}
@@ -112,10 +111,6 @@ unfoldable pub print_outcome : PrintOptions → List ℕ → Result ProgramValue
 print_outcome options part (Err fault) units = Answered [] (Refused fault) []
 print_outcome options part (Ok program) (Err fault) = UnitsRefused fault
 print_outcome options part (Ok program) (Ok units) = outcome_of_run options part program units
-
--- the source and the deck of a text: those of a bundle; a text that is longer than a bundle may be is a source alone
-unfoldable pub parts_of : List ℕ → Cut
-parts_of text = if nat_lt max_bundle_bytes (length text) then record { source = text; deck = []; script = [] } else cut_of text
 
 -- what was read of a text has its deck, and a source that is assembled to the same
 abbrev pub IsReadAs : List ℕ → List ℕ → Type 0
