@@ -16,7 +16,7 @@ use crate::session::Session;
 use crate::show::changes;
 use crate::tally::{Tallies, tallies_of};
 use crate::timeline;
-use crate::writes::{Write, writes_of};
+use crate::writes::{Write, count_writes, writes_of};
 use mix_machine::{Change, Conflict, Part, World};
 use std::alloc::Global;
 use undo_core::Memory;
@@ -79,6 +79,13 @@ impl Session {
         ensures memory { IfErr result (λ _. (0 < most) × (0 < length self.now.timeline.changes)) }
     {
         writes_of(alloc, self.journal(), &part, until, most)
+    }
+
+    /// How many of the first `until` of the changes done altered a part.
+    pub fn count_writes(&self, part: Part, until: usize) -> usize
+        ensures { result ≡ length (writes_back self.now.timeline part (min until (length self.now.timeline.changes))) }
+    {
+        count_writes(self.journal(), &part, until)
     }
 }
 

@@ -50,6 +50,35 @@ pub(crate) fn writes_of(
     Ok(list)
 }
 
+/// How many of the first so many changes done altered a part. It takes no memory.
+#[tactic(auto, using(crate::proofs::WritesLemmas::counted_all))]
+pub(crate) fn count_writes(journal: &Journal<World>, part: &Part, until: usize) -> usize
+    ensures { result ≡ length (writes_back journal.now part.now (min until (length journal.now.changes))) }
+{
+    mark_law();
+    let mut count = 0;
+    let mut mark = journal.state().mark(*part);
+    let mut past = journal.past();
+    let mut number = journal.done();
+    while number > 0 {
+        let kept = earlier(journal, &mut past, number - 1);
+        let was = before(&kept, part, &mark);
+        if number <= until {
+            count += one_if_altered(&was, &mark);
+        }
+        mark = was;
+        number -= 1;
+    }
+    count
+}
+
+// How many changes altered a part, of one before and after which these are its marks.
+fn one_if_altered(before: &Mark, after: &Mark) -> usize
+    ensures { result ≡ length (write_if (not (is_same_mark before.now after.now)) 1 before.now after.now) }
+{
+    if before.is_same(*after) { 0 } else { 1 }
+}
+
 // Adds the change of a number, if it altered the part whose marks before and after it these are.
 fn add_write(
     list: &mut Vec<Write>,
