@@ -63,6 +63,7 @@
   (row "the definition of X" (starts (ask :textDocument/definition)) '((2 0)))
   (row "all that mentions X" (starts (ask :textDocument/references :context '(:includeDeclaration t))) '((0 11) (2 0)))
   (eglot-rename "TOTAL")
+  (eglot--signal-textDocument/didChange)
   (row "a new name" (buffer-string) "START LDA  TOTAL\n     ADD Y\nTOTAL    CON  5\n     END  START\n")
   (goto-char (+ (point-min) 6))
   (row "a hover" (plist-get (plist-get (ask :textDocument/hover) :contents) :value) "LDA: rA becomes V (C = 8, F = 5, 2u)")
