@@ -41,8 +41,8 @@ END {
     print ""
     print "Instructions a step, by callgrind: of 200,000 steps less those of 100,000."
     print ""
-    printf "%-12s %12s %12s\n", "program", "forward", "back"
-    for (i = 1; i <= count; i++) printf "%-12s %12s %12s\n", program[i], shown(least(program[i], "counted_forward")), shown(least(program[i], "counted_back"))
+    printf "%-12s %12s %12s %12s\n", "program", "forward", "until a cell", "back"
+    for (i = 1; i <= count; i++) printf "%-12s %12s %12s %12s\n", program[i], shown(least(program[i], "counted_forward")), shown(least(program[i], "counted_until")), shown(least(program[i], "counted_back"))
   }
   if (mixvm == "yes") {
     print ""

@@ -53,7 +53,8 @@ TEXTS = [
 # The second change conflicts with a transfer that takes very long, and no other does.
 SOURCE = bundle(lines(" OUT 200(18)", " STZ 200", "LOOP INCA 1", " STA 100", " JMP LOOP", " END 0"), b"", b"%UNIT 18 delay 1000000000\n")
 SIZES = (10, 1000, 1000000)
-# A command, and another that does its work one by one, or for each change, or with room for much: the bounds of the first refuse it.
+# A command, and another that does its work one by one, or for each change, or with room for much:
+# the bounds of the first refuse it.
 MISTAKES = [("run N", "run 1", 1000), ("step N", "step", 1000), ("back N", "back 1", 1000), ("forth N", "forth 1", 1000), ("show clock", "back all", 1), ("show values", "show last 1", 1)]
 
 

@@ -89,7 +89,9 @@ def dialogues(runner, count):
     count.same("their path", path, {"columns": [{"cells": [{"cell": k, "count": 11000} for k in (0, 1)]}] * 500, "from": 0, "until": 11000000})
     count.same("what wrote A", [(one["number"], one["before"]["number"], one["after"]["number"]) for one in writes["writes"]],
                [(2 * k + 1, str(k), str(k + 1)) for k in range(5499999, 5498999, -1)])
-    count.same("a change", change, {"number": 10999999, "location": 0, "text": "INCA 1", "time": "1", "items": [{"part": "A", "before": "+ 00 20 62 49 31", "after": "+ 00 20 62 49 32"}]})
+    done = {"operation": "INCA", "address": "1", "field": 0, "index": 0}
+    count.same("a change", change, {"number": 10999999, "location": 0, "locationAfter": 1, "kind": "step", "text": "INCA 1", "instruction": done, "time": "1",
+                                    "items": [{"part": "A", "before": "+ 00 20 62 49 31", "after": "+ 00 20 62 49 32"}]})
     count.same("all taken back", rest[26]["result"], "changes 0\n")
     count.same("22 pauses", [event["body"]["text"] for event in events[2:]], ["paused after 1000000 changes"] * 22)
 

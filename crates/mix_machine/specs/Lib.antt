@@ -8,6 +8,7 @@ pub mod Fault
 pub mod Jump
 pub mod KeptCount
 pub mod Loaded
+pub mod Many
 pub mod Order
 pub mod Pack
 pub mod Part

@@ -1,16 +1,18 @@
 //! The machine as a state whose changes can be taken back by the values that they replaced.
 ghost use Rattle.std.specs.Prelude.{◌&&◌};
 ghost use Rattle.mix_machine.specs.World.{IsWorld};
+ghost use Rattle.mix_machine.specs.Many.{ends_at};
 ghost use Rattle.mix_machine.specs.Write.{put_value};
 ghost use Rattle.mix_machine.specs.Do.{does, kept_values, IsReal, is_plain_next, is_step};
 ghost use Rattle.mix_machine.specs.law.Parts.{parts-does};
 ghost use Rattle.mix_machine.specs.law.Undone.{undone-does};
 
 use crate::fault::MixFault;
+use crate::many::Many;
 use crate::old::{Change, Old};
 use crate::pack::Anchor;
 use crate::world::World;
-use undo_core::{Kept, Refused, Stop, Undo};
+use undo_core::{Kept, Refused, Undo};
 
 impl Undo for World {
     type Change = Change;
@@ -18,6 +20,8 @@ impl Undo for World {
     type Old = Old;
 
     type Fault = MixFault;
+
+    type Stop = Many;
 
     ghost is_real = { λ w c. IsWorld w × IsReal c };
 
@@ -28,6 +32,8 @@ impl Undo for World {
     ghost put = { put_value };
 
     ghost ends = { is_step };
+
+    ghost stops = { ends_at };
 
     ghost goes = { λ w c. is_step c && is_plain_next w };
 
@@ -53,24 +59,18 @@ impl Undo for World {
         self.change(*change, kept)
     }
 
-    /// Whether a step may be done without a look at the machine first. (It reads the cell at the location, and its code alone.)
-    #[inline(always)]
-    fn goes(&self, change: &Change) -> bool {
-        matches!(change, Change::Step) && self.next_is_plain()
-    }
-
     /// Does a change, and a step again as long as the next needs no look at the machine first and
     /// none stops them, so many times at most.
     #[inline(always)]
-    fn apply_until<T: Stop<World>>(
+    fn apply_until(
         &mut self,
         change: &Change,
         most: usize,
-        stop: &T,
+        stop: &Many,
         kept: &mut Kept<Old>,
     ) -> (usize, Result<(), Refused<MixFault>>) {
         if matches!(change, Change::Step) {
-            self.steps(most, stop, kept)
+            self.steps(most, stop.watch(), kept)
         } else {
             match self.apply(change, kept) {
                 Ok(()) => (1, Ok(())),

@@ -1,19 +1,44 @@
 //! What stops steps that are done one after the other.
-ghost use Rattle.std.specs.Prelude.{◌≡◌, None, Some, length, replicate, false, true, slice_set, if◌then◌else◌};
-ghost use Rattle.mix_machine.specs.Watch.{stops_at, with_all, with_location};
+ghost use Rattle.std.specs.Prelude.{◌≡◌, None, Some, not, length, replicate, false, true, slice_set, if◌then◌else◌};
+ghost use Rattle.mix_machine.specs.Part.{is_same_mark};
+ghost use Rattle.mix_machine.specs.Watch.{is_other, stops_at, with_all, with_location};
 
 use crate::breakpoints::Breakpoints;
 use crate::part::{Mark, Part};
 use crate::world::World;
-use mix_word::Place;
+use mix_word::{Place, Word};
 use std::marker::Model;
-use undo_core::Stop;
 
 /// A part of the machine, and its mark, as it was seen before some steps.
 #[derive(Clone, Copy)]
 pub struct Seen {
     pub part: Part,
     pub mark: Mark,
+}
+
+// Whether the mark of a part is another at a machine than was seen.
+#[inline(always)]
+fn is_other(part: Part, seen: Mark, world: &World) -> bool
+    ensures { result ≡ is_other (Some (record { part = part; mark = seen })) world.now }
+{
+    match part {
+        Part::Cell(place) => is_other_word(seen, world.cell(place)),
+        Part::Register(r) => is_other_word(seen, world.register(r)),
+        Part::Over | Part::Cmp | Part::Unit(_) | Part::Loc | Part::Clock => {
+            !seen.is_same(world.mark(part))
+        }
+    }
+}
+
+// (a cell and a register are looked at as the words that they are, which is quicker)
+#[inline(always)]
+fn is_other_word(mark: Mark, word: Word) -> bool
+    ensures { result ≡ not (is_same_mark mark (Mark.Word word)) }
+{
+    match mark {
+        Mark::Word(seen) => !seen.is_same(word),
+        Mark::Toggle(_) | Mark::Indicator(_) | Mark::Location(_) | Mark::Time(_) => true,
+    }
 }
 
 /// What stops steps that are done one after the other: some locations, or a part that comes to
@@ -87,11 +112,12 @@ impl Watch {
     }
 }
 
-impl Stop<World> for Watch {
-    ghost stops = { stops_at };
-
+impl Watch {
+    /// Whether it stops steps at a machine.
     #[inline(always)]
-    fn stops(&self, world: &World) -> bool {
+    pub(crate) fn stops(&self, world: &World) -> bool
+        ensures { result ≡ stops_at self.now world.now }
+    {
         match Place::of(world.loc) {
             Some(place) => {
                 if self.locations.get(place) {
@@ -101,7 +127,7 @@ impl Stop<World> for Watch {
             None => {}
         }
         match self.seen {
-            Some(seen) => !seen.mark.is_same(world.mark(seen.part)),
+            Some(Seen { part, mark }) => is_other(part, mark, world),
             None => false,
         }
     }

@@ -11,10 +11,11 @@ use Rattle.mix_session.specs.BrokenOff.{IsBefore}
 use Rattle.mix_session.specs.Command.{effect_of_run, end_of_last, end_at, end_there, fault_end, is_halt_done}
 use Rattle.mix_session.specs.Known.{KnownState, Knows, LooksOn, has_conflict}
 use Rattle.mix_session.specs.Marks.{AreMarks, HasMoved, IsMove, end_by_marks, first_met}
-use Rattle.mix_session.specs.Plain.{AllowsMany, ArePlain, AreSteps, HasEnd, IsLeft, LeavesOff, ends_at}
+use Rattle.mix_machine.specs.Many.{ends_at}
+use Rattle.mix_session.specs.Plain.{AllowsMany, ArePlain, AreSteps, HasEnd, IsLeft, LeavesOff}
 use Rattle.mix_session.specs.Stops.{StopsState}
 use Rattle.mix_session.specs.Timeline.{Timeline, world_of, with_change, moved}
-use Rattle.mix_session.specs.declared.command.plain.Many.{Many}
+use Rattle.mix_machine.specs.declared.many.Many.{Many}
 use Rattle.mix_session.specs.declared.command.stops.Way.{Way}
 use Rattle.mix_session.specs.declared.command.stops.Way.TheVariants.{New, Again, Back}
 use Rattle.mix_session.specs.declared.reply.End.{End}

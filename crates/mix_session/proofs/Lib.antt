@@ -1,3 +1,4 @@
+mod AgainLemmas
 mod AlteredLemmas
 mod ChangeLemmas
 mod CommandLemmas

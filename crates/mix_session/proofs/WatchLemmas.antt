@@ -14,11 +14,12 @@ use Rattle.mix_machine.specs.declared.part.Mark.{Mark}
 use Rattle.mix_session.specs.Command.{end_there}
 use Rattle.mix_session.specs.Known.{has_conflict}
 use Rattle.mix_session.specs.Marks.{end_by_marks, first_met}
-use Rattle.mix_session.specs.Plain.{AllowsMany, IsFree, breaks_of, ends_at, locations_of, watch_for}
+use Rattle.mix_machine.specs.Many.{ends_at}
+use Rattle.mix_session.specs.Plain.{AllowsMany, IsFree, breaks_of, locations_of, watch_for}
 use Rattle.mix_session.specs.Stops.{StopsState, is_at_stop, is_awaited}
 use Rattle.mix_session.specs.Timeline.{is_at_break}
-use Rattle.mix_session.specs.declared.command.plain.Many.{Many}
-use Rattle.mix_session.specs.declared.command.plain.Many.TheVariants.{Freely, Until}
+use Rattle.mix_machine.specs.declared.many.Many.{Many}
+use Rattle.mix_machine.specs.declared.many.Many.TheVariants.{Freely, Until}
 use Rattle.mix_session.specs.declared.command.stops.Way.TheVariants.{New}
 use Rattle.mix_session.specs.declared.condition.Condition.{Condition}
 use Rattle.mix_session.specs.declared.condition.Condition.TheVariants.{Alters, At, Conflicts}

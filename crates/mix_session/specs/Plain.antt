@@ -2,7 +2,9 @@
 use Rattle.std.specs.Prelude.{◌≡◌, ◌<◌, ◌≤◌, ℕ, zero, suc, Bool, true, false, List, Option, None, Some, Ok, IsOk, [], ◌∷◌, nat_lt, replicate, slice_set, if◌then◌else◌}
 use Rattle.mix_machine.specs.World.{WorldState, has_break}
 use Rattle.mix_machine.specs.Do.{does, is_plain_next}
-use Rattle.mix_machine.specs.Watch.{WatchState, stops_at, with_all, with_location}
+use Rattle.mix_machine.specs.Many.{ends_at}
+use Rattle.mix_machine.specs.Watch.{WatchState, with_all, with_location}
+use Rattle.mix_machine.specs.declared.many.Many.{Many}
 use Rattle.mix_machine.specs.declared.watch.Seen.{Seen}
 use Rattle.mix_machine.specs.law.Steps.{steps_on}
 use Rattle.mix_machine.specs.declared.old.Change.TheVariants.{Step}
@@ -11,8 +13,6 @@ use Rattle.mix_session.specs.Known.{has_conflict}
 use Rattle.mix_session.specs.Marks.{AreMarks, end_by_marks}
 use Rattle.mix_session.specs.Stops.{StopsState}
 use Rattle.mix_session.specs.Timeline.{Timeline, world_of, with_change}
-use Rattle.mix_session.specs.declared.command.plain.Many.{Many}
-use Rattle.mix_session.specs.declared.command.plain.Many.TheVariants.{Freely, Until}
 use Rattle.mix_session.specs.declared.command.stops.Way.{Way}
 use Rattle.mix_session.specs.declared.command.stops.Way.TheVariants.{New}
 use Rattle.mix_session.specs.declared.condition.Condition.{Condition}
@@ -22,11 +22,6 @@ use Rattle.mix_session.specs.declared.reply.End.{End}
 -- the breakpoints that stop a run, if they do
 abbrev pub breaks_of : Bool → WorldState → List Bool
 breaks_of breaks w = if breaks then w.breaks else replicate 4000 false
-
--- at which states plain steps end that are done many at a time: at none, or where what is watched stops them
-abbrev pub ends_at : Many → WorldState → Bool
-ends_at Freely w = false
-ends_at (Until watch) w = stops_at watch w
 
 -- nothing stops a run at a state that a plain step may lead to: nothing is watched, no cell and no location stops it, and no breakpoint that is set
 pub record IsFree (stops : StopsState) (w : WorldState) : Type 0 where

@@ -14,7 +14,7 @@ ghost use Rattle.mix_stream.specs.Stream.{AppendsFront, CountsFailure};
 use crate::answer::{Answer, answer_text};
 use crate::command::execute;
 use crate::command::runs::run_on;
-use crate::command::stops::{Stops, Way, marks_of};
+use crate::command::stops::{Stops, Way, marks_of, way_on};
 use crate::conflicts::known_of;
 use crate::fault::Refusal;
 use crate::reply::{End, Told};
@@ -141,9 +141,10 @@ impl Session {
     {
         let mut marks = marks_of(self.alloc, stops.watched, self.world())?;
         let mut known = known_of(self.alloc, &self.journal, stops.watched)?;
+        let onward = way_on(way, &self.journal);
         let (made, end) = run_on(
             &mut self.journal,
-            way,
+            onward,
             most as usize,
             stops,
             marks.as_mut_slice(),

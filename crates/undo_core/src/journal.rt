@@ -11,7 +11,6 @@ use crate::kept::{Kept, revert, revert_part};
 use crate::past::Past;
 use crate::places::{leave_place, newest, note_end, reserve_place};
 use crate::runs::{Run, count_in, item_at};
-use crate::stop::Stop;
 use crate::undo::Undo;
 use mix_refused::{Memory, Refused};
 use std::alloc::Global;
@@ -96,11 +95,11 @@ impl<S: Undo> Journal<S> {
     /// Does a change, whose values say its end, once, and again as long as the state needs no look and none stops it, so many times at most, and forgets
     /// those ahead. It returns how many times it was done, and why not once more, if that was tried and refused. Where memory is out, it may be done no time.
     #[inline(always)]
-    pub fn go_many<T: Stop<S>>(
+    pub fn go_many(
         &mut self,
         change: S::Change,
         most: usize,
-        stop: &T,
+        stop: &S::Stop,
     ) -> (usize, Result<(), Refused<S::Fault>>)
         requires some { 0 < most }
         requires few { most < 2 ^ 63 }
@@ -110,10 +109,10 @@ impl<S: Undo> Journal<S> {
         ensures changes { self.new.changes ≡ self.old.changes ++ replicate result.0 change }
         ensures none { result.0 ≡ 0 → self.new ≡ self.old }
         ensures ahead { 0 < result.0 → self.new.ahead ≡ [] }
-        ensures did { HoldsOfState S.gives self.old (λ s. (t : S) × (os : List S.Old) × Repeats S.is_real S.gives S.keeps (goes_unless (T.stops stop.now) S.goes) change result.0 s t os
+        ensures did { HoldsOfState S.gives self.old (λ s. (t : S) × (os : List S.Old) × Repeats S.is_real S.gives S.keeps (goes_unless (S.stops stop.now) S.goes) change result.0 s t os
             × (replay S.gives self.new.first self.new.changes ≡ Some t)) }
-        ensures all { OnOk result.1 ((0 < result.0) × ((result.0 ≡ most) ⊎ HoldsOfState S.gives self.new (λ t. goes_unless (T.stops stop.now) S.goes t change ≡ false))) }
-        ensures going { OnErr result.1 (0 < result.0 → HoldsOfState S.gives self.new (λ t. goes_unless (T.stops stop.now) S.goes t change ≡ true)) }
+        ensures all { OnOk result.1 ((0 < result.0) × ((result.0 ≡ most) ⊎ HoldsOfState S.gives self.new (λ t. goes_unless (S.stops stop.now) S.goes t change ≡ false))) }
+        ensures going { OnErr result.1 (0 < result.0 → HoldsOfState S.gives self.new (λ t. goes_unless (S.stops stop.now) S.goes t change ≡ true)) }
         ensures fault { IfFault result.1 (λ f. HoldsOfState S.gives self.new (λ t. S.gives t change ≡ Err f)) }
         ensures last { IfMemory result.1 (HoldsOfState S.gives self.new (λ t. IsOk (S.gives t change))) }
     {

@@ -9,7 +9,6 @@ mod pack;
 mod past;
 mod places;
 mod runs;
-mod stop;
 mod undo;
 mod values;
 
@@ -19,6 +18,5 @@ pub use kept::{Kept, revert};
 pub use mix_refused::{Memory, Refused};
 pub use pack::{Last, Pack, PackAll};
 pub use past::Past;
-pub use stop::{Never, Stop};
 pub use undo::Undo;
 pub use values::Values;

@@ -7,7 +7,6 @@ ghost use Rattle.undo_core.specs.Replay.{put_back};
 
 use crate::kept::Kept;
 use crate::pack::Pack;
-use crate::stop::{Never, Stop};
 use crate::values::Values;
 use mix_refused::Refused;
 
@@ -21,6 +20,9 @@ pub trait Undo: Sized + Drop {
 
     /// Why a state refuses a change.
     type Fault: Drop;
+
+    /// What stops a change that is done again and again.
+    type Stop;
 
     /// The state and the change are values of the program, with their bounds.
     ghost is_real: { Self → Self.Change → Type 0 };
@@ -62,60 +64,28 @@ pub trait Undo: Sized + Drop {
         ensures same { OnErr result (self.new ≡ self.old) }
         ensures same_kept { OnErr result (kept.new.items ≡ kept.old.items) };
 
+    /// Whether a state is one that stops it.
+    ghost stops: { Self.Stop → Self → Bool };
+
     /// Whether a change may be done on a state without a look at it first.
     ghost goes: { Self → Self.Change → Bool };
 
-    /// Whether a change may be done on this state without a look at it first.
-    fn goes(&self, change: &Self::Change) -> bool
-        ensures { result ≡ goes self.now change.now };
-
-    /// Does the change once, and again as long as the state needs no look, so many times at most, and appends the values that it overwrites. It returns
-    /// how many times it was done, and why not once more, if that was tried and refused.
-    fn apply_many(
+    /// Does the change once, and again as long as the state needs no look and is none that stops it, so many times at most, and appends the values that it
+    /// overwrites. It returns how many times it was done, and why not once more, if that was tried and refused.
+    fn apply_until(
         &mut self,
         change: &Self::Change,
         most: usize,
+        stop: &Self::Stop,
         kept: &mut Kept<Self::Old>,
     ) -> (usize, Result<(), Refused<Self::Fault>>)
         requires { 0 < most }
         ensures within { result.0 ≤ most }
-        ensures done { (os : List Self.Old) × (kept.new.items ≡ kept.old.items ++ os) × Repeats is_real gives keeps goes change.now result.0 self.old self.new os }
-        ensures all { OnOk result.1 ((0 < result.0) × ((result.0 ≡ most) ⊎ (goes self.new change.now ≡ false))) }
-        ensures going { OnErr result.1 (0 < result.0 → goes self.new change.now ≡ true) }
+        ensures done { (os : List Self.Old) × (kept.new.items ≡ kept.old.items ++ os) × Repeats is_real gives keeps (goes_unless (stops stop.now) goes) change.now result.0 self.old self.new os }
+        ensures all { OnOk result.1 ((0 < result.0) × ((result.0 ≡ most) ⊎ (goes_unless (stops stop.now) goes self.new change.now ≡ false))) }
+        ensures going { OnErr result.1 (0 < result.0 → goes_unless (stops stop.now) goes self.new change.now ≡ true) }
         ensures fault { IfFault result.1 (λ f. gives self.new change.now ≡ Err f) }
-        ensures last { IfMemory result.1 (IsOk (gives self.new change.now)) }
-    {
-        self.apply_until(change, most, &Never, kept)
-    }
-
-    /// The same, where it also ends after the change that leads to a state that stops it.
-    fn apply_until<T: Stop<Self>>(
-        &mut self,
-        change: &Self::Change,
-        most: usize,
-        stop: &T,
-        kept: &mut Kept<Self::Old>,
-    ) -> (usize, Result<(), Refused<Self::Fault>>)
-        requires { 0 < most }
-        ensures within { result.0 ≤ most }
-        ensures done { (os : List Self.Old) × (kept.new.items ≡ kept.old.items ++ os) × Repeats is_real gives keeps (goes_unless (T.stops stop.now) goes) change.now result.0 self.old self.new os }
-        ensures all { OnOk result.1 ((0 < result.0) × ((result.0 ≡ most) ⊎ (goes_unless (T.stops stop.now) goes self.new change.now ≡ false))) }
-        ensures going { OnErr result.1 (0 < result.0 → goes_unless (T.stops stop.now) goes self.new change.now ≡ true) }
-        ensures fault { IfFault result.1 (λ f. gives self.new change.now ≡ Err f) }
-        ensures last { IfMemory result.1 (IsOk (gives self.new change.now)) }
-    {
-        let mut done = 0;
-        while done < most {
-            match self.apply(change, kept) {
-                Ok(()) => done += 1,
-                Err(refused) => return (done, Err(refused)),
-            }
-            if stop.stops(self) || !self.goes(change) {
-                return (done, Ok(()));
-            }
-        }
-        (done, Ok(()))
-    }
+        ensures last { IfMemory result.1 (IsOk (gives self.new change.now)) };
 
     /// Puts one value back. It takes no memory.
     fn restore(&mut self, old: Self::Old)

@@ -1,17 +1,20 @@
 //! Steps one after the other, as long as none needs a look at the machine first.
-ghost use Rattle.std.specs.Prelude.{◌≡◌, ◌<◌};
+ghost use Rattle.std.specs.Prelude.{◌≡◌, ◌<◌, option_map};
 ghost use Rattle.mix_machine.specs.World.{cell_of};
 ghost use Rattle.mix_machine.specs.Do.{plan_of};
 ghost use Rattle.mix_machine.specs.Fault.{answer_of};
+ghost use Rattle.mix_machine.specs.Many.{ends_if};
 ghost use Rattle.mix_machine.specs.law.Carried.{Carried};
 ghost use Rattle.mix_machine.specs.law.Steps.{Stepped};
 
 use crate::fault::MixFault;
+use crate::many::is_ended;
 use crate::old::{Change, Old};
 use crate::step::told::{answer_of, told};
+use crate::watch::Watch;
 use crate::world::World;
 use mix_word::{Place, Word};
-use undo_core::{Kept, Never, Refused, Stop};
+use undo_core::{Kept, Refused};
 
 impl World {
     /// Does a step, or reports its first fault; out of memory is the answer to none that has a fault.
@@ -19,23 +22,23 @@ impl World {
     pub(crate) fn step(&mut self, kept: &mut Kept<Old>) -> Result<(), Refused<MixFault>>
         ensures { Carried (plan_of self.old Change.Step) self.old self.new kept.old.items kept.new.items result }
     {
-        self.steps(1, &Never, kept).1
+        self.steps(1, None, kept).1
     }
 
     /// Does a step, and the next one as long as that needs no look at the machine first and none
     /// stops them, so many at most. It returns how many were done, and why not one more, if that
     /// was tried and refused.
     #[inline(always)]
-    pub(crate) fn steps<T: Stop<World>>(
+    pub(crate) fn steps(
         &mut self,
         most: usize,
-        stop: &T,
+        watch: Option<&Watch>,
         kept: &mut Kept<Old>,
     ) -> (usize, Result<(), Refused<MixFault>>)
         requires { 0 < most }
-        ensures { Stepped (T.stops stop.now) most self.old self.new kept.old.items kept.new.items result.0 result.1 }
+        ensures { Stepped (ends_if (option_map (λ w. w.now) watch.entry)) most self.old self.new kept.old.items kept.new.items result.0 result.1 }
     {
-        let (done, answer) = self.steps_told(most, stop, kept);
+        let (done, answer) = self.steps_told(most, watch, kept);
         (done, answer_of(answer))
     }
 
@@ -43,37 +46,37 @@ impl World {
     // (one function, in which the operations that programs do most are inlined, each being called there alone. With them it is too long for the
     // compiler to inline it where steps are done: it would drop the attribute from one of the functions in it, and call that with more arguments)
     #[inline(never)]
-    fn steps_told<T: Stop<World>>(
+    fn steps_told(
         &mut self,
         most: usize,
-        stop: &T,
+        watch: Option<&Watch>,
         kept: &mut Kept<Old>,
     ) -> (usize, u8)
         requires { 0 < most }
-        ensures { Stepped (T.stops stop.now) most self.old self.new kept.old.items kept.new.items result.0 (answer_of result.1) }
+        ensures { Stepped (ends_if (option_map (λ w. w.now) watch.entry)) most self.old self.new kept.old.items kept.new.items result.0 (answer_of result.1) }
     {
         match Place::of(self.loc) {
             None => (0, told(Err(Refused::Fault(MixFault::NoCellAtLocation)))),
             Some(place) => {
                 let word = self.cell(place);
-                self.steps_from(word, most, stop, kept)
+                self.steps_from(word, most, watch, kept)
             }
         }
     }
 
     // The same from a cell on, which holds this word.
     #[inline(always)]
-    fn steps_from<T: Stop<World>>(
+    fn steps_from(
         &mut self,
         first: Word,
         most: usize,
-        stop: &T,
+        watch: Option<&Watch>,
         kept: &mut Kept<Old>,
     ) -> (usize, u8)
         requires some { 0 < most }
         requires cell { self.old.loc < 4000 }
         requires word { first ≡ cell_of self.old self.old.loc }
-        ensures { Stepped (T.stops stop.now) most self.old self.new kept.old.items kept.new.items result.0 (answer_of result.1) }
+        ensures { Stepped (ends_if (option_map (λ w. w.now) watch.entry)) most self.old self.new kept.old.items kept.new.items result.0 (answer_of result.1) }
     {
         let mut word = first;
         let mut done = 0;
@@ -85,7 +88,7 @@ impl World {
                 return (done, answer);
             }
             done += 1;
-            if stop.stops(self) {
+            if is_ended(watch, self) {
                 return (done, told(Ok(())));
             }
             match self.plain_word() {

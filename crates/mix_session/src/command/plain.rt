@@ -1,26 +1,18 @@
 //! Plain steps of a run, many at a time.
 
 ghost use Rattle.std.specs.Prelude.{◌≡◌, ◌≤◌, ◌<◌, Err, Some, IfOk, IfSome, IsTrue, None, OnOk, OnErr, true, false, length};
-ghost use Rattle.mix_session.specs.Plain.{AllowsMany, ArePlain, AreSteps, HasEnd, IsLeft, LeavesOff, ends_at, locations_of, watch_for};
+ghost use Rattle.mix_machine.specs.Many.{ends_at};
+ghost use Rattle.mix_session.specs.Plain.{AllowsMany, ArePlain, AreSteps, HasEnd, IsLeft, LeavesOff, locations_of, watch_for};
 
 use crate::command::stops::{Stops, Way, end_of_move, is_free};
 use crate::condition::Condition;
 use crate::reply::End;
 use crate::timeline::world_of;
-use mix_machine::{Change, Mark, MixFault, Seen, Watch, World};
-use undo_core::{Journal, Memory, Never, Refused, Stop};
+use mix_machine::{Change, Many, Mark, MixFault, Seen, Watch, World};
+use undo_core::{Journal, Memory, Refused};
 
 // So many steps are done at a time, at most.
 const MOST_AT_ONCE: usize = 1 << 30;
-
-/// What plain steps that are done many at a time stop at.
-#[derive(Drop)]
-pub(crate) enum Many {
-    /// At nothing.
-    Freely,
-    /// At what is watched.
-    Until(Watch),
-}
 
 /// What the plain steps of a run stop at, where they may be done many at a time: of new ones, which
 /// wait for no conflict, and for one condition at most.
@@ -93,13 +85,13 @@ pub(crate) fn plain_steps(
 {
     match many {
         None => (0, Ok(None)),
-        Some(many) => steps_of(journal, many, stops, marks, most),
+        Some(many) => steps_until(journal, many, stops, marks, most),
     }
 }
 
-// The same of a run that may.
-#[inline(always)]
-fn steps_of(
+// The same of a run that may. (Apart, so that it stands not in the loop of each run.)
+#[inline(never)]
+fn steps_until(
     journal: &mut Journal<World>,
     many: &Many,
     stops: &Stops<'_>,
@@ -108,36 +100,14 @@ fn steps_of(
 ) -> (usize, Result<Option<End>, Memory>)
     requires { length stops.now.watched ≡ length marks.old }
     ensures within { result.0 ≤ most }
-    ensures steps { ArePlain (ends_at many.now) result.0 journal.old journal.new }
+    ensures plain { ArePlain (ends_at many.now) result.0 journal.old journal.new }
     ensures end { IfOk result.1 (λ end. HasEnd stops.now marks.old marks.new result.0 journal.new end) }
     ensures left { OnErr result.1 (IsLeft (ends_at many.now) result.0 most journal.new) }
-{
-    match many {
-        Many::Freely => steps_until(journal, &Never, stops, marks, most),
-        Many::Until(watch) => steps_until(journal, watch, stops, marks, most),
-    }
-}
-
-// The same, where such steps end at some states. (Apart, so that it stands not in
-// the loop of each run.)
-#[inline(never)]
-fn steps_until<T: Stop<World>>(
-    journal: &mut Journal<World>,
-    stop: &T,
-    stops: &Stops<'_>,
-    marks: &mut [Mark],
-    most: usize,
-) -> (usize, Result<Option<End>, Memory>)
-    requires { length stops.now.watched ≡ length marks.old }
-    ensures within { result.0 ≤ most }
-    ensures plain { ArePlain (T.stops stop.now) result.0 journal.old journal.new }
-    ensures end { IfOk result.1 (λ end. HasEnd stops.now marks.old marks.new result.0 journal.new end) }
-    ensures left { OnErr result.1 (IsLeft (T.stops stop.now) result.0 most journal.new) }
 {
     if most == 0 || !journal.state().next_is_plain() {
         return (0, Ok(None));
     }
-    let (done, answer) = journal.go_many(Change::Step, most.min(MOST_AT_ONCE), stop);
+    let (done, answer) = journal.go_many(Change::Step, most.min(MOST_AT_ONCE), many);
     match unless_fault(answer, done < most) {
         Err(Memory) => return (done, Err(Memory)),
         Ok(()) => {}

@@ -1,11 +1,11 @@
 //! What stops a run, and which way it goes.
 
-ghost use Rattle.std.specs.Prelude.{◌≡◌, ◌<◌, ◌==◌, IfErr, IfOk, IsTrue, Some, None, length, take, if◌then◌else◌};
+ghost use Rattle.std.specs.Prelude.{◌≡◌, ◌<◌, ◌==◌, ℕ, IfErr, IfOk, IsTrue, Some, None, length, take, if◌then◌else◌};
 ghost use Rattle.std.specs.List.{list_any};
 ghost use Rattle.std.specs.Option.{option_or};
 ghost use Rattle.mix_session.specs.Timeline.{is_at_break};
-ghost use Rattle.mix_session.specs.Command.{end_there};
-ghost use Rattle.mix_session.specs.Stops.{is_at_stop, is_awaited};
+ghost use Rattle.mix_session.specs.Command.{effect_of_run, end_there};
+ghost use Rattle.mix_session.specs.Stops.{StopsState, is_at_stop, is_awaited};
 ghost use Rattle.mix_session.specs.Marks.{AreMarks, first_met, end_by_marks};
 ghost use Rattle.mix_session.specs.Plain.{IsFree};
 
@@ -15,7 +15,7 @@ use crate::reply::End;
 use mix_machine::{Mark, Part, Place, World};
 use std::alloc::Global;
 use std::marker::Model;
-use undo_core::Memory;
+use undo_core::{Journal, Memory};
 
 /// Which way a run goes.
 #[derive(Clone, Copy)]
@@ -62,6 +62,17 @@ pub(crate) fn is_free(stops: &Stops<'_>, world: &World) -> bool
         None => {}
     }
     !stops.breaks || !world.has_breaks()
+}
+
+/// The way of a run: where nothing stands ahead, all that it does again is new.
+pub(crate) fn way_on(way: Way, journal: &Journal<World>) -> Way
+    ensures same { (stops : StopsState) (n : ℕ) → effect_of_run result stops journal.now n ≡ effect_of_run way stops journal.now n }
+    ensures back { way ≡ Way.Back → result ≡ Way.Back }
+{
+    match way {
+        Way::Again if journal.ahead() == 0 => Way::New,
+        Way::New | Way::Again | Way::Back => way,
+    }
 }
 
 /// The marks of what is watched.

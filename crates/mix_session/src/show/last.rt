@@ -1,7 +1,7 @@
 //! The lines of the changes that are done: of the last ones, or of those that meet a condition.
 
-ghost use Rattle.std.specs.Prelude.{◌≡◌, ◌≤◌, ◌<◌, ◌+◌, ◌++◌, Some, None, OnOk, IfOk, IsTrue, Ok, length, reverse, take};
-ghost use Rattle.undo_core.specs.Replay.{put_back, replay, TakesBack};
+ghost use Rattle.std.specs.Prelude.{◌≡◌, ◌≤◌, ◌<◌, ◌+◌, ◌++◌, Some, None, OnOk, IfOk, Ok, length, reverse, take};
+ghost use Rattle.undo_core.specs.Replay.{put_back, replay};
 ghost use Rattle.mix_machine.specs.Do.{does};
 ghost use Rattle.mix_machine.specs.Write.{put_value};
 ghost use Rattle.mix_machine.specs.declared.old.Change.{Change};
@@ -64,53 +64,20 @@ fn lines_after(
     while number > first {
         number -= 1;
         let values = earlier(journal, &mut past, number);
-        add_line_before(
-            &mut text,
-            journal,
-            number,
-            chosen,
-            &values,
-            &mut before,
-            &mut after,
-        )?;
+        unwind(journal, number, &values, &mut before);
+        let worlds = Worlds {
+            before: &before,
+            after: &after,
+        };
+        add_chosen(&mut text, journal, number, chosen, &values, worlds)?;
+        unwind(journal, number, &values, &mut after);
     }
     text.reverse();
     Ok(text)
 }
 
-// Appends the line of the change after the first ones that are done, its last byte first, if it is chosen. Two machines as they were after it are
-// led back to before it, by the values that it overwrote.
-fn add_line_before(
-    text: &mut Vec<u8>,
-    journal: &Journal<World>,
-    number: usize,
-    chosen: Option<Condition>,
-    values: &Values<'_, Old>,
-    before: &mut World,
-    after: &mut World,
-) -> Result<(), Memory>
-    requires within { number < length journal.now.changes }
-    requires back { TakesBack does put_value journal.now.first journal.now.changes number values.now }
-    requires before { replay does journal.now.first (take (number + 1) journal.now.changes) ≡ Some before.old }
-    requires after { replay does journal.now.first (take (number + 1) journal.now.changes) ≡ Some after.old }
-    ensures before { OnOk result (replay does journal.now.first (take number journal.now.changes) ≡ Some before.new) }
-    ensures after { OnOk result (replay does journal.now.first (take number journal.now.changes) ≡ Some after.new) }
-    ensures text { OnOk result (text.new.items ≡ text.old.items ++ reverse (chosen_line_at chosen journal.now (number + 1))) }
-{
-    unwind(journal, number, values, before);
-    add_chosen(
-        text,
-        journal,
-        number,
-        chosen,
-        values,
-        Worlds { before, after },
-    )?;
-    unwind(journal, number, values, after);
-    Ok(())
-}
-
-// Appends the line of the change that overwrote these values, its last byte first, if it is chosen.
+// Appends the line of the change after the first ones that are done, its last byte first, if it is chosen. It overwrote these values, so that they
+// lead from the machine after it to the one before it.
 fn add_chosen(
     text: &mut Vec<u8>,
     journal: &Journal<World>,

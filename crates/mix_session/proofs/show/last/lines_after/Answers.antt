@@ -20,9 +20,9 @@ loop-number-preserved c = record {
   left = c.earlier-values.ensures.left;
   from = omega arith;
   within = omega arith;
-  before = c.in_ok-add_line_before.ensures.before;
-  after = c.in_ok-add_line_before.ensures.after;
-  text = reversed-next (chosen_line_at c.args.chosen c.args.journal.now) _ _ _ _ _ (omega arith) (omega arith) c.loop-number.invariant.text c.in_ok-add_line_before.ensures.text;
+  before = c.unwind.ensures;
+  after = c.unwind-in-loop-number.ensures;
+  text = reversed-next (chosen_line_at c.args.chosen c.args.journal.now) _ _ _ _ _ (omega arith) (omega arith) c.loop-number.invariant.text c.in_ok-add_chosen.ensures;
 }
 
 pub returns-then-first-done : goal.returns-then-first-done

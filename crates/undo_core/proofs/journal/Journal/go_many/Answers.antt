@@ -15,7 +15,7 @@ use Rattle.undo_core.proofs.journal.Journal.go_many.Goals as goal
 pub returns-then-many-eq0-clause-fault : goal.returns-then-many-eq0-clause-fault
 returns-then-many-eq0-clause-fault g c =
     let did = c.apply_until-many.ensures.done in
-    let none = done_none g.S.Undo.is_real g.S.Undo.gives g.S.Undo.keeps (goes_unless (g.T.Stop.stops c.args.stop.now) g.S.Undo.goes) c.args.change c.apply_until-many.result.0 c.self.inside.state c.apply_until-many.new.self
+    let none = done_none g.S.Undo.is_real g.S.Undo.gives g.S.Undo.keeps (goes_unless (g.S.Undo.stops c.args.stop.now) g.S.Undo.goes) c.args.change c.apply_until-many.result.0 c.self.inside.state c.apply_until-many.new.self
     c.self.inside.kept.items c.apply_until-many.new.kept.items did.0 c.if-many-eq0.true did.2 did.1 in
     let came = replay_same g.S.Undo.gives g.S.Undo.keeps g.S.Undo.put g.S.Old.Pack.is_last none.0 none.1 (take c.self.inside.done (items_of 0 c.self.inside.changes.items)) (stored_replay c.self.invariant) in
     hold_fault g.S.Undo.gives _ c.apply_until-many.new.self _ came c.args.change c.apply_until-many.result.1 c.apply_until-many.ensures.fault
@@ -23,7 +23,7 @@ returns-then-many-eq0-clause-fault g c =
 pub returns-then-many-eq0-clause-last : goal.returns-then-many-eq0-clause-last
 returns-then-many-eq0-clause-last g c =
     let did = c.apply_until-many.ensures.done in
-    let none = done_none g.S.Undo.is_real g.S.Undo.gives g.S.Undo.keeps (goes_unless (g.T.Stop.stops c.args.stop.now) g.S.Undo.goes) c.args.change c.apply_until-many.result.0 c.self.inside.state c.apply_until-many.new.self
+    let none = done_none g.S.Undo.is_real g.S.Undo.gives g.S.Undo.keeps (goes_unless (g.S.Undo.stops c.args.stop.now) g.S.Undo.goes) c.args.change c.apply_until-many.result.0 c.self.inside.state c.apply_until-many.new.self
     c.self.inside.kept.items c.apply_until-many.new.kept.items did.0 c.if-many-eq0.true did.2 did.1 in
     let came = replay_same g.S.Undo.gives g.S.Undo.keeps g.S.Undo.put g.S.Old.Pack.is_last none.0 none.1 (take c.self.inside.done (items_of 0 c.self.inside.changes.items)) (stored_replay c.self.invariant) in
     hold_memory g.S.Undo.gives _ c.apply_until-many.new.self _ came c.args.change c.apply_until-many.result.1 c.apply_until-many.ensures.last
@@ -39,7 +39,7 @@ overflow_add-self g c =
 pub invariant_of-self-in-Ok : goal.invariant_of-self-in-Ok
 invariant_of-self-in-Ok g c =
     let did = c.apply_until-many.ensures.done in
-    (stored_times g.S.Undo.is_real g.S.Undo.gives g.S.Undo.keeps g.S.Undo.put g.S.Old.Pack.is_last (goes_unless (g.T.Stop.stops c.args.stop.now) g.S.Undo.goes) c.args.change
+    (stored_times g.S.Undo.is_real g.S.Undo.gives g.S.Undo.keeps g.S.Undo.put g.S.Old.Pack.is_last (goes_unless (g.S.Undo.stops c.args.stop.now) g.S.Undo.goes) c.args.change
     (λ s t. g.met.S.Undo.undoes s t c.args.change)
     (λ s t real given. subst (λ b. IsPart g.S.Old.Pack.is_last b (g.S.Undo.keeps s c.args.change)) c.requires.ends (g.met.S.Undo.parts s t c.args.change real given))
     c.apply_until-many.result.0 c.self.inside.state c.apply_until-many.new.self c.self.inside.kept.items c.apply_until-many.new.kept.items did.0
@@ -49,7 +49,7 @@ invariant_of-self-in-Ok g c =
 pub returns-in-Ok-clause-first : goal.returns-in-Ok-clause-first
 returns-in-Ok-clause-first g c =
     let did = c.apply_until-many.ensures.done in
-    rw (← c.self.view_is) (stored_times g.S.Undo.is_real g.S.Undo.gives g.S.Undo.keeps g.S.Undo.put g.S.Old.Pack.is_last (goes_unless (g.T.Stop.stops c.args.stop.now) g.S.Undo.goes) c.args.change
+    rw (← c.self.view_is) (stored_times g.S.Undo.is_real g.S.Undo.gives g.S.Undo.keeps g.S.Undo.put g.S.Old.Pack.is_last (goes_unless (g.S.Undo.stops c.args.stop.now) g.S.Undo.goes) c.args.change
     (λ s t. g.met.S.Undo.undoes s t c.args.change)
     (λ s t real given. subst (λ b. IsPart g.S.Old.Pack.is_last b (g.S.Undo.keeps s c.args.change)) c.requires.ends (g.met.S.Undo.parts s t c.args.change real given))
     c.apply_until-many.result.0 c.self.inside.state c.apply_until-many.new.self c.self.inside.kept.items c.apply_until-many.new.kept.items did.0
@@ -65,12 +65,12 @@ returns-in-Ok-clause-did g c =
 
 pub returns-in-Ok-clause-all : goal.returns-in-Ok-clause-all
 returns-in-Ok-clause-all g c =
-    hold_all g.S.Undo.gives _ c.apply_until-many.new.self _ (stored_replay (invariant_of-self-in-Ok g c)) (goes_unless (g.T.Stop.stops c.args.stop.now) g.S.Undo.goes) c.args.change c.apply_until-many.result.0
+    hold_all g.S.Undo.gives _ c.apply_until-many.new.self _ (stored_replay (invariant_of-self-in-Ok g c)) (goes_unless (g.S.Undo.stops c.args.stop.now) g.S.Undo.goes) c.args.change c.apply_until-many.result.0
     c.args.most c.apply_until-many.result.1 c.apply_until-many.ensures.all
 
 pub returns-in-Ok-clause-going : goal.returns-in-Ok-clause-going
 returns-in-Ok-clause-going g c =
-    hold_going g.S.Undo.gives _ c.apply_until-many.new.self _ (stored_replay (invariant_of-self-in-Ok g c)) (goes_unless (g.T.Stop.stops c.args.stop.now) g.S.Undo.goes) c.args.change c.apply_until-many.result.0
+    hold_going g.S.Undo.gives _ c.apply_until-many.new.self _ (stored_replay (invariant_of-self-in-Ok g c)) (goes_unless (g.S.Undo.stops c.args.stop.now) g.S.Undo.goes) c.args.change c.apply_until-many.result.0
     c.apply_until-many.result.1 c.apply_until-many.ensures.going
 
 pub returns-in-Ok-clause-fault : goal.returns-in-Ok-clause-fault
@@ -86,14 +86,14 @@ returns-in-Ok-clause-last g c =
 pub revert-requires-clause-fits : goal.revert-requires-clause-fits
 revert-requires-clause-fits g c =
     let did = c.apply_until-many.ensures.done in
-    let undone = repeats-undone g.S.Undo.is_real g.S.Undo.gives g.S.Undo.keeps (goes_unless (g.T.Stop.stops c.args.stop.now) g.S.Undo.goes) c.args.change g.S.Undo.put (λ s t. g.met.S.Undo.undoes s t c.args.change)
+    let undone = repeats-undone g.S.Undo.is_real g.S.Undo.gives g.S.Undo.keeps (goes_unless (g.S.Undo.stops c.args.stop.now) g.S.Undo.goes) c.args.change g.S.Undo.put (λ s t. g.met.S.Undo.undoes s t c.args.change)
     c.apply_until-many.result.0 c.self.inside.state c.apply_until-many.new.self did.0 did.2 in
     ap is_some (ap (λ l. put_back g.S.Undo.put l c.apply_until-many.new.self)
     (dropped c.self.inside.kept.items did.0 c.apply_until-many.new.kept.items c.len-from.result c.len-end.result did.1 c.len-from.ensures.count c.len-end.ensures.count) ∙ undone)
 
 pub invariant_of-self-in-Err : goal.invariant_of-self-in-Err
 invariant_of-self-in-Err g c =
-    let same = unmade g.S.Undo.is_real g.S.Undo.gives g.S.Undo.keeps g.S.Undo.put (goes_unless (g.T.Stop.stops c.args.stop.now) g.S.Undo.goes) c.args.change (λ s t. g.met.S.Undo.undoes s t c.args.change)
+    let same = unmade g.S.Undo.is_real g.S.Undo.gives g.S.Undo.keeps g.S.Undo.put (goes_unless (g.S.Undo.stops c.args.stop.now) g.S.Undo.goes) c.args.change (λ s t. g.met.S.Undo.undoes s t c.args.change)
     c.apply_until-many.result.0 c.self.inside.state c.apply_until-many.new.self c.revert.new.state c.self.inside.kept.items c.apply_until-many.new.kept.items
     c.revert.new.kept.items c.len-from.result c.len-end.result c.apply_until-many.ensures.done c.len-from.ensures.count c.len-end.ensures.count
     c.revert.ensures.back c.revert.ensures.cut in
@@ -101,7 +101,7 @@ invariant_of-self-in-Err g c =
 
 pub invariant_of-self-in-Err-2 : goal.invariant_of-self-in-Err-2
 invariant_of-self-in-Err-2 g c =
-    let same = unmade g.S.Undo.is_real g.S.Undo.gives g.S.Undo.keeps g.S.Undo.put (goes_unless (g.T.Stop.stops c.args.stop.now) g.S.Undo.goes) c.args.change (λ s t. g.met.S.Undo.undoes s t c.args.change)
+    let same = unmade g.S.Undo.is_real g.S.Undo.gives g.S.Undo.keeps g.S.Undo.put (goes_unless (g.S.Undo.stops c.args.stop.now) g.S.Undo.goes) c.args.change (λ s t. g.met.S.Undo.undoes s t c.args.change)
     c.apply_until-many.result.0 c.self.inside.state c.apply_until-many.new.self c.revert.new.state c.self.inside.kept.items c.apply_until-many.new.kept.items
     c.revert.new.kept.items c.len-from.result c.len-end.result c.apply_until-many.ensures.done c.len-from.ensures.count c.len-end.ensures.count
     c.revert.ensures.back c.revert.ensures.cut in
@@ -109,7 +109,7 @@ invariant_of-self-in-Err-2 g c =
 
 pub invariant_of-self-in-Err-3 : goal.invariant_of-self-in-Err-3
 invariant_of-self-in-Err-3 g c =
-    let same = unmade g.S.Undo.is_real g.S.Undo.gives g.S.Undo.keeps g.S.Undo.put (goes_unless (g.T.Stop.stops c.args.stop.now) g.S.Undo.goes) c.args.change (λ s t. g.met.S.Undo.undoes s t c.args.change)
+    let same = unmade g.S.Undo.is_real g.S.Undo.gives g.S.Undo.keeps g.S.Undo.put (goes_unless (g.S.Undo.stops c.args.stop.now) g.S.Undo.goes) c.args.change (λ s t. g.met.S.Undo.undoes s t c.args.change)
     c.apply_until-many.result.0 c.self.inside.state c.apply_until-many.new.self c.revert.new.state c.self.inside.kept.items c.apply_until-many.new.kept.items
     c.revert.new.kept.items c.len-from.result c.len-end.result c.apply_until-many.ensures.done c.len-from.ensures.count c.len-end.ensures.count
     c.revert.ensures.back c.revert.ensures.cut in
@@ -117,7 +117,7 @@ invariant_of-self-in-Err-3 g c =
 
 pub returns-in-Err-clause-none : goal.returns-in-Err-clause-none
 returns-in-Err-clause-none g c _ =
-    let same = unmade g.S.Undo.is_real g.S.Undo.gives g.S.Undo.keeps g.S.Undo.put (goes_unless (g.T.Stop.stops c.args.stop.now) g.S.Undo.goes) c.args.change (λ s t. g.met.S.Undo.undoes s t c.args.change)
+    let same = unmade g.S.Undo.is_real g.S.Undo.gives g.S.Undo.keeps g.S.Undo.put (goes_unless (g.S.Undo.stops c.args.stop.now) g.S.Undo.goes) c.args.change (λ s t. g.met.S.Undo.undoes s t c.args.change)
     c.apply_until-many.result.0 c.self.inside.state c.apply_until-many.new.self c.revert.new.state c.self.inside.kept.items c.apply_until-many.new.kept.items
     c.revert.new.kept.items c.len-from.result c.len-end.result c.apply_until-many.ensures.done c.len-from.ensures.count c.len-end.ensures.count
     c.revert.ensures.back c.revert.ensures.cut in
@@ -135,4 +135,4 @@ returns-in-Err-clause-last g c =
     let did = c.apply_until-many.ensures.done in
     rw (returns-in-Err-clause-none g c refl) (rw (← c.self.view_is) (λ s came.
     let same = same-state g.S.Undo.gives _ c.self.inside.state _ (stored_replay c.self.invariant) s came in
-    rw (← same) (repeats-first g.S.Undo.is_real g.S.Undo.gives g.S.Undo.keeps (goes_unless (g.T.Stop.stops c.args.stop.now) g.S.Undo.goes) c.args.change c.apply_until-many.result.0 c.self.inside.state c.apply_until-many.new.self did.0 (omega (arith, c.if-many-eq0.false)) did.2)))
+    rw (← same) (repeats-first g.S.Undo.is_real g.S.Undo.gives g.S.Undo.keeps (goes_unless (g.S.Undo.stops c.args.stop.now) g.S.Undo.goes) c.args.change c.apply_until-many.result.0 c.self.inside.state c.apply_until-many.new.self did.0 (omega (arith, c.if-many-eq0.false)) did.2)))
