@@ -4,9 +4,11 @@ use Rattle.std.specs.Option.{option_map}
 use Rattle.std.specs.Str.Lossy.{utf8_lossy}
 use Rattle.mix_lines.specs.Lines.{begins_with}
 use Rattle.mixal_text.specs.Parts.{part_span}
+use Rattle.mixal_text.specs.Slips.{has_slip}
 use Rattle.mixal_text.specs.declared.fault.TextFault.{TextFault}
 use Rattle.mixal_text.specs.declared.fault.TextFault.TheVariants.{BadExpression, NoSuchOperation}
 use Rattle.mixal_text.specs.declared.parts.Part.TheVariants.{Label}
+use Rattle.mixal_text.specs.declared.slips.Slip.TheVariants.{OperationAsLabel}
 use Rattle.mixal_asm.specs.declared.fault.AsmKind.{AsmKind}
 use Rattle.mixal_asm.specs.declared.fault.AsmKind.TheVariants.{Text}
 use Rattle.mixal_asm.specs.declared.diagnostic.Diagnostic.{Diagnostic}
@@ -30,9 +32,10 @@ label_near label = option_map (label_text label) (near_to label)
 abbrev pub label_before : List ℕ → List ℕ
 label_before front = bytes_at front (part_span front Label)
 
+-- what names an operation is no other one that is misspelt
 abbrev pub or_label : Option (List ℕ) → List ℕ → Option (List ℕ)
 or_label (Some name) front = Some (near_text name)
-or_label None front = label_near (label_before front)
+or_label None front = if has_slip front OperationAsLabel then None else label_near (label_before front)
 
 -- an ADDRESS that breaks off at a comma
 abbrev pub ends_with_comma : List ℕ → Bool

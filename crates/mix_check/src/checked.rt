@@ -141,8 +141,8 @@ pub(crate) fn piece_of<'s>(place: Option<(&'s [u8], Span)>) -> &'s [u8]
     }
 }
 
-/// The bytes of a span.
-pub(crate) fn bytes_at(line: &[u8], span: Span) -> &[u8]
+/// The bytes of a span, as far as the line has them. It takes no memory.
+pub fn bytes_at(line: &[u8], span: Span) -> &[u8]
     ensures { result.now ≡ bytes_at line.now span }
 {
     before(after(line, span.from), span.to.saturating_sub(span.from))

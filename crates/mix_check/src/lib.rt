@@ -17,8 +17,9 @@ mod remedy;
 mod report;
 mod values;
 
-pub use checked::Checked;
+pub use checked::{Checked, bytes_at};
 pub use halt::{no_halt, no_halt_text};
+pub use near::{is_near, near_to};
 pub use objects::add_json_report;
 pub use report::add_report;
 pub use values::{code, severity};

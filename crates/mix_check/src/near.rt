@@ -7,8 +7,9 @@ ghost use Rattle.mix_check.specs.Near.{after_common, are_exchanged, begin_alike,
 use mix_word::{Decoded, decode};
 use std::alloc::{AllocError, Global};
 
-/// The name of the operation that is near to a word, in either case of letters, if one is.
-pub(crate) fn near_to(alloc: Global, word: &[u8]) -> Result<Option<&'static str>, AllocError>
+/// The name of the operation that is near to a word, in either case of letters, if one is (1.3.1).
+/// Of several it is the first by C and F. Only out of memory refuses it.
+pub fn near_to(alloc: Global, word: &[u8]) -> Result<Option<&'static str>, AllocError>
     ensures { IfOk result (λ name. option_map (λ s. s.now) name ≡ near_to word.now) }
 {
     let capitals = word.to_ascii_uppercase(alloc)?;
@@ -87,8 +88,9 @@ fn if_near(word: &[u8], name: &'static str) -> Option<&'static str>
     }
 }
 
-// Whether a slip of the hand makes one word of the other.
-fn is_near(word: &[u8], name: &[u8]) -> bool
+/// Whether a slip of the hand makes one word of the other: a letter more, a letter less, another
+/// letter, or two exchanged. No word is near to itself. It takes no memory.
+pub fn is_near(word: &[u8], name: &[u8]) -> bool
     ensures { result ≡ is_near word.now name.now }
 {
     let (left, other) = after_common(word, name);

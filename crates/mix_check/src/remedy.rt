@@ -10,7 +10,7 @@ use crate::checked::{Checked, bytes_at, front_of, piece_of};
 use crate::near::near_to;
 use mix_refused::Memory;
 use mixal_asm::{AsmKind, Diagnostic, Finding};
-use mixal_text::{Part, TextFault, part_span};
+use mixal_text::{Part, Slip, Survey, TextFault, part_span};
 use std::alloc::{AllocError, Global};
 
 impl<'s> Checked<'s> {
@@ -86,7 +86,13 @@ fn operation_remedy(
 {
     match near_to(alloc, piece)? {
         Some(name) => Ok(Some(near_text(alloc, name)?)),
-        None => label_near(alloc, label_before(front)),
+        None => {
+            if Survey::of(front).has(Slip::OperationAsLabel) {
+                Ok(None)
+            } else {
+                label_near(alloc, label_before(front))
+            }
+        }
     }
 }
 

@@ -18,12 +18,12 @@ const SETS: &str =
 
 const BREAKS: &str = "break takes E, a cell, or line N; watch takes COND\n";
 
-const CLEARS: &str = "clear takes E, a cell, or line N: one at a time; show breaks lists them\n";
+const CLEARS: &str = "clear takes E, a cell, line N or all; show breaks lists them\n";
 
 const STOPS_ONCE: &str = "advance E stops at E once; break E each time\n";
 
 const ENDS_SUBROUTINE: &str =
-    "run until loc E stops at E: print J shows where a subroutine returns to\n";
+    "finish goes on to where the subroutine returns: print J shows where that is\n";
 
 const WAITS: &str =
     "a breakpoint has no condition: run until COND stops once, watch COND each time\n";
@@ -49,7 +49,7 @@ const IN_EDITOR: &str = "edit the source elsewhere: reload reads it again\n";
 const KEPT: &str = "all is recorded: back takes changes back, goto N goes to one\n";
 
 #[rattlefmt::skip]
-static ELSEWHERE: [(&str, &str); 99] = [
+static ELSEWHERE: [(&str, &str); 98] = [
     ("load", FROM_A_SHELL), ("file", FROM_A_SHELL), ("start", GOES_ON), ("info", SHOW_TAKES), ("i", SHOW_TAKES),
     ("preg", SHOWS_REGISTERS), ("pflags", SHOWS_REGISTERS), ("pc", SHOWS_REGISTERS), ("pstat", SHOWS_REGISTERS), ("pall", "show all shows everything in use\n"),
     ("pmem", SHOWS_CELLS), ("psym", "show symbols shows them all, print SYMBOL one\n"), ("weval", "print takes W, a word\n"), ("w2d", "print takes W, a word: 5 or LOOP+1\n"),
@@ -60,7 +60,7 @@ static ELSEWHERE: [(&str, &str); 99] = [
     ("cbp", CLEARS), ("cbpa", CLEARS), ("cabp", CLEARS), ("disable", CLEARS),
     ("cbpr", "delete forgets what is watched\n"), ("cbpm", "delete forgets what is watched\n"), ("cbpc", "delete forgets what is watched\n"), ("cbpo", "delete forgets what is watched\n"),
     ("strace", SHOWS_PAST), ("pbt", SHOWS_PAST), ("sbt", SHOWS_PAST), ("bt", SHOWS_PAST), ("backtrace", SHOWS_PAST), ("history", SHOWS_PAST), ("when", SHOWS_PAST),
-    ("stime", SHOWS_TIME), ("ptime", SHOWS_TIME), ("finish", ENDS_SUBROUTINE), ("up", ENDS_SUBROUTINE), ("down", ENDS_SUBROUTINE),
+    ("stime", SHOWS_TIME), ("ptime", SHOWS_TIME), ("up", ENDS_SUBROUTINE), ("down", ENDS_SUBROUTINE),
     ("reverse-finish", "back until loc E goes back to E: the JMP that called\n"), ("reverse-continue", GOES_BACK), ("rc", GOES_BACK), ("undo", GOES_BACK),
     ("seek", KEPT), ("record", KEPT), ("restart", "back all begins anew\n"), ("pline", LISTS), ("psrc", LISTS), ("pprog", LISTS), ("layout", LISTS),
     ("edit", IN_EDITOR), ("compile", IN_EDITOR), ("sedit", IN_EDITOR), ("pedit", IN_EDITOR), ("sasm", IN_EDITOR), ("pasm", IN_EDITOR),

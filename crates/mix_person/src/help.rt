@@ -5,7 +5,8 @@ use crate::elsewhere::typed_here;
 const ALL: &str = "\
 step, run, trace     go on, step by step; run stops at breakpoints, trace shows each step
 back, forth, goto    take changes back, do them again, go to a numbered state
-set, break, clear    change the machine, set a breakpoint, take one away
+set                  changes the machine
+break, clear         set a breakpoint, take one away; finish goes on to where a subroutine returns
 show                 shows the machine, its code, its past, counts
 quit                 ends the session
 A command may be shortened: s is step, b break, ba back, u until; n is step too, c is run.
@@ -28,7 +29,8 @@ After a halt, step and run without a number do nothing. rs takes one step back.
 const RUN: &str = "\
 run N            does N steps, 1 to 1000000, fewer if a halt, a fault or a breakpoint comes
 run N until COND also stops when a step reaches COND, and shows that step
-advance E is run until loc E.
+advance E is run until loc E; finish is that with the location that rJ has: where the subroutine
+returns that was entered last, until another JMP is done.
 ";
 
 const TRACE: &str = "\
@@ -65,6 +67,8 @@ Each is a change, and can be taken back.
 const BREAK: &str = "\
 break E          gives cell E a breakpoint, where run stops; clear E takes it away
 break line N     the same for the first line of the source, from line N on, that gives a word
+clear all takes all away. What you type here is no change, and back takes none of it back: each run
+waits for it, as until loc E. In a script, as of mixrev debug SOURCE SCRIPT, it is a change.
 ";
 
 const SHOW: &str = "\
@@ -130,7 +134,7 @@ If FILE can't be read, nothing is done. In FILE source itself can't be used.
 
 const RELOAD: &str = "\
 reload           assembles the source again, as it is now, and does there what was done so far
-Breakpoints too: break LOOP is at LOOP again, if that has moved. What is watched or displayed stays.
+Breakpoints stay, and what is watched or displayed: break LOOP is at LOOP again, if that has moved.
 If the source is refused, the session goes on as it was.
 ";
 
@@ -179,7 +183,7 @@ pub fn form_of(word: Option<&[u8]>) -> &'static str {
 
 // Each word that there is help on: what it takes, as a refusal says it, and the help.
 #[rattlefmt::skip]
-static TOPICS: [(&str, &str, &str); 25] = [
+static TOPICS: [(&str, &str, &str); 26] = [
     ("step", "step takes a number, 1 to 1000000, or nothing\n", STEP),
     ("run", "run takes a number, 1 to 1000000, until COND, both or nothing\n", RUN),
     ("trace", "trace takes a number, 1 to 1000000, or nothing\n", TRACE),
@@ -188,9 +192,10 @@ static TOPICS: [(&str, &str, &str); 25] = [
     ("goto", "goto takes a number\n", GOTO),
     ("set", "set takes REG W, cell E W, loc E, over on, over off or cmp L, E, G\n", SET),
     ("break", "break takes E, a cell, or line N\n", BREAK),
-    ("clear", "clear takes E, a cell, or line N: one at a time; show breaks lists them\n", BREAK),
+    ("clear", "clear takes E, a cell, line N or all; show breaks lists them\n", BREAK),
     ("show", SHOW_TAKES, SHOW),
     ("quit", NO_COMMAND, QUIT),
+    ("finish", "finish takes nothing; run until loc E stops at E\n", RUN),
     ("until", NO_COMMAND, UNTIL),
     ("cond", NO_COMMAND, UNTIL),
     ("print", NO_COMMAND, PRINT),

@@ -6,4 +6,5 @@ mod line;
 mod parts;
 mod source;
 
+pub use parts::after_blanks;
 pub use source::lay_out;

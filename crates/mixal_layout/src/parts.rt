@@ -28,8 +28,9 @@ pub(crate) fn body(text: &[u8]) -> &[u8]
     after_blanks(after_op(text))
 }
 
+/// What follows the blanks with which a text begins. It takes no memory.
 #[tactic(auto, using(crate::proofs::PartLemmas::starts))]
-fn after_blanks(text: &[u8]) -> &[u8]
+pub fn after_blanks(text: &[u8]) -> &[u8]
     ensures { result.now ≡ after_blanks text.now }
 {
     match nonblank_in(text) {
